@@ -1,0 +1,87 @@
+// The trees of a program.
+
+ghost use Rattle.std.specs.Prelude.{◌≡◌, ◌≤◌};
+
+/// An operator. Numbers are u64, and sums, differences and products wrap. A comparison gives 1 or 0.
+#[derive(Clone, Copy, Debug, PartialEq, Eq)]
+pub enum Operator {
+    Add,
+    Subtract,
+    Multiply,
+    Divide,
+    Remainder,
+    Equal,
+    NotEqual,
+    Less,
+    LessOrEqual,
+    Greater,
+    GreaterOrEqual,
+}
+
+/// An expression. A private name is its number in the text: 0 for the name that comes first, 1 for the next
+/// different one, and so on to 31.
+#[derive(Debug, Drop)]
+pub enum Expression {
+    /// A number of the text.
+    Number(u64),
+    /// A private name.
+    Private(u8),
+    /// The number of the node that runs the text.
+    Me,
+    /// How many nodes run it.
+    Nodes,
+    /// The left side, the operator and the right side. The left side is evaluated first.
+    Binary(Box<Expression>, Operator, Box<Expression>),
+}
+
+/// A statement.
+#[derive(Debug, Drop)]
+pub enum Statement {
+    /// `name = value;`
+    Assign(u8, Expression),
+    /// `name = [word];`, a shared read
+    Read(u8, Expression),
+    /// `[word] = value;`, a shared write
+    Write(Expression, Expression),
+    /// `acquire lock;`
+    Acquire(Expression),
+    /// `release lock;`
+    Release(Expression),
+    /// `barrier;`
+    Barrier,
+    /// `print value;`
+    Print(Expression),
+    /// `if condition { .. } else { .. }`; with no `else` the second list is empty
+    If(Expression, Vec<Statement>, Vec<Statement>),
+    /// `while condition { .. }`
+    While(Expression, Vec<Statement>),
+}
+
+/// A program: how many words of shared memory and how many locks it has, and its statements.
+#[derive(Debug, Drop)]
+pub struct Program {
+    pub words: u32,
+    pub locks: u8,
+    pub statements: Vec<Statement>,
+    /// There are 1 to 4096 words.
+    pub ghost some_words: { 1 ≤ words },
+    pub ghost few_words: { words ≤ 4096 },
+    /// There are at most 64 locks.
+    pub ghost few_locks: { locks ≤ 64 },
+}
+
+impl Program {
+    /// How many words the shared memory has, 1 to 4096.
+    pub fn words(&self) -> u32
+        ensures { result ≡ self.now.words }
+    {
+        self.words
+    }
+
+    /// How many locks there are, 0 to 64.
+    pub fn locks(&self) -> u8
+        ensures { result ≡ self.now.locks }
+    {
+        self.locks
+    }
+}
