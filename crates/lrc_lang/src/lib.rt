@@ -2,3 +2,4 @@
 #![tactic(auto)]
 
 pub mod program;
+pub mod token;

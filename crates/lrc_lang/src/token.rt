@@ -1,0 +1,81 @@
+// Tokens: what a text is made of, once spaces and comments are left out.
+
+/// A word that no private name may be.
+#[derive(Clone, Copy, Debug, PartialEq, Eq)]
+pub enum Keyword {
+    Words,
+    Locks,
+    Acquire,
+    Release,
+    Barrier,
+    Print,
+    If,
+    Else,
+    While,
+    Me,
+    Nodes,
+}
+
+/// A sign.
+#[derive(Clone, Copy, Debug, PartialEq, Eq)]
+pub enum Sign {
+    /// `;`
+    Semicolon,
+    /// `=`
+    Assign,
+    /// `[`
+    OpenBracket,
+    /// `]`
+    CloseBracket,
+    /// `{`
+    OpenBrace,
+    /// `}`
+    CloseBrace,
+    /// `(`
+    OpenParenthesis,
+    /// `)`
+    CloseParenthesis,
+    /// `+`
+    Plus,
+    /// `-`
+    Minus,
+    /// `*`
+    Star,
+    /// `/`
+    Slash,
+    /// `%`
+    Percent,
+    /// `==`
+    Equal,
+    /// `!=`
+    NotEqual,
+    /// `<`
+    Less,
+    /// `<=`
+    LessOrEqual,
+    /// `>`
+    Greater,
+    /// `>=`
+    GreaterOrEqual,
+}
+
+/// A token of a text. A name is the bytes of the text that spell it.
+#[derive(Clone, Copy, Debug)]
+pub enum Token<'t> {
+    Number(u64),
+    Name(&'t [u8]),
+    Keyword(Keyword),
+    Sign(Sign),
+    /// The end of the text.
+    End,
+}
+
+/// What stands next in a text: a token, or what is none.
+#[derive(Clone, Copy, Debug)]
+pub enum Lexeme<'t> {
+    Token(Token<'t>),
+    /// A byte that begins no token.
+    BadByte,
+    /// Digits whose value is over 2^64 - 1, or that a letter or `_` follows at once.
+    BadNumber,
+}
