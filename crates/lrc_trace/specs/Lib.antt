@@ -1,0 +1,6 @@
+pub mod Run
+pub mod Order
+pub mod Conflict
+pub mod Reading
+pub mod Synchronization
+pub mod Interval

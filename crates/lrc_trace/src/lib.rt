@@ -2,3 +2,4 @@
 #![tactic(auto)]
 
 pub mod act;
+pub mod race;
