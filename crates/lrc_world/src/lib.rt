@@ -1,0 +1,4 @@
+//! Runs of a program: which node goes on, and what comes of it.
+#![tactic(auto)]
+
+pub mod report;
