@@ -9,8 +9,8 @@ abbrev pub act_of : ℕ → Deed → Act
 act_of node deed = record { node = node; deed = deed }
 
 -- at this position the node does the deed
-abbrev pub Does : List Act → ℕ → ℕ → Deed → Type 0
-Does run position node deed = slice_get run position ≡ Some (act_of node deed)
+pub record Does (run : List Act) (position node : ℕ) (deed : Deed) : Type 0 where
+  pub stands : slice_get run position ≡ Some (act_of node deed)
 
 -- at this position some node does the deed
 abbrev pub IsDone : List Act → ℕ → Deed → Type 0

@@ -2,4 +2,5 @@
 #![tactic(auto)]
 
 pub mod act;
+pub mod laws;
 pub mod race;

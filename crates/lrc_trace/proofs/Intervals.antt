@@ -1,0 +1,80 @@
+-- Intervals never fall, and rise exactly at an acquire, a release or an arrive.
+use Rattle.std.proofs.Common.{◌≡◌, ℕ, zero, suc, ◌+◌, ◌<◌, ◌≤◌, List, Bool, true, false, ◌&&◌, inl, inr, length, get_or, take, sym, subst, ◌∙◌, ap, refl, arith, eq-eqb, add-zero, ◌∷◌, [], ◌-◌, cond}
+use Rattle.std.specs.Prelude.{IsTrue, ◌==◌, ◌↔◌}
+use Rattle.std.proofs.lemmas.Bool.{cases_Bool, and_parts, and_from, eqb-true}
+use Rattle.std.proofs.lemmas.List.{take-take}
+use Rattle.std.proofs.lemmas.List.Sums.{sum_by-take-le, count_by_more_yes, count_by_more_no}
+use Rattle.std.proofs.lemmas.Option.{get_or_from_slice_get}
+use Rattle.lrc_trace.specs.declared.act.Act.{Act}
+use Rattle.lrc_trace.specs.declared.act.Deed.{Deed}
+use Rattle.lrc_trace.specs.Run.{Does, act_of, count_of}
+use Rattle.lrc_trace.specs.Conflict.{Accesses}
+use Rattle.lrc_trace.specs.Interval.{closes, interval_at}
+use Rattle.lrc_trace.proofs.Positions.{Does-within}
+
+-- whether an act is of this kind and of this node
+abbrev is_of : (Deed → Bool) → ℕ → Act → Bool
+is_of kind node a = a.node == node && kind a.deed
+
+module _ (kind : Deed → Bool) (run : List Act) where
+  -- a count never falls along the run
+  pub count_of-rises : (node i j : ℕ) → i ≤ j → count_of kind node (take i run) ≤ count_of kind node (take j run)
+  count_of-rises node i j le = rw (← take-take i j run le) (sum_by-take-le (λ (a : Act). cond (is_of kind node a) 1 0) (take j run) i)
+
+  -- it rises by one at an act of this kind and of this node
+  pub count_of-more : (node i : ℕ) (d : Deed) → Does run i node d → kind d ≡ true → count_of kind node (take (i + 1) run) ≡ count_of kind node (take i run) + 1
+  count_of-more node i d h k =
+      let a = act_of node d in
+      let at : get_or run i a ≡ a = get_or_from_slice_get run i a a h.stands in
+      count_by_more_yes (is_of kind node) run i a (Does-within h) (ap (is_of kind node) at ∙ and_from (node == node) (kind d) (eq-eqb node node refl) k)
+
+  -- and stays at any other act
+  pub count_of-same : (node i other : ℕ) (d : Deed) → Does run i other d → ((other ≡ node) → kind d ≡ true → ⊥) → count_of kind node (take (i + 1) run) ≡ count_of kind node (take i run)
+  count_of-same node i other d h k =
+      let a = act_of other d in
+      let at : get_or run i a ≡ a = get_or_from_slice_get run i a a h.stands in
+      let no : is_of kind node a ≡ false = elim (cases_Bool (is_of kind node a)) [
+        | inl passes ↦ let both = and_parts (other == node) (kind d) passes in absurd (k (eqb-true other node both.0) both.1)
+        | inr fails ↦ fails
+      ] in
+      count_by_more_no (is_of kind node) run i a (Does-within h) (ap (is_of kind node) at ∙ no)
+
+-- some act stands at each position within the run
+pub act_at : (run : List Act) (i : ℕ) → i < length run → (a : Act) × Does run i a.node a.deed
+act_at (a ∷ run) zero h = (a, record { stands = refl })
+act_at (a ∷ run) (suc i) h = let found = act_at run i (omega arith) in (found.0, record { stands = found.1.stands })
+act_at [] i h = absurd (omega arith)
+
+pub never_fall : (run : List Act) (node i j : ℕ) → i ≤ j → interval_at run node i ≤ interval_at run node j
+never_fall run node i j le = let h = count_of-rises closes run node i j le in omega arith
+
+-- where no closing act of the node stands between, the count stays
+stays : (run : List Act) (node i n : ℕ) → i + n ≤ length run → ((k : ℕ) (d : Deed) → i ≤ k → k < i + n → Does run k node d → IsTrue (closes d) → ⊥) → count_of closes node (take (i + n) run) ≡ count_of closes node (take i run)
+stays run node i zero h none = ap (λ k. count_of closes node (take k run)) (add-zero i)
+stays run node i (suc n) h none =
+    let found = act_at run (i + n) (omega arith) in
+    let same = count_of-same closes run node (i + n) found.0.node found.0.deed found.1 (λ e t. none (i + n) found.0.deed (omega arith) (omega arith) (subst (λ m. Does run (i + n) m found.0.deed) e found.1) t) in
+    let step : i + suc n ≡ i + n + 1 = omega arith in
+    ap (λ k. count_of closes node (take k run)) step ∙ same ∙ stays run node i n (omega arith) (λ k d le lt. none k d le (omega arith))
+
+pub same_then_none : (run : List Act) (node i j : ℕ) → interval_at run node i ≡ interval_at run node j → (k : ℕ) (d : Deed) → i ≤ k → k < j → Does run k node d → IsTrue (closes d) → ⊥
+same_then_none run node i j e k d le lt h t =
+    let more = count_of-more closes run node k d h t in
+    let before = count_of-rises closes run node i k le in
+    let after = count_of-rises closes run node (k + 1) j (omega arith) in
+    omega arith
+
+pub none_then_same : (run : List Act) (node i j : ℕ) → i < j → j ≤ length run → ((k : ℕ) (d : Deed) → i ≤ k → k < j → Does run k node d → IsTrue (closes d) → ⊥) → interval_at run node i ≡ interval_at run node j
+none_then_same run node i j lt in_run none =
+    let e : i + (j - i) ≡ j = omega arith in
+    let h = stays run node i (j - i) (omega arith) (λ k d le lt'. none k d le (omega arith)) in
+    ap (λ n. 1 + n) (sym h ∙ ap (λ k. count_of closes node (take k run)) e)
+
+Accesses-within : {run : List Act} {i node word : ℕ} → Accesses run i node word → i < length run
+Accesses-within (inl (value, h)) = Does-within h
+Accesses-within (inr (value, h)) = Does-within h
+
+pub same_interval : (run : List Act) (node i j v w : ℕ) → i < j → Accesses run i node v → Accesses run j node w → (interval_at run node i ≡ interval_at run node j) ↔ ((k : ℕ) (d : Deed) → i ≤ k → k < j → Does run k node d → IsTrue (closes d) → ⊥)
+same_interval run node i j v w lt a b =
+    let in_run = Accesses-within b in
+    (same_then_none run node i j, none_then_same run node i j lt (omega arith))

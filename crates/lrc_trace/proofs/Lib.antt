@@ -1,0 +1,5 @@
+pub mod Positions
+pub mod HappensBefore
+pub mod Conflicts
+pub mod Latest
+pub mod Intervals

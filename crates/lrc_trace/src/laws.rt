@@ -1,0 +1,57 @@
+// Laws of the definitions on runs. Each function is a theorem: its body is empty, and its clause is the law.
+
+ghost use Rattle.std.specs.Prelude.{◌≡◌, ◌≢◌, ℕ, ◌<◌, ◌≤◌, ◌++◌, ◌↔◌, ◌⊎◌, List, IsTrue, length};
+ghost use Rattle.lrc_trace.specs.declared.act.Act.{Act};
+ghost use Rattle.lrc_trace.specs.declared.act.Deed.{Deed};
+ghost use Rattle.lrc_trace.specs.declared.race.Race.{Race};
+ghost use Rattle.lrc_trace.specs.Run.{Does};
+ghost use Rattle.lrc_trace.specs.Order.{HappensBefore};
+ghost use Rattle.lrc_trace.specs.Conflict.{Accesses, Conflict, Races};
+ghost use Rattle.lrc_trace.specs.Reading.{AreOrdered, MayRead};
+ghost use Rattle.lrc_trace.specs.Interval.{closes, interval_at, IsNamedRace};
+
+/// Happens before goes forward in the run.
+pub fn happens_before_goes_forward()
+    ensures { (run : List Act) (i j : ℕ) → HappensBefore run i j → (i < j) × (j < length run) }
+{}
+
+/// Happens before is transitive.
+pub fn happens_before_is_transitive()
+    ensures { (run : List Act) (i j k : ℕ) → HappensBefore run i j → HappensBefore run j k → HappensBefore run i k }
+{}
+
+/// Happens before on a prefix is happens before on the whole run, for positions in the prefix.
+pub fn happens_before_on_a_prefix()
+    ensures { (run more : List Act) (i j : ℕ) → j < length run
+        → (HappensBefore run i j ↔ HappensBefore (run ++ more) i j) }
+{}
+
+/// Which of two conflicting accesses is named first makes no difference.
+pub fn conflict_is_symmetric()
+    ensures { (run : List Act) (i j : ℕ) → Conflict run i j → Conflict run j i }
+{}
+
+/// A race is never between acts of one node.
+pub fn races_are_between_nodes()
+    ensures { (run : List Act) (i j p q : ℕ) (a b : Deed)
+        → Races run i j → Does run i p a → Does run j q b → p ≢ q }
+{}
+
+/// The strong half determines the value read, where the writes that happen before the read are pairwise ordered.
+pub fn ordered_writes_give_one_value()
+    ensures { (run : List Act) (j word v w : ℕ) → AreOrdered run j word
+        → MayRead run j word v → MayRead run j word w → v ≡ w }
+{}
+
+/// The intervals of one node never fall along the run.
+pub fn intervals_never_fall()
+    ensures { (run : List Act) (node i j : ℕ) → i ≤ j → interval_at run node i ≤ interval_at run node j }
+{}
+
+/// Two accesses of one node are in the same interval exactly where no acquire, release or arrive of that node stands
+/// from the first on and before the second.
+pub fn same_interval_has_no_close_between()
+    ensures { (run : List Act) (node i j v w : ℕ) → i < j → Accesses run i node v → Accesses run j node w
+        → ((interval_at run node i ≡ interval_at run node j)
+        ↔ ((k : ℕ) (d : Deed) → i ≤ k → k < j → Does run k node d → IsTrue (closes d) → ⊥)) }
+{}
