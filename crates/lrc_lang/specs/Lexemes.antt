@@ -8,9 +8,9 @@ use Rattle.lrc_lang.specs.Token.{number, name, keyword, sign, finish, Lexeme, to
 
 -- ---- bytes
 
--- a space, a tab or a carriage return
+-- a tab, a carriage return or a space
 abbrev pub IsBlank : ℕ → Type 0
-IsBlank byte = (byte ≡ 32) ⊎ (byte ≡ 9) ⊎ (byte ≡ 13)
+IsBlank byte = (byte ≡ 9) ⊎ (byte ≡ 13) ⊎ (byte ≡ 32)
 
 abbrev pub IsLineFeed : ℕ → Type 0
 IsLineFeed byte = byte ≡ 10
@@ -145,7 +145,7 @@ at line found = record { line = line; lexeme = found }
 -- What stands in a text whose first byte is on this line. Each rule says what the text begins with, and goes on with
 -- what stands in the rest of it.
 pub data Lexes : ℕ → List ℕ → List Placed → Type 0 where
-  -- A space, a tab or a carriage return is passed over.
+  -- A tab, a carriage return or a space is passed over.
   passes_blank : {line byte : ℕ} {rest : List ℕ} {all : List Placed} → IsBlank byte → Lexes line rest all → Lexes line (byte ∷ rest) all
   -- A line feed is passed over, and the next line begins.
   passes_line_feed : {line byte : ℕ} {rest : List ℕ} {all : List Placed} → IsLineFeed byte → Lexes (line + 1) rest all → Lexes line (byte ∷ rest) all

@@ -124,14 +124,24 @@ fn sign_at(first: u8, behind: &[u8]) -> (Lexeme<'_>, &[u8])
     ensures taken { Takes (first ∷ behind.now) (lexeme_of result.0) result.1.now }
     ensures shorter { IsShorter (lexeme_of result.0) (first ∷ behind.now) result.1.now }
 {
-    if let [b'=', rest @ ..] = behind
-        && let Some(sign) = long_sign(first)
-    {
+    if let Some((sign, rest)) = long_sign_at(first, behind) {
         return (Lexeme::Token(Token::Sign(sign)), rest);
     }
     match short_sign(first) {
         Some(sign) => (Lexeme::Token(Token::Sign(sign)), behind),
         None => (Lexeme::BadByte, behind),
+    }
+}
+
+/// The sign of two bytes, this one and a `=` behind it, and the rest behind that.
+fn long_sign_at(first: u8, behind: &[u8]) -> Option<(Sign, &[u8])>
+    ensures { MatchOption result
+        (BeginsWith (λ byte. byte ≡ 61) behind.now → (sign : Sign) → sign_text sign ≢ first ∷ 61 ∷ [])
+        (λ found. (sign_text found.0 ≡ first ∷ 61 ∷ []) × (behind.now ≡ 61 ∷ found.1.now)) }
+{
+    match behind {
+        [b'=', rest @ ..] => Some((long_sign(first)?, rest)),
+        _ => None,
     }
 }
 

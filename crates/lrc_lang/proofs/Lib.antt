@@ -1,0 +1,4 @@
+pub mod LexemesNumbers
+pub mod LexemesSigns
+pub mod LexemesSpans
+pub mod LexemesSteps
