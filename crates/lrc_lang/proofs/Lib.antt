@@ -2,3 +2,4 @@ pub mod LexemesNumbers
 pub mod LexemesSigns
 pub mod LexemesSpans
 pub mod LexemesSteps
+pub mod LexemesUnique
