@@ -31,7 +31,7 @@ span_unique {P} {text} {front} {rest} {other} {last} one two =
 
 -- ---- keywords and signs have spellings of their own
 
-keyword_from : List ℕ → Keyword
+pub keyword_from : List ℕ → Keyword
 keyword_from (a ∷ b ∷ rest) =
     cond (eqb (a + b) 230) keywords.Words (cond (eqb (a + b) 219) keywords.Locks (cond (eqb (a + b) 196) keywords.Acquire
     (cond (eqb (a + b) 215) keywords.Release (cond (eqb (a + b) 195) keywords.Barrier (cond (eqb (a + b) 226) keywords.Print
@@ -39,7 +39,7 @@ keyword_from (a ∷ b ∷ rest) =
     (cond (eqb (a + b) 210) keywords.Me keywords.Nodes)))))))))
 keyword_from _ = keywords.Nodes
 
-keyword_from-text : (which : Keyword) → keyword_from (keyword_text which) ≡ which
+pub keyword_from-text : (which : Keyword) → keyword_from (keyword_text which) ≡ which
 unfolding keyword_from
 keyword_from-text keywords.Words = refl
 keyword_from-text keywords.Locks = refl
@@ -56,7 +56,7 @@ keyword_from-text keywords.Nodes = refl
 keyword_text-injective : (one other : Keyword) → keyword_text one ≡ keyword_text other → one ≡ other
 keyword_text-injective one other e = sym (keyword_from-text one) ∙ ap keyword_from e ∙ keyword_from-text other
 
-sign_from : List ℕ → Sign
+pub sign_from : List ℕ → Sign
 sign_from (a ∷ []) =
     cond (eqb a 59) signs.Semicolon (cond (eqb a 61) signs.Assign (cond (eqb a 91) signs.OpenBracket (cond (eqb a 93) signs.CloseBracket
     (cond (eqb a 123) signs.OpenBrace (cond (eqb a 125) signs.CloseBrace (cond (eqb a 40) signs.OpenParenthesis
@@ -66,7 +66,7 @@ sign_from (a ∷ b ∷ rest) =
     cond (eqb a 61) signs.Equal (cond (eqb a 33) signs.NotEqual (cond (eqb a 60) signs.LessOrEqual signs.GreaterOrEqual))
 sign_from [] = signs.Semicolon
 
-sign_from-text : (mark : Sign) → sign_from (sign_text mark) ≡ mark
+pub sign_from-text : (mark : Sign) → sign_from (sign_text mark) ≡ mark
 unfolding sign_from
 sign_from-text signs.Semicolon = refl
 sign_from-text signs.Assign = refl

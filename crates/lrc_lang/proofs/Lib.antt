@@ -1,3 +1,5 @@
+pub mod LexemesExist
+pub mod LexemesLines
 pub mod LexemesNumbers
 pub mod LexemesSigns
 pub mod LexemesSpans
