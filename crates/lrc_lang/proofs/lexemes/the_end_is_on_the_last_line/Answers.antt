@@ -1,3 +1,4 @@
+use Rattle.std.proofs.Common.{refl}
 use Rattle.lrc_lang.proofs.LexemesLines.{line_of_end}
 use Rattle.lrc_lang.proofs.lexemes.the_end_is_on_the_last_line.Goals as goal
 
