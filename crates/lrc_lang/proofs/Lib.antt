@@ -1,6 +1,7 @@
 pub mod LexemesExist
 pub mod LexemesLines
 pub mod LexemesNumbers
+pub mod LexemesPast
 pub mod LexemesSigns
 pub mod LexemesSpans
 pub mod LexemesSteps
