@@ -8,3 +8,4 @@ pub mod Lazy
 pub mod Runs
 pub mod Plainly
 pub mod UpToRace
+pub mod OneNode

@@ -318,7 +318,7 @@ module _ (run : List Act) (j node : ℕ) (machine : Plain) (t : Thread) (at : th
       let v = slice_index machine.memory w in
       settle _ _ d after e here (λ h. passes_on (Read w v) h (record { acquires_not = λ l x. cc; releases_not = λ l x. cc }) (λ k x. refl) (λ x. cc) (λ x. cc) (t' v) (f.1 v))
   step (writes w v t') f d after e here = settle _ _ d after e here (λ h. written w v t' f.0 f.1 h)
-  step (acquires l t') f d after e here = settle_if (is_free machine l) _ _ d after e here (λ b h. acquired l t' f.0 f.1 f.2 (none_since (slice_index_or machine.holders l None) b) h)
+  step (acquires l t') f d after e here = settle_if (is_free machine l) _ _ d after e here (λ b h. acquired l t' f.0 f.2 f.3 (none_since (slice_index_or machine.holders l None) b) h)
   step (releases l t') f d after e here = settle _ _ d after e here (λ h. released l t' f.0 f.1 f.2 f.3 h)
   step (arrives t') f d after e here = settle _ _ d after e here (λ h. arrived_at t' f.0 f.1 h)
   step (departs t') f d after e here = settle_if (all_arrived machine node) _ _ d after e here (λ b h. departed_from t' f.0 f.1 h)

@@ -24,7 +24,7 @@ IsFine t (quiet after) = Stays t after
 IsFine t (prints v after) = Stays t after
 IsFine t (reads w after) = (w < t.setting.words) × ((v : ℕ) → Stays t (after v))
 IsFine t (writes w v after) = (w < t.setting.words) × Stays t after
-IsFine t (acquires l after) = (l < t.setting.locks) × (t.arrived ≡ false) × Leads t after (slice_set t.held l true) false
+IsFine t (acquires l after) = (l < t.setting.locks) × (holds t l ≡ false) × (t.arrived ≡ false) × Leads t after (slice_set t.held l true) false
 IsFine t (releases l after) = (l < t.setting.locks) × (holds t l ≡ true) × (t.arrived ≡ false) × Leads t after (slice_set t.held l false) false
 IsFine t (arrives after) = (t.arrived ≡ false) × Leads t after t.held true
 IsFine t (departs after) = (t.arrived ≡ true) × Leads t after t.held false
@@ -44,9 +44,9 @@ module _ (t : Thread) (free : t.arrived ≡ false) where
   fine_test true c next h = h refl
   fine_test false c next h = record { is = tt }
 
-  fine_untest : (b : Bool) (c : Cause) (next : Next) → Fine t next → Fine t (if b then traps c else next)
+  fine_untest : (b : Bool) (c : Cause) (next : Next) → (b ≡ false → Fine t next) → Fine t (if b then traps c else next)
   fine_untest true c next h = record { is = tt }
-  fine_untest false c next h = h
+  fine_untest false c next h = h refl
 
   fine_below : (n limit : ℕ) (c : Cause) (next : Next) → (n < limit → Fine t next) → Fine t (if_below n limit c next)
   fine_below n limit c next h = fine_test (nat_lt n limit) c next (λ e. h (ltb-true n limit e))
@@ -67,8 +67,8 @@ module _ (t : Thread) (free : t.arrived ≡ false) where
   writes_fine : (w v : ℕ) (after : Thread) → w < t.setting.words → Stays t after → Fine t (writes w v after)
   writes_fine w v after lt h = record { is = (lt, h) }
 
-  acquires_fine : (l : ℕ) (rest : List Statement) → l < t.setting.locks → Fine t (acquires l (then_holds t rest l true))
-  acquires_fine l rest lt = record { is = (lt, free, record { setting = refl; held = refl; arrived = free }) }
+  acquires_fine : (l : ℕ) (rest : List Statement) → l < t.setting.locks → holds t l ≡ false → Fine t (acquires l (then_holds t rest l true))
+  acquires_fine l rest lt h = record { is = (lt, h, free, record { setting = refl; held = refl; arrived = free }) }
 
   releases_fine : (l : ℕ) (rest : List Statement) → l < t.setting.locks → holds t l ≡ true → Fine t (releases l (then_holds t rest l false))
   releases_fine l rest lt h = record { is = (lt, h, free, record { setting = refl; held = refl; arrived = free }) }
@@ -78,7 +78,7 @@ module _ (t : Thread) (free : t.arrived ≡ false) where
   fine_act (Assign name value) rest = fine_value _ _ (λ v. quiet_fine _ refl refl refl)
   fine_act (Read name word) rest = fine_value _ _ (λ w. fine_below w t.setting.words _ _ (λ lt. reads_fine w _ lt (λ v. stays _ refl refl refl)))
   fine_act (Write word value) rest = fine_value (value_of t.setting t.privates word) _ (λ w. fine_value (value_of t.setting t.privates value) _ (λ v. fine_below w t.setting.words WordOutOfRange _ (λ lt. writes_fine w v (then_does t rest) lt (stays _ refl refl refl))))
-  fine_act (Acquire lock) rest = fine_value _ _ (λ l. fine_below l t.setting.locks _ _ (λ lt. fine_untest (holds t l) LockHeld _ (acquires_fine l rest lt)))
+  fine_act (Acquire lock) rest = fine_value _ _ (λ l. fine_below l t.setting.locks _ _ (λ lt. fine_untest (holds t l) LockHeld _ (λ e. acquires_fine l rest lt e)))
   fine_act (Release lock) rest = fine_value _ _ (λ l. fine_below l t.setting.locks _ _ (λ lt. fine_test (holds t l) LockNotHeld _ (λ e. releases_fine l rest lt e)))
   fine_act Barrier rest = record { is = (free, record { setting = refl; held = refl; arrived = refl }) }
   fine_act (Print value) rest = fine_value _ _ (λ v. prints_fine v _ refl refl refl)

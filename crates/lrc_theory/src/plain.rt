@@ -3,6 +3,8 @@
 ghost use Rattle.std.specs.Prelude.{◌≡◌, ℕ, ◌+◌, ◌<◌, ◌≤◌, List, Some, map, take, length};
 ghost use Rattle.lrc_lang.specs.declared.program.Program.{Program};
 ghost use Rattle.lrc_trace.specs.declared.act.Act.{Act};
+ghost use Rattle.lrc_trace.specs.declared.act.Deed.{Deed};
+ghost use Rattle.lrc_trace.specs.Run.{Does};
 ghost use Rattle.lrc_trace.specs.Conflict.{Races, IsRaceFree};
 ghost use Rattle.lrc_trace.specs.Reading.{ReadsLazily};
 ghost use Rattle.lrc_trace.specs.Synchronization.{IsWellSynchronized};
@@ -33,4 +35,10 @@ pub fn lazy_run_is_plain_up_to_its_first_race()
 pub fn plain_run_is_well_synchronized()
     ensures { (program : Program) (nodes : ℕ) (order : List ℕ) (run : List Act) → plain program nodes order ≡ Some run
         → FollowsText program nodes run × IsWellSynchronized nodes run × ReadsInOrder run }
+{}
+
+/// In a run of one node that reads what was written last, every read is lazy.
+pub fn one_node_that_reads_in_order_reads_lazily()
+    ensures { (run : List Act) → ((k node : ℕ) (deed : Deed) → Does run k node deed → node ≡ 0) → ReadsInOrder run
+        → ReadsLazily run }
 {}
