@@ -208,7 +208,7 @@ thread_at_start program nodes n lt =
     get_or-map (λ me. Some (start_of program nodes me)) (range_with_len 0 nodes) n 0 None (omega arith)
     ∙ ap (λ me. Some (start_of program nodes me)) (get_or-range_with_len 0 nodes n 0 lt ∙ zero-add n)
 
-nobody : (locks l : ℕ) → slice_index_or {A = Option ℕ} (replicate locks None) l None ≡ None
+pub nobody : (locks l : ℕ) → slice_index_or {A = Option ℕ} (replicate locks None) l None ≡ None
 nobody locks l = elim (cases_lt l locks) [
   | inl lt ↦ get_or-replicate locks l None None lt
   | inr le ↦ get_or_past (replicate locks None) l None (omega (arith, length-replicate {A = Option ℕ} locks None))
