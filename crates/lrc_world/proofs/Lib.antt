@@ -1,1 +1,2 @@
 pub mod AloneIsPlain
+pub mod EndsLemmas
