@@ -1,0 +1,4 @@
+pub mod Ask
+pub mod Meaning
+pub mod Plain
+pub mod Rounds

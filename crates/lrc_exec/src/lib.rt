@@ -1,0 +1,4 @@
+//! The language's meaning, its flat code, and the plain machine.
+#![tactic(auto)]
+
+pub mod machine;
