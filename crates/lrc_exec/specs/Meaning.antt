@@ -64,14 +64,14 @@ combined operator None right = None
 combined operator (Some x) None = None
 combined operator (Some x) (Some y) = applied operator x y
 
--- the value of an expression; none is a division by zero
-abbrev pub value_of : Setting → List ℕ → Expression → Option ℕ
-value_of setting privates (Number n) = Some n
-value_of setting privates (Private name) = Some (slice_index privates name)
-value_of setting privates Me = Some setting.me
-value_of setting privates Nodes = Some setting.nodes
-value_of setting privates (Binary' p left operator q right) =
-    combined operator (value_of setting privates left) (value_of setting privates right)
+-- the value of an expression on node `me` of `nodes`, with these private values; none is a division by zero
+abbrev pub value_of : (me nodes : ℕ) → List ℕ → Expression → Option ℕ
+value_of me nodes privates (Number n) = Some n
+value_of me nodes privates (Private name) = Some (slice_index privates name)
+value_of me nodes privates Me = Some me
+value_of me nodes privates Nodes = Some nodes
+value_of me nodes privates (Binary' p left operator q right) =
+    combined operator (value_of me nodes privates left) (value_of me nodes privates right)
 
 -- what a thread does next, with the thread after it; a read goes on with the value that it gets
 pub data Next : Type 0 where
@@ -87,9 +87,17 @@ pub data Next : Type 0 where
   ends : Next
 
 -- goes on with the value, or traps where there is none
-abbrev pub with_value : Option ℕ → (ℕ → Next) → Next
-with_value None go = traps DivisionByZero
-with_value (Some value) go = go value
+abbrev pub or_trap : Option ℕ → (ℕ → Next) → Next
+or_trap None go = traps DivisionByZero
+or_trap (Some value) go = go value
+
+-- the value of an expression to a thread
+abbrev pub value_in : Thread → Expression → Option ℕ
+value_in thread expression = value_of thread.setting.me thread.setting.nodes thread.privates expression
+
+-- goes on with the value of an expression, or traps
+abbrev pub with_value : Thread → Expression → (ℕ → Next) → Next
+with_value thread expression go = or_trap (value_in thread expression) go
 
 -- goes on where the number is below the limit, and else traps
 abbrev pub if_below : ℕ → ℕ → Cause → Next → Next
@@ -114,30 +122,30 @@ then_holds thread rest lock held = record thread { rest = rest; held = slice_set
 -- the act of a statement of which `rest` comes after it
 abbrev pub act_of : Thread → Statement → List Statement → Next
 act_of thread (Assign name value) rest =
-    with_value (value_of thread.setting thread.privates value) (λ v. quiet (then_keeps thread rest name v))
+    with_value thread value (λ v. quiet (then_keeps thread rest name v))
 act_of thread (Read name word) rest =
-    with_value (value_of thread.setting thread.privates word) (λ w.
+    with_value thread word (λ w.
     if_below w thread.setting.words WordOutOfRange (reads w (λ v. then_keeps thread rest name v)))
 act_of thread (Write word value) rest =
-    with_value (value_of thread.setting thread.privates word) (λ w.
-    with_value (value_of thread.setting thread.privates value) (λ v.
+    with_value thread word (λ w.
+    with_value thread value (λ v.
     if_below w thread.setting.words WordOutOfRange (writes w v (then_does thread rest))))
 act_of thread (Acquire lock) rest =
-    with_value (value_of thread.setting thread.privates lock) (λ l.
+    with_value thread lock (λ l.
     if_below l thread.setting.locks LockOutOfRange
     (if holds thread l then traps LockHeld else acquires l (then_holds thread rest l true)))
 act_of thread (Release lock) rest =
-    with_value (value_of thread.setting thread.privates lock) (λ l.
+    with_value thread lock (λ l.
     if_below l thread.setting.locks LockOutOfRange
     (if holds thread l then releases l (then_holds thread rest l false) else traps LockNotHeld))
 act_of thread Barrier rest = arrives (record thread { rest = rest; arrived = true })
 act_of thread (Print value) rest =
-    with_value (value_of thread.setting thread.privates value) (λ v. prints v (then_does thread rest))
-act_of thread (If' condition p then_block q else_block) rest =
-    with_value (value_of thread.setting thread.privates condition) (λ v.
-    quiet (then_does thread (chosen v (block then_block) (block else_block) ++ rest)))
+    with_value thread value (λ v. prints v (then_does thread rest))
+act_of thread (If' condition p first q second) rest =
+    with_value thread condition (λ v.
+    quiet (then_does thread (chosen v (block first ++ rest) (block second ++ rest))))
 act_of thread (While' condition p body) rest =
-    with_value (value_of thread.setting thread.privates condition) (λ v.
+    with_value thread condition (λ v.
     quiet (then_does thread (chosen v (block body ++ While' condition p body ∷ rest) rest)))
 
 -- the act of the first of these statements, and End where there is none
