@@ -6,7 +6,7 @@ use Rattle.lrc_lang.specs.declared.program.Statement.{Statement}
 use Rattle.lrc_lang.specs.declared.program.Statement.TheVariants.{Assign, Read, Write, Acquire, Release, Barrier, Print, If', While'}
 use Rattle.lrc_trace.specs.declared.act.Cause.{Cause}
 use Rattle.lrc_trace.specs.declared.act.Cause.TheVariants.{WordOutOfRange, LockHeld, LockNotHeld}
-use Rattle.lrc_exec.specs.Meaning.{Thread, Next, quiet, prints, reads, writes, acquires, releases, arrives, departs, traps, ends, value_of, with_value, if_below, holds, then_does, then_holds, act_of, first_act, next_of}
+use Rattle.lrc_exec.specs.Meaning.{Thread, Next, quiet, prints, reads, writes, acquires, releases, arrives, departs, traps, ends, value_in, or_trap, if_below, holds, then_does, then_holds, act_of, first_act, next_of}
 
 -- the thread after has the same setting, holds these locks, and has arrived or not
 pub record Leads (before after : Thread) (locks : List Bool) (waits : Bool) : Type 0 where
@@ -36,7 +36,7 @@ record Fine (t : Thread) (n : Next) : Type 0 where
   is : IsFine t n
 
 module _ (t : Thread) (free : t.arrived ≡ false) where
-  fine_value : (o : Option ℕ) (go : ℕ → Next) → ((v : ℕ) → Fine t (go v)) → Fine t (with_value o go)
+  fine_value : (o : Option ℕ) (go : ℕ → Next) → ((v : ℕ) → Fine t (go v)) → Fine t (or_trap o go)
   fine_value None go h = record { is = tt }
   fine_value (Some v) go h = h v
 
@@ -77,12 +77,12 @@ module _ (t : Thread) (free : t.arrived ≡ false) where
   fine_act : (s : Statement) (rest : List Statement) → Fine t (act_of t s rest)
   fine_act (Assign name value) rest = fine_value _ _ (λ v. quiet_fine _ refl refl refl)
   fine_act (Read name word) rest = fine_value _ _ (λ w. fine_below w t.setting.words _ _ (λ lt. reads_fine w _ lt (λ v. stays _ refl refl refl)))
-  fine_act (Write word value) rest = fine_value (value_of t.setting t.privates word) _ (λ w. fine_value (value_of t.setting t.privates value) _ (λ v. fine_below w t.setting.words WordOutOfRange _ (λ lt. writes_fine w v (then_does t rest) lt (stays _ refl refl refl))))
+  fine_act (Write word value) rest = fine_value (value_in t word) _ (λ w. fine_value (value_in t value) _ (λ v. fine_below w t.setting.words WordOutOfRange _ (λ lt. writes_fine w v (then_does t rest) lt (stays _ refl refl refl))))
   fine_act (Acquire lock) rest = fine_value _ _ (λ l. fine_below l t.setting.locks _ _ (λ lt. fine_untest (holds t l) LockHeld _ (λ e. acquires_fine l rest lt e)))
   fine_act (Release lock) rest = fine_value _ _ (λ l. fine_below l t.setting.locks _ _ (λ lt. fine_test (holds t l) LockNotHeld _ (λ e. releases_fine l rest lt e)))
   fine_act Barrier rest = record { is = (free, record { setting = refl; held = refl; arrived = refl }) }
   fine_act (Print value) rest = fine_value _ _ (λ v. prints_fine v _ refl refl refl)
-  fine_act (If' condition p a q b) rest = fine_value _ _ (λ v. quiet_fine _ refl refl refl)
+  fine_act (If' condition p first q second) rest = fine_value _ _ (λ v. quiet_fine _ refl refl refl)
   fine_act (While' condition p body) rest = fine_value _ _ (λ v. quiet_fine _ refl refl refl)
 
   fine_first : (rest : List Statement) → Fine t (first_act t rest)
