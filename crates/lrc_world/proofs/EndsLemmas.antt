@@ -1,6 +1,6 @@
 -- The ends of a run after one act more.
-use Rattle.std.proofs.Common.{◌≡◌, ◌≢◌, ℕ, zero, suc, ◌+◌, ◌<◌, ◌≤◌, List, [], ◌∷◌, ◌++◌, Bool, true, false, ◌⊎◌, inl, inr, length, map, get_or, take, sym, ◌∙◌, ap, refl, arith, cond, zero-add}
-use Rattle.std.specs.Prelude.{Option, Some, None, slice_set, slice_index_or, filter, ◌==◌, replicate}
+use Rattle.std.proofs.Common.{◌≡◌, ℕ, ◌+◌, ◌<◌, List, [], ◌∷◌, ◌++◌, Bool, inl, inr, length, get_or, take, sym, ◌∙◌, ap, refl, arith, cond, zero-add}
+use Rattle.std.specs.Prelude.{Option, Some, None, slice_set, filter, ◌==◌, replicate}
 use Rattle.std.specs.List.{last_or, range_with_len}
 use Rattle.std.proofs.lemmas.Bool.{cases_eq, eq-eqb, ne_eqb}
 use Rattle.std.proofs.lemmas.List.{same_lists, length-map, length-set, get_or-map, get_or-set_same, get_or-set_other, length-replicate, get_or-replicate, append-nil, take_more}
@@ -43,21 +43,22 @@ ends-push nodes acts a =
     let long = length-ends nodes (acts ++ a ∷ []) in
     let old = length-ends nodes acts in
     same_lists (ends_of nodes (acts ++ a ∷ [])) (slice_set (ends_of nodes acts) a.node (end_after a.deed)) (long ∙ sym (length-set (ends_of nodes acts) a.node (end_after a.deed) ∙ old)) (λ k d lt.
-        let within : k < nodes = omega arith in
-        let now = get_or-ends nodes (acts ++ a ∷ []) k d within in
-        elim (cases_eq k a.node) [
-          inl same ↦
-            let there : a.node < length (ends_of nodes acts) = omega arith in
-            now ∙ ap (λ n. end_of n (acts ++ a ∷ [])) same ∙ end_of-own acts a ∙ sym (ap (λ i. get_or (slice_set (ends_of nodes acts) a.node (end_after a.deed)) i d) same ∙ get_or-set_same (ends_of nodes acts) a.node (end_after a.deed) d there)
-          | inr other ↦ now ∙ end_of-other acts a k other ∙ sym (get_or-set_other (ends_of nodes acts) a.node k (end_after a.deed) d other ∙ get_or-ends nodes acts k d within) ])
+    let within : k < nodes = omega arith in
+    let now = get_or-ends nodes (acts ++ a ∷ []) k d within in
+    elim (cases_eq k a.node) [
+      | inl same ↦
+          let there : a.node < length (ends_of nodes acts) = omega arith in
+          now ∙ ap (λ n. end_of n (acts ++ a ∷ [])) same ∙ end_of-own acts a ∙ sym (ap (λ i. get_or (slice_set (ends_of nodes acts) a.node (end_after a.deed)) i d) same ∙ get_or-set_same (ends_of nodes acts) a.node (end_after a.deed) d there)
+      | inr other ↦ now ∙ end_of-other acts a k other ∙ sym (get_or-set_other (ends_of nodes acts) a.node k (end_after a.deed) d other ∙ get_or-ends nodes acts k d within)
+    ])
 
 -- before any act, none has ended
 pub ends-none : (nodes : ℕ) → ends_of nodes [] ≡ replicate nodes Unfinished
 ends-none nodes =
     let long = length-ends nodes [] in
     same_lists (ends_of nodes []) (replicate nodes Unfinished) (long ∙ sym (length-replicate {A = End} nodes Unfinished)) (λ k d lt.
-        let within : k < nodes = omega arith in
-        get_or-ends nodes [] k d within ∙ sym (get_or-replicate nodes k Unfinished d within))
+    let within : k < nodes = omega arith in
+    get_or-ends nodes [] k d within ∙ sym (get_or-replicate nodes k Unfinished d within))
 
 -- the step of a loop over the acts
 pub ends-more : (nodes : ℕ) (acts : List Act) (i : ℕ) (d : Act) (old new : List End) → i < length acts → old ≡ ends_of nodes (take i acts) → new ≡ slice_set old (get_or acts i d).node (end_after (get_or acts i d).deed) → new ≡ ends_of nodes (take (i + 1) acts)

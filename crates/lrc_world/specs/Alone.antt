@@ -1,9 +1,9 @@
 -- One node that runs a program alone: its thread, one memory, and the statements that it may still begin.
-use Rattle.std.specs.Prelude.{◌≡◌, ℕ, zero, suc, ◌==◌, if◌then◌else◌, Option, Some, None, List, [], ◌∷◌, option_and_then, replicate, slice_index, slice_set}
+use Rattle.std.specs.Prelude.{ℕ, zero, suc, ◌==◌, if◌then◌else◌, Bool, Option, Some, None, is_some, List, [], ◌∷◌, option_and_then, replicate, slice_index, slice_set}
 use Rattle.lrc_lang.specs.declared.program.Program.{Program}
 use Rattle.lrc_trace.specs.declared.act.Act.{Act}
 use Rattle.lrc_trace.specs.declared.act.Deed.{Deed}
-use Rattle.lrc_trace.specs.declared.act.Deed.TheVariants.{Quiet, Print, Read, Write, Acquire, Release, Arrive, Depart, Trap, End}
+use Rattle.lrc_trace.specs.declared.act.Deed.TheVariants.{Quiet, Print, Read, Write, Acquire, Release, Arrive, Trap, End}
 use Rattle.lrc_trace.specs.Run.{act_of}
 use Rattle.lrc_exec.specs.Meaning.{Thread, Next, quiet, prints, reads, writes, acquires, releases, arrives, departs, traps, ends, next_of}
 use Rattle.lrc_exec.specs.Plain.{start_of}
@@ -64,17 +64,21 @@ abbrev pub go_on : Option (Deed × Alone) → (Alone → Played) → Alone → P
 go_on None rest node = rest node
 go_on (Some (deed, after)) rest node = after_act deed (rest after)
 
--- The run of the events: one act for each event that names the node while it is ready. No other node and no message is
--- there, so every other event is skipped.
+-- What an event does: a turn where it names the node while it is ready. No other node and no message is there, so every
+-- other event is skipped.
+abbrev pub event_of : Event → Alone → Option (Deed × Alone)
+event_of (Run n) node = if n == 0 then turn_of node else None
+event_of (Deliver place) node = None
+
+-- the run of the events: one act for each that is not skipped
 abbrev pub played : List Event → Alone → Played
 played [] node = record { acts = []; node = node }
-played (Run n ∷ events) node = if n == 0 then go_on (turn_of node) (played events) node else played events node
-played (Deliver place ∷ events) node = played events node
+played (event ∷ events) node = go_on (event_of event node) (played events) node
 
 -- the run of the events of a program on one node
 abbrev pub run_of : Program → ℕ → List Event → Played
 run_of program steps events = played events (alone_at_start program steps)
 
--- whether the node goes on when it is named
-abbrev pub IsReady : Alone → Type 0
-IsReady node = (step : Deed × Alone) × (turn_of node ≡ Some step)
+-- whether the node would go on if it were named
+abbrev pub is_ready : Alone → Bool
+is_ready node = is_some (turn_of node)
