@@ -5,3 +5,5 @@ mod alone;
 pub mod ends;
 pub mod report;
 pub mod simulate;
+#[cfg(test)]
+mod tests;
