@@ -1,0 +1,3 @@
+pub mod Page
+pub mod Changes
+pub mod Mask
