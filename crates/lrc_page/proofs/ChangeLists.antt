@@ -1,18 +1,19 @@
 -- Lemmas on changes, for the crates above too.
-use Rattle.std.proofs.Common.{ℕ, zero, suc, ◌≡◌, ◌≢◌, ◌+◌, ◌-◌, ◌<◌, ◌≤◌, ◌⊎◌, ◌∙◌, ◌↔◌, Bool, true, false, not, cond, eqb, List, [], ◌∷◌, ◌++◌, length, map, get_or, set, take, Option, None, Some, refl, ap, subst, sym, inl, inr, ⊎_elim, arith, rules}
-use Rattle.std.specs.Prelude.{filter, unwrap_or, All, AllPairs, Contains}
+use Rattle.std.proofs.Common.{ℕ, zero, suc, ◌≡◌, ◌≢◌, ◌+◌, ◌-◌, ◌<◌, ◌≤◌, ◌⊎◌, ◌∙◌, ◌↔◌, Bool, true, false, not, cond, eqb, List, [], ◌∷◌, ◌++◌, length, map, get_or, set, take, Option, None, Some, refl, ap, subst, sym, inl, inr, ⊎_elim, arith}
+use Rattle.std.specs.Prelude.{filter, unwrap_or, All, Contains}
 use Rattle.std.specs.Option.{option_or, ForSome}
 use Rattle.std.specs.List.{enumerate_from}
-use Rattle.std.proofs.lemmas.Bool.{cases_lt, cases_eq, eqb-true, eqb-false, eq-eqb, ne_eqb, cases_Bool, not-true}
-use Rattle.std.proofs.lemmas.List.{length-map, length-set, length-take-le, take_more, map-append, append-nil, get_or-map, get_or_past, get_or-set_same, get_or-set_other}
-use Rattle.std.proofs.lemmas.List.Elements.{filter-append, All-filter, filter_passes, All-contains, Contains-get_or, All-head, All-tail}
+use Rattle.std.proofs.lemmas.Bool.{and_parts, and_from, cases_eq, eqb-true, eqb-false, eq-eqb, ne_eqb, not-true}
+use Rattle.std.proofs.lemmas.List.{length-map, length-set, length-take-le, take_more, map-append, append-nil, get_or-map, get_or-set_other}
+use Rattle.std.proofs.lemmas.List.Elements.{filter-append, All-filter, filter_passes, All-contains, All-head, All-tail}
 use Rattle.std.proofs.lemmas.List.FromFn.{length-enumerate_from, get_or-enumerate_from}
 use Rattle.std.proofs.lemmas.List.Kept.{AllPairs-filter}
 use Rattle.std.proofs.lemmas.List.Quantifiers.{all_pairs_push}
 use Rattle.std.proofs.lemmas.Grind.{get_or-set_at, same_number_lists}
 use Rattle.std.proofs.lemmas.Option.{cond_some, slice_get_within, get_or_from_slice_get, slice_get-get_or}
 use Rattle.lrc_page.specs.declared.changes.Change.{Change}
-use Rattle.lrc_page.specs.Changes.{every_word, changes_between, change_at, applied, last_change, IsAscending}
+use lib.Pointwise.{pointwise, pointwise_decides}
+use Rattle.lrc_page.specs.Changes.{same_change, every_word, changes_between, change_at, applied, last_change, IsAscending}
 
 -- a change
 abbrev pub change : ℕ → ℕ → Change
@@ -21,8 +22,22 @@ change offset value = record { offset = offset; value = value }
 abbrev as_change : ℕ × ℕ → Change
 as_change word = change word.0 word.1
 
-pub same_change : (c d : Change) → c.offset ≡ d.offset → c.value ≡ d.value → c ≡ d
-same_change c d offsets values = ap (λ n. change n c.value) offsets ∙ ap (λ v. change d.offset v) values
+pub same_parts : (c d : Change) → c.offset ≡ d.offset → c.value ≡ d.value → c ≡ d
+same_parts c d offsets values = ap (λ n. change n c.value) offsets ∙ ap (λ v. change d.offset v) values
+
+same_change-decides : (c d : Change) → (same_change c d ≡ true → c ≡ d) × (c ≡ d → same_change c d ≡ true)
+same_change-decides c d = (
+  (λ holds.
+      let parts = and_parts (eqb c.offset d.offset) (eqb c.value d.value) holds in
+      same_parts c d (eqb-true c.offset d.offset parts.0) (eqb-true c.value d.value parts.1)),
+  (λ equal.
+      and_from _ _ (eq-eqb c.offset d.offset (ap (λ (x : Change). x.offset) equal))
+      (eq-eqb c.value d.value (ap (λ (x : Change). x.value) equal))),
+)
+
+-- the test of two lists tells whether they are the same
+pub same_changes : (xs ys : List Change) → (pointwise same_change xs ys ≡ true → xs ≡ ys) × (xs ≡ ys → pointwise same_change xs ys ≡ true)
+same_changes = pointwise_decides same_change-decides
 
 -- ---- every word of a page
 
@@ -70,8 +85,10 @@ change_at-push xs c offset = change_at-append xs (c ∷ []) offset
 pub change_at-unnamed : (cs : List Change) (offset : ℕ) → All (λ c. c.offset ≢ offset) cs → change_at cs offset ≡ None
 change_at-unnamed [] offset others = refl
 change_at-unnamed (c ∷ cs) offset others =
-    rw (change_at-unnamed cs offset (All-tail (λ d. d.offset ≢ offset) c cs others),
-      ne_eqb c.offset offset (All-head (λ d. d.offset ≢ offset) c cs others)) refl
+    rw (
+      change_at-unnamed cs offset (All-tail (λ d. d.offset ≢ offset) c cs others),
+      ne_eqb c.offset offset (All-head (λ d. d.offset ≢ offset) c cs others),
+    ) refl
 
 contains-first : (c : Change) (cs : List Change) (d : Change) → c ≡ d → Contains (c ∷ cs) d
 contains-first c cs d same = (0, omega arith, same)
@@ -93,13 +110,13 @@ pub contains-change_at : (cs : List Change) (offset value : ℕ) → change_at c
 contains-change_at [] offset value given = absurd (cc)
 contains-change_at (c ∷ cs) offset value given =
     ⊎_elim
-      (λ (later : change_at cs offset ≡ Some value).
-        contains-later c cs (change offset value) (contains-change_at cs offset value later))
-      (λ (first : (change_at cs offset ≡ None) × (here c offset ≡ Some value)).
-        let parts = cond_some (eqb c.offset offset) c.value value first.1 in
-        let same : c.offset ≡ offset = eqb-true c.offset offset parts.0 in
-        contains-first c cs (change offset value) (same_change c (change offset value) same parts.1))
-      (option_or-some (change_at cs offset) (here c offset) value given)
+    (λ (later : change_at cs offset ≡ Some value).
+    contains-later c cs (change offset value) (contains-change_at cs offset value later))
+    (λ (first : (change_at cs offset ≡ None) × (here c offset ≡ Some value)).
+    let parts = cond_some (eqb c.offset offset) c.value value first.1 in
+    let same : c.offset ≡ offset = eqb-true c.offset offset parts.0 in
+    contains-first c cs (change offset value) (same_parts c (change offset value) same parts.1))
+    (option_or-some (change_at cs offset) (here c offset) value given)
 
 -- an offset that only changes with one value name
 pub change_at-named : (cs : List Change) (offset value : ℕ)
@@ -110,13 +127,13 @@ change_at-named (c ∷ cs) offset value only (zero, within, same) =
     let named : c.offset ≡ offset = ap (λ (d : Change). d.offset) same in
     let given : c.value ≡ value = ap (λ (d : Change). d.value) same in
     ⊎_elim
-      (λ (unnamed : change_at cs offset ≡ None). rw (unnamed, eq-eqb c.offset offset named) (ap Some given))
-      (λ (later : (v : ℕ) × (change_at cs offset ≡ Some v)).
-        let member : Contains cs (change offset later.0) = contains-change_at cs offset later.0 later.1 in
-        let others = All-tail (λ (d : Change). d.offset ≡ offset → d.value ≡ value) c cs only in
-        let agrees = All-contains (λ (d : Change). d.offset ≡ offset → d.value ≡ value) cs (change offset later.0) others member refl in
-        rw later.1 (ap Some agrees))
-      (option_cases (change_at cs offset))
+    (λ (unnamed : change_at cs offset ≡ None). rw (unnamed, eq-eqb c.offset offset named) (ap Some given))
+    (λ (later : (v : ℕ) × (change_at cs offset ≡ Some v)).
+    let member : Contains cs (change offset later.0) = contains-change_at cs offset later.0 later.1 in
+    let others = All-tail (λ (d : Change). d.offset ≡ offset → d.value ≡ value) c cs only in
+    let agrees = All-contains (λ (d : Change). d.offset ≡ offset → d.value ≡ value) cs (change offset later.0) others member refl in
+    rw later.1 (ap Some agrees))
+    (option_cases (change_at cs offset))
 change_at-named (c ∷ cs) offset value only (suc k, within, same) =
     let others = All-tail (λ (d : Change). d.offset ≡ offset → d.value ≡ value) c cs only in
     rw (change_at-named cs offset value others (k, omega (arith, within), same)) refl
@@ -130,7 +147,7 @@ pub get_or-applied : (page : List ℕ) (cs : List Change) (offset : ℕ) → off
     → get_or (applied page cs) offset 0 ≡ unwrap_or (change_at cs offset) (get_or page offset 0)
 get_or-applied page cs offset within =
     get_or-map (λ (c : Change). unwrap_or (change_at cs c.offset) c.value) (every_word page) offset (change 0 0) 0
-      (omega (arith, length-every_word page))
+    (omega (arith, length-every_word page))
     ∙ ap (λ (c : Change). unwrap_or (change_at cs c.offset) c.value) (get_or-every_word page offset (change 0 0) within)
 
 pub applied-nil : (page : List ℕ) → applied page [] ≡ page
@@ -147,27 +164,27 @@ applied-append page xs ys =
     same_number_lists _ _
     (length-applied page (xs ++ ys) ∙ sym (length-applied (applied page xs) ys ∙ long))
     (λ k h.
-      let within : k < length page = omega (arith, length-applied page (xs ++ ys)) in
-      get_or-applied page (xs ++ ys) k within
-      ∙ ap (λ o. unwrap_or o (get_or page k 0)) (change_at-append xs ys k)
-      ∙ unwrap_or-option_or (change_at ys k) (change_at xs k) (get_or page k 0)
-      ∙ ap (λ v. unwrap_or (change_at ys k) v) (sym (get_or-applied page xs k within))
-      ∙ sym (get_or-applied (applied page xs) ys k (omega arith)))
+    let within : k < length page = omega (arith, length-applied page (xs ++ ys)) in
+    get_or-applied page (xs ++ ys) k within
+    ∙ ap (λ o. unwrap_or o (get_or page k 0)) (change_at-append xs ys k)
+    ∙ unwrap_or-option_or (change_at ys k) (change_at xs k) (get_or page k 0)
+    ∙ ap (λ v. unwrap_or (change_at ys k) v) (sym (get_or-applied page xs k within))
+    ∙ sym (get_or-applied (applied page xs) ys k (omega arith)))
 
 -- to apply one change is to write it
 pub applied-one : (page : List ℕ) (c : Change) → applied page (c ∷ []) ≡ set page c.offset c.value
 applied-one page c =
     same_number_lists _ _ (length-applied page (c ∷ []) ∙ sym (length-set page c.offset c.value))
     (λ k h.
-      let within : k < length page = omega (arith, length-applied page (c ∷ [])) in
-      get_or-applied page (c ∷ []) k within
-      ∙ ⊎_elim
-          (λ (same : c.offset ≡ k).
-            let at_k : get_or (set page c.offset c.value) k 0 ≡ c.value = get_or-set_at page c.offset k c.value 0 (sym same) (omega arith) in
-            rw (eq-eqb c.offset k same) (sym at_k))
-          (λ (other : c.offset ≡ k → ⊥).
-            rw (ne_eqb c.offset k other) (sym (get_or-set_other page c.offset k c.value 0 (λ e. other (sym e)))))
-          (cases_eq c.offset k))
+    let within : k < length page = omega (arith, length-applied page (c ∷ [])) in
+    get_or-applied page (c ∷ []) k within
+    ∙ ⊎_elim
+    (λ (same : c.offset ≡ k).
+    let at_k : get_or (set page c.offset c.value) k 0 ≡ c.value = get_or-set_at page c.offset k c.value 0 (sym same) (omega arith) in
+    rw (eq-eqb c.offset k same) (sym at_k))
+    (λ (other : c.offset ≡ k → ⊥).
+    rw (ne_eqb c.offset k other) (sym (get_or-set_other page c.offset k c.value 0 (λ e. other (sym e)))))
+    (cases_eq c.offset k))
 
 -- to apply one change more is to write it too
 pub applied-push : (page : List ℕ) (cs : List Change) (c : Change)
@@ -199,7 +216,7 @@ contains-filter p (x ∷ xs) c passes (zero, within, same) =
 contains-filter p (x ∷ xs) c passes (suc k, within, same) =
     let later : Contains (filter p xs) c = contains-filter p xs c passes (k, omega (arith, within), same) in
     elim (p x) as (λ b. Contains (cond b (x ∷ filter p xs) (filter p xs)) c)
-      [ true ↦ contains-later x (filter p xs) c later | false ↦ later ]
+    [ true ↦ contains-later x (filter p xs) c later | false ↦ later ]
 
 -- a change to a word has the page's value there
 abbrev IsOf : List ℕ → Change → Type 0
@@ -236,8 +253,8 @@ pub change_at-between_same : (twin page : List ℕ) (offset : ℕ) → get_or tw
 change_at-between_same twin page offset same =
     change_at-unnamed (changes_between twin page) offset
     (λ k d h named.
-      let facts = each-between twin page k d h in
-      facts.2 (ap (λ n. get_or twin n 0) named ∙ same ∙ ap (λ n. get_or page n 0) (sym named) ∙ sym facts.1))
+    let facts = each-between twin page k d h in
+    facts.2 (ap (λ n. get_or twin n 0) named ∙ same ∙ ap (λ n. get_or page n 0) (sym named) ∙ sym facts.1))
 
 -- they give the page's value where the two differ
 pub change_at-between_differs : (twin page : List ℕ) (offset : ℕ) → offset < length page
@@ -247,32 +264,33 @@ change_at-between_differs twin page offset within differ =
     change_at-named (changes_between twin page) offset (get_or page offset 0)
     (λ k d h named. let facts = each-between twin page k d h in facts.1 ∙ ap (λ n. get_or page n 0) named)
     (contains-filter (differs twin) (every_word page) (change offset (get_or page offset 0))
-      (ap not (ne_eqb _ _ differ)) (contains-every_word page offset within))
+    (ap not (ne_eqb _ _ differ)) (contains-every_word page offset within))
 
 -- they turn the twin into the page
 pub applied-between : (twin page : List ℕ) → length twin ≡ length page → applied twin (changes_between twin page) ≡ page
 applied-between twin page long =
     same_number_lists _ _ (length-applied twin (changes_between twin page) ∙ long)
     (λ k h.
-      let within : k < length twin = omega (arith, length-applied twin (changes_between twin page)) in
-      get_or-applied twin (changes_between twin page) k within
-      ∙ ⊎_elim
-          (λ (same : get_or twin k 0 ≡ get_or page k 0). rw (change_at-between_same twin page k same) same)
-          (λ (differ : get_or twin k 0 ≡ get_or page k 0 → ⊥).
-            rw (change_at-between_differs twin page k (omega arith) differ) refl)
-          (cases_eq (get_or twin k 0) (get_or page k 0)))
+    let within : k < length twin = omega (arith, length-applied twin (changes_between twin page)) in
+    get_or-applied twin (changes_between twin page) k within
+    ∙ ⊎_elim
+    (λ (same : get_or twin k 0 ≡ get_or page k 0). rw (change_at-between_same twin page k same) same)
+    (λ (differ : get_or twin k 0 ≡ get_or page k 0 → ⊥).
+    rw (change_at-between_differs twin page k (omega arith) differ) refl)
+    (cases_eq (get_or twin k 0) (get_or page k 0)))
 
 -- they are the differences, and nothing else
 pub contains-between : (twin page : List ℕ) (offset value : ℕ)
     → Contains (changes_between twin page) (change offset value)
     ↔ ((offset < length page) × (get_or page offset 0 ≡ value) × (get_or twin offset 0 ≢ value))
 contains-between twin page offset value = (
-    (λ member.
+  (λ member.
       let facts = All-contains (IsDifference twin page) (changes_between twin page) (change offset value) (each-between twin page) member in
       (facts.0, sym facts.1, facts.2)),
-    (λ facts.
+  (λ facts.
       contains-filter (differs twin) (every_word page) (change offset value) (ap not (ne_eqb _ _ facts.2))
-      (rw (← facts.1) (contains-every_word page offset facts.0))))
+      (rw (← facts.1) (contains-every_word page offset facts.0))),
+)
 
 -- ---- the changes found so far
 
@@ -303,7 +321,7 @@ changes_between-more twin page i within =
     ap (changes_between twin) (take_more page i 0 within)
     ∙ changes_between-push twin (take i page) (get_or page i 0)
     ∙ ap (λ n. changes_between twin (take i page) ++ filter (differs twin) (change n (get_or page i 0) ∷ []))
-      (length-take-le i page (omega arith))
+    (length-take-le i page (omega arith))
 
 -- one word more, where twin and page agree
 pub changes_between-more_same : (twin page : List ℕ) (i : ℕ) → i < length page → get_or twin i 0 ≡ get_or page i 0
@@ -339,11 +357,11 @@ all_below cs offset ascends below k d h =
     let last = get_or cs (length cs - 1) d in
     let last_is : last.offset < offset = below last (slice_get-get_or cs (length cs - 1) d (omega arith)) in
     ⊎_elim
-      (λ (here_last : k ≡ length cs - 1). rw here_last last_is)
-      (λ (earlier : k ≡ length cs - 1 → ⊥).
-        let less : (get_or cs k d).offset < last.offset = ascends k (length cs - 1) d (omega arith) (omega arith) in
-        omega arith)
-      (cases_eq k (length cs - 1))
+    (λ (here_last : k ≡ length cs - 1). rw here_last last_is)
+    (λ (earlier : k ≡ length cs - 1 → ⊥).
+    let less : (get_or cs k d).offset < last.offset = ascends k (length cs - 1) d (omega arith) (omega arith) in
+    omega arith)
+    (cases_eq k (length cs - 1))
 
 pub ascending-push : (cs : List Change) (offset value : ℕ) → IsAscending cs
     → ForSome (last_change cs) (λ c. c.offset < offset) → IsAscending (cs ++ change offset value ∷ [])

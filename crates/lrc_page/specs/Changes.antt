@@ -1,8 +1,13 @@
 -- Changes: what a page has that its twin has not, as offsets with values.
-use Rattle.std.specs.Prelude.{ℕ, ◌-◌, ◌<◌, ◌==◌, not, if◌then◌else◌, List, [], ◌∷◌, length, map, filter, Option, None, Some, unwrap_or, slice_index, slice_get, AllPairs}
+use Rattle.std.specs.Prelude.{ℕ, ◌-◌, ◌<◌, ◌==◌, Bool, not, if◌then◌else◌, List, [], ◌∷◌, length, map, filter, Option, None, Some, unwrap_or, slice_index, slice_get, AllPairs}
+use Rattle.std.specs.Ordering.{on, eq_of_both}
 use Rattle.std.specs.Option.{option_or}
 use Rattle.std.specs.List.{enumerate_from}
 use Rattle.lrc_page.specs.declared.changes.Change.{Change}
+
+-- two changes are the same, as a test
+abbrev pub same_change : Change → Change → Bool
+same_change = eq_of_both (on (λ c. c.offset) ◌==◌) (on (λ c. c.value) ◌==◌)
 
 -- a change of every word, to the value that the page has
 abbrev pub every_word : List ℕ → List Change

@@ -1,6 +1,9 @@
 ghost use Rattle.std.specs.Prelude.{◌≡◌, ◌<◌, ◌↔◌, IsTrue, IfOk, OnOk, OnErr, [], ◌∷◌, ◌++◌, length, slice_get};
 ghost use Rattle.std.specs.Option.{ForSome};
-ghost use Rattle.lrc_page.specs.Changes.{last_change, applied, changes_between};
+ghost use Rattle.std.specs.Cmp.Rules.{comparing};
+ghost use Rattle.std.proofs.Common.{rules};
+ghost use lib.Pointwise.{pointwise};
+ghost use Rattle.lrc_page.specs.Changes.{same_change, last_change, applied, changes_between};
 
 use crate::{PAGE_WORDS, Page};
 use std::alloc::{AllocError, Global};
@@ -31,6 +34,23 @@ impl Model for Changes {
 
     ghost invariant = { λ changes. (IsAscending changes.list.items)
         × (All (λ c. c.offset < PAGE_WORDS) changes.list.items) };
+}
+
+impl PartialEq for Changes {
+    ghost eq = { pointwise same_change };
+
+    ghost laws = { Prim.search (comparing, rules) };
+
+    fn eq(&self, other: &Changes) -> bool
+        ensures eq { result ≡ pointwise same_change self.now other.now }
+        ensures same { IsTrue result ↔ (self.now ≡ other.now) }
+    {
+        self.list.as_slice() == other.list.as_slice()
+    }
+}
+
+impl Eq for Changes {
+    ghost laws = { Prim.search (comparing, rules) };
 }
 
 impl Changes {

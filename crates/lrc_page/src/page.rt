@@ -44,7 +44,8 @@ impl Page {
         requires { offset < PAGE_WORDS }
         ensures { self.new ≡ slice_set self.old offset value }
     {
-        self.words[usize::from(offset)] = value;
+        let place = usize::from(offset);
+        self.words[place] = value;
     }
 
     pub(crate) fn words(&self) -> &[u64; PAGE_WORDS]

@@ -1,4 +1,4 @@
-use Rattle.std.proofs.Common.{◌≡◌, ◌≤◌, ◌∙◌, ◌++◌, ◌∷◌, [], ap, length, take, get_or, arith}
+use Rattle.std.proofs.Common.{◌≡◌, ◌∙◌, ◌++◌, ◌∷◌, [], ap, length, take, get_or, arith}
 use Rattle.std.proofs.lemmas.List.{take_all}
 use Rattle.lrc_page.specs.Changes.{applied, changes_between}
 use Rattle.lrc_page.proofs.ChangeLists.{change, applied-between, changes_between-more_same, changes_between-more_differs, last_between_below}
@@ -16,7 +16,7 @@ loop-offset-preserved c =
     let new = c.words-new.result.now in
     let i = c.loop-offset.offset in
     elim c.if-old-offset.branch [
-      then-old-offset+in_ok-push w ↦
+      | then-old-offset+in_ok-push w ↦
           rw (changes_between-more_differs old new i (omega arith) w.if-old-offset.true)
           (w.changes-is ∙ w.in_ok-push.ensures.ok ∙ ap (λ found. found ++ change i (get_or new i 0) ∷ []) c.loop-offset.invariant)
       | else-old-offset w ↦
