@@ -1,3 +1,4 @@
 pub mod Page
+pub mod Place
 pub mod Changes
 pub mod Mask

@@ -6,12 +6,14 @@ mod changes;
 pub mod laws;
 mod mask;
 mod page;
+mod place;
 #[cfg(test)]
 mod tests;
 
 pub use changes::{Change, Changes};
 pub use mask::Mask;
 pub use page::Page;
+pub use place::{MOST_WORDS, offset_of, page_of, pages_of};
 
 /// How many words a page has.
 pub const PAGE_WORDS: usize = 64;
