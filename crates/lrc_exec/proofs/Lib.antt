@@ -1,2 +1,5 @@
 pub mod Flat
+pub mod NextLaws
+pub mod PlainLaws
+pub mod PlainParts
 pub mod Running
