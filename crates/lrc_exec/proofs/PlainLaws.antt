@@ -1,8 +1,8 @@
 -- Laws of the plain machine: an order may be cut anywhere, and each entry makes one act.
-use Rattle.std.proofs.Common.{◌≡◌, ℕ, zero, suc, ◌+◌, ◌-◌, ◌<◌, ◌≤◌, Bool, true, false, List, [], ◌∷◌, ◌++◌, length, get_or, take, drop, set, Option, Some, None, refl, sym, ap, ◌∙◌, subst, ⊎_elim, arith, length-set}
+use Rattle.std.proofs.Common.{◌≡◌, ℕ, zero, suc, ◌+◌, ◌-◌, ◌<◌, ◌≤◌, Bool, true, false, List, [], ◌∷◌, ◌++◌, length, get_or, take, drop, set, replicate, Option, Some, None, refl, sym, ap, ◌∙◌, subst, ⊎_elim, arith, length-set}
 use Rattle.std.specs.Prelude.{option_map, option_and_then, map, slice_index, if◌then◌else◌}
 use Rattle.std.proofs.lemmas.Bool.{cases_lt}
-use Rattle.std.proofs.lemmas.List.{append-nil, take-append-drop, get_or-set_same, get_or-set_other}
+use Rattle.std.proofs.lemmas.List.{length-map}
 use Rattle.lrc_lang.specs.declared.program.Program.{Program}
 use Rattle.lrc_trace.specs.declared.act.Act.{Act}
 use Rattle.lrc_trace.specs.declared.act.Deed.{Deed}
@@ -95,3 +95,83 @@ step_grows machine node (Some thread) s e = deed_grows machine node (next_of thr
 
 pub plain_step-grows : (machine : Plain) (node : ℕ) (s : Deed × Plain) → plain_step machine node ≡ Some s → Grows machine s.1
 plain_step-grows machine node s e = step_grows machine node (thread_in machine node) s e
+
+-- the parts of a run that is not empty
+some_before : (act : Act) (o : Option (List Act × Plain)) (run : List Act × Plain) → option_map (before act) o ≡ Some run → (more : List Act × Plain) × (o ≡ Some more) × (run ≡ before act more)
+some_before act None run e = cc
+some_before act (Some more) run e = (more, refl, (let same : run ≡ before act more = cc in same))
+
+pub record Begins (machine : Plain) (node : ℕ) (order : List ℕ) (run : List Act × Plain) : Type 0 where
+  pub step : Deed × Plain
+  pub more : List Act × Plain
+  pub step_is : plain_step machine node ≡ Some step
+  pub more_is : plain_from step.1 order ≡ Some more
+  pub run_is : run ≡ (record { node = node; deed = step.0 } ∷ more.0, more.1)
+
+begins : (machine : Plain) (node : ℕ) (order : List ℕ) (o : Option (Deed × Plain)) (run : List Act × Plain) → plain_step machine node ≡ o → option_and_then (λ step. option_map (before (record { node = node; deed = step.0 })) (plain_from step.1 order)) o ≡ Some run → Begins machine node order run
+begins machine node order None run is e = cc
+begins machine node order (Some step) run is e =
+    let h = some_before (record { node = node; deed = step.0 }) (plain_from step.1 order) run e in
+    record { step = step; more = h.0; step_is = is; more_is = h.1; run_is = h.2 }
+
+pub plain_from-begins : (machine : Plain) (node : ℕ) (order : List ℕ) (run : List Act × Plain) → plain_from machine (node ∷ order) ≡ Some run → Begins machine node order run
+plain_from-begins machine node order run e = begins machine node order (plain_step machine node) run refl e
+
+-- each entry of the order makes the act of its node
+pub plain_from-nodes : (machine : Plain) (order : List ℕ) (run : List Act × Plain) → plain_from machine order ≡ Some run → map (λ (act : Act). act.node) run.0 ≡ order
+plain_from-nodes machine [] run e = let is : ([], machine) ≡ run = cc in sym (ap (λ (r : List Act × Plain). map (λ (act : Act). act.node) r.0) is)
+plain_from-nodes machine (node ∷ order) run e =
+    let h = plain_from-begins machine node order run e in
+    ap (λ (r : List Act × Plain). map (λ (act : Act). act.node) r.0) h.run_is ∙ ap (λ l. node ∷ l) (plain_from-nodes h.step.1 order h.more h.more_is)
+
+pub plain_from-length : (machine : Plain) (order : List ℕ) (run : List Act × Plain) → plain_from machine order ≡ Some run → length run.0 ≡ length order
+plain_from-length machine order run e =
+    sym (length-map run.0 (λ (act : Act). act.node)) ∙ ap length (plain_from-nodes machine order run e)
+
+-- the acts for an order cut short are the acts cut short
+pub plain_from-take : (machine : Plain) (order : List ℕ) (cut : ℕ) (run : List Act × Plain) → plain_from machine order ≡ Some run → (mid : Plain) × (plain_from machine (take cut order) ≡ Some (take cut run.0, mid))
+plain_from-take machine order zero run e = (machine, refl)
+plain_from-take machine [] (suc cut) run e = let is : ([], machine) ≡ run = cc in (machine, ap (λ (r : List Act × Plain). Some (take (suc cut) r.0, machine)) is)
+plain_from-take machine (node ∷ order) (suc cut) run e =
+    let h = plain_from-begins machine node order run e in
+    let rest = plain_from-take h.step.1 order cut h.more h.more_is in
+    let act : Act = record { node = node; deed = h.step.0 } in (
+      rest.0,
+      ap (λ o. option_and_then (λ s. option_map (before (record { node = node; deed = s.0 })) (plain_from s.1 (take cut order))) o) h.step_is
+          ∙ ap (option_map (before act)) rest.1
+          ∙ ap (λ (r : List Act × Plain). Some (take (suc cut) r.0, rest.0)) (sym h.run_is),
+    )
+
+first_of_run : (o : Option (List Act × Plain)) (acts : List Act) → option_map (λ run. run.0) o ≡ Some acts → (run : List Act × Plain) × (o ≡ Some run) × (run.0 ≡ acts)
+first_of_run None acts e = cc
+first_of_run (Some run) acts e = (run, refl, (let is : run.0 ≡ acts = cc in is))
+
+pub plain-run : (program : Program) (nodes : ℕ) (order : List ℕ) (acts : List Act) → plain program nodes order ≡ Some acts → (run : List Act × Plain) × (plain_from (plain_start program nodes) order ≡ Some run) × (run.0 ≡ acts)
+plain-run program nodes order acts e = first_of_run (plain_from (plain_start program nodes) order) acts e
+
+pub plain-take : (program : Program) (nodes cut : ℕ) (order : List ℕ) (acts : List Act) → plain program nodes order ≡ Some acts → plain program nodes (take cut order) ≡ Some (take cut acts)
+plain-take program nodes cut order acts e =
+    let h = plain-run program nodes order acts e in
+    let t = plain_from-take (plain_start program nodes) order cut h.0 h.1 in
+    ap (option_map (λ run. run.0)) t.1 ∙ ap (λ a. Some (take cut a)) h.2
+
+pub plain-nodes : (program : Program) (nodes : ℕ) (order : List ℕ) (acts : List Act) → plain program nodes order ≡ Some acts → map (λ (act : Act). act.node) acts ≡ order
+plain-nodes program nodes order acts e =
+    let h = plain-run program nodes order acts e in
+    ap (map (λ (act : Act). act.node)) (sym h.2) ∙ plain_from-nodes (plain_start program nodes) order h.0 h.1
+
+-- zeros are few
+pub no_arrivals : (n k : ℕ) → slice_index (replicate n 0) k ≤ 0
+no_arrivals zero k = omega arith
+no_arrivals (suc n) zero = omega arith
+no_arrivals (suc n) (suc k) = no_arrivals n k
+
+-- no count of arrivals rises by more than one for each act
+pub plain_from-arrivals : (machine : Plain) (order : List ℕ) (run : List Act × Plain) → plain_from machine order ≡ Some run → (k : ℕ) → slice_index run.1.arrivals k ≤ slice_index machine.arrivals k + length run.0
+plain_from-arrivals machine [] run e k = let is : ([], machine) ≡ run = cc in subst (λ (r : List Act × Plain). slice_index r.1.arrivals k ≤ slice_index machine.arrivals k + length r.0) is (omega arith)
+plain_from-arrivals machine (node ∷ order) run e k =
+    let h = plain_from-begins machine node order run e in
+    let grows = plain_step-grows machine node h.step h.step_is in
+    let more = plain_from-arrivals h.step.1 order h.more h.more_is k in
+    subst (λ (r : List Act × Plain). slice_index r.1.arrivals k ≤ slice_index machine.arrivals k + length r.0) (sym h.run_is)
+    (omega (arith, grows.arrivals k, more))

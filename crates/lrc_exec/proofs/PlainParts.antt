@@ -52,8 +52,8 @@ pub node_within : (m : Inside) (machine : Plain) (node : ℕ) → plain_of m ≡
 node_within m machine node view some =
     ⊎_elim (λ inside. inside)
     (λ past.
-      let long : length (map runner_thread m.runners.items) ≤ node = omega (arith, length-map m.runners.items runner_thread) in
-      absurd (none_is_no (subst IsSome (ap (λ M. thread_in M node) (sym view) ∙ get_or_past (map runner_thread m.runners.items) node None long) some)))
+    let long : length (map runner_thread m.runners.items) ≤ node = omega (arith, length-map m.runners.items runner_thread) in
+    absurd (none_is_no (subst IsSome (ap (λ M. thread_in M node) (sym view) ∙ get_or_past (map runner_thread m.runners.items) node None long) some)))
     (cases_lt node (length m.runners.items))
 
 module _ (m : Inside) (machine : Plain) (node : ℕ) (d : Runner) (view : plain_of m ≡ machine) where
@@ -79,8 +79,8 @@ module _ (m : Inside) (machine : Plain) (node : ℕ) (d : Runner) (view : plain_
         few = omega (arith, plain.few);
         counts = plain.counts ∙ sym same;
         runners =
-          let wide : All (λ (r : Runner). IsRunner m r) (set m.runners.items node x) = All-set (IsRunner m) m.runners.items node x runner plain.runners in
-          λ k r inside. let h = wide k r inside in record { not_arrived = h.not_arrived; words = h.words; locks = h.locks };
+            let wide : All (λ (r : Runner). IsRunner m r) (set m.runners.items node x) = All-set (IsRunner m) m.runners.items node x runner plain.runners in
+            λ k r inside. let h = wide k r inside in record { not_arrived = h.not_arrived; words = h.words; locks = h.locks };
       }
 
   -- the thread at no barrier is that of the runner's code
@@ -155,9 +155,9 @@ pub setting_after : (old machine : Plain) (m : Inside) (node : ℕ) (value : ℕ
 setting_after old machine m node value arrived thread is after view plain =
     let within = thread_within old node thread is in
     let now : thread_in machine node ≡ Some (resumed value arrived thread) =
-        ap (λ (M : Plain). thread_in M node) after
-        ∙ get_or-set_same old.threads node (option_map (resumed value arrived) (thread_in old node)) None within
-        ∙ ap (option_map (resumed value arrived)) is in
+    ap (λ (M : Plain). thread_in M node) after
+    ∙ get_or-set_same old.threads node (option_map (resumed value arrived) (thread_in old node)) None within
+    ∙ ap (option_map (resumed value arrived)) is in
     let h = setting_at m machine node view plain (resumed value arrived thread) now in
     let same = sym (setting-answered value thread) in
     (ap (λ (s : Setting). s.words) same ∙ h.0, ap (λ (s : Setting). s.locks) same ∙ h.1, h.2)

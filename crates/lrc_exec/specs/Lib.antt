@@ -4,4 +4,5 @@ pub mod Meaning
 pub mod Plain
 pub mod PlainCode
 pub mod Rounds
+pub mod RoundsCode
 pub mod Running

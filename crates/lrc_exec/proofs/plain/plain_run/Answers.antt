@@ -9,15 +9,9 @@ use Rattle.lrc_lang.specs.declared.program.Program.{Program}
 use Rattle.lrc_trace.specs.declared.act.Act.{Act}
 use Rattle.lrc_trace.specs.declared.act.Deed.{Deed}
 use Rattle.lrc_exec.specs.Plain.{Plain, start_of, plain_start, plain_step, plain_from, plain}
-use Rattle.lrc_exec.proofs.PlainLaws.{plain_from-last, plain_from-stuck, plain_step-grows}
+use Rattle.lrc_exec.proofs.PlainLaws.{no_arrivals, plain_from-last, plain_from-stuck, plain_step-grows}
 use Rattle.lrc_exec.proofs.plain.plain_run.Invariants.{HasCome}
 use Rattle.lrc_exec.proofs.plain.plain_run.Goals as goal
-
--- zeros are few
-no_arrivals : (n k : ℕ) → slice_index (replicate n 0) k ≤ 0
-no_arrivals zero k = omega arith
-no_arrivals (suc n) zero = omega arith
-no_arrivals (suc n) (suc k) = no_arrivals n k
 
 -- at the beginning
 has_begun : (program : Program) (nodes : ℕ) (order : List ℕ) (acts : List Act) (machine : Plain) → acts ≡ [] → machine ≡ plain_start program nodes → HasCome (plain_start program nodes) order nodes 0 acts machine
@@ -34,9 +28,9 @@ goes_on start order nodes index acts acts' machine after deed inside come step a
     let grows = plain_step-grows machine (get_or order index 0) (deed, after) step in
     record {
       acts_are =
-        ap (plain_from start) (take_more order index 0 inside)
-        ∙ plain_from-last start machine after (take index order) acts (get_or order index 0) deed come.acts_are step
-        ∙ ap (λ a. Some (a, after)) (sym acts_are);
+          ap (plain_from start) (take_more order index 0 inside)
+          ∙ plain_from-last start machine after (take index order) acts (get_or order index 0) deed come.acts_are step
+          ∙ ap (λ a. Some (a, after)) (sym acts_are);
       all_nodes = grows.threads ∙ come.all_nodes;
       few_arrivals = λ k. omega (arith, grows.arrivals k, come.few_arrivals k);
     }
@@ -51,7 +45,7 @@ is_stuck program order nodes index acts machine inside come none =
     let start = plain_start program nodes in
     let node = get_or order index 0 in
     let parts : take index order ++ node ∷ drop (suc index) order ≡ order =
-        ap (λ l. take index order ++ l) (sym (drop-cons order index 0 inside)) ∙ take-append-drop index order in
+    ap (λ l. take index order ++ l) (sym (drop-cons order index 0 inside)) ∙ take-append-drop index order in
     sym (ap (λ l. option_map (λ run. run.0) (plain_from start l)) (sym parts)
     ∙ ap (option_map (λ run. run.0)) (plain_from-stuck start machine (take index order) (drop (suc index) order) acts node come.acts_are (stuck_step (plain_step machine node) none)))
 
