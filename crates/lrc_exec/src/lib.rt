@@ -4,6 +4,8 @@
 pub mod code;
 mod emit;
 pub mod machine;
+pub mod plain;
+pub mod rounds;
 #[cfg(test)]
 mod tests;
 mod value;
