@@ -175,3 +175,12 @@ plain_from-arrivals machine (node ∷ order) run e k =
     let more = plain_from-arrivals h.step.1 order h.more h.more_is k in
     subst (λ (r : List Act × Plain). slice_index r.1.arrivals k ≤ slice_index machine.arrivals k + length r.0) (sym h.run_is)
     (omega (arith, grows.arrivals k, more))
+
+acts_after : (acts : List Act) (o : Option (List Act × Plain)) → option_map (λ (run : List Act × Plain). run.0) (option_map (λ (more : List Act × Plain). (acts ++ more.0, more.1)) o) ≡ option_map (λ (more : List Act × Plain). acts ++ more.0) o
+acts_after acts None = refl
+acts_after acts (Some more) = refl
+
+pub plain-append : (program : Program) (nodes : ℕ) (first second : List ℕ) (acts : List Act) (machine : Plain) → plain_from (plain_start program nodes) first ≡ Some (acts, machine) → plain program nodes (first ++ second) ≡ option_map (λ more. acts ++ more.0) (plain_from machine second)
+plain-append program nodes first second acts machine made =
+    ap (option_map (λ run. run.0)) (plain_from-append (plain_start program nodes) first second ∙ ap (λ run. then_from run second) made)
+    ∙ acts_after acts (plain_from machine second)

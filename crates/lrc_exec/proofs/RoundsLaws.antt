@@ -1,8 +1,8 @@
 -- Laws of the rounds: one node more, and why they end.
-use Rattle.std.proofs.Common.{◌≡◌, ℕ, zero, suc, ◌+◌, ◌-◌, ◌*◌, ◌<◌, ◌≤◌, Bool, true, false, List, [], ◌∷◌, ◌++◌, length, get_or, set, Option, Some, None, refl, sym, ap, ◌∙◌, subst, arith, add-zero, append_assoc, length-append, length-set}
+use Rattle.std.proofs.Common.{◌≡◌, ℕ, zero, suc, ◌+◌, ◌-◌, ◌*◌, ◌<◌, ◌≤◌, Bool, true, false, List, [], ◌∷◌, ◌++◌, length, get_or, set, Option, Some, None, refl, sym, ap, ◌∙◌, subst, ⊎_elim, arith, add-zero, append_assoc, length-append, length-set}
 use Rattle.std.specs.Prelude.{option_map, option_and_then, slice_index, is_some, unwrap_or, nat_le, sum, sum_by, if◌then◌else◌}
 use Rattle.std.specs.List.{range_with_len}
-use Rattle.std.proofs.lemmas.Bool.{leb-true}
+use Rattle.std.proofs.lemmas.Bool.{cases_lt, leb-true}
 use Rattle.std.proofs.lemmas.List.{append-nil, nil_from_length, length-replicate}
 use Rattle.std.proofs.lemmas.List.Sums.{sum_by-cons, sum_by-set}
 use Rattle.lrc_exec.proofs.PlainParts.{thread_within}
@@ -11,7 +11,7 @@ use Rattle.lrc_trace.specs.declared.act.Deed.{Deed}
 use Rattle.lrc_trace.specs.declared.act.Deed.TheVariants.{Quiet, Print, Read, Write, Acquire, Release, Arrive, Depart, Trap, End}
 use Rattle.lrc_exec.specs.Meaning.{Thread, Next, quiet, prints, reads, writes, acquires, releases, arrives, departs, traps, ends, next_of}
 use Rattle.lrc_lang.specs.declared.program.Program.{Program}
-use Rattle.lrc_exec.specs.Plain.{Plain, plain_start, is_free, all_arrived, deed_of, thread_in, plain_step, plain_from}
+use Rattle.lrc_exec.specs.Plain.{Plain, plain_start, is_free, all_arrived, deed_of, thread_in, plain_step, plain_from, plain}
 use Rattle.lrc_exec.specs.Rounds.{Paced, steps_of, turn, turns, round, rounds, paced_start, AreActsOfRounds}
 use Rattle.lrc_exec.specs.RoundsCode.{MakesRound}
 use Rattle.lrc_exec.proofs.PlainLaws.{no_arrivals, then_from, plain_from-append, plain_from-length, plain_from-arrivals}
@@ -225,3 +225,48 @@ not_rounded program nodes steps now acts none begun =
       long = ap (λ (p : Paced). length p.left) begun ∙ length-replicate nodes steps;
       few_arrivals = λ k. omega (arith, subst (λ (p : Paced). slice_index p.machine.arrivals k ≤ 0) (sym begun) (no_arrivals nodes k));
     }
+
+-- where a turn is not taken, the pace stays
+nothing_cons : (test : Bool) (node : ℕ) (a : List ℕ) → (if test then node ∷ a else a) ≡ [] → (test ≡ false) × (a ≡ [])
+nothing_cons true node a e = cc
+nothing_cons false node a e = (refl, e)
+
+not_taken : (o : Option Paced) (pace : Paced) → is_some o ≡ false → unwrap_or o pace ≡ pace
+not_taken None pace e = refl
+not_taken (Some next) pace e = cc
+
+-- turns that make no act change nothing
+pub turns-nothing : (pace : Paced) (nodes : List ℕ) → (turns pace nodes).0 ≡ [] → (turns pace nodes).1 ≡ pace
+turns-nothing pace [] e = refl
+turns-nothing pace (node ∷ nodes) e =
+    let h = nothing_cons (is_some (turn pace node)) node (turns (unwrap_or (turn pace node) pace) nodes).0 e in
+    turns-nothing (unwrap_or (turn pace node) pace) nodes h.1 ∙ not_taken (turn pace node) pace h.0
+
+-- after a round with no act, further rounds make none
+pub rounds-over : (nodes : ℕ) (start : Paced) (count more : ℕ) → (round nodes (rounds nodes start count).1).0 ≡ [] → rounds nodes start (more + count) ≡ rounds nodes start count
+rounds-over nodes start count zero over = let same : 0 + count ≡ count = omega arith in ap (rounds nodes start) same
+rounds-over nodes start count (suc more) over =
+    let same = rounds-over nodes start count more over in
+    let next : suc more + count ≡ suc (more + count) = omega arith in
+    ap (rounds nodes start) next
+    ∙ ap (λ (r : List ℕ × Paced). (r.0 ++ (round nodes r.1).0, (round nodes r.1).1)) same
+    ∙ ap (λ l. ((rounds nodes start count).0 ++ l, (round nodes (rounds nodes start count).1).1)) over
+    ∙ ap (λ l. (l, (round nodes (rounds nodes start count).1).1)) (append-nil (rounds nodes start count).0)
+    ∙ ap (λ p. ((rounds nodes start count).0, p)) (turns-nothing (rounds nodes start count).1 (range_with_len 0 nodes) over)
+
+rounds_same : (nodes : ℕ) (start : Paced) (a b : ℕ) → (round nodes (rounds nodes start a).1).0 ≡ [] → (round nodes (rounds nodes start b).1).0 ≡ [] → (rounds nodes start a).0 ≡ (rounds nodes start b).0
+rounds_same nodes start a b over_a over_b =
+    ⊎_elim
+    (λ less.
+    let gap : b - a + a ≡ b = omega arith in
+    sym (ap (λ (r : List ℕ × Paced). r.0) (ap (rounds nodes start) (sym gap) ∙ rounds-over nodes start a (b - a) over_a)))
+    (λ more.
+    let gap : a - b + b ≡ a = omega arith in
+    ap (λ (r : List ℕ × Paced). r.0) (ap (rounds nodes start) (sym gap) ∙ rounds-over nodes start b (a - b) over_b))
+    (cases_lt a b)
+
+pub rounds_determined : (program : Program) (nodes steps : ℕ) (first second : List Act) → AreActsOfRounds program nodes steps first → AreActsOfRounds program nodes steps second → first ≡ second
+rounds_determined program nodes steps first second a b =
+    let same = rounds_same nodes (paced_start program nodes steps) a.count b.count a.over b.over in
+    let both : Some first ≡ Some second = sym a.made ∙ ap (plain program nodes) same ∙ b.made in
+    cc

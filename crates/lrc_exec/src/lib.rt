@@ -3,6 +3,7 @@
 
 pub mod code;
 mod emit;
+pub mod laws;
 pub mod machine;
 pub mod plain;
 pub mod rounds;
