@@ -1,2 +1,5 @@
+pub mod Grammar
+pub mod Symbol
 pub mod Token
+pub mod Tree
 pub mod View
