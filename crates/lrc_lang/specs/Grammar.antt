@@ -98,7 +98,7 @@ mutual
     none : {rest : List Symbol} → AreStatements Block.empty rest rest
     one_more : {first : Statement} {others : Block} {all more rest : List Symbol} →
         IsStatement first all more → AreStatements others more rest →
-        AreStatements (Block.then first others) all rest
+        AreStatements (Block.next first others) all rest
 
 -- the symbols of a whole program
 pub data AreSymbolsOf : Program → List Symbol → Type 0 where

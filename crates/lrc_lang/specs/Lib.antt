@@ -1,4 +1,10 @@
+pub mod Body
+pub mod Faults
 pub mod Grammar
+pub mod Lexemes
+pub mod Lexer
+pub mod Partial
+pub mod State
 pub mod Symbol
 pub mod Token
 pub mod Tree

@@ -30,7 +30,7 @@ mutual
 
   pub data Block : Type 0 where
     empty : Block
-    then : Statement → Block → Block
+    next : Statement → Block → Block
 
 -- a program
 pub record Program : Type 0 where
@@ -61,12 +61,12 @@ abbrev mutual
 
   pub row_of : {m : _} → Row_of-Statement m → Block
   row_of end_of-Statement = empty
-  row_of (more_of-Statement first rest) = then (statement_of first) (row_of rest)
+  row_of (more_of-Statement first rest) = next (statement_of first) (row_of rest)
 
 -- statements of the code
 abbrev pub block_of : List code_statement.Statement → Block
 block_of [] = empty
-block_of (first ∷ rest) = then (statement_of first) (block_of rest)
+block_of (first ∷ rest) = next (statement_of first) (block_of rest)
 
 -- a program of the code
 abbrev pub program_of : code_program.Program → Program

@@ -1,0 +1,4 @@
+pub mod Bodies
+pub mod Expressions
+pub mod Reaching
+pub mod States
