@@ -252,3 +252,53 @@ fn begins_with_letter(text: &[u8]) -> bool
         [] => false,
     }
 }
+
+#[cfg(test)]
+mod tests {
+    use super::*;
+
+    fn token(line: u32, token: Token<'_>) -> Placed<'_> {
+        Placed {
+            line,
+            lexeme: Lexeme::Token(token),
+        }
+    }
+
+    #[test]
+    fn reads_a_text(rt: HostRuntime) {
+        let text = b"words 007;\t# a comment\r\xff # \n\r\nwhile Me<=_x1!= 18446744073709551615\n";
+        let mut lexer = Lexer::new(text);
+        let expected = [
+            token(1, Token::Keyword(Keyword::Words)),
+            token(1, Token::Number(7)),
+            token(1, Token::Sign(Sign::Semicolon)),
+            token(3, Token::Keyword(Keyword::While)),
+            token(3, Token::Name(b"Me")),
+            token(3, Token::Sign(Sign::LessOrEqual)),
+            token(3, Token::Name(b"_x1")),
+            token(3, Token::Sign(Sign::NotEqual)),
+            token(3, Token::Number(18446744073709551615)),
+            token(4, Token::End),
+        ];
+        for placed in expected {
+            assert_eq!(rt; lexer.next_lexeme(), placed);
+        }
+    }
+
+    #[test]
+    fn finds_faults(rt: HostRuntime) {
+        let table: [(&[u8], Lexeme<'_>); 6] = [
+            (b"\n# !\n 18446744073709551616", Lexeme::BadNumber),
+            (b"\n\n1a", Lexeme::BadNumber),
+            (b"\r\n\n0_", Lexeme::BadNumber),
+            (b"\n\n! =", Lexeme::BadByte),
+            (b"\n#\n\xc3\xa9", Lexeme::BadByte),
+            (b"\n\n\x0b", Lexeme::BadByte),
+        ];
+        for (text, lexeme) in table {
+            assert!(rt; text.len() < 100);
+            let found = Lexer::new(text).next_lexeme();
+            assert_eq!(rt; found, Placed { line: 3, lexeme });
+        }
+    }
+}
