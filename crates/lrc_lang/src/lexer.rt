@@ -9,11 +9,14 @@ ghost use Rattle.lrc_lang.specs.View.{lexeme_of, placed_of};
 
 use crate::token::{Keyword, Lexeme, Placed, Sign, Token};
 
-/// A text that is read from the left: what is left of it, and the line on which that begins.
+/// A text that is read from the left.
 #[derive(Debug, Drop)]
 pub struct Lexer<'t> {
+    /// What is left of the text.
     pub rest: &'t [u8],
+    /// The line on which that begins, counted from 1.
     pub line: u32,
+    /// The line stays in range, however many line feeds are left.
     ghost line_fits: { line + length rest.now < 2 ^ 32 },
 }
 
@@ -40,8 +43,8 @@ impl<'t> Lexer<'t> {
         }
     }
 
-    /// Passes over spaces, line feeds and comments, and takes what stands next. Behind the end of the text the end
-    /// stands again; behind a fault nothing is promised.
+    /// Passes over blanks, line feeds and comments, and takes what stands next. Once that was the end of the text or
+    /// a fault, nothing is promised of what a further call finds.
     pub fn next_lexeme(&mut self) -> Placed<'t>
         ensures next { NextIs self.old.line self.old.rest.now (placed_of result) self.new.line self.new.rest.now }
         ensures shorter { IsShorter (lexeme_of result.lexeme) self.old.rest.now self.new.rest.now }
@@ -53,7 +56,7 @@ impl<'t> Lexer<'t> {
         Placed { line, lexeme }
     }
 
-    /// Passes over spaces, line feeds and comments.
+    /// Passes over blanks, line feeds and comments.
     fn skip(&mut self)
         ensures passed { Passes self.old.line self.old.rest.now self.new.line self.new.rest.now }
         ensures ready { IsReady self.new.rest.now }
