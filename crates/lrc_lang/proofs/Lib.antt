@@ -1,4 +1,12 @@
 pub mod Bodies
 pub mod Expressions
+pub mod LexemesExist
+pub mod LexemesLines
+pub mod LexemesNumbers
+pub mod LexemesPast
+pub mod LexemesSigns
+pub mod LexemesSpans
+pub mod LexemesSteps
+pub mod LexemesUnique
 pub mod Reaching
 pub mod States

@@ -4,6 +4,7 @@ pub mod Grammar
 pub mod Lexemes
 pub mod Lexer
 pub mod Partial
+pub mod Past
 pub mod State
 pub mod Symbol
 pub mod Token
