@@ -10,3 +10,4 @@ pub mod LexemesSteps
 pub mod LexemesUnique
 pub mod Reaching
 pub mod States
+pub mod Trees

@@ -5,6 +5,8 @@ pub mod Lexemes
 pub mod Lexer
 pub mod Partial
 pub mod Past
+pub mod Seen
+pub mod SeenBody
 pub mod State
 pub mod Symbol
 pub mod Token

@@ -1,5 +1,8 @@
 // Why a text is no program.
 
+ghost use Rattle.std.specs.Prelude.{◌≡◌};
+ghost use Rattle.lrc_lang.specs.declared.fault.FaultKind.TheVariants.{NoMemory};
+
 use std::alloc::{AllocError, AllocFailed};
 use thiserror::Error;
 
@@ -30,6 +33,22 @@ pub enum FaultKind {
     /// Memory ran out. This may come in place of any other answer.
     #[error("out of memory")]
     NoMemory,
+}
+
+impl From<AllocError> for FaultKind {
+    ghost from_gives = { λ _ kind. kind ≡ NoMemory };
+
+    fn from(_error: AllocError) -> FaultKind {
+        FaultKind::NoMemory
+    }
+}
+
+impl<T: Drop> From<AllocFailed<T>> for FaultKind {
+    ghost from_gives = { λ _ kind. kind ≡ NoMemory };
+
+    fn from(_error: AllocFailed<T>) -> FaultKind {
+        FaultKind::NoMemory
+    }
 }
 
 /// The first fault of a text, and the line of the token that has it: lines are counted from 1 by line feeds, and the

@@ -1,8 +1,11 @@
 //! The language of the programs that run on shared memory: its trees, and the parser from text to trees.
 #![tactic(auto)]
 
+mod body;
 pub mod fault;
 pub mod lexemes;
 mod lexer;
+mod partial;
 pub mod program;
+mod symbol;
 pub mod token;
