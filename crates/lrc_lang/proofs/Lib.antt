@@ -8,6 +8,7 @@ pub mod LexemesSigns
 pub mod LexemesSpans
 pub mod LexemesSteps
 pub mod LexemesUnique
+pub mod Names
 pub mod Reaching
 pub mod States
 pub mod Trees

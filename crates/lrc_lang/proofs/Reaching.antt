@@ -4,7 +4,8 @@ use Rattle.lrc_lang.specs.Token.{Token}
 use Rattle.lrc_lang.specs.Symbol.{Symbol, Names, names_with, symbol_of, symbols_after}
 use Rattle.lrc_lang.specs.Tree.{Program}
 use Rattle.lrc_lang.specs.Grammar.{IsProgram, AreSymbolsOf}
-use Rattle.lrc_lang.specs.Faults.{names_of, IsUnexpected}
+use Rattle.lrc_lang.specs.Counts.{names_of}
+use Rattle.lrc_lang.specs.Faults.{IsUnexpected}
 use Rattle.lrc_lang.specs.State as state
 use Rattle.lrc_lang.specs.State.{State, state_with, program_in}
 use Rattle.lrc_lang.proofs.States.{CompletesState, Turns, goes, stops, turns_state, back_state, completion, completed, from_start, to_start}

@@ -54,8 +54,12 @@ pub record Body : Type 0 where
   pub before : Block
   pub place : Place
 
+-- these statements, outside of all blocks
+abbrev pub holding : Block → Body
+holding statements = record { outer = []; before = statements; place = at_statement }
+
 abbrev pub start : Body
-start = record { outer = []; before = empty; place = at_statement }
+start = holding empty
 
 -- the statements, and one more
 abbrev pub push : Block → Statement → Block

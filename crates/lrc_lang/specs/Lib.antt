@@ -1,4 +1,5 @@
 pub mod Body
+pub mod Counts
 pub mod Faults
 pub mod Grammar
 pub mod Lexemes
@@ -7,6 +8,8 @@ pub mod Partial
 pub mod Past
 pub mod Seen
 pub mod SeenBody
+pub mod SeenLimits
+pub mod SeenState
 pub mod State
 pub mod Symbol
 pub mod Token

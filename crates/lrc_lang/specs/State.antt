@@ -54,7 +54,7 @@ at_locks_end s _ = None
 
 -- the text ends behind these statements
 abbrev pub finished : State → Block → State
-finished s whole = record s { stage = nothing; body = record { outer = []; before = whole; place = body.at_statement } }
+finished s whole = record s { stage = nothing; body = body.holding whole }
 
 abbrev pub in_statements : State → Symbol → Option State
 in_statements s finish = if_some (whole_of s.body) (λ whole. Some (finished s whole))

@@ -23,11 +23,11 @@ Names = List (List ℕ)
 
 -- whether a name is among these
 abbrev pub is_among : Names → List ℕ → Bool
-is_among names bytes = list_any (bytes_eq bytes) names
+is_among names bytes = list_any (λ other. bytes_eq other bytes) names
 
 -- the number of a name: how many others came before it
 abbrev pub number_of : Names → List ℕ → ℕ
-number_of names bytes = position_or_len (bytes_eq bytes) names
+number_of names bytes = position_or_len (λ other. bytes_eq other bytes) names
 
 -- the names once this token has come too
 abbrev pub names_with : Names → Token → Names

@@ -1,7 +1,7 @@
 // Statements of which some symbols have come.
 
-ghost use Rattle.std.specs.Prelude.{◌≡◌};
-ghost use Rattle.lrc_lang.specs.Body.{start, in_expression, body_with, whole_of, is_ending, ending_of, begin, close, close_for, done, opened, ended, go_on, behind_equals, behind_then};
+ghost use Rattle.std.specs.Prelude.{◌≡◌, option_map};
+ghost use Rattle.lrc_lang.specs.Body.{start, holding, in_expression, body_with, whole_of, is_ending, ending_of, begin, close, close_for, done, opened, ended, go_on, behind_equals, behind_then};
 ghost use Rattle.lrc_lang.specs.Partial.{nothing};
 ghost use Rattle.lrc_lang.specs.Seen.{symbol_seen, partial_seen, Gives, GivesNew};
 ghost use Rattle.lrc_lang.specs.SeenBody.{IsExpected, purpose_seen, owner_seen, outer_seen, before_seen, body_seen};
@@ -169,7 +169,7 @@ impl Body {
 
     /// Ends the statements, if they may end here.
     pub fn finish(&mut self) -> Result<(), FaultKind>
-        ensures { GivesNew result (block_of self.new.before.items) (whole_of (body_seen self.old)) }
+        ensures { GivesNew result (body_seen self.new) (option_map holding (whole_of (body_seen self.old))) }
     {
         if !self.outer.is_empty() {
             return Err(FaultKind::Unexpected);
