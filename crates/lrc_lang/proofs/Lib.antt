@@ -11,4 +11,5 @@ pub mod LexemesUnique
 pub mod Names
 pub mod Reaching
 pub mod States
+pub mod Taking
 pub mod Trees

@@ -2,7 +2,7 @@
 use Rattle.std.proofs.Common.{◌≡◌, ℕ, List, [], ◌∷◌, ◌++◌, Option, Some, None, fold, refl, sym, ap, subst, ◌∙◌, append_assoc}
 use Rattle.lrc_lang.specs.Token.{Token}
 use Rattle.lrc_lang.specs.Symbol.{Symbol, Names, names_with, symbol_of, symbols_after}
-use Rattle.lrc_lang.specs.Tree.{Program}
+use Rattle.lrc_lang.specs.Tree.{ProgramTree}
 use Rattle.lrc_lang.specs.Grammar.{IsProgram, AreSymbolsOf}
 use Rattle.lrc_lang.specs.Counts.{names_of}
 use Rattle.lrc_lang.specs.Faults.{IsUnexpected}
@@ -22,8 +22,8 @@ fold-append f a (x ∷ xs) ys = fold-append f (f a x) xs ys
 
 -- Behind these tokens the parser is in this state: what completes the one completes the other.
 pub record Reaches (before : List Token) (s : State) : Type 0 where
-  pub forwards : (p : Program) (rest : List Token) → IsProgram p (before ++ rest) → CompletesState s p (symbols_after (names_of before) rest)
-  pub backwards : (p : Program) (rest : List Token) → CompletesState s p (symbols_after (names_of before) rest) → IsProgram p (before ++ rest)
+  pub forwards : (p : ProgramTree) (rest : List Token) → IsProgram p (before ++ rest) → CompletesState s p (symbols_after (names_of before) rest)
+  pub backwards : (p : ProgramTree) (rest : List Token) → CompletesState s p (symbols_after (names_of before) rest) → IsProgram p (before ++ rest)
 
 pub Reaches-start : Reaches [] state.start
 Reaches-start = record {
@@ -31,11 +31,11 @@ Reaches-start = record {
   backwards = λ p rest k. to_start p (symbols_after [] rest) k;
 }
 
-next_turn : {s t : State} {p : Program} {symbol : Symbol} {all : List Symbol} →
+next_turn : {s t : State} {p : ProgramTree} {symbol : Symbol} {all : List Symbol} →
     state_with s symbol ≡ Some t → Turns (state_with s) s p (symbol ∷ all) → CompletesState t p all
 next_turn {p = p} {all = all} q (goes u r k) = subst (λ s. CompletesState s p all) (some_same (sym r ∙ q)) k
 
-refused_turn : {s : State} {p : Program} {symbol : Symbol} {all : List Symbol} →
+refused_turn : {s : State} {p : ProgramTree} {symbol : Symbol} {all : List Symbol} →
     state_with s symbol ≡ None → Turns (state_with s) s p (symbol ∷ all) → ⊥
 refused_turn q (goes u r k) = none_some (sym q ∙ r)
 
@@ -66,17 +66,17 @@ taken-IsUnexpected before s t {next} r q unexpected =
 
 -- ---- no tokens are those of two programs
 
-both_turn : {s : State} {p q : Program} {all : List Symbol} → ((t : State) → CompletesState t p all → CompletesState t q all → p ≡ q) →
+both_turn : {s : State} {p q : ProgramTree} {all : List Symbol} → ((t : State) → CompletesState t p all → CompletesState t q all → p ≡ q) →
     (symbol : Symbol) → Turns (state_with s) s p (symbol ∷ all) → Turns (state_with s) s q (symbol ∷ all) → p ≡ q
 both_turn {q = q} {all = all} same symbol (goes t r k) (goes u v m) = same t k (subst (λ s. CompletesState s q all) (some_same (sym v ∙ r)) m)
 
-both_stop : {s : State} {p q : Program} → Turns (state_with s) s p [] → Turns (state_with s) s q [] → p ≡ q
+both_stop : {s : State} {p q : ProgramTree} → Turns (state_with s) s p [] → Turns (state_with s) s q [] → p ≡ q
 both_stop (stops e) (stops f) = e ∙ sym f
 
-completes_one : (all : List Symbol) (s : State) (p q : Program) → CompletesState s p all → CompletesState s q all → p ≡ q
+completes_one : (all : List Symbol) (s : State) (p q : ProgramTree) → CompletesState s p all → CompletesState s q all → p ≡ q
 completes_one [] s p q k m = both_stop (turns_state s k) (turns_state s m)
 completes_one (symbol ∷ all) s p q k m =
     both_turn (λ t k m. completes_one all t p q k m) symbol (turns_state s k) (turns_state s m)
 
-pub one_program : (tokens : List Token) (p q : Program) → IsProgram p tokens → IsProgram q tokens → p ≡ q
+pub one_program : (tokens : List Token) (p q : ProgramTree) → IsProgram p tokens → IsProgram q tokens → p ≡ q
 one_program tokens p q d e = completes_one _ state.start p q (from_start p _ d) (from_start q _ e)

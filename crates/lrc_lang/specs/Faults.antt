@@ -6,14 +6,14 @@ use Rattle.lrc_lang.specs.declared.fault.FaultKind.TheVariants.{TooLong, BadByte
 use Rattle.lrc_lang.specs.Token.{Token, number, keyword, Lexeme, token, bad_byte, bad_number, Placed}
 use Rattle.lrc_lang.specs.Lexemes.{Lexes}
 use Rattle.lrc_lang.specs.Counts.{names_of, open_of, operators_of, last_of, IsTooDeep, IsNameTooMany, IsOperatorTooMany}
-use Rattle.lrc_lang.specs.Tree.{Program}
+use Rattle.lrc_lang.specs.Tree.{ProgramTree}
 use Rattle.lrc_lang.specs.Grammar.{IsProgram}
 
 -- ---- the faults of a token behind the tokens before it
 
 -- No program begins with these tokens: no rest of tokens completes them.
 abbrev pub IsUnexpected : List Token → Token → Type 0
-IsUnexpected before t = (rest : List Token) (p : Program) → IsProgram p (before ++ t ∷ rest) → ⊥
+IsUnexpected before t = (rest : List Token) (p : ProgramTree) → IsProgram p (before ++ t ∷ rest) → ⊥
 
 -- it is the number behind `words` and not 1 to 4096, or the number behind `locks` and over 64
 abbrev pub IsNumberTooLarge : Option Token → Token → Type 0
@@ -71,7 +71,7 @@ AreFaultless before (next ∷ others) (t ∷ tokens) =
     (next.lexeme ≡ token t) × IsFaultless before (token t) × AreFaultless (before ++ t ∷ []) others tokens
 
 -- the text is not too long, and is this program within the limits
-pub record IsText (text : List ℕ) (p : Program) : Type 0 where
+pub record IsText (text : List ℕ) (p : ProgramTree) : Type 0 where
   pub fits : length text ≤ 65536
   pub lexemes : List Placed
   pub lexed : Lexes 1 text lexemes

@@ -3,7 +3,7 @@
 use Rattle.std.specs.Prelude.{◌≡◌, ℕ, List, [], ◌∷◌}
 use Rattle.lrc_lang.specs.Token.{Token}
 use Rattle.lrc_lang.specs.Symbol.{Symbol, number, name, operator, keyword, sign, finish, symbols}
-use Rattle.lrc_lang.specs.Tree.{Expression, Statement, Block, Program}
+use Rattle.lrc_lang.specs.Tree.{Expression, Statement, Block, ProgramTree}
 use Rattle.lrc_lang.specs.declared.token.Keyword.TheVariants.{Words, Locks, Acquire, Release, Barrier, Print, If, Else, While, Me, Nodes}
 use Rattle.lrc_lang.specs.declared.token.Sign.TheVariants.{Semicolon, Assign, OpenBracket, CloseBracket, OpenBrace, CloseBrace, OpenParenthesis, CloseParenthesis}
 use Rattle.lrc_lang.specs.declared.program.Operator.{Operator}
@@ -101,7 +101,7 @@ mutual
         AreStatements (Block.next first others) all rest
 
 -- the symbols of a whole program
-pub data AreSymbolsOf : Program → List Symbol → Type 0 where
+pub data AreSymbolsOf : ProgramTree → List Symbol → Type 0 where
   program : {words locks : ℕ} {statements : Block} {more : List Symbol} →
       AreStatements statements more (finish ∷ []) →
       AreSymbolsOf
@@ -109,5 +109,5 @@ pub data AreSymbolsOf : Program → List Symbol → Type 0 where
       (keyword Words ∷ number words ∷ sign Semicolon ∷ keyword Locks ∷ number locks ∷ sign Semicolon ∷ more)
 
 -- these tokens, up to the end of the text, are those of the program
-abbrev pub IsProgram : Program → List Token → Type 0
+abbrev pub IsProgram : ProgramTree → List Token → Type 0
 IsProgram p tokens = AreSymbolsOf p (symbols tokens)

@@ -9,6 +9,7 @@ pub mod Past
 pub mod Seen
 pub mod SeenBody
 pub mod SeenLimits
+pub mod SeenParser
 pub mod SeenState
 pub mod State
 pub mod Symbol

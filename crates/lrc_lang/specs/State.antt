@@ -3,7 +3,7 @@ use Rattle.std.specs.Prelude.{ℕ, List, [], ◌∷◌, Option, Some, None}
 use Rattle.lrc_lang.specs.declared.token.Keyword.TheVariants.{Words, Locks}
 use Rattle.lrc_lang.specs.declared.token.Sign.TheVariants.{Semicolon}
 use Rattle.lrc_lang.specs.Symbol.{Symbol, number, keyword, sign, finish}
-use Rattle.lrc_lang.specs.Tree.{Program, Block}
+use Rattle.lrc_lang.specs.Tree.{ProgramTree, Block}
 use Rattle.lrc_lang.specs.Body.{Body, body_with, whole_of, if_some}
 use Rattle.lrc_lang.specs.Body as body
 
@@ -76,5 +76,5 @@ state_with s symbol = moved s.stage s symbol
 
 
 -- the program, once the text has ended
-abbrev pub program_in : State → Program
+abbrev pub program_in : State → ProgramTree
 program_in s = record { words = s.words; locks = s.locks; statements = s.body.before }

@@ -33,7 +33,7 @@ mutual
     next : Statement → Block → Block
 
 -- a program
-pub record Program : Type 0 where
+pub record ProgramTree : Type 0 where
   pub words : ℕ
   pub locks : ℕ
   pub statements : Block
@@ -69,5 +69,5 @@ block_of [] = empty
 block_of (first ∷ rest) = next (statement_of first) (block_of rest)
 
 -- a program of the code
-abbrev pub program_of : code_program.Program → Program
+abbrev pub program_of : code_program.Program → ProgramTree
 program_of p = record { words = p.words; locks = p.locks; statements = block_of p.statements.items }

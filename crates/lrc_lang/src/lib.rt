@@ -7,7 +7,10 @@ pub mod lexemes;
 mod lexer;
 mod limits;
 mod partial;
+mod parser;
 pub mod program;
 mod state;
 mod symbol;
 pub mod token;
+
+pub use parser::{parse, tokens_are_of_one_program};
