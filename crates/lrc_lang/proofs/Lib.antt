@@ -1,3 +1,7 @@
+pub mod Answers
+pub mod Behind
+pub mod Bodies
+pub mod Expressions
 pub mod LexemesExist
 pub mod LexemesLines
 pub mod LexemesNumbers
@@ -6,3 +10,10 @@ pub mod LexemesSigns
 pub mod LexemesSpans
 pub mod LexemesSteps
 pub mod LexemesUnique
+pub mod Names
+pub mod Reaching
+pub mod Reading
+pub mod Stages
+pub mod States
+pub mod Taking
+pub mod Trees
