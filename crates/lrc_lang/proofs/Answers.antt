@@ -31,7 +31,7 @@ kind_at (suc (suc (suc (suc (suc (suc (suc n))))))) = NoMemory
 kind_at-rank : (kind : FaultKind) → kind_at (rank kind) ≡ kind
 unfolding kind_at
 kind_at-rank = elim [
-  TooLong ↦ refl
+  | TooLong ↦ refl
   | BadByte ↦ refl
   | BadNumber ↦ refl
   | Unexpected ↦ refl

@@ -60,7 +60,7 @@ module _ (before : List Token) (s s' : code_state.State) (l l' : code_limits.Lim
 
   pub IsFaultless-taken : IsFaultless before (token t)
   IsFaultless-taken = elim [
-    TooLong ↦ λ h. h
+    | TooLong ↦ λ h. h
     | BadByte ↦ λ h. h
     | BadNumber ↦ λ h. h
     | Unexpected ↦ λ h. taken-IsUnexpected before (state_seen s) t b.reaches step h
@@ -112,7 +112,7 @@ bad_byte_fault : (before : List Token) → IsFaultOf before bad_byte BadByte
 bad_byte_fault before = record {
   has = tt;
   first = elim [
-    TooLong ↦ λ r h. h
+    | TooLong ↦ λ r h. h
     | BadByte ↦ λ r h. omega arith
     | BadNumber ↦ λ r h. h
     | Unexpected ↦ λ r h. h
@@ -127,7 +127,7 @@ bad_number_fault : (before : List Token) → IsFaultOf before bad_number BadNumb
 bad_number_fault before = record {
   has = tt;
   first = elim [
-    TooLong ↦ λ r h. h
+    | TooLong ↦ λ r h. h
     | BadByte ↦ λ r h. h
     | BadNumber ↦ λ r h. omega arith
     | Unexpected ↦ λ r h. h
@@ -142,7 +142,7 @@ unexpected_fault : (before : List Token) (t : Token) → IsUnexpected before t �
 unexpected_fault before t has = record {
   has = has;
   first = elim [
-    TooLong ↦ λ r h. h
+    | TooLong ↦ λ r h. h
     | BadByte ↦ λ r h. h
     | BadNumber ↦ λ r h. h
     | Unexpected ↦ λ r h. omega arith
@@ -157,7 +157,7 @@ deep_fault : (before : List Token) (t : Token) → ¬ IsUnexpected before t → 
 deep_fault before t expected has = record {
   has = has;
   first = elim [
-    TooLong ↦ λ r h. h
+    | TooLong ↦ λ r h. h
     | BadByte ↦ λ r h. h
     | BadNumber ↦ λ r h. h
     | Unexpected ↦ λ r h. expected h
@@ -172,7 +172,7 @@ names_fault : (before : List Token) (t : Token) → ¬ IsUnexpected before t →
 names_fault before t expected has = record {
   has = has;
   first = elim [
-    TooLong ↦ λ r h. h
+    | TooLong ↦ λ r h. h
     | BadByte ↦ λ r h. h
     | BadNumber ↦ λ r h. h
     | Unexpected ↦ λ r h. expected h
@@ -187,7 +187,7 @@ over_fault : (before : List Token) (t : Token) → ¬ IsUnexpected before t → 
 over_fault before t expected shut few has = record {
   has = has;
   first = elim [
-    TooLong ↦ λ r h. h
+    | TooLong ↦ λ r h. h
     | BadByte ↦ λ r h. h
     | BadNumber ↦ λ r h. h
     | Unexpected ↦ λ r h. expected h

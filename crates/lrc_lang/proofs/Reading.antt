@@ -69,7 +69,7 @@ module _ (text : List ℕ) (line : ℕ) (rest : List ℕ) (s s' : code_state.Sta
       let all = exist.exists 1 text in
       let more = found_past r.past next all.1 in
       let first : IsFaultOf r.before found kind → HasFirstFault text own kind =
-          λ f. inr (fits, all.0, all.1, subst (λ lexemes. IsFirstFault [] lexemes own kind) (sym more.1) (r.are.faults (at own found ∷ more.0) own kind (inl (f, refl)))) in
+      λ f. inr (fits, all.0, all.1, subst (λ lexemes. IsFirstFault [] lexemes own kind) (sym more.1) (r.are.faults (at own found ∷ more.0) own kind (inl (f, refl)))) in
       ⊎_elim inl (λ f. inr (first f)) (fault_of r.before s s' l l' r.behind found kind taken)
 
   module _ (own behind : ℕ) (last : List ℕ) (next : NextIs line rest (at own (token finish)) behind last) (taken : TakesLexeme (Ok tt) s l (token finish) s' l') where
