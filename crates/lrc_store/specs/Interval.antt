@@ -1,7 +1,7 @@
 -- Interval records: what a node did between two synchronizations, as other nodes learn of it (Amza et al. 1996).
-use Rattle.std.specs.Prelude.{ℕ, ◌<◌, ◌≤◌, List, length, All}
+use Rattle.std.specs.Prelude.{ℕ, ◌<◌, ◌≤◌, ◌==◌, ◌&&◌, ◌||◌, Bool, List, length, All, nat_lt}
 use Rattle.std.specs.List.Sorted.{IsStrictlyIncreasing}
-use Rattle.lrc_time.specs.Time.{entry}
+use Rattle.lrc_time.specs.Time.{entry, weight_of}
 use Rattle.lrc_store.specs.declared.interval.TheConstants.{MOST_PAGES}
 
 -- a node, the time after it closed the interval, and the pages that it wrote in it
@@ -20,3 +20,13 @@ pub record IsInterval (interval : IntervalRecord) : Type 0 where
   pub begun : 1 ≤ index_of interval
   pub ascending : IsStrictlyIncreasing interval.pages
   pub in_range : All (λ page. page < MOST_PAGES) interval.pages
+
+-- the first interval comes before the second by node, then index
+abbrev pub by_node : IntervalRecord → IntervalRecord → Bool
+by_node a b = nat_lt a.node b.node || ((a.node == b.node) && nat_lt (index_of a) (index_of b))
+
+-- the first interval comes before the second by the weight of its stamp, then node, then index. Changes are applied in
+-- this order: an interval that precedes another weighs less.
+abbrev pub by_weight : IntervalRecord → IntervalRecord → Bool
+by_weight a b =
+    nat_lt (weight_of a.stamp) (weight_of b.stamp) || ((weight_of a.stamp == weight_of b.stamp) && by_node a b)
