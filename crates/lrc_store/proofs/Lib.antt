@@ -1,0 +1,5 @@
+pub mod Orders
+pub mod Places
+pub mod Ranks
+pub mod Records
+pub mod Stores

@@ -4,3 +4,9 @@
 
 pub mod interval;
 pub mod key;
+pub mod store;
+mod stored;
+
+pub use interval::Interval;
+pub use key::Key;
+pub use store::Store;
