@@ -9,7 +9,8 @@ use Rattle.std.proofs.lemmas.Bool.Decides.{nat_tests}
 use Rattle.std.proofs.lemmas.List.{get_or-map, length-map, map-append, map_push, take_more}
 use Rattle.std.proofs.lemmas.List.Elements.{filter-append}
 use Rattle.std.proofs.lemmas.List.Sorted.{IsStrictWeakOrder-by_number}
-use Rattle.lrc_time.specs.Time.{weight_of}
+use Rattle.lrc_time.specs.Time.{Covers, weight_of}
+use Rattle.lrc_time.proofs.Times.{weight-covers_strictly}
 use Rattle.lrc_store.specs.declared.key.Key.{Key}
 use Rattle.lrc_store.specs.Interval.{IntervalRecord, index_of, by_node, by_weight}
 use Rattle.lrc_store.specs.Store.{StoredRecord, StoreRecord, IsStore, IsMissing, IsNewer, interval_of, intervals_of, is_missing, is_newer, key_of, missing_of, newer_of}
@@ -271,3 +272,12 @@ gathered_more page since entries i stored within read =
     one : (b : Bool) → map (ranked page) (cond b (interval_of stored ∷ []) []) ≡ cond b (ranked page (interval_of stored) ∷ []) []
     one true = refl
     one false = refl
+
+-- ---- cover
+
+-- an interval that another's stamp covers is lighter
+pub by_weight-covered : (earlier later : IntervalRecord) → length earlier.stamp ≡ length later.stamp
+    → Covers later.stamp earlier.stamp → earlier.stamp ≢ later.stamp → by_weight earlier later ≡ true
+by_weight-covered earlier later long covered differ =
+    less-by_rank (λ i. weight_of i.stamp) by_node earlier later
+    (weight-covers_strictly later.stamp earlier.stamp (sym long) covered (λ same. differ (sym same)))

@@ -42,10 +42,10 @@ apart notices rising i j d i_in j_in differ same =
         absurd (omega arith))
       (cases_lt i j)
 
-notice_with-other : (page : ℕ) (changes : List Change) (notice : NoticeRecord) → eqb notice.page page ≡ false → notice_with page changes notice ≡ notice
+pub notice_with-other : (page : ℕ) (changes : List Change) (notice : NoticeRecord) → eqb notice.page page ≡ false → notice_with page changes notice ≡ notice
 notice_with-other page changes notice other = ap (λ b. cond b (record { page = page; changes = Some changes }) notice) other
 
-notice_with-same : (page : ℕ) (changes : List Change) (notice : NoticeRecord) → eqb notice.page page ≡ true
+pub notice_with-same : (page : ℕ) (changes : List Change) (notice : NoticeRecord) → eqb notice.page page ≡ true
     → notice_with page changes notice ≡ record { page = page; changes = Some changes }
 notice_with-same page changes notice same = ap (λ b. cond b (record { page = page; changes = Some changes }) notice) same
 

@@ -58,7 +58,8 @@ IsStore-added store interval sound is stamp pages next =
 
 -- ---- the changes of a key
 
-kept_page : (page : ℕ) (changes : List Change) (notice : NoticeRecord) → (notice_with page changes notice).page ≡ notice.page
+-- changes leave a notice's page
+pub kept_page : (page : ℕ) (changes : List Change) (notice : NoticeRecord) → (notice_with page changes notice).page ≡ notice.page
 kept_page page changes notice = by_test (eqb notice.page page) refl
   where
     by_test : (b : Bool) → eqb notice.page page ≡ b

@@ -4,6 +4,7 @@
 
 pub mod interval;
 pub mod key;
+pub mod laws;
 pub mod store;
 mod stored;
 
