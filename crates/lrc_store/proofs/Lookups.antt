@@ -1,6 +1,6 @@
 -- What is found in a store after `add` and `attach`.
 use Rattle.std.proofs.Common.{◌≡◌, ◌≢◌, ℕ, suc, ◌+◌, ◌<◌, ◌≤◌, ◌⊎◌, ◌∙◌, Bool, true, false, cond, eqb, eqb-true, ◌&&◌, Option, Some, None, List, [], ◌∷◌, ◌++◌, length, get_or, map, refl, ap, sym, ⊎_elim, arith}
-use Rattle.std.specs.List.{All, find}
+use Rattle.std.specs.List.{All, Contains, find}
 use Rattle.std.specs.Option.{option_and_then, option_map}
 use Rattle.std.proofs.lemmas.Bool.{true≢false, cases_eq, and_parts, and_from, false_from_ne_true, eq-eqb, ne_eqb}
 use Rattle.std.proofs.lemmas.List.{get_or-map, length-map}
@@ -8,7 +8,8 @@ use Rattle.lrc_time.specs.Time.{entry}
 use Rattle.lrc_page.specs.declared.changes.Change.{Change}
 use Rattle.lrc_store.specs.declared.key.Key.{Key}
 use Rattle.lrc_store.specs.Interval.{IntervalRecord, index_of}
-use Rattle.lrc_store.specs.Store.{NoticeRecord, StoredRecord, StoreRecord, IsStore, interval_of, intervals_of, without_changes, added, attached, stored_with, notice_with, is_at, stored_at, notice_of, notice_at}
+use Rattle.lrc_store.specs.Store.{NoticeRecord, StoredRecord, StoreRecord, IsStore, interval_of, intervals_of, without_changes, added, attached, stored_with, notice_with, is_at, stored_at, key_of, notice_of, notice_at, unread}
+use Rattle.lrc_store.proofs.Orders.{cases_Contains, none_Contains}
 use Rattle.lrc_store.proofs.Records.{notice_with-same, notice_with-other}
 use Rattle.lrc_store.proofs.Stores.{interval_of-stored_with, kept_page}
 
@@ -76,6 +77,27 @@ stored_at-added store interval sound next =
         let last : entry store.last (get_or all k (interval_of d)).node ≡ entry store.last interval.node = ap (entry store.last) node in
         absurd (omega arith)))
     (is_at-itself interval)
+
+-- each page of an interval gets a notice
+pub notice_of-unread : (pages : List ℕ) (page : ℕ) → Contains pages page → find (λ notice. eqb notice.page page) (map unread pages) ≡ Some (unread page)
+notice_of-unread [] page there = absurd (none_Contains page there)
+notice_of-unread (first ∷ pages) page there = by_test (notice_of-unread pages page) (eqb first page) refl
+  where
+    by_test : (Contains pages page → find (λ notice. eqb notice.page page) (map unread pages) ≡ Some (unread page))
+        → (b : Bool) → eqb first page ≡ b
+        → cond b (Some (unread first)) (find (λ notice. eqb notice.page page) (map unread pages)) ≡ Some (unread page)
+    by_test rest true same = ap (λ p. Some (unread p)) (eqb-true first page same)
+    by_test rest false differ =
+        ⊎_elim
+          (λ (same : first ≡ page). absurd (true≢false (sym (eq-eqb first page same) ∙ differ)))
+          rest
+          (cases_Contains first pages page there)
+
+pub notice_at-added : (store : StoreRecord) (interval : IntervalRecord) (page : ℕ) → IsStore store
+    → index_of interval ≡ entry store.last interval.node + 1 → Contains interval.pages page
+    → notice_at (added store interval) (key_of page interval) ≡ Some (unread page)
+notice_at-added store interval page sound next named =
+    ap (option_and_then (notice_of page)) (stored_at-added store interval sound next) ∙ notice_of-unread interval.pages page named
 
 pub stored_at-added_other : (store : StoreRecord) (interval : IntervalRecord) (node index : ℕ)
     → ¬ ((node ≡ interval.node) × (index ≡ index_of interval))

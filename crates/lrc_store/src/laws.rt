@@ -1,18 +1,22 @@
 // What always holds of stores. Each function is a law: its clauses are the statement, and there is nothing to do.
 
-ghost use Rattle.std.specs.Prelude.{◌≡◌, ◌≢◌, ◌+◌, ◌++◌, ◌∷◌, ℕ, IsTrue, List, None, Some, length, []};
+ghost use Rattle.std.specs.Prelude.{◌≡◌, ◌≢◌, ◌+◌, ◌++◌, ◌∷◌, ℕ, Contains, IsTrue, List, None, Some, length, []};
 ghost use Rattle.lrc_time.specs.Time.{Covers, entry};
 ghost use Rattle.lrc_page.specs.declared.changes.Change.{Change};
 ghost use Rattle.lrc_store.specs.declared.key.Key.{Key};
 ghost use Rattle.lrc_store.specs.Interval.{IntervalRecord, by_weight, index_of};
-ghost use Rattle.lrc_store.specs.Store.{StoreRecord, IsMissing, IsNewer, IsStore, added, attached, intervals_of, missing_of, newer_of, notice_at, stored_at, without_changes};
+ghost use Rattle.lrc_store.specs.Store.{StoreRecord, IsMissing, IsNewer, IsStore, added, attached, intervals_of, key_of, missing_of, newer_of, notice_at, stored_at, unread, without_changes};
 
-/// An interval that follows the last one of its node gets an entry of its own, without changes. All others stay.
+/// An interval that follows the last one of its node gets an entry of its own, with notices without changes. All others
+/// stay.
 pub fn adding_makes_one_entry()
     ensures here { (store : StoreRecord) (interval : IntervalRecord) → IsStore store
         → index_of interval ≡ entry store.last interval.node + 1
         → stored_at (added store interval).entries interval.node (index_of interval)
             ≡ Some (without_changes interval) }
+    ensures notices { (store : StoreRecord) (interval : IntervalRecord) (page : ℕ) → IsStore store
+        → index_of interval ≡ entry store.last interval.node + 1 → Contains interval.pages page
+        → notice_at (added store interval) (key_of page interval) ≡ Some (unread page) }
     ensures others { (store : StoreRecord) (interval : IntervalRecord) (node index : ℕ)
         → ¬ ((node ≡ interval.node) × (index ≡ index_of interval))
         → stored_at (added store interval).entries node index ≡ stored_at store.entries node index }

@@ -35,7 +35,7 @@ impl Model for Store {
 
 impl Store {
     ghost use Rattle.lrc_store.specs.Interval.{index_of};
-    ghost use Rattle.lrc_store.specs.Store.{empty_store, added, attached, notice_at, changes_at, newer_of, missing_of, IsNewer, IsMissing};
+    ghost use Rattle.lrc_store.specs.Store.{empty_store, added, attached, notice_at, changes_at, newer_of, missing_of, IsMissing, IsNewer, IsStore};
 
     /// A store for this many nodes, 1 to 16, and pages, up to 64, that knows no interval.
     pub fn new(alloc: Global, nodes: u8, pages: u16) -> Result<Self, AllocError>
@@ -58,6 +58,7 @@ impl Store {
         requires next { index_of interval.now ≡ entry self.old.last interval.now.node + 1 }
         ensures ok { OnOk result (self.new ≡ added self.old interval.now) }
         ensures err { OnErr result (self.new ≡ self.old) }
+        ensures sound { IsStore self.new }
     {
         self.entries.push(Stored::new(interval)?)?;
         self.last.raise(interval.node, interval.index());
@@ -67,7 +68,8 @@ impl Store {
     /// The greatest index ever added of this node, 0 before any.
     pub fn last(&self, node: u8) -> u32
         requires { node < length self.now.last }
-        ensures { result ≡ entry self.now.last node }
+        ensures index { result ≡ entry self.now.last node }
+        ensures sound { IsStore self.now }
     {
         self.last.at(node)
     }

@@ -1,4 +1,4 @@
-use Rattle.lrc_store.proofs.Lookups.{stored_at-added, stored_at-added_other}
+use Rattle.lrc_store.proofs.Lookups.{notice_at-added, stored_at-added, stored_at-added_other}
 use Rattle.lrc_store.proofs.Stores.{intervals_of-added}
 use Rattle.lrc_store.proofs.laws.adding_makes_one_entry.Goals as goal
 
@@ -10,3 +10,6 @@ returns-clause-others c = stored_at-added_other
 
 pub returns-clause-intervals : goal.returns-clause-intervals
 returns-clause-intervals c = intervals_of-added
+
+pub returns-clause-notices : goal.returns-clause-notices
+returns-clause-notices c = notice_at-added
