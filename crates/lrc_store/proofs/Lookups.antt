@@ -1,8 +1,8 @@
 -- What is found in a store after `add` and `attach`.
-use Rattle.std.proofs.Common.{◌≡◌, ◌≢◌, ℕ, suc, ◌+◌, ◌<◌, ◌≤◌, ◌⊎◌, ◌∙◌, Bool, true, false, cond, eqb, eqb-true, ◌&&◌, Option, Some, None, List, [], ◌∷◌, ◌++◌, length, get_or, map, refl, ap, sym, ⊎_elim, arith}
+use Rattle.std.proofs.Common.{◌≡◌, ◌≢◌, ℕ, suc, ◌+◌, ◌≤◌, ◌∙◌, Bool, true, false, cond, eqb, eqb-true, ◌&&◌, Option, Some, None, List, [], ◌∷◌, ◌++◌, get_or, map, refl, ap, sym, ⊎_elim, arith}
 use Rattle.std.specs.List.{All, Contains, find}
 use Rattle.std.specs.Option.{option_and_then, option_map}
-use Rattle.std.proofs.lemmas.Bool.{true≢false, cases_eq, and_parts, and_from, false_from_ne_true, eq-eqb, ne_eqb}
+use Rattle.std.proofs.lemmas.Bool.{true≢false, and_parts, and_from, false_from_ne_true, eq-eqb, ne_eqb}
 use Rattle.std.proofs.lemmas.List.{get_or-map, length-map}
 use Rattle.lrc_time.specs.Time.{entry}
 use Rattle.lrc_page.specs.declared.changes.Change.{Change}
@@ -11,7 +11,7 @@ use Rattle.lrc_store.specs.Interval.{IntervalRecord, index_of}
 use Rattle.lrc_store.specs.Store.{NoticeRecord, StoredRecord, StoreRecord, IsStore, interval_of, intervals_of, without_changes, added, attached, stored_with, notice_with, is_at, stored_at, key_of, notice_of, notice_at, unread}
 use Rattle.lrc_store.proofs.Orders.{cases_Contains, none_Contains}
 use Rattle.lrc_store.proofs.Records.{notice_with-same, notice_with-other}
-use Rattle.lrc_store.proofs.Stores.{interval_of-stored_with, kept_page}
+use Rattle.lrc_store.proofs.Stores.{interval_of-stored_with, kept_page, stored_with-other}
 
 -- ---- finding
 
@@ -42,7 +42,8 @@ module _ {X : Type 0} (p : X → Bool) where
   passes-find [] x found = absurd (cc)
   passes-find (y ∷ ys) x found = by_test (passes-find ys x) (p y) refl found
     where
-      by_test : (find p ys ≡ Some x → p x ≡ true) → (b : Bool) → p y ≡ b → cond b (Some y) (find p ys) ≡ Some x → p x ≡ true
+      by_test : (find p ys ≡ Some x → p x ≡ true) → (b : Bool) → p y ≡ b → cond b (Some y) (find p ys) ≡ Some x
+          → p x ≡ true
       by_test rest true passes found = let same : y ≡ x = cc in ap p (sym same) ∙ passes
       by_test rest false fails found = rest found
 
@@ -56,8 +57,8 @@ is_at-other : (interval : IntervalRecord) (node index : ℕ) → ¬ ((node ≡ i
     → is_at node index (without_changes interval) ≡ false
 is_at-other interval node index differ =
     false_from_ne_true _ (λ at.
-      let parts = and_parts (eqb interval.node node) _ at in
-      differ (sym (eqb-true _ _ parts.0), sym (eqb-true _ _ parts.1)))
+    let parts = and_parts (eqb interval.node node) _ at in
+    differ (sym (eqb-true _ _ parts.0), sym (eqb-true _ _ parts.1)))
 
 pub stored_at-added : (store : StoreRecord) (interval : IntervalRecord) → IsStore store
     → index_of interval ≡ entry store.last interval.node + 1
@@ -65,21 +66,22 @@ pub stored_at-added : (store : StoreRecord) (interval : IntervalRecord) → IsSt
 stored_at-added store interval sound next =
     find-push_here (is_at interval.node (index_of interval)) store.entries (without_changes interval)
     (λ k d within.
-      false_from_ne_true _ (λ at.
-        let there = get_or store.entries k d in
-        let parts = and_parts (eqb there.node interval.node) _ at in
-        let all = intervals_of store in
-        let read : get_or all k (interval_of d) ≡ interval_of there = get_or-map interval_of store.entries k d (interval_of d) within in
-        let below : index_of (get_or all k (interval_of d)) ≤ entry store.last (get_or all k (interval_of d)).node =
-            sound.counted k (interval_of d) (omega (arith, length-map store.entries interval_of)) in
-        let node : (get_or all k (interval_of d)).node ≡ interval.node = ap (λ (i : IntervalRecord). i.node) read ∙ eqb-true _ _ parts.0 in
-        let index : index_of (get_or all k (interval_of d)) ≡ index_of interval = ap index_of read ∙ eqb-true _ _ parts.1 in
-        let last : entry store.last (get_or all k (interval_of d)).node ≡ entry store.last interval.node = ap (entry store.last) node in
-        absurd (omega arith)))
+    false_from_ne_true _ (λ at.
+    let there = get_or store.entries k d in
+    let parts = and_parts (eqb there.node interval.node) _ at in
+    let all = intervals_of store in
+    let read : get_or all k (interval_of d) ≡ interval_of there = get_or-map interval_of store.entries k d (interval_of d) within in
+    let below : index_of (get_or all k (interval_of d)) ≤ entry store.last (get_or all k (interval_of d)).node =
+    sound.counted k (interval_of d) (omega (arith, length-map store.entries interval_of)) in
+    let node : (get_or all k (interval_of d)).node ≡ interval.node = ap (λ (i : IntervalRecord). i.node) read ∙ eqb-true _ _ parts.0 in
+    let index : index_of (get_or all k (interval_of d)) ≡ index_of interval = ap index_of read ∙ eqb-true _ _ parts.1 in
+    let last : entry store.last (get_or all k (interval_of d)).node ≡ entry store.last interval.node = ap (entry store.last) node in
+    absurd (omega arith)))
     (is_at-itself interval)
 
 -- each page of an interval gets a notice
-pub notice_of-unread : (pages : List ℕ) (page : ℕ) → Contains pages page → find (λ notice. eqb notice.page page) (map unread pages) ≡ Some (unread page)
+pub notice_of-unread : (pages : List ℕ) (page : ℕ) → Contains pages page
+    → find (λ notice. eqb notice.page page) (map unread pages) ≡ Some (unread page)
 notice_of-unread [] page there = absurd (none_Contains page there)
 notice_of-unread (first ∷ pages) page there = by_test (notice_of-unread pages page) (eqb first page) refl
   where
@@ -89,9 +91,9 @@ notice_of-unread (first ∷ pages) page there = by_test (notice_of-unread pages 
     by_test rest true same = ap (λ p. Some (unread p)) (eqb-true first page same)
     by_test rest false differ =
         ⊎_elim
-          (λ (same : first ≡ page). absurd (true≢false (sym (eq-eqb first page same) ∙ differ)))
-          rest
-          (cases_Contains first pages page there)
+        (λ (same : first ≡ page). absurd (true≢false (sym (eq-eqb first page same) ∙ differ)))
+        rest
+        (cases_Contains first pages page there)
 
 pub notice_at-added : (store : StoreRecord) (interval : IntervalRecord) (page : ℕ) → IsStore store
     → index_of interval ≡ entry store.last interval.node + 1 → Contains interval.pages page
@@ -118,17 +120,13 @@ stored_at-attached store key changes node index =
     find-map (is_at node index) (stored_with key changes) store.entries (is_at-stored_with key changes node index)
 
 -- the notice of a page of an interval that has the key
-notice_of-stored_with : (key : Key) (changes : List Change) (page : ℕ) (stored : StoredRecord) → is_at key.node key.index stored ≡ true
+notice_of-stored_with : (key : Key) (changes : List Change) (page : ℕ) (stored : StoredRecord)
+    → is_at key.node key.index stored ≡ true
     → notice_of page (stored_with key changes stored) ≡ option_map (notice_with key.page changes) (notice_of page stored)
 notice_of-stored_with key changes page stored at =
-    ap (λ b. notice_of page (cond b (record { node = stored.node; stamp = stored.stamp; notices = map (notice_with key.page changes) stored.notices }) stored)) at
+    ap (λ b. notice_of page (cond b (record stored { notices = map (notice_with key.page changes) stored.notices }) stored)) at
     ∙ find-map (λ notice. eqb notice.page page) (notice_with key.page changes) stored.notices
-      (λ notice. ap (λ p. eqb p page) (kept_page key.page changes notice))
-
-stored_with-other : (key : Key) (changes : List Change) (stored : StoredRecord) → is_at key.node key.index stored ≡ false
-    → stored_with key changes stored ≡ stored
-stored_with-other key changes stored other =
-    ap (λ b. cond b (record { node = stored.node; stamp = stored.stamp; notices = map (notice_with key.page changes) stored.notices }) stored) other
+    (λ notice. ap (λ p. eqb p page) (kept_page key.page changes notice))
 
 pub notice_at-attached : (store : StoreRecord) (key : Key) (changes : List Change)
     → notice_at store key ≡ Some (record { page = key.page; changes = None })
@@ -138,22 +136,24 @@ notice_at-attached store key changes wanted =
     ∙ by_found (stored_at store.entries key.node key.index) refl
   where
     by_found : (found : Option StoredRecord) → stored_at store.entries key.node key.index ≡ found
-        → option_and_then (notice_of key.page) (option_map (stored_with key changes) found) ≡ Some (record { page = key.page; changes = Some changes })
+        → option_and_then (notice_of key.page) (option_map (stored_with key changes) found)
+        ≡ Some (record { page = key.page; changes = Some changes })
     by_found None none =
         let nothing : option_and_then (notice_of key.page) (stored_at store.entries key.node key.index) ≡ None =
-            ap (option_and_then (notice_of key.page)) none in
+        ap (option_and_then (notice_of key.page)) none in
         absurd (cc)
     by_found (Some stored) some =
         let at : is_at key.node key.index stored ≡ true = passes-find (is_at key.node key.index) store.entries stored some in
         let notice : notice_of key.page stored ≡ Some (record { page = key.page; changes = None }) =
-            sym (ap (option_and_then (notice_of key.page)) some) ∙ wanted in
+        sym (ap (option_and_then (notice_of key.page)) some) ∙ wanted in
         notice_of-stored_with key changes key.page stored at
         ∙ ap (option_map (notice_with key.page changes)) notice
         ∙ ap Some (notice_with-same key.page changes (record { page = key.page; changes = None }) (eq-eqb key.page key.page refl))
 
 -- the notice of another page of the same interval stays
 kept_notice : (page : ℕ) (changes : List Change) (other : ℕ) (notices : List NoticeRecord) → other ≢ page
-    → (found : Option NoticeRecord) → find (λ notice. eqb notice.page other) notices ≡ found → option_map (notice_with page changes) found ≡ found
+    → (found : Option NoticeRecord) → find (λ notice. eqb notice.page other) notices ≡ found
+    → option_map (notice_with page changes) found ≡ found
 kept_notice page changes other notices differ None none = refl
 kept_notice page changes other notices differ (Some notice) some =
     let there : notice.page ≡ other = eqb-true _ _ (passes-find (λ notice. eqb notice.page other) notices notice some) in
@@ -165,18 +165,21 @@ notice_at-attached_other store key other changes differ =
     ap (option_and_then (notice_of other.page)) (stored_at-attached store key changes other.node other.index)
     ∙ by_found (stored_at store.entries other.node other.index) refl
   where
-    same_interval : (stored : StoredRecord) → is_at other.node other.index stored ≡ true → is_at key.node key.index stored ≡ true
+    same_interval : (stored : StoredRecord) → is_at other.node other.index stored ≡ true
+        → is_at key.node key.index stored ≡ true
         → other.page ≢ key.page
     same_interval stored at_other at_key page =
         let others = and_parts (eqb stored.node other.node) _ at_other in
         let keys = and_parts (eqb stored.node key.node) _ at_key in
         let node : other.node ≡ key.node = sym (eqb-true _ _ others.0) ∙ eqb-true _ _ keys.0 in
         let index : other.index ≡ key.index = sym (eqb-true _ _ others.1) ∙ eqb-true _ _ keys.1 in
-        let first : other ≡ record { node = key.node; index = other.index; page = other.page } = ap (λ n. record { node = n; index = other.index; page = other.page }) node in
-        let second : other ≡ record { node = key.node; index = key.index; page = other.page } = first ∙ ap (λ n. record { node = key.node; index = n; page = other.page }) index in
-        differ (second ∙ ap (λ n. record { node = key.node; index = key.index; page = n }) page)
+        differ
+        (ap (λ n. record other { node = n }) node
+        ∙ ap (λ n. record { node = key.node; index = n; page = other.page }) index
+        ∙ ap (λ n. record key { page = n }) page)
 
-    by_test : (stored : StoredRecord) → is_at other.node other.index stored ≡ true → (b : Bool) → is_at key.node key.index stored ≡ b
+    by_test : (stored : StoredRecord) → is_at other.node other.index stored ≡ true → (b : Bool)
+        → is_at key.node key.index stored ≡ b
         → notice_of other.page (stored_with key changes stored) ≡ notice_of other.page stored
     by_test stored at_other true at_key =
         notice_of-stored_with key changes other.page stored at_key
@@ -184,7 +187,8 @@ notice_at-attached_other store key other changes differ =
     by_test stored at_other false not_key = ap (notice_of other.page) (stored_with-other key changes stored not_key)
 
     by_found : (found : Option StoredRecord) → stored_at store.entries other.node other.index ≡ found
-        → option_and_then (notice_of other.page) (option_map (stored_with key changes) found) ≡ option_and_then (notice_of other.page) (stored_at store.entries other.node other.index)
+        → option_and_then (notice_of other.page) (option_map (stored_with key changes) found)
+        ≡ option_and_then (notice_of other.page) (stored_at store.entries other.node other.index)
     by_found None none = sym (ap (option_and_then (notice_of other.page)) none)
     by_found (Some stored) some =
         let at : is_at other.node other.index stored ≡ true = passes-find (is_at other.node other.index) store.entries stored some in

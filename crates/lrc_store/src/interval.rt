@@ -28,7 +28,8 @@ impl Model for Interval {
 
     ghost view = { λ i. record { node = i.node; stamp = i.stamp; pages = i.pages.items } };
 
-    ghost invariant = { λ i. IsInterval (record { node = i.node; stamp = i.stamp; pages = i.pages.items }) };
+    ghost invariant = { λ i.
+        IsInterval (record { node = i.node; stamp = i.stamp; pages = i.pages.items }) };
 }
 
 impl PartialEq for Interval {

@@ -13,7 +13,7 @@ pub fn adding_makes_one_entry()
     ensures here { (store : StoreRecord) (interval : IntervalRecord) → IsStore store
         → index_of interval ≡ entry store.last interval.node + 1
         → stored_at (added store interval).entries interval.node (index_of interval)
-            ≡ Some (without_changes interval) }
+        ≡ Some (without_changes interval) }
     ensures notices { (store : StoreRecord) (interval : IntervalRecord) (page : ℕ) → IsStore store
         → index_of interval ≡ entry store.last interval.node + 1 → Contains interval.pages page
         → notice_at (added store interval) (key_of page interval) ≡ Some (unread page) }
@@ -22,8 +22,7 @@ pub fn adding_makes_one_entry()
         → stored_at (added store interval).entries node index ≡ stored_at store.entries node index }
     ensures intervals { (store : StoreRecord) (interval : IntervalRecord)
         → intervals_of (added store interval) ≡ intervals_of store ++ interval ∷ [] }
-{
-}
+{}
 
 /// Changes that come for a notice are found by its key. All other notices, and all intervals, stay.
 pub fn attaching_changes_one_notice()
@@ -34,8 +33,7 @@ pub fn attaching_changes_one_notice()
         → notice_at (attached store key changes) other ≡ notice_at store other }
     ensures intervals { (store : StoreRecord) (key : Key) (changes : List Change)
         → intervals_of (attached store key changes) ≡ intervals_of store }
-{
-}
+{}
 
 /// There is just one list of what is newer, and the function gives it.
 pub fn one_list_is_newer()
@@ -43,8 +41,7 @@ pub fn one_list_is_newer()
         → IsNewer store since upto (newer_of store since upto) }
     ensures only { (store : StoreRecord) (since upto : List ℕ) (first second : List IntervalRecord)
         → IsNewer store since upto first → IsNewer store since upto second → first ≡ second }
-{
-}
+{}
 
 /// There is just one list of what is missing, and the function gives it.
 pub fn one_list_is_missing()
@@ -52,12 +49,10 @@ pub fn one_list_is_missing()
         → IsMissing store page since (missing_of store page since) }
     ensures only { (store : StoreRecord) (page : ℕ) (since : List ℕ) (first second : List Key)
         → IsMissing store page since first → IsMissing store page since second → first ≡ second }
-{
-}
+{}
 
 /// An interval whose stamp another's covers comes before it in the order in which changes are applied.
 pub fn weight_order_extends_cover()
     ensures { (earlier later : IntervalRecord) → length earlier.stamp ≡ length later.stamp
         → Covers later.stamp earlier.stamp → earlier.stamp ≢ later.stamp → IsTrue (by_weight earlier later) }
-{
-}
+{}

@@ -7,6 +7,8 @@ pub mod key;
 pub mod laws;
 pub mod store;
 mod stored;
+#[cfg(test)]
+mod tests;
 
 pub use interval::Interval;
 pub use key::Key;
