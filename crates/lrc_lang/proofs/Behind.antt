@@ -1,5 +1,5 @@
 -- The parser behind some tokens: what it keeps says which token may come next, and which limits that would pass.
-use Rattle.std.proofs.Common.{◌≡◌, ◌<◌, ◌≤◌, ◌⊎◌, ℕ, List, [], ◌∷◌, ◌++◌, Option, Some, None, Result, Ok, Err, fold, refl, sym, ap, subst, ◌∙◌, inl, inr, ⊎_elim, arith}
+use Rattle.std.proofs.Common.{◌≡◌, ◌⊎◌, List, [], ◌∷◌, ◌++◌, Option, Some, None, Ok, Err, refl, sym, ap, subst, ◌∙◌, inl, inr, ⊎_elim, arith}
 use Rattle.lrc_lang.specs.declared.fault.FaultKind.{FaultKind}
 use Rattle.lrc_lang.specs.declared.fault.FaultKind.TheVariants.{TooLong, BadByte, BadNumber, Unexpected, TooDeep, TooManyNames, OverLimit, NoMemory}
 use Rattle.lrc_lang.specs.declared.limits.Limits as code_limits
@@ -8,12 +8,12 @@ use Rattle.lrc_lang.specs.declared.token.Keyword.TheVariants as keywords
 use Rattle.lrc_lang.specs.declared.token.Sign.{Sign}
 use Rattle.lrc_lang.specs.declared.token.Sign.TheVariants as signs
 use Rattle.lrc_lang.specs.Token.{Token, Lexeme, token, bad_byte, bad_number}
-use Rattle.lrc_lang.specs.Symbol.{Symbol, Names, names_with, symbol_of, symbol_of_sign}
+use Rattle.lrc_lang.specs.Symbol.{Names, names_with, symbol_of, symbol_of_sign}
 use Rattle.lrc_lang.specs.Counts.{names_of, open_with, open_of, operators_with, operators_of, last_of, IsOpening, IsTooDeep, IsNameTooMany, IsOperator, IsOperatorTooMany}
-use Rattle.lrc_lang.specs.Faults.{IsUnexpected, IsNumberTooLarge, IsOverLimit, HasFault, rank, IsFaultOf, IsFaultless}
+use Rattle.lrc_lang.specs.Faults.{IsUnexpected, IsNumberTooLarge, IsOverLimit, IsFaultOf, IsFaultless}
 use Rattle.lrc_lang.specs.State as state
 use Rattle.lrc_lang.specs.State.{State, state_with}
-use Rattle.lrc_lang.specs.SeenState.{state_seen, IsOverNumber, TakesSymbol}
+use Rattle.lrc_lang.specs.SeenState.{state_seen, TakesSymbol}
 use Rattle.lrc_lang.specs.SeenLimits.{names_seen, TakesToken}
 use Rattle.lrc_lang.specs.SeenParser.{TakesLexeme}
 use Rattle.lrc_lang.proofs.Reaching.{Reaches, Reaches-start, Reaches-push, refused-IsUnexpected, taken-IsUnexpected, fold-append}
@@ -60,7 +60,7 @@ module _ (before : List Token) (s s' : code_state.State) (l l' : code_limits.Lim
 
   pub IsFaultless-taken : IsFaultless before (token t)
   IsFaultless-taken = elim [
-    TooLong ↦ λ h. h
+    | TooLong ↦ λ h. h
     | BadByte ↦ λ h. h
     | BadNumber ↦ λ h. h
     | Unexpected ↦ λ h. taken-IsUnexpected before (state_seen s) t b.reaches step h
@@ -112,7 +112,7 @@ bad_byte_fault : (before : List Token) → IsFaultOf before bad_byte BadByte
 bad_byte_fault before = record {
   has = tt;
   first = elim [
-    TooLong ↦ λ r h. h
+    | TooLong ↦ λ r h. h
     | BadByte ↦ λ r h. omega arith
     | BadNumber ↦ λ r h. h
     | Unexpected ↦ λ r h. h
@@ -127,7 +127,7 @@ bad_number_fault : (before : List Token) → IsFaultOf before bad_number BadNumb
 bad_number_fault before = record {
   has = tt;
   first = elim [
-    TooLong ↦ λ r h. h
+    | TooLong ↦ λ r h. h
     | BadByte ↦ λ r h. h
     | BadNumber ↦ λ r h. omega arith
     | Unexpected ↦ λ r h. h
@@ -142,7 +142,7 @@ unexpected_fault : (before : List Token) (t : Token) → IsUnexpected before t �
 unexpected_fault before t has = record {
   has = has;
   first = elim [
-    TooLong ↦ λ r h. h
+    | TooLong ↦ λ r h. h
     | BadByte ↦ λ r h. h
     | BadNumber ↦ λ r h. h
     | Unexpected ↦ λ r h. omega arith
@@ -157,7 +157,7 @@ deep_fault : (before : List Token) (t : Token) → ¬ IsUnexpected before t → 
 deep_fault before t expected has = record {
   has = has;
   first = elim [
-    TooLong ↦ λ r h. h
+    | TooLong ↦ λ r h. h
     | BadByte ↦ λ r h. h
     | BadNumber ↦ λ r h. h
     | Unexpected ↦ λ r h. expected h
@@ -172,7 +172,7 @@ names_fault : (before : List Token) (t : Token) → ¬ IsUnexpected before t →
 names_fault before t expected has = record {
   has = has;
   first = elim [
-    TooLong ↦ λ r h. h
+    | TooLong ↦ λ r h. h
     | BadByte ↦ λ r h. h
     | BadNumber ↦ λ r h. h
     | Unexpected ↦ λ r h. expected h
@@ -187,7 +187,7 @@ over_fault : (before : List Token) (t : Token) → ¬ IsUnexpected before t → 
 over_fault before t expected shut few has = record {
   has = has;
   first = elim [
-    TooLong ↦ λ r h. h
+    | TooLong ↦ λ r h. h
     | BadByte ↦ λ r h. h
     | BadNumber ↦ λ r h. h
     | Unexpected ↦ λ r h. expected h

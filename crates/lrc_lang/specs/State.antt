@@ -1,5 +1,5 @@
 -- A text of which some symbols have come: what the parser keeps of it, and what the next symbol makes of that.
-use Rattle.std.specs.Prelude.{ℕ, List, [], ◌∷◌, Option, Some, None}
+use Rattle.std.specs.Prelude.{ℕ, Option, Some, None}
 use Rattle.lrc_lang.specs.declared.token.Keyword.TheVariants.{Words, Locks}
 use Rattle.lrc_lang.specs.declared.token.Sign.TheVariants.{Semicolon}
 use Rattle.lrc_lang.specs.Symbol.{Symbol, number, keyword, sign, finish}
@@ -73,7 +73,6 @@ moved nothing s symbol = None
 -- the text with one more symbol, or None where it cannot stand there
 abbrev pub state_with : State → Symbol → Option State
 state_with s symbol = moved s.stage s symbol
-
 
 -- the program, once the text has ended
 abbrev pub program_in : State → ProgramTree

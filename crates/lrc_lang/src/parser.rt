@@ -10,14 +10,13 @@ ghost use Rattle.lrc_lang.specs.Token.{Token as TokenSeen, token, finish};
 ghost use Rattle.lrc_lang.specs.Tree.{ProgramTree, program_of};
 ghost use Rattle.lrc_lang.specs.View.{lexeme_of};
 
-use std::alloc::Global;
-
 use crate::fault::{FaultKind, ParseFault};
 use crate::lexer::Lexer;
 use crate::limits::Limits;
 use crate::program::Program;
 use crate::state::State;
 use crate::token::{Lexeme, Token};
+use std::alloc::Global;
 
 /// How many bytes a text may have.
 const MOST_BYTES: usize = 65_536;
@@ -66,11 +65,7 @@ fn read(alloc: Global, text: &[u8]) -> Result<Program, ParseFault>
 }
 
 /// Takes what stands next.
-fn take<'t>(
-    state: &mut State,
-    limits: &mut Limits<'t>,
-    lexeme: Lexeme<'t>,
-) -> Result<(), FaultKind>
+fn take<'t>(state: &mut State, limits: &mut Limits<'t>, lexeme: Lexeme<'t>) -> Result<(), FaultKind>
     ensures { TakesLexeme result state.old limits.old (lexeme_of lexeme.entry) state.new limits.new }
 {
     match lexeme {
