@@ -1,5 +1,5 @@
 -- The parser behind some tokens: what it keeps says which token may come next, and which limits that would pass.
-use Rattle.std.proofs.Common.{◌≡◌, ◌<◌, ◌≤◌, ◌⊎◌, ℕ, List, [], ◌∷◌, ◌++◌, Option, Some, None, Result, Ok, Err, fold, refl, sym, ap, subst, ◌∙◌, inl, inr, ⊎_elim, arith}
+use Rattle.std.proofs.Common.{◌≡◌, ◌⊎◌, List, [], ◌∷◌, ◌++◌, Option, Some, None, Ok, Err, refl, sym, ap, subst, ◌∙◌, inl, inr, ⊎_elim, arith}
 use Rattle.lrc_lang.specs.declared.fault.FaultKind.{FaultKind}
 use Rattle.lrc_lang.specs.declared.fault.FaultKind.TheVariants.{TooLong, BadByte, BadNumber, Unexpected, TooDeep, TooManyNames, OverLimit, NoMemory}
 use Rattle.lrc_lang.specs.declared.limits.Limits as code_limits
@@ -8,12 +8,12 @@ use Rattle.lrc_lang.specs.declared.token.Keyword.TheVariants as keywords
 use Rattle.lrc_lang.specs.declared.token.Sign.{Sign}
 use Rattle.lrc_lang.specs.declared.token.Sign.TheVariants as signs
 use Rattle.lrc_lang.specs.Token.{Token, Lexeme, token, bad_byte, bad_number}
-use Rattle.lrc_lang.specs.Symbol.{Symbol, Names, names_with, symbol_of, symbol_of_sign}
+use Rattle.lrc_lang.specs.Symbol.{Names, names_with, symbol_of, symbol_of_sign}
 use Rattle.lrc_lang.specs.Counts.{names_of, open_with, open_of, operators_with, operators_of, last_of, IsOpening, IsTooDeep, IsNameTooMany, IsOperator, IsOperatorTooMany}
-use Rattle.lrc_lang.specs.Faults.{IsUnexpected, IsNumberTooLarge, IsOverLimit, HasFault, rank, IsFaultOf, IsFaultless}
+use Rattle.lrc_lang.specs.Faults.{IsUnexpected, IsNumberTooLarge, IsOverLimit, IsFaultOf, IsFaultless}
 use Rattle.lrc_lang.specs.State as state
 use Rattle.lrc_lang.specs.State.{State, state_with}
-use Rattle.lrc_lang.specs.SeenState.{state_seen, IsOverNumber, TakesSymbol}
+use Rattle.lrc_lang.specs.SeenState.{state_seen, TakesSymbol}
 use Rattle.lrc_lang.specs.SeenLimits.{names_seen, TakesToken}
 use Rattle.lrc_lang.specs.SeenParser.{TakesLexeme}
 use Rattle.lrc_lang.proofs.Reaching.{Reaches, Reaches-start, Reaches-push, refused-IsUnexpected, taken-IsUnexpected, fold-append}

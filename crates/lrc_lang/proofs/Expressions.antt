@@ -1,13 +1,13 @@
 -- What completes an expression of which some symbols have come, and that one more symbol takes it one step on.
-use Rattle.std.proofs.Common.{◌≡◌, ℕ, ◌⊎◌, List, [], ◌∷◌, Option, Some, None, option_map, refl, sym, ap, subst}
+use Rattle.std.proofs.Common.{◌≡◌, List, [], ◌∷◌, Option, Some, None, option_map, refl, sym, ap, subst}
 use Rattle.lrc_lang.specs.declared.token.Keyword.TheVariants.{Me, Nodes}
 use Rattle.lrc_lang.specs.declared.token.Sign.TheVariants.{OpenParenthesis, CloseParenthesis}
 use Rattle.lrc_lang.specs.declared.program.Operator.{Operator}
 use Rattle.lrc_lang.specs.Token.{Token}
-use Rattle.lrc_lang.specs.Symbol.{Symbol, number, name, operator, keyword, sign, finish, Names, symbols_after}
+use Rattle.lrc_lang.specs.Symbol.{Symbol, number, name, operator, keyword, sign, Names, symbols_after}
 use Rattle.lrc_lang.specs.Tree.{Expression, binary}
 use Rattle.lrc_lang.specs.Grammar.{Joins, factors, terms, sums, joins, IsFactor, a_number, a_name, me, nodes, parentheses, IsTerm, factor, product, IsSum, term, sum, IsExpression, one_sum, comparison}
-use Rattle.lrc_lang.specs.Partial.{Pending, Level, no_pending, Partial, nothing, joined, term_of, sum_of, whole_of, waiting, compared_with, level_with, awaiting, behind, begin, close, go_on, moved, partial_with, value_in, value_of}
+use Rattle.lrc_lang.specs.Partial.{Pending, Level, no_pending, Partial, joined, term_of, whole_of, waiting, level_with, awaiting, begin, close, go_on, moved, partial_with, value_in, value_of}
 use Rattle.lrc_lang.proofs.Options.{none_some, some_same}
 
 -- ---- what completes an expression

@@ -1,5 +1,5 @@
 -- What an equation between options says.
-use Rattle.std.proofs.Common.{◌≡◌, Option, Some, None}
+use Rattle.std.proofs.Common.{◌≡◌, Some, None}
 
 pub none_some : {A : Type 0} {x : A} → None ≡ Some x → ⊥
 none_some q = cc

@@ -1,9 +1,9 @@
 -- The parser's state behind some tokens says which programs begin with them.
-use Rattle.std.proofs.Common.{◌≡◌, ℕ, List, [], ◌∷◌, ◌++◌, Option, Some, None, fold, refl, sym, ap, subst, ◌∙◌, append_assoc}
+use Rattle.std.proofs.Common.{◌≡◌, List, [], ◌∷◌, ◌++◌, Some, None, fold, refl, sym, subst, ◌∙◌, append_assoc}
 use Rattle.lrc_lang.specs.Token.{Token}
-use Rattle.lrc_lang.specs.Symbol.{Symbol, Names, names_with, symbol_of, symbols_after}
+use Rattle.lrc_lang.specs.Symbol.{Symbol, names_with, symbol_of, symbols_after}
 use Rattle.lrc_lang.specs.Tree.{ProgramTree}
-use Rattle.lrc_lang.specs.Grammar.{IsProgram, AreSymbolsOf}
+use Rattle.lrc_lang.specs.Grammar.{IsProgram}
 use Rattle.lrc_lang.specs.Counts.{names_of}
 use Rattle.lrc_lang.specs.Faults.{IsUnexpected}
 use Rattle.lrc_lang.specs.State as state

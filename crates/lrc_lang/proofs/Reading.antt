@@ -1,14 +1,13 @@
 -- Reading a text on, token by token, up to its end or to its first fault.
-use Rattle.std.proofs.Common.{◌≡◌, ◌≢◌, ◌≤◌, ◌⊎◌, ℕ, List, [], ◌∷◌, ◌++◌, length, Result, Ok, Err, refl, sym, ap, subst, ◌∙◌, inl, inr, ⊎_elim, append_assoc, append-nil}
+use Rattle.std.proofs.Common.{◌≡◌, ◌≢◌, ◌≤◌, ◌⊎◌, ℕ, List, [], ◌∷◌, ◌++◌, length, Ok, Err, refl, sym, subst, inl, inr, ⊎_elim, append_assoc, append-nil}
 use Rattle.lrc_lang.specs.declared.fault.FaultKind.{FaultKind}
 use Rattle.lrc_lang.specs.declared.fault.FaultKind.TheVariants.{NoMemory}
 use Rattle.lrc_lang.specs.declared.fault.ParseFault as code_fault
 use Rattle.lrc_lang.specs.declared.limits.Limits as code_limits
 use Rattle.lrc_lang.specs.declared.state.State as code_state
 use Rattle.lrc_lang.specs.Token.{Token, finish, Lexeme, token, bad_byte, bad_number, Placed}
-use Rattle.lrc_lang.specs.Lexemes.{at, Lexes, NextIs}
+use Rattle.lrc_lang.specs.Lexemes.{at, NextIs}
 use Rattle.lrc_lang.specs.Past.{GoesOn, IsPast}
-use Rattle.lrc_lang.specs.Tree.{ProgramTree}
 use Rattle.lrc_lang.specs.Grammar.{IsProgram}
 use Rattle.lrc_lang.specs.Faults.{IsFaultOf, IsFaultless, IsFirstFault, AreFaultless, IsText, HasFirstFault}
 use Rattle.lrc_lang.specs.State.{program_in}

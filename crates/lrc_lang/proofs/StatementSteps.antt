@@ -1,10 +1,9 @@
 -- What completes statements begins with a symbol that can stand there, or with the end of the text where they may end.
-use Rattle.std.proofs.Common.{◌≡◌, ℕ, Bool, true, false, cond, List, [], ◌∷◌, Option, Some, None, refl, sym, ap, subst, ◌∙◌}
-use Rattle.lrc_lang.specs.declared.token.Keyword.TheVariants.{Words, Locks, Acquire, Release, Barrier, Print, If, Else, While}
-use Rattle.lrc_lang.specs.declared.token.Sign.TheVariants.{Semicolon, Assign, OpenBracket, CloseBracket, OpenBrace, CloseBrace}
-use Rattle.lrc_lang.specs.Token.{Token}
-use Rattle.lrc_lang.specs.Symbol.{Symbol, number, name, operator, keyword, sign, finish, Names, symbols_after}
-use Rattle.lrc_lang.specs.Tree.{Expression, Statement, Block, empty, next}
+use Rattle.std.proofs.Common.{◌≡◌, ℕ, false, List, [], ◌∷◌, Option, Some, None, refl, sym, ap, subst, ◌∙◌}
+use Rattle.lrc_lang.specs.declared.token.Keyword.TheVariants.{Else}
+use Rattle.lrc_lang.specs.declared.token.Sign.TheVariants.{Semicolon, OpenBracket, CloseBracket, OpenBrace}
+use Rattle.lrc_lang.specs.Symbol.{Symbol, keyword, sign, finish}
+use Rattle.lrc_lang.specs.Tree.{Expression, Statement, Block, empty}
 use Rattle.lrc_lang.specs.Grammar as grammar
 use Rattle.lrc_lang.specs.Grammar.{IsExpression, IsStatement, IsBlock, braces, AreStatements, none, one_more}
 use Rattle.lrc_lang.specs.Partial as partial
@@ -13,8 +12,8 @@ use Rattle.lrc_lang.specs.Body as body
 use Rattle.lrc_lang.specs.Body.{Purpose, assigned, word_read, word_written, written, acquired, released, printed, if_condition, while_condition, Place, at_statement, after_name, after_equals, in_expression, after_word, before_end, after_then, after_else, Owner, then_of, else_of, inside_of, Around, Body, push, body_with, whole_of, if_some, Ending, semicolon, bracket, brace, is_ending, ending_of}
 use Rattle.lrc_lang.proofs.Expressions as expressions
 use Rattle.lrc_lang.proofs.Expressions.{Completes, Starts, starts, split_expression, join_expression, turns, back, ended, completion, completed}
-use Rattle.lrc_lang.proofs.Options.{none_some, some_same}
-use Rattle.lrc_lang.proofs.Statements.{All, CompletesBody, FromExpression, FromOwner, FromPlace, FromPurpose, FromStatement, FromThen, Leaves, acquires, all_statements, appended, appended-empty, appended-push, assigns, begins, closes, enter, from_else, from_inside, from_then, has_else, in_brackets, in_else, in_end, in_equals, in_name, in_statement, in_then, in_whole, in_word, is_all, leave, leave_all, names_word, no_else, prints, reads, releases, repeats, statements_all, statements_all_at, tests, writes}
+use Rattle.lrc_lang.proofs.Options.{none_some}
+use Rattle.lrc_lang.proofs.Statements.{CompletesBody, FromExpression, FromOwner, FromPlace, FromPurpose, FromStatement, FromThen, acquires, assigns, begins, closes, enter, from_else, from_inside, from_then, has_else, in_brackets, in_else, in_end, in_equals, in_name, in_statement, in_then, in_whole, in_word, is_all, names_word, no_else, prints, reads, releases, repeats, tests, writes}
 
 -- The next symbol can stand there, and the symbols behind it complete what has come with it; or it is the end of the
 -- text, and the block is complete.

@@ -1,18 +1,14 @@
 -- What completes statements of which some symbols have come.
-use Rattle.std.proofs.Common.{◌≡◌, ℕ, Bool, true, false, cond, List, [], ◌∷◌, Option, Some, None, refl, sym, ap, subst, ◌∙◌}
-use Rattle.lrc_lang.specs.declared.token.Keyword.TheVariants.{Words, Locks, Acquire, Release, Barrier, Print, If, Else, While}
-use Rattle.lrc_lang.specs.declared.token.Sign.TheVariants.{Semicolon, Assign, OpenBracket, CloseBracket, OpenBrace, CloseBrace}
-use Rattle.lrc_lang.specs.Token.{Token}
-use Rattle.lrc_lang.specs.Symbol.{Symbol, number, name, operator, keyword, sign, finish, Names, symbols_after}
+use Rattle.std.proofs.Common.{◌≡◌, ℕ, List, [], ◌∷◌, refl, sym, ap, subst, ◌∙◌}
+use Rattle.lrc_lang.specs.declared.token.Keyword.TheVariants.{Else}
+use Rattle.lrc_lang.specs.declared.token.Sign.TheVariants.{Semicolon, Assign, OpenBracket, CloseBracket, CloseBrace}
+use Rattle.lrc_lang.specs.Symbol.{Symbol, keyword, sign, finish}
 use Rattle.lrc_lang.specs.Tree.{Expression, Statement, Block, empty, next}
-use Rattle.lrc_lang.specs.Grammar as grammar
-use Rattle.lrc_lang.specs.Grammar.{IsExpression, IsStatement, IsBlock, braces, AreStatements, none, one_more}
-use Rattle.lrc_lang.specs.Partial as partial
-use Rattle.lrc_lang.specs.Partial.{Level, no_pending, Partial, nothing, partial_with, value_of}
+use Rattle.lrc_lang.specs.Grammar.{IsExpression, IsStatement, IsBlock, AreStatements, none, one_more}
+use Rattle.lrc_lang.specs.Partial.{Partial, nothing}
 use Rattle.lrc_lang.specs.Body as body
 use Rattle.lrc_lang.specs.Body.{Purpose, assigned, word_read, word_written, written, acquired, released, printed, if_condition, while_condition, Place, at_statement, after_name, after_equals, in_expression, after_word, before_end, after_then, after_else, Owner, then_of, else_of, inside_of, Around, Body, push, body_with, whole_of, if_some, Ending, semicolon, bracket, brace, is_ending, ending_of}
-use Rattle.lrc_lang.proofs.Expressions as expressions
-use Rattle.lrc_lang.proofs.Expressions.{Completes, Starts, starts, split_expression, join_expression, turns, back, ended, completion, completed}
+use Rattle.lrc_lang.proofs.Expressions.{Completes}
 
 -- The symbols complete statements to a block, up to the end of the text.
 mutual

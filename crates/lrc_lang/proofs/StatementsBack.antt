@@ -1,20 +1,18 @@
 -- Where a symbol can stand, it and what completes the statements behind it complete those in front of it.
-use Rattle.std.proofs.Common.{◌≡◌, ℕ, Bool, true, false, cond, List, [], ◌∷◌, Option, Some, None, refl, sym, ap, subst, ◌∙◌}
-use Rattle.lrc_lang.specs.declared.token.Keyword.TheVariants.{Words, Locks, Acquire, Release, Barrier, Print, If, Else, While}
+use Rattle.std.proofs.Common.{◌≡◌, ℕ, Bool, true, false, cond, List, [], ◌∷◌, Option, Some, None, refl, sym, subst}
+use Rattle.lrc_lang.specs.declared.token.Keyword.TheVariants.{Acquire, Release, Barrier, Print, If, Else, While}
 use Rattle.lrc_lang.specs.declared.token.Sign.TheVariants.{Semicolon, Assign, OpenBracket, CloseBracket, OpenBrace, CloseBrace}
-use Rattle.lrc_lang.specs.Token.{Token}
-use Rattle.lrc_lang.specs.Symbol.{Symbol, number, name, operator, keyword, sign, finish, Names, symbols_after}
-use Rattle.lrc_lang.specs.Tree.{Expression, Statement, Block, empty, next}
+use Rattle.lrc_lang.specs.Symbol.{Symbol, name, keyword, sign, finish}
+use Rattle.lrc_lang.specs.Tree.{Expression, Statement, Block, empty}
 use Rattle.lrc_lang.specs.Grammar as grammar
 use Rattle.lrc_lang.specs.Grammar.{IsExpression, IsStatement, IsBlock, braces, AreStatements, none, one_more}
-use Rattle.lrc_lang.specs.Partial as partial
-use Rattle.lrc_lang.specs.Partial.{Level, no_pending, Partial, nothing, partial_with, value_of}
+use Rattle.lrc_lang.specs.Partial.{no_pending, Partial, nothing, partial_with, value_of}
 use Rattle.lrc_lang.specs.Body as body
 use Rattle.lrc_lang.specs.Body.{Purpose, assigned, word_read, word_written, written, acquired, released, printed, if_condition, while_condition, Place, at_statement, after_name, after_equals, in_expression, after_word, before_end, after_then, after_else, Owner, then_of, else_of, inside_of, Around, Body, push, body_with, whole_of, if_some, Ending, semicolon, bracket, brace, is_ending, ending_of}
 use Rattle.lrc_lang.proofs.Expressions as expressions
 use Rattle.lrc_lang.proofs.Expressions.{Completes, Starts, starts, split_expression, join_expression, turns, back, ended, completion, completed}
 use Rattle.lrc_lang.proofs.Options.{none_some, some_same}
-use Rattle.lrc_lang.proofs.Statements.{All, CompletesBody, FromExpression, FromOwner, FromPlace, FromPurpose, FromStatement, FromThen, Leaves, acquires, all_statements, appended, appended-empty, appended-push, assigns, begins, closes, enter, from_else, from_inside, from_then, has_else, in_brackets, in_else, in_end, in_equals, in_name, in_statement, in_then, in_whole, in_word, is_all, leave, leave_all, names_word, no_else, prints, reads, releases, repeats, statements_all, statements_all_at, tests, writes}
+use Rattle.lrc_lang.proofs.Statements.{CompletesBody, FromExpression, FromOwner, FromPlace, FromPurpose, FromStatement, FromThen, Leaves, acquires, assigns, begins, closes, from_else, from_inside, from_then, has_else, in_brackets, in_else, in_end, in_equals, in_name, in_statement, in_then, in_whole, in_word, is_all, leave, names_word, no_else, prints, reads, releases, repeats, tests, writes}
 
 at_same : {x y : Body} (whole : Block) (all : List Symbol) → Some x ≡ Some y → CompletesBody y whole all → CompletesBody x whole all
 at_same whole all q k = subst (λ b. CompletesBody b whole all) (sym (some_same q)) k

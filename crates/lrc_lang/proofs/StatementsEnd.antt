@@ -1,19 +1,15 @@
 -- All statements that have begun can be completed.
-use Rattle.std.proofs.Common.{◌≡◌, ℕ, Bool, true, false, cond, List, [], ◌∷◌, Option, Some, None, refl, sym, ap, subst, ◌∙◌}
-use Rattle.lrc_lang.specs.declared.token.Keyword.TheVariants.{Words, Locks, Acquire, Release, Barrier, Print, If, Else, While}
-use Rattle.lrc_lang.specs.declared.token.Sign.TheVariants.{Semicolon, Assign, OpenBracket, CloseBracket, OpenBrace, CloseBrace}
+use Rattle.std.proofs.Common.{List, [], ◌∷◌, refl}
+use Rattle.lrc_lang.specs.declared.token.Sign.TheVariants.{Semicolon, Assign, CloseBracket, OpenBrace, CloseBrace}
 use Rattle.lrc_lang.specs.Token.{Token}
-use Rattle.lrc_lang.specs.Symbol.{Symbol, number, name, operator, keyword, sign, finish, Names, symbols_after}
-use Rattle.lrc_lang.specs.Tree.{Expression, Statement, Block, empty, next}
+use Rattle.lrc_lang.specs.Symbol.{Symbol, number, Names, symbols_after}
+use Rattle.lrc_lang.specs.Tree.{Expression, Statement, Block, empty}
 use Rattle.lrc_lang.specs.Grammar as grammar
 use Rattle.lrc_lang.specs.Grammar.{IsExpression, IsStatement, IsBlock, braces, AreStatements, none, one_more}
-use Rattle.lrc_lang.specs.Partial as partial
-use Rattle.lrc_lang.specs.Partial.{Level, no_pending, Partial, nothing, partial_with, value_of}
-use Rattle.lrc_lang.specs.Body as body
-use Rattle.lrc_lang.specs.Body.{Purpose, assigned, word_read, word_written, written, acquired, released, printed, if_condition, while_condition, Place, at_statement, after_name, after_equals, in_expression, after_word, before_end, after_then, after_else, Owner, then_of, else_of, inside_of, Around, Body, push, body_with, whole_of, if_some, Ending, semicolon, bracket, brace, is_ending, ending_of}
-use Rattle.lrc_lang.proofs.Expressions as expressions
-use Rattle.lrc_lang.proofs.Expressions.{Completes, Starts, starts, split_expression, join_expression, turns, back, ended, completion, completed}
-use Rattle.lrc_lang.proofs.Statements.{All, CompletesBody, FromExpression, FromOwner, FromPlace, FromPurpose, FromStatement, FromThen, Leaves, acquires, all_statements, appended, appended-empty, appended-push, assigns, begins, closes, enter, from_else, from_inside, from_then, has_else, in_brackets, in_else, in_end, in_equals, in_name, in_statement, in_then, in_whole, in_word, is_all, leave, leave_all, names_word, no_else, prints, reads, releases, repeats, statements_all, statements_all_at, tests, writes}
+use Rattle.lrc_lang.specs.Partial.{Partial, nothing}
+use Rattle.lrc_lang.specs.Body.{Purpose, assigned, word_read, word_written, written, acquired, released, printed, if_condition, while_condition, Place, at_statement, after_name, after_equals, in_expression, after_word, before_end, after_then, after_else, Owner, then_of, else_of, inside_of, Around, Body, push}
+use Rattle.lrc_lang.proofs.Expressions.{completion, completed}
+use Rattle.lrc_lang.proofs.Statements.{CompletesBody, FromExpression, FromOwner, FromPlace, FromPurpose, FromStatement, acquires, assigns, closes, from_else, from_inside, from_then, in_else, in_end, in_equals, in_name, in_statement, in_then, in_whole, in_word, is_all, names_word, no_else, prints, reads, releases, repeats, tests, writes}
 
 -- the braces that close these blocks, and then the end of the text
 abbrev closing : List Around → List Token

@@ -3,9 +3,9 @@ use Rattle.std.proofs.Common.{◌≡◌, ℕ, List, [], ◌∷◌, Option, Some,
 use Rattle.lrc_lang.specs.declared.token.Keyword.TheVariants.{Words, Locks}
 use Rattle.lrc_lang.specs.declared.token.Sign.TheVariants.{Semicolon}
 use Rattle.lrc_lang.specs.Token.{Token}
-use Rattle.lrc_lang.specs.Symbol.{Symbol, number, name, operator, keyword, sign, finish, Names, symbols_after}
+use Rattle.lrc_lang.specs.Symbol.{Symbol, number, keyword, sign, finish, Names, symbols_after}
 use Rattle.lrc_lang.specs.Tree.{Block, ProgramTree}
-use Rattle.lrc_lang.specs.Grammar.{AreStatements, AreSymbolsOf, program}
+use Rattle.lrc_lang.specs.Grammar.{AreSymbolsOf, program}
 use Rattle.lrc_lang.specs.Body.{Body, body_with, whole_of, if_some}
 use Rattle.lrc_lang.specs.Body as body
 use Rattle.lrc_lang.specs.State as state

@@ -1,5 +1,5 @@
 -- What stands next, once the state has taken it.
-use Rattle.std.proofs.Common.{Result, Ok, Err, inl, inr}
+use Rattle.std.proofs.Common.{Result, Ok, Err, inr}
 use Rattle.lrc_lang.specs.declared.fault.FaultKind.{FaultKind}
 use Rattle.lrc_lang.specs.declared.limits.Limits as code_limits
 use Rattle.lrc_lang.specs.declared.state.State as code_state

@@ -1,5 +1,5 @@
 -- Statements of which some symbols have come: what the parser keeps of them, and what the next symbol makes of that.
-use Rattle.std.specs.Prelude.{ℕ, Bool, true, false, List, [], ◌∷◌, Option, Some, None, option_map, cond}
+use Rattle.std.specs.Prelude.{ℕ, Bool, true, false, List, [], ◌∷◌, Option, Some, None, cond}
 use Rattle.lrc_lang.specs.declared.token.Keyword.TheVariants.{Acquire, Release, Barrier, Print, If, Else, While}
 use Rattle.lrc_lang.specs.declared.token.Sign.TheVariants as signs
 use Rattle.lrc_lang.specs.Symbol.{Symbol}

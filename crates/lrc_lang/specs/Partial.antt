@@ -1,5 +1,5 @@
 -- An expression of which some symbols have come: what the parser keeps of it, and what the next symbol makes of that.
-use Rattle.std.specs.Prelude.{ℕ, List, [], ◌∷◌, Option, Some, None, option_map}
+use Rattle.std.specs.Prelude.{List, [], ◌∷◌, Option, Some, None, option_map}
 use Rattle.lrc_lang.specs.declared.token.Keyword.TheVariants.{Me, Nodes}
 use Rattle.lrc_lang.specs.declared.token.Sign.TheVariants.{OpenParenthesis, CloseParenthesis}
 use Rattle.lrc_lang.specs.declared.program.Operator.{Operator}

@@ -5,7 +5,7 @@ use Rattle.lrc_lang.specs.declared.fault.FaultKind.TheVariants as kinds
 use Rattle.lrc_lang.specs.declared.fault.ParseFault as code_fault
 use Rattle.lrc_lang.specs.declared.limits.Limits as code_limits
 use Rattle.lrc_lang.specs.declared.state.State as code_state
-use Rattle.lrc_lang.specs.Token.{Token, Lexeme, token, bad_byte, bad_number}
+use Rattle.lrc_lang.specs.Token.{Lexeme, token, bad_byte, bad_number}
 use Rattle.lrc_lang.specs.Symbol.{symbol_of}
 use Rattle.lrc_lang.specs.SeenLimits.{names_seen, TakesToken}
 use Rattle.lrc_lang.specs.SeenState.{state_seen, TakesSymbol}

@@ -1,5 +1,5 @@
 -- The parser's state as the definitions see it, without where it lies in memory.
-use Rattle.std.specs.Prelude.{◌≡◌, ◌<◌, ◌⊎◌, ℕ, Option, Some, None, Result, Ok, Err}
+use Rattle.std.specs.Prelude.{◌≡◌, ◌<◌, ◌⊎◌, Some, None, Result, Ok, Err}
 use Rattle.lrc_lang.specs.declared.fault.FaultKind.{FaultKind}
 use Rattle.lrc_lang.specs.declared.fault.FaultKind.TheVariants as kinds
 use Rattle.lrc_lang.specs.declared.state.Stage as code_stage

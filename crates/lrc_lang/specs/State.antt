@@ -1,5 +1,5 @@
 -- A text of which some symbols have come: what the parser keeps of it, and what the next symbol makes of that.
-use Rattle.std.specs.Prelude.{ℕ, List, [], ◌∷◌, Option, Some, None}
+use Rattle.std.specs.Prelude.{ℕ, Option, Some, None}
 use Rattle.lrc_lang.specs.declared.token.Keyword.TheVariants.{Words, Locks}
 use Rattle.lrc_lang.specs.declared.token.Sign.TheVariants.{Semicolon}
 use Rattle.lrc_lang.specs.Symbol.{Symbol, number, keyword, sign, finish}

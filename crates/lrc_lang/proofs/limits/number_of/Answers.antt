@@ -1,8 +1,7 @@
-use Rattle.std.proofs.Common.{◌≡◌, ◌≤◌, length, unwrap_or, rules, tests, ap, sym, subst, ◌∙◌}
+use Rattle.std.proofs.Common.{◌≤◌, length, unwrap_or, rules, tests, ap, sym, subst, ◌∙◌}
 use Rattle.std.proofs.lemmas.Iterator.{YieldsList-from_slice}
 use Rattle.std.proofs.lemmas.Iterator.Search.{position_from_yields_List}
-use Rattle.lrc_lang.specs.Symbol.{number_of}
-use Rattle.lrc_lang.proofs.Names.{texts, spells, position-le, number_of-texts, number_of-le, unwrap_or-cond}
+use Rattle.lrc_lang.proofs.Names.{spells, position-le, number_of-texts, number_of-le, unwrap_or-cond}
 use Rattle.lrc_lang.proofs.limits.number_of.Goals as goal
 
 pub returns-clause-value : goal.returns-clause-value
