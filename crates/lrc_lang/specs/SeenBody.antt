@@ -1,5 +1,5 @@
 -- The parser's statements as the definitions see them, without where they lie in memory.
-use Rattle.std.specs.Prelude.{◌≡◌, List, map, reverse, Result, Ok, Err}
+use Rattle.std.specs.Prelude.{◌≡◌, List, map, reverse, Option, Result, Ok, Err}
 use Rattle.lrc_lang.specs.declared.token.Sign.{Sign}
 use Rattle.lrc_lang.specs.declared.fault.FaultKind.{FaultKind}
 use Rattle.lrc_lang.specs.declared.fault.FaultKind.TheVariants.{Unexpected}
@@ -14,7 +14,7 @@ use Rattle.lrc_lang.specs.declared.body.Body as code_body
 use Rattle.lrc_lang.specs.Symbol.{Symbol, sign}
 use Rattle.lrc_lang.specs.Tree.{Block, expression_of, statement_of, block_of}
 use Rattle.lrc_lang.specs.Partial.{Partial}
-use Rattle.lrc_lang.specs.Seen.{partial_seen}
+use Rattle.lrc_lang.specs.Seen.{partial_seen, GivesNew}
 use Rattle.lrc_lang.specs.Body.{Purpose, assigned, word_read, word_written, written, acquired, released, printed, if_condition, while_condition, Place, at_statement, after_name, after_equals, in_expression, after_word, before_end, after_then, after_else, Owner, then_of, else_of, inside_of, Around, Body}
 
 abbrev pub purpose_seen : code_purpose.Purpose → Purpose
@@ -60,3 +60,7 @@ body_seen b = record { outer = outer_seen b; before = before_seen b; place = pla
 abbrev pub IsExpected : Result (Unit {0}) FaultKind → Symbol → Sign → Type 0
 IsExpected (Ok x) symbol wanted = symbol ≡ sign wanted
 IsExpected (Err kind) symbol wanted = (kind ≡ Unexpected) × (symbol ≡ sign wanted → ⊥)
+
+-- what came out where the statements that have come, old, were to become what this step makes of them
+abbrev pub Steps : Result (Unit {0}) FaultKind → code_body.Body → code_body.Body → (List Around → Block → Option Body) → Type 0
+Steps result old new step = GivesNew result (body_seen new) (step (outer_seen old) (before_seen old))

@@ -1,10 +1,12 @@
 // Statements of which some symbols have come.
 
 ghost use Rattle.std.specs.Prelude.{◌≡◌, option_map};
-ghost use Rattle.lrc_lang.specs.Body.{start, holding, in_expression, body_with, whole_of, is_ending, ending_of, begin, close, close_for, done, opened, ended, go_on, behind_equals, behind_then};
+ghost use Rattle.lrc_lang.specs.Body.{start, holding, in_expression, body_with, whole_of};
+ghost use Rattle.lrc_lang.specs.Body.{is_ending, ending_of, ended, done, opened, close, close_for};
+ghost use Rattle.lrc_lang.specs.Body.{begin, go_on, behind_equals, behind_then};
 ghost use Rattle.lrc_lang.specs.Partial.{nothing};
 ghost use Rattle.lrc_lang.specs.Seen.{symbol_seen, partial_seen, Gives, GivesNew};
-ghost use Rattle.lrc_lang.specs.SeenBody.{IsExpected, purpose_seen, owner_seen, outer_seen, before_seen, body_seen};
+ghost use Rattle.lrc_lang.specs.SeenBody.{IsExpected, Steps, purpose_seen, owner_seen, body_seen};
 ghost use Rattle.lrc_lang.specs.Tree.{if_else, empty, expression_of, statement_of, block_of};
 
 use crate::fault::FaultKind;
@@ -138,7 +140,8 @@ impl Body {
 
     /// Takes one more symbol, if it can stand here.
     pub fn take(&mut self, symbol: Symbol) -> Result<(), FaultKind>
-        ensures { GivesNew result (body_seen self.new) (body_with (body_seen self.old) (symbol_seen symbol)) }
+        ensures { GivesNew result (body_seen self.new)
+            (body_with (body_seen self.old) (symbol_seen symbol)) }
     {
         match mem::replace(&mut self.place, Place::AtStatement) {
             Place::AtStatement => self.begin(symbol),
@@ -168,7 +171,8 @@ impl Body {
 
     /// Ends the statements, if they may end here.
     pub fn finish(&mut self) -> Result<(), FaultKind>
-        ensures { GivesNew result (body_seen self.new) (option_map holding (whole_of (body_seen self.old))) }
+        ensures { GivesNew result (body_seen self.new)
+            (option_map holding (whole_of (body_seen self.old))) }
     {
         if !self.outer.is_empty() {
             return Err(FaultKind::Unexpected);
@@ -189,7 +193,8 @@ impl Body {
 
     /// Where a statement may begin and a block may end.
     fn begin(&mut self, symbol: Symbol) -> Result<(), FaultKind>
-        ensures { GivesNew result (body_seen self.new) (begin (outer_seen self.old) (before_seen self.old) (symbol_seen symbol)) }
+        ensures { Steps result self.old self.new
+            (λ outer before. begin outer before (symbol_seen symbol)) }
     {
         match symbol {
             Symbol::Name(name) => self.place = Place::AfterName(name),
@@ -218,7 +223,8 @@ impl Body {
 
     /// Behind a name and `=`.
     fn behind_equals(&mut self, name: u8, symbol: Symbol) -> Result<(), FaultKind>
-        ensures { GivesNew result (body_seen self.new) (behind_equals (outer_seen self.old) (before_seen self.old) name (symbol_seen symbol)) }
+        ensures { Steps result self.old self.new
+            (λ outer before. behind_equals outer before name (symbol_seen symbol)) }
     {
         self.expression = Partial::nothing(self.alloc);
         match symbol {
@@ -232,7 +238,9 @@ impl Body {
 
     /// In an expression.
     fn go_on(&mut self, purpose: Purpose, symbol: Symbol) -> Result<(), FaultKind>
-        ensures { GivesNew result (body_seen self.new) (go_on (outer_seen self.old) (before_seen self.old) (purpose_seen purpose) (partial_seen self.old.expression) (symbol_seen symbol)) }
+        ensures { Steps result self.old self.new
+            (λ outer before. go_on outer before (purpose_seen purpose)
+            (partial_seen self.old.expression) (symbol_seen symbol)) }
     {
         if purpose.is_ended_by(symbol) {
             let value = self.expression.finish(self.alloc)?;
@@ -245,7 +253,8 @@ impl Body {
 
     /// Behind the end of an expression.
     fn end(&mut self, purpose: Purpose, value: Expression) -> Result<(), FaultKind>
-        ensures { GivesNew result (body_seen self.new) (ended (outer_seen self.old) (before_seen self.old) (purpose_seen purpose) (expression_of value)) }
+        ensures { Steps result self.old self.new
+            (λ outer before. ended outer before (purpose_seen purpose) (expression_of value)) }
     {
         match purpose {
             Purpose::Assigned(name) => self.done(Statement::Assign(name, value)),
@@ -268,7 +277,8 @@ impl Body {
 
     /// A statement is complete.
     fn done(&mut self, statement: Statement) -> Result<(), FaultKind>
-        ensures step { GivesNew result (body_seen self.new) (done (outer_seen self.old) (before_seen self.old) (statement_of statement)) }
+        ensures step { Steps result self.old self.new
+            (λ outer before. done outer before (statement_of statement)) }
         ensures outer { self.new.outer ≡ self.old.outer }
     {
         self.before.push(statement)?;
@@ -278,7 +288,8 @@ impl Body {
 
     /// A block begins.
     fn open(&mut self, owner: Owner) -> Result<(), FaultKind>
-        ensures { GivesNew result (body_seen self.new) (opened (outer_seen self.old) (before_seen self.old) (owner_seen owner)) }
+        ensures { Steps result self.old self.new
+            (λ outer before. opened outer before (owner_seen owner)) }
     {
         let before = mem::replace(&mut self.before, Vec::new(self.alloc));
         self.outer.push(Around { before, owner })?;
@@ -288,7 +299,7 @@ impl Body {
 
     /// The innermost block ends.
     fn close(&mut self) -> Result<(), FaultKind>
-        ensures { GivesNew result (body_seen self.new) (close (outer_seen self.old) (before_seen self.old)) }
+        ensures { Steps result self.old self.new close }
     {
         let Some(Around { before, owner }) = self.outer.pop() else {
             return Err(FaultKind::Unexpected);
@@ -299,7 +310,8 @@ impl Body {
 
     /// Behind the end of a block.
     fn leave(&mut self, owner: Owner, inside: Vec<Statement>) -> Result<(), FaultKind>
-        ensures { GivesNew result (body_seen self.new) (close_for (outer_seen self.old) (before_seen self.old) (owner_seen owner) (block_of inside.items)) }
+        ensures { Steps result self.old self.new
+            (λ outer before. close_for outer before (owner_seen owner) (block_of inside.items)) }
     {
         match owner {
             Owner::Then(condition) => {
@@ -318,7 +330,9 @@ impl Body {
         first: Vec<Statement>,
         symbol: Symbol,
     ) -> Result<(), FaultKind>
-        ensures { GivesNew result (body_seen self.new) (behind_then (outer_seen self.old) (before_seen self.old) (expression_of condition) (block_of first.items) (symbol_seen symbol)) }
+        ensures { Steps result self.old self.new
+            (λ outer before. behind_then outer before (expression_of condition)
+            (block_of first.items) (symbol_seen symbol)) }
     {
         match symbol {
             Symbol::Keyword(Keyword::Else) => {
@@ -334,7 +348,9 @@ impl Body {
 
     /// An `if` without `else` is complete.
     fn done_if(&mut self, condition: Expression, first: Vec<Statement>) -> Result<(), FaultKind>
-        ensures step { GivesNew result (body_seen self.new) (done (outer_seen self.old) (before_seen self.old) (if_else (expression_of condition) (block_of first.items) empty)) }
+        ensures step { Steps result self.old self.new
+            (λ outer before. done outer before
+            (if_else (expression_of condition) (block_of first.items) empty)) }
         ensures outer { self.new.outer ≡ self.old.outer }
     {
         self.done(Statement::If(condition, first, Vec::new(self.alloc)))

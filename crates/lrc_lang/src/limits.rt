@@ -156,7 +156,8 @@ impl<'t> Limits<'t> {
 
     /// The expression has one more operator.
     fn join(&mut self) -> Result<(), FaultKind>
-        ensures operators { OnOk result ((self.old.operators < 256) × (self.new.operators ≡ self.old.operators + 1)) }
+        ensures operators { OnOk result
+            ((self.old.operators < 256) × (self.new.operators ≡ self.old.operators + 1)) }
         ensures full { IfErr result (λ kind. (kind ≡ OverLimit) × (256 ≤ self.old.operators)) }
         ensures others { (self.new.names ≡ self.old.names) × (self.new.nested ≡ self.old.nested) }
     {

@@ -1,6 +1,7 @@
 // The parser: from a text to its trees.
 
-ghost use Rattle.std.specs.Prelude.{◌≡◌, ◌≢◌, ◌≤◌, ◌⊎◌, ℕ, List, length, ◌↔◌, IsTrue, IfOk, IfErr, MatchResult};
+ghost use Rattle.std.specs.Prelude.{◌≡◌, ◌≢◌, ◌≤◌, ◌⊎◌, ◌↔◌, ℕ, List, length, IsTrue};
+ghost use Rattle.std.specs.Prelude.{IfOk, IfErr, MatchResult};
 ghost use Rattle.lrc_lang.specs.declared.fault.FaultKind.{FaultKind};
 ghost use Rattle.lrc_lang.specs.declared.fault.FaultKind.TheVariants.{NoMemory};
 ghost use Rattle.lrc_lang.specs.Faults.{IsText, HasFirstFault};
@@ -21,8 +22,8 @@ use std::alloc::Global;
 /// How many bytes a text may have.
 const MOST_BYTES: usize = 65_536;
 
-/// Parses a text of at most 65,536 bytes, in one pass. The parser keeps no more than the trees so far, 32 names, and
-/// what is open around the token that it has come to; it calls no function of itself, however deep the text nests.
+/// Parses a text of at most 65,536 bytes, in one pass from the left. The parser keeps the trees so far, at most 32
+/// names, and what is open around the token that it has come to. However deep a text nests, no call nests with it.
 pub fn parse(alloc: Global, text: &[u8]) -> Result<Program, ParseFault>
     // The program is that of the text.
     ensures program { IfOk result (λ p. IsText text.now (program_of p)) }
@@ -99,7 +100,8 @@ fn fault(line: u32, kind: FaultKind) -> ParseFault
 
 /// No tokens are those of two programs.
 pub fn tokens_are_of_one_program()
-    ensures { (tokens : List TokenSeen) (p q : ProgramTree) → IsProgram p tokens → IsProgram q tokens → p ≡ q }
+    ensures { (tokens : List TokenSeen) (p q : ProgramTree) →
+        IsProgram p tokens → IsProgram q tokens → p ≡ q }
 {}
 
 #[cfg(test)]

@@ -2,8 +2,10 @@
 
 ghost use Rattle.std.specs.Prelude.{◌≡◌, Some, None, option_map, IfOk, IsOk};
 ghost use Rattle.lrc_lang.specs.Grammar.{joins};
-ghost use Rattle.lrc_lang.specs.Partial.{joined, no_pending, level_with, whole_of, nothing, go_on, partial_with, value_of};
-ghost use Rattle.lrc_lang.specs.Seen.{joins_seen, pending_seen, level_seen, partial_seen, symbol_seen, Gives, GivesNew};
+ghost use Rattle.lrc_lang.specs.Partial.{joined, no_pending, level_with, whole_of};
+ghost use Rattle.lrc_lang.specs.Partial.{nothing, go_on, partial_with, value_of};
+ghost use Rattle.lrc_lang.specs.Seen.{joins_seen, pending_seen, level_seen, partial_seen};
+ghost use Rattle.lrc_lang.specs.Seen.{symbol_seen, Gives, GivesNew};
 ghost use Rattle.lrc_lang.specs.Tree.{expression_of};
 
 use crate::fault::FaultKind;
@@ -73,7 +75,8 @@ fn joined(
     pending: Option<Pending>,
     right: Expression,
 ) -> Result<Expression, AllocError>
-    ensures { IfOk result (λ e. expression_of e ≡ joined (option_map pending_seen pending) (expression_of right)) }
+    ensures { IfOk result (λ e. expression_of e
+        ≡ joined (option_map pending_seen pending) (expression_of right)) }
 {
     match pending {
         None => Ok(right),
@@ -98,7 +101,8 @@ impl Level {
 
     /// The expression that an operand ends.
     fn whole(self, alloc: Global, operand: Expression) -> Result<Expression, AllocError>
-        ensures { IfOk result (λ e. expression_of e ≡ whole_of (level_seen self) (expression_of operand)) }
+        ensures { IfOk result (λ e. expression_of e
+            ≡ whole_of (level_seen self) (expression_of operand)) }
     {
         let Level {
             compared,
@@ -117,7 +121,8 @@ impl Level {
         operand: Expression,
         operator: Operator,
     ) -> Result<Level, FaultKind>
-        ensures { Gives level_seen result (level_with (joins operator) (level_seen self) (expression_of operand) operator) }
+        ensures { Gives level_seen result
+            (level_with (joins operator) (level_seen self) (expression_of operand) operator) }
     {
         let Level {
             compared,
@@ -177,7 +182,8 @@ impl Partial {
 
     /// Takes one more symbol, if it can stand here.
     pub fn take(&mut self, alloc: Global, symbol: Symbol) -> Result<(), FaultKind>
-        ensures { GivesNew result (partial_seen self.new) (partial_with (partial_seen self.old) (symbol_seen symbol)) }
+        ensures { GivesNew result (partial_seen self.new)
+            (partial_with (partial_seen self.old) (symbol_seen symbol)) }
     {
         match self.operand.take() {
             None => self.begin(symbol),
@@ -188,7 +194,8 @@ impl Partial {
     /// Where an operand has to begin.
     fn begin(&mut self, symbol: Symbol) -> Result<(), FaultKind>
         requires { self.old.operand ≡ None }
-        ensures { GivesNew result (partial_seen self.new) (partial_with (partial_seen self.old) (symbol_seen symbol)) }
+        ensures { GivesNew result (partial_seen self.new)
+            (partial_with (partial_seen self.old) (symbol_seen symbol)) }
     {
         match symbol {
             Symbol::Number(value) => self.operand = Some(Expression::Number(value)),
@@ -207,7 +214,9 @@ impl Partial {
     /// Behind an operand.
     fn go_on(&mut self, alloc: Global, operand: Expression, symbol: Symbol) -> Result<(), FaultKind>
         requires { self.old.operand ≡ None }
-        ensures { GivesNew result (partial_seen self.new) (go_on (partial_seen self.old).outer (level_seen self.old.level) (expression_of operand) (symbol_seen symbol)) }
+        ensures { GivesNew result (partial_seen self.new)
+            (go_on (partial_seen self.old).outer (level_seen self.old.level)
+            (expression_of operand) (symbol_seen symbol)) }
     {
         let level = mem::replace(&mut self.level, Level::nothing());
         match symbol {
