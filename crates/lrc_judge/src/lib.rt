@@ -1,0 +1,13 @@
+//! The judge: plain programs that compute the definitions on acts, for any list of acts, whoever made it.
+//!
+//! They are the reference against which every other body is compared, and of use by themselves to authors of race
+//! detectors and memory systems, who can judge their own traces.
+#![tactic(auto)]
+
+pub mod order;
+pub mod races;
+pub mod reading;
+pub mod synchronization;
+
+#[cfg(test)]
+mod tests;
