@@ -5,9 +5,14 @@
 #![tactic(auto)]
 
 pub mod order;
+mod past;
 pub mod races;
+mod reach;
 pub mod reading;
 pub mod synchronization;
 
 #[cfg(test)]
 mod tests;
+
+/// How many nodes a run has at most.
+pub const NODES: usize = 16;

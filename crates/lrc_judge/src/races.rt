@@ -1,6 +1,7 @@
 // The races that a run names.
 
-use crate::order::{NODES, Order, happens_before};
+use crate::NODES;
+use crate::order::{Order, happens_before};
 use lrc_trace::act::{Act, Deed};
 use lrc_trace::race::Race;
 use std::alloc::{AllocError, Global};

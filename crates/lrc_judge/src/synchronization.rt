@@ -1,6 +1,6 @@
 // Well-synchronized runs.
 
-use crate::order::NODES;
+use crate::NODES;
 use lrc_trace::act::{Act, Deed};
 
 /// What the acts before a position leave of locks and barriers.

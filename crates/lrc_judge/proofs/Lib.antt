@@ -1,0 +1,4 @@
+pub mod Gathering
+pub mod HandedOn
+pub mod NextPast
+pub mod Rows
