@@ -2,3 +2,5 @@ pub mod Gathering
 pub mod HandedOn
 pub mod NextPast
 pub mod Rows
+pub mod Locks
+pub mod Breaking

@@ -1,2 +1,4 @@
 pub mod Order
 pub mod Past
+pub mod Synchronization
+pub mod Standing
