@@ -4,3 +4,4 @@ pub mod NextPast
 pub mod Rows
 pub mod Locks
 pub mod Breaking
+pub mod Tally
