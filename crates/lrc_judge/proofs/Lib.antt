@@ -5,3 +5,4 @@ pub mod Rows
 pub mod Locks
 pub mod Breaking
 pub mod Tally
+pub mod Keeping

@@ -9,6 +9,7 @@ mod past;
 pub mod races;
 mod reach;
 pub mod reading;
+mod segments;
 pub mod synchronization;
 
 #[cfg(test)]

@@ -1,118 +1,87 @@
 // The races that a run names.
+ghost use Rattle.std.specs.Prelude.{◌≡◌, ℕ, ◌<◌, ◌≤◌, ◌↔◌, ◌⊎◌, All, Contains, IsTrue, IfOk, OnOk, MatchOption, length};
+ghost use Rattle.std.specs.List.{list_any};
+ghost use Rattle.lrc_trace.specs.declared.race.Race.{Race};
+ghost use Rattle.lrc_judge.specs.Races.{AreNamedRaces, is_clash, AreRacing, name_of, IsRaceWith};
 
 use crate::NODES;
 use crate::order::{Order, happens_before};
-use lrc_trace::act::{Act, Deed};
+use crate::segments::{Access, Segment, segments_of};
+use lrc_trace::act::Act;
 use lrc_trace::race::Race;
 use std::alloc::{AllocError, Global};
 
-/// One access: where it is, and whether it writes.
-#[derive(Clone, Copy)]
-struct Access {
-    position: usize,
-    is_write: bool,
+/// Whether one of the accesses writes, and neither happens before the other.
+fn clash(order: &Order, x: Access, y: Access) -> bool
+    ensures { result ≡ is_clash order.now x y }
+{
+    (x.is_write || y.is_write)
+        && !order.is_before(x.position, y.position)
+        && !order.is_before(y.position, x.position)
 }
 
-/// The accesses of one node to one word in one interval.
-#[derive(Drop)]
-struct Segment {
-    word: u32,
-    node: u8,
-    interval: u64,
-    accesses: Vec<Access>,
+/// Whether the access clashes with one of the others.
+fn clashes(order: &Order, x: Access, others: &[Access]) -> bool
+    ensures { result ≡ list_any (λ y. is_clash order.now x y) others.now }
+{
+    others.iter().any(|y| clash(order, x, *y))
 }
 
-impl Segment {
-    /// Whether an access of one segment races with one of the other.
-    fn races_with(&self, other: &Segment, order: &Order) -> bool {
-        for x in &self.accesses {
-            for y in &other.accesses {
-                if (x.is_write || y.is_write)
-                    && !order.is_before(x.position, y.position)
-                    && !order.is_before(y.position, x.position)
-                {
-                    return true;
-                }
-            }
-        }
-        false
+/// Whether an access of the one list clashes with an access of the other.
+fn any_clash(order: &Order, a: &[Access], b: &[Access]) -> bool
+    ensures { result ≡ list_any (λ x. list_any (λ y. is_clash order.now x y) b.now) a.now }
+{
+    a.iter().any(|x| clashes(order, *x, b))
+}
+
+/// The race of two segments, the first of the lower node.
+fn race_of(order: &Order, a: &Segment, b: &Segment) -> Option<Race>
+    ensures { MatchOption result (¬ AreRacing order.now a.now b.now)
+        (λ race. AreRacing order.now a.now b.now × (race ≡ name_of a.now b.now)) }
+{
+    if a.place.word == b.place.word
+        && a.place.node < b.place.node
+        && any_clash(order, &a.accesses, &b.accesses)
+    {
+        return Some(Race {
+            word: a.place.word,
+            node_a: a.place.node,
+            node_b: b.place.node,
+            interval_a: a.place.interval,
+            interval_b: b.place.interval,
+        });
     }
+    None
 }
 
-/// Adds an access to the segment of this word, node and interval.
-fn add(
-    alloc: Global,
-    segments: &mut Vec<Segment>,
-    word: u32,
-    node: u8,
-    interval: u64,
-    access: Access,
-) -> Result<(), AllocError> {
-    let found = segments
-        .iter()
-        .position(|s| s.word == word && s.node == node && s.interval == interval);
-    match found {
-        Some(k) => segments[k].accesses.push(access)?,
-        None => {
-            let mut accesses = Vec::new(alloc);
-            accesses.push(access)?;
-            segments.push(Segment {
-                word,
-                node,
-                interval,
-                accesses,
-            })?;
+/// Adds the races of a segment with the others.
+fn add_races(
+    races: &mut Vec<Race>,
+    order: &Order,
+    a: &Segment,
+    segments: &[Segment],
+) -> Result<(), AllocError>
+    ensures { OnOk result ((race : Race) → Contains races.new.items race
+        ↔ (Contains races.old.items race ⊎ IsRaceWith order.now a.now segments.now race)) }
+{
+    for b in segments {
+        if let Some(race) = race_of(order, a, b) {
+            races.push(race)?;
         }
     }
     Ok(())
 }
 
-/// The accesses of a run, by segment.
-fn segments_of(alloc: Global, acts: &[Act]) -> Result<Vec<Segment>, AllocError> {
-    let mut segments = Vec::new(alloc);
-    let mut intervals = [1u64; NODES];
-    for (position, act) in acts.iter().enumerate() {
-        let node = usize::from(act.node);
-        let interval = intervals[node];
-        match act.deed {
-            Deed::Read(word, _) => {
-                let access = Access {
-                    position,
-                    is_write: false,
-                };
-                add(alloc, &mut segments, word, act.node, interval, access)?;
-            }
-            Deed::Write(word, _) => {
-                let access = Access {
-                    position,
-                    is_write: true,
-                };
-                add(alloc, &mut segments, word, act.node, interval, access)?;
-            }
-            Deed::Acquire(_) | Deed::Release(_) | Deed::Arrive => intervals[node] = interval + 1,
-            _ => {}
-        }
-    }
-    Ok(segments)
-}
-
 /// The races that a run names, ascending, each once.
-pub fn named_races(alloc: Global, acts: &[Act]) -> Result<Vec<Race>, AllocError> {
+pub fn named_races(alloc: Global, acts: &[Act]) -> Result<Vec<Race>, AllocError>
+    requires { All (λ act. act.node < NODES) acts.now }
+    ensures { IfOk result (λ races. AreNamedRaces acts.now races.items) }
+{
     let order = happens_before(alloc, acts)?;
     let segments = segments_of(alloc, acts)?;
     let mut races = Vec::new(alloc);
     for a in &segments {
-        for b in &segments {
-            if a.word == b.word && a.node < b.node && a.races_with(b, &order) {
-                races.push(Race {
-                    word: a.word,
-                    node_a: a.node,
-                    node_b: b.node,
-                    interval_a: a.interval,
-                    interval_b: b.interval,
-                })?;
-            }
-        }
+        add_races(&mut races, &order, a, &segments)?;
     }
     races.sort_unstable();
     races.dedup();
