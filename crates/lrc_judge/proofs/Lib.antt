@@ -6,3 +6,4 @@ pub mod Locks
 pub mod Breaking
 pub mod Tally
 pub mod Keeping
+pub mod Naming

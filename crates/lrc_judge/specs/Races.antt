@@ -1,5 +1,5 @@
 -- The races that a run names, as a list.
-use Rattle.std.specs.Prelude.{◌≡◌, ℕ, ◌<◌, ◌↔◌, ◌&&◌, ◌||◌, not, Bool, IsTrue, List, Contains}
+use Rattle.std.specs.Prelude.{◌≡◌, ℕ, ◌<◌, ◌↔◌, ◌⊎◌, ◌&&◌, ◌||◌, not, Bool, IsTrue, List, Contains}
 use Rattle.std.specs.Ordering.{nat_cmp, ordering_then}
 use Rattle.std.specs.List.Sorted.{IsStrictlySortedBy}
 use Rattle.std.specs.declared.cmp.Ordering.{Ordering}
@@ -51,3 +51,20 @@ name_of a b = record {
 -- the race is one of the first segment with some of the others
 abbrev pub IsRaceWith : Order → Segment → List Segment → Race → Type 0
 IsRaceWith order a segments race = (b : Segment) × Contains segments b × AreRacing order a b × (race ≡ name_of a b)
+
+-- the list after has the races before, and those of the segment with the others
+pub record AddsRaces (order : Order) (a : Segment) (segments : List Segment) (before after : List Race) : Type 0 where
+  pub exact : (race : Race) → Contains after race ↔ (Contains before race ⊎ IsRaceWith order a segments race)
+
+-- the race is one of two of the segments
+pub record IsRaceAmong (order : Order) (segments : List Segment) (race : Race) : Type 0 where
+  pub a : Segment
+  pub b : Segment
+  pub first : Contains segments a
+  pub second : Contains segments b
+  pub racing : AreRacing order a b
+  pub named : race ≡ name_of a b
+
+-- the list has exactly these races
+pub record AreRacesAmong (order : Order) (segments : List Segment) (races : List Race) : Type 0 where
+  pub exact : (race : Race) → Contains races race ↔ IsRaceAmong order segments race

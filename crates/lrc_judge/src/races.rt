@@ -2,7 +2,7 @@
 ghost use Rattle.std.specs.Prelude.{◌≡◌, ℕ, ◌<◌, ◌≤◌, ◌↔◌, ◌⊎◌, All, Contains, IsTrue, IfOk, OnOk, MatchOption, length};
 ghost use Rattle.std.specs.List.{list_any};
 ghost use Rattle.lrc_trace.specs.declared.race.Race.{Race};
-ghost use Rattle.lrc_judge.specs.Races.{AreNamedRaces, is_clash, AreRacing, name_of, IsRaceWith};
+ghost use Rattle.lrc_judge.specs.Races.{AreNamedRaces, is_clash, AreRacing, name_of, AddsRaces, AreRacesAmong};
 
 use crate::NODES;
 use crate::order::{Order, happens_before};
@@ -61,8 +61,7 @@ fn add_races(
     a: &Segment,
     segments: &[Segment],
 ) -> Result<(), AllocError>
-    ensures { OnOk result ((race : Race) → Contains races.new.items race
-        ↔ (Contains races.old.items race ⊎ IsRaceWith order.now a.now segments.now race)) }
+    ensures { OnOk result (AddsRaces order.now a.now segments.now races.old.items races.new.items) }
 {
     for b in segments {
         if let Some(race) = race_of(order, a, b) {
@@ -72,6 +71,17 @@ fn add_races(
     Ok(())
 }
 
+/// The races of any two of the segments.
+fn races_among(alloc: Global, order: &Order, segments: &[Segment]) -> Result<Vec<Race>, AllocError>
+    ensures { IfOk result (λ races. AreRacesAmong order.now segments.now races.items) }
+{
+    let mut races = Vec::new(alloc);
+    for a in segments {
+        add_races(&mut races, order, a, segments)?;
+    }
+    Ok(races)
+}
+
 /// The races that a run names, ascending, each once.
 pub fn named_races(alloc: Global, acts: &[Act]) -> Result<Vec<Race>, AllocError>
     requires { All (λ act. act.node < NODES) acts.now }
@@ -79,10 +89,7 @@ pub fn named_races(alloc: Global, acts: &[Act]) -> Result<Vec<Race>, AllocError>
 {
     let order = happens_before(alloc, acts)?;
     let segments = segments_of(alloc, acts)?;
-    let mut races = Vec::new(alloc);
-    for a in &segments {
-        add_races(&mut races, &order, a, &segments)?;
-    }
+    let mut races = races_among(alloc, &order, &segments)?;
     races.sort_unstable();
     races.dedup();
     Ok(races)
