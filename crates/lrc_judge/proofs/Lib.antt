@@ -7,3 +7,4 @@ pub mod Breaking
 pub mod Tally
 pub mod Keeping
 pub mod Naming
+pub mod Ascending
