@@ -1,0 +1,176 @@
+-- What the writes to a word so far say of a read.
+use Rattle.std.proofs.Common.{◌≡◌, ◌≢◌, ℕ, ◌+◌, ◌<◌, ◌≤◌, ◌⊎◌, List, inl, inr, refl, sym, subst, ◌∙◌, ap, arith}
+use Rattle.std.specs.Prelude.{◌↔◌, ◌||◌, ◌&&◌, ◌==◌, Option, Some, None, Bool, true, false, not, IsTrue, nat_eq, MatchOption}
+use Rattle.std.specs.Option.{option_map_or}
+use Rattle.std.proofs.lemmas.Bool.{cases_eq, cases_Bool, false≢true, true≢false, eqb-true, eq-eqb, and_parts, and_from, or_cases, or_left, or_right}
+use Rattle.lrc_trace.specs.declared.act.Act.{Act}
+use Rattle.lrc_trace.specs.declared.act.Deed.{Deed}
+use Rattle.lrc_trace.specs.declared.act.Deed.TheVariants.{Write}
+use Rattle.lrc_trace.specs.Run.{Does, IsDone}
+use Rattle.lrc_trace.specs.Order.{HappensBefore}
+use Rattle.lrc_trace.specs.Reading.{WrittenBefore, IsSomeWrite, AreOrdered, IsLastWrite, IsLatest, MayRead}
+use Rattle.lrc_trace.proofs.Positions.{Does-one_deed}
+use Rattle.lrc_trace.proofs.HappensBefore.{forward, transitive}
+use Rattle.lrc_judge.specs.declared.order.Order.{Order}
+use Rattle.lrc_judge.specs.declared.reading.Stored.{Stored}
+use Rattle.lrc_judge.specs.Order.{is_before, IsOrderOf}
+
+-- the last write before position n, if there is one
+abbrev pub IsLast : List Act → ℕ → ℕ → ℕ → Option Stored → Type 0
+IsLast run j word n None = (k v : ℕ) → k < n → WrittenBefore run j word k v → ⊥
+IsLast run j word n (Some w) = (w.position < n) × WrittenBefore run j word w.position w.value × ((k v : ℕ) → k < n → WrittenBefore run j word k v → k ≤ w.position)
+
+-- of the writes before position n that happen before j: whether one writes the value, whether any two are ordered, and
+-- the last
+pub record IsTally (run : List Act) (j word value n : ℕ) (is_written are_ordered : Bool) (last : Option Stored) : Type 0 where
+  pub written : (is_written ≡ true) ↔ ((value ≡ 0) ⊎ ((i : ℕ) × (i < n) × WrittenBefore run j word i value))
+  pub ordered : (are_ordered ≡ true) ↔ ((i k u v : ℕ) → k < n → WrittenBefore run j word i u → WrittenBefore run j word k v → i < k → HappensBefore run i k)
+  pub latest : IsLast run j word n last
+
+-- a write of one position has one value
+WrittenBefore-one : {run : List Act} {j word i u v : ℕ} → WrittenBefore run j word i u → WrittenBefore run j word i v → u ≡ v
+WrittenBefore-one {word = word} {u = u} {v = v} a b = let same : Write word u ≡ Write word v = Does-one_deed a.write.1 b.write.1 in (cc)
+
+module _ (run : List Act) (j word value : ℕ) where
+  -- before the first position there is none
+  pub IsTally-start : (is_written : Bool) → is_written ≡ (value == 0) → IsTally run j word value 0 is_written true None
+  IsTally-start is_written e = record {
+    written = (λ t. inl (eqb-true value 0 (sym e ∙ t)), λ s. elim s [ inl zero ↦ e ∙ eq-eqb value 0 zero | inr (i, lt, _) ↦ absurd (omega arith) ]);
+    ordered = (λ _ i k u v lt. absurd (omega arith), λ _. refl);
+    latest = λ k v lt. absurd (omega arith);
+  }
+
+  -- a position without such a write
+  pub IsTally-same : (n : ℕ) (is_written are_ordered : Bool) (last : Option Stored) → ((v : ℕ) → WrittenBefore run j word n v → ⊥) → IsTally run j word value n is_written are_ordered last → IsTally run j word value (n + 1) is_written are_ordered last
+  IsTally-same n is_written are_ordered last none t = record {
+    written = (λ h. elim (t.written.0 h) [ inl zero ↦ inl zero | inr (i, lt, w) ↦ inr (i, omega arith, w) ], λ s. t.written.1 (elim s [
+      | inl zero ↦ inl zero
+      | inr (i, lt, w) ↦ inr (i, below i value lt w, w)
+    ]));
+    ordered = (λ h i k u v lt a b. t.ordered.0 h i k u v (below k v lt b) a b, λ o. t.ordered.1 (λ i k u v lt. o i k u v (omega arith)));
+    latest = latest last t.latest;
+  }
+    where
+      below : (k v : ℕ) → k < n + 1 → WrittenBefore run j word k v → k < n
+      below k v lt w = elim (cases_eq k n) [ inl here ↦ absurd (none v (subst (λ m. WrittenBefore run j word m v) here w)) | inr other ↦ omega arith ]
+
+      latest : (last : Option Stored) → IsLast run j word n last → IsLast run j word (n + 1) last
+      latest None h = λ k v lt w. h k v (below k v lt w) w
+      latest (Some w) (lt, a, max) = (omega arith, a, λ k v lt' b. max k v (below k v lt' b) b)
+
+  -- a position with such a write
+  module _ (order : Order) (is : IsOrderOf run order) (write : Stored) (here : WrittenBefore run j word write.position write.value) where
+    abbrev n : ℕ
+    n = write.position
+
+    abbrev v : ℕ
+    v = write.value
+
+    more_here : (is_written are_ordered : Bool) (last : Option Stored) → IsTally run j word value n is_written are_ordered last → IsTally run j word value (n + 1) (is_written || (v == value)) (are_ordered && option_map_or (λ (w : Stored). is_before order w.position n) last true) (Some write)
+    more_here is_written are_ordered last t = record {
+      written = (λ h. elim (or_cases is_written (v == value) h) [
+        | inl old ↦ elim (t.written.0 old) [ inl zero ↦ inl zero | inr (i, lt, w) ↦ inr (i, omega arith, w) ]
+        | inr new ↦ inr (n, omega arith, subst (λ x. WrittenBefore run j word n x) (eqb-true v value new) here)
+      ], λ s. elim s [
+        | inl zero ↦ or_left is_written (v == value) (t.written.1 (inl zero))
+        | inr (i, lt, w) ↦
+            elim (cases_eq i n) [
+              | inl there ↦ or_right is_written (v == value) (eq-eqb v value (WrittenBefore-one here (subst (λ m. WrittenBefore run j word m value) there w)))
+              | inr other ↦ or_left is_written (v == value) (t.written.1 (inr (i, omega arith, w)))
+            ]
+      ]);
+      ordered = (λ h. let both = and_parts are_ordered _ h in ordered last t.latest both.1 (t.ordered.0 both.0), λ o. and_from are_ordered _ (t.ordered.1 (λ i k x y lt. o i k x y (omega arith))) (related last t.latest o));
+      latest = (omega arith, here, λ k x lt b. omega arith);
+    }
+      where
+        ordered : (last : Option Stored) → IsLast run j word n last → option_map_or (λ (w : Stored). is_before order w.position n) last true ≡ true → ((i k x y : ℕ) → k < n → WrittenBefore run j word i x → WrittenBefore run j word k y → i < k → HappensBefore run i k) → (i k x y : ℕ) → k < n + 1 → WrittenBefore run j word i x → WrittenBefore run j word k y → i < k → HappensBefore run i k
+        ordered None none yes' old i k x y lt a b before =
+            elim (cases_eq k n) [
+              | inl there ↦ absurd (none i x (omega arith) a)
+              | inr other ↦ old i k x y (omega arith) a b before
+            ]
+        ordered (Some w) (within, written, max) before_n old i k x y lt a b before =
+            elim (cases_eq k n) [
+              | inr other ↦ old i k x y (omega arith) a b before
+              | inl there ↦
+                  let last_before : HappensBefore run w.position n = (is w.position n).0 before_n in
+                  let le = max i x (omega arith) a in
+                  let to_n : HappensBefore run i n = elim (cases_eq i w.position) [
+                    | inl same ↦ subst (λ m. HappensBefore run m n) (sym same) last_before
+                    | inr apart ↦ transitive (old i w.position x w.value within a written (omega arith)) last_before
+                  ] in
+                  subst (λ m. HappensBefore run i m) (sym there) to_n
+            ]
+
+        related : (last : Option Stored) → IsLast run j word n last → ((i k x y : ℕ) → k < n + 1 → WrittenBefore run j word i x → WrittenBefore run j word k y → i < k → HappensBefore run i k) → option_map_or (λ (w : Stored). is_before order w.position n) last true ≡ true
+        related None none o = refl
+        related (Some w) (within, written, max) o = (is w.position n).1 (o w.position n w.value v (omega arith) written here within)
+
+    pub IsTally-more : (at : ℕ) (is_written are_ordered : Bool) (last : Option Stored) → write.position ≡ at → IsTally run j word value at is_written are_ordered last → IsTally run j word value (at + 1) (is_written || (write.value == value)) (are_ordered && option_map_or (λ (w : Stored). is_before order w.position write.position) last true) (Some write)
+    IsTally-more at is_written are_ordered last e t =
+        let before = subst (λ m. IsTally run j word value m is_written are_ordered last) (sym e) t in
+        subst (λ m. IsTally run j word value (m + 1) (is_written || (write.value == value)) (are_ordered && option_map_or (λ (w : Stored). is_before order w.position write.position) last true) (Some write)) e (more_here is_written are_ordered last before)
+
+  -- at the read itself the tally decides what it may give
+  module _ (is_written are_ordered : Bool) (last : Option Stored) (t : IsTally run j word value j is_written are_ordered last) where
+    ordered_all : are_ordered ≡ true → AreOrdered run j word
+    ordered_all h i k x y a b lt = t.ordered.0 h i k x y (forward b.before) a b lt
+
+    all_ordered : AreOrdered run j word → are_ordered ≡ true
+    all_ordered o = t.ordered.1 (λ i k x y lt. o i k x y)
+
+    some_write : is_written ≡ true → IsSomeWrite run j word value
+    some_write h = elim (t.written.0 h) [ inl zero ↦ inl zero | inr (i, lt, w) ↦ inr (i, w) ]
+
+    write_of_some : IsSomeWrite run j word value → is_written ≡ true
+    write_of_some s = t.written.1 (elim s [ inl zero ↦ inl zero | inr (i, w) ↦ inr (i, forward w.before, w) ])
+
+    -- the value of the last write, or 0
+    latest_is : (last : Option Stored) → IsLast run j word j last → (value ≡ option_map_or (λ (w : Stored). w.value) last 0) ↔ IsLatest run j word value
+    latest_is None none =
+        (
+          λ e. record {
+            none = λ _. e;
+            last = λ i v l. absurd (none i v (forward l.written.before) l.written);
+          },
+          λ l. l.none (λ i v w. none i v (forward w.before) w),
+        )
+    latest_is (Some w) (within, written, max) =
+        (
+          λ e. record {
+            none = λ nothing. absurd (nothing w.position w.value written);
+            last = λ i v l.
+                let le = max i v (forward l.written.before) l.written in
+                let ge = l.last w.position w.value written in
+                let same : w.position ≡ i = omega arith in
+                e ∙ WrittenBefore-one (subst (λ m. WrittenBefore run j word m w.value) same written) l.written;
+          },
+          λ l. l.last w.position w.value (record { written = written; last = λ k v b. max k v (forward b.before) b }),
+        )
+
+    pub may_from : is_written ≡ true → (are_ordered ≡ true → value ≡ option_map_or (λ (w : Stored). w.value) last 0) → MayRead run j word value
+    may_from h e = record {
+      weak = some_write h;
+      strong = λ o. (latest_is last t.latest).0 (e (all_ordered o));
+    }
+
+    pub from_may : MayRead run j word value → (is_written ≡ true) × (are_ordered ≡ true → value ≡ option_map_or (λ (w : Stored). w.value) last 0)
+    from_may m = (write_of_some m.weak, λ h. (latest_is last t.latest).1 (m.strong (ordered_all h)))
+
+    pub decides : (r : Bool) → r ≡ (is_written && (not are_ordered || (value == option_map_or (λ (w : Stored). w.value) last 0))) → IsTrue r ↔ MayRead run j word value
+    decides r e =
+        (
+          λ yes'.
+          let both = and_parts is_written _ (sym e ∙ yes') in
+          may_from both.0 (λ ordered.
+          elim (or_cases (not are_ordered) _ both.1) [
+            | inl unordered ↦ absurd (false≢true (ap not (sym ordered) ∙ unordered))
+            | inr same ↦ eqb-true value _ same
+          ]),
+          λ m.
+          let (written, latest) = from_may m in
+          e ∙ and_from is_written _ written (elim (cases_Bool are_ordered) [
+            | inl ordered ↦ or_right (not are_ordered) _ (eq-eqb value _ (latest ordered))
+            | inr unordered ↦ or_left (not are_ordered) _ (ap not unordered)
+          ]),
+        )

@@ -1,0 +1,19 @@
+//! The judge: plain programs that compute the definitions on acts, for any list of acts, whoever made it.
+//!
+//! They are the reference against which every other body is compared, and of use by themselves to authors of race
+//! detectors and memory systems, who can judge their own traces.
+#![tactic(auto)]
+
+pub mod order;
+mod past;
+pub mod races;
+mod reach;
+pub mod reading;
+mod segments;
+pub mod synchronization;
+
+#[cfg(test)]
+mod tests;
+
+/// How many nodes a run has at most.
+pub const NODES: usize = 16;

@@ -1,0 +1,41 @@
+// Which acts some acts are reached by.
+ghost use Rattle.std.specs.Prelude.{◌≡◌, ℕ, ◌<◌, length, max, slice_index};
+ghost use Rattle.lrc_judge.specs.declared.TheConstants.{NODES};
+
+use crate::NODES;
+
+/// For each node, one more than the latest of its positions that are or happen before some positions, or 0 where there
+/// is none.
+#[derive(Clone, Copy)]
+pub struct Reach {
+    pub latest: [usize; NODES],
+    ghost full: { length latest ≡ NODES },
+}
+
+impl Reach {
+    /// Nothing.
+    pub fn none() -> Reach
+        ensures { (node : ℕ) → slice_index result.latest node ≡ 0 }
+    {
+        Reach { latest: [0; NODES] }
+    }
+
+    /// What is reached by the one or the other.
+    pub fn joined(self, other: Reach) -> Reach
+        ensures { (node : ℕ) → slice_index result.latest node ≡ max (slice_index self.latest node) (slice_index other.latest node) }
+    {
+        let mut latest = self.latest;
+        for node in 0..NODES {
+            latest[node] = latest[node].max(other.latest[node]);
+        }
+        Reach { latest }
+    }
+}
+
+/// What an act is reached by, and its node.
+#[derive(Clone, Copy)]
+pub struct Row {
+    pub node: u8,
+    pub reach: Reach,
+    ghost in_range: { node < NODES },
+}
