@@ -3,5 +3,6 @@
 
 pub mod choice;
 mod command_line;
+pub mod events;
 
 pub use command_line::choose;
