@@ -4,5 +4,6 @@
 pub mod choice;
 mod command_line;
 pub mod events;
+pub mod report;
 
 pub use command_line::choose;
