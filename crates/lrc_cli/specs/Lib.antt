@@ -1,3 +1,4 @@
 pub mod CommandLine
 pub mod EventsText
+pub mod Output
 pub mod ReportText

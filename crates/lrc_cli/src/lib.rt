@@ -4,6 +4,7 @@
 pub mod choice;
 mod command_line;
 pub mod events;
+mod output;
 pub mod report;
 
 pub use command_line::choose;

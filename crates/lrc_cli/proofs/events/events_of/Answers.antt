@@ -1,9 +1,10 @@
-use Rattle.std.proofs.Common.{◌≡◌, ◌∙◌, ◌<◌, ◌+◌, ◌==◌, ◌≢◌, ℕ, true, false, List, [], ◌∷◌, ◌++◌, length, take, drop, get_or, inr, refl, sym, ap, subst, arith, rules, tests}
+use Rattle.std.proofs.Common.{◌≡◌, ◌∙◌, ◌<◌, ◌+◌, ◌==◌, ◌≢◌, ℕ, false, List, [], ◌∷◌, ◌++◌, length, take, drop, get_or, inr, refl, sym, ap, subst, arith, rules, tests}
 use Rattle.std.proofs.lemmas.List.{append_assoc, length-take-le, length_push, take_all, take_more, take-append-drop}
 use Rattle.std.proofs.lemmas.Iterator.Consumers.{YieldsList-turn, YieldsList-end}
 use Rattle.std.proofs.lemmas.Iterator.Splits.{YieldsList-from_slice_split}
 use Rattle.lrc_world.specs.declared.report.Event.{Event}
 use Rattle.lrc_cli.specs.EventsText.{IsBad, IsFirstBad, NameAll, Names, empty, lines_of, more, none}
+use Rattle.lrc_cli.proofs.WriteLemmas.{nil_of}
 use Rattle.lrc_cli.proofs.events.events_of.Goals as goal
 
 name_more : {lines : List (List ℕ)} {events : List Event} (line : List ℕ) (event : Event) → NameAll lines events → Names line event
@@ -16,10 +17,6 @@ name_empty : {lines : List (List ℕ)} {events : List Event} (line : List ℕ) �
 name_empty line is none = subst (λ (l : List ℕ). NameAll (l ∷ []) []) (sym is) (empty none)
 name_empty line is (empty n) = empty (name_empty line is n)
 name_empty line is (more k n) = more k (name_empty line is n)
-
-nil_of : (line : List ℕ) → true ≡ (length line == 0) → line ≡ []
-nil_of [] e = refl
-nil_of (b ∷ line) e = let zero : length (b ∷ line) ≡ 0 = search (rules, tests) in absurd (omega arith)
 
 some_of : (line : List ℕ) → false ≡ (length line == 0) → line ≢ []
 some_of [] e is = absurd cc
