@@ -79,3 +79,10 @@ pub enum Lexeme<'t> {
     /// Digits whose value is over 2^64 - 1, or that a letter or `_` follows at once.
     BadNumber,
 }
+
+/// What stands next in a text, and the line of its first byte. Lines are counted from 1, by line feeds.
+#[derive(Clone, Copy, Debug)]
+pub struct Placed<'t> {
+    pub line: u32,
+    pub lexeme: Lexeme<'t>,
+}
