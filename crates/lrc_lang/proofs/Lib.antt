@@ -1,3 +1,5 @@
+pub mod Bodies
+pub mod Expressions
 pub mod LexemesExist
 pub mod LexemesLines
 pub mod LexemesNumbers
@@ -6,3 +8,8 @@ pub mod LexemesSigns
 pub mod LexemesSpans
 pub mod LexemesSteps
 pub mod LexemesUnique
+pub mod Names
+pub mod Reaching
+pub mod States
+pub mod Taking
+pub mod Trees
