@@ -18,18 +18,21 @@ ask_of (departs after) = Barrier
 ask_of (traps cause) = Trap cause
 ask_of ends = End
 
--- a thread goes on from all but a trap and the end
+-- an answer is due to all but a trap and the end
+abbrev pub TakesAnswer : Ask → Type 0
+TakesAnswer Quiet = Unit {0}
+TakesAnswer (Print value) = Unit {0}
+TakesAnswer (Read word) = Unit {0}
+TakesAnswer (Write word value) = Unit {0}
+TakesAnswer (Acquire lock) = Unit {0}
+TakesAnswer (Release lock) = Unit {0}
+TakesAnswer Barrier = Unit {0}
+TakesAnswer (Trap cause) = ⊥
+TakesAnswer End = ⊥
+
+-- a thread goes on where what it does next takes an answer
 abbrev pub GoesOn : Next → Type 0
-GoesOn (quiet after) = Unit {0}
-GoesOn (prints value after) = Unit {0}
-GoesOn (reads word after) = Unit {0}
-GoesOn (writes word value after) = Unit {0}
-GoesOn (acquires lock after) = Unit {0}
-GoesOn (releases lock after) = Unit {0}
-GoesOn (arrives after) = Unit {0}
-GoesOn (departs after) = Unit {0}
-GoesOn (traps cause) = ⊥
-GoesOn ends = ⊥
+GoesOn next = TakesAnswer (ask_of next)
 
 -- the thread once this is done, where a read gets the value; from a barrier it goes on once it has departed, and from a
 -- trap or the end it does not go on

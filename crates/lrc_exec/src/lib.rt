@@ -3,7 +3,10 @@
 
 pub mod code;
 mod emit;
+pub mod laws;
 pub mod machine;
+pub mod plain;
+pub mod rounds;
 #[cfg(test)]
 mod tests;
 mod value;

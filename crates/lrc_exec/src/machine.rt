@@ -1,10 +1,10 @@
 // What a thread asks for, and the machine that runs its code.
 
-ghost use Rattle.std.specs.Prelude.{◌≡◌, ◌≤◌, List, if◌then◌else◌, nat_lt, ok_or, slice_set, unwrap_or};
+ghost use Rattle.std.specs.Prelude.{◌≡◌, ◌≤◌, false, List, if◌then◌else◌, nat_lt, ok_or, slice_set, unwrap_or};
 ghost use Rattle.lrc_lang.specs.declared.program.Statement.{Statement};
 ghost use Rattle.lrc_exec.specs.Meaning.{act_of, next_of, value_in};
 ghost use Rattle.lrc_exec.specs.Plain.{start_of};
-ghost use Rattle.lrc_exec.specs.Ask.{ask_of, answered, ask_or_trap, GoesOn};
+ghost use Rattle.lrc_exec.specs.Ask.{ask_of, answered, ask_or_trap, TakesAnswer};
 
 use crate::code::{Code, Instruction};
 use crate::value::evaluate;
@@ -87,7 +87,8 @@ impl<'c> Machine<'c> {
 
     /// What the thread asks for next.
     pub fn ask(&self) -> Ask
-        ensures { result ≡ ask_of (next_of self.now) }
+        ensures asked { result ≡ ask_of (next_of self.now) }
+        ensures not_arrived { self.now.arrived ≡ false }
     {
         let Some(index) = self.place.checked_sub(1) else {
             return Ask::End;
@@ -101,8 +102,9 @@ impl<'c> Machine<'c> {
     /// Completes what the thread asked for. For [`Ask::Read`] the value is the one that was read; otherwise it is not
     /// used.
     pub fn answer(&mut self, value: u64)
-        requires { GoesOn (next_of self.old) }
-        ensures { self.new ≡ answered value self.old }
+        requires { TakesAnswer (ask_of (next_of self.old)) }
+        ensures answered { self.new ≡ answered value self.old }
+        ensures not_arrived { self.new.arrived ≡ false }
     {
         let Some(index) = self.place.checked_sub(1) else {
             return;

@@ -1,6 +1,6 @@
 -- What completes statements of which some symbols have come, and that one more symbol takes them one step on.
 use Rattle.std.proofs.Common.{◌≡◌, ℕ, Bool, true, false, cond, List, [], ◌∷◌, Option, Some, None, refl, sym, ap, subst, ◌∙◌}
-use Rattle.lrc_lang.specs.declared.token.Keyword.TheVariants.{Acquire, Release, Barrier, Print, If, Else, While}
+use Rattle.lrc_lang.specs.declared.token.Keyword.TheVariants.{Words, Locks, Acquire, Release, Barrier, Print, If, Else, While}
 use Rattle.lrc_lang.specs.declared.token.Sign.TheVariants.{Semicolon, Assign, OpenBracket, CloseBracket, OpenBrace, CloseBrace}
 use Rattle.lrc_lang.specs.Token.{Token}
 use Rattle.lrc_lang.specs.Symbol.{Symbol, number, name, operator, keyword, sign, finish, Names, symbols_after}
@@ -652,32 +652,70 @@ place_closed names outer before (after_else condition first) = let k = closed na
 pub body_completed : (names : Names) (b : Body) → (all_of : Block) × CompletesBody b all_of (symbols_after names (body_completion b))
 body_completed names b = place_closed names b.outer b.before b.place
 
--- ---- the end of the text is no symbol of a statement
+-- ---- symbols that stand in no statement
 
-finish_no_ending : (ending : Ending) → is_ending ending finish ≡ false
-finish_no_ending semicolon = refl
-finish_no_ending bracket = refl
-finish_no_ending brace = refl
+pub data IsForeign : Symbol → Type 0 where
+  the_end : IsForeign finish
+  words : IsForeign (keyword Words)
+  locks : IsForeign (keyword Locks)
 
-finish_no_operand : (outer : List Level) (level : Level) (operand : Option Expression) → partial.moved outer level operand finish ≡ None
-finish_no_operand outer level None = refl
-finish_no_operand outer level (Some e) = refl
+foreign_no_ending : (ending : Ending) {symbol : Symbol} → IsForeign symbol → is_ending ending symbol ≡ false
+foreign_no_ending semicolon the_end = refl
+foreign_no_ending semicolon words = refl
+foreign_no_ending semicolon locks = refl
+foreign_no_ending bracket the_end = refl
+foreign_no_ending bracket words = refl
+foreign_no_ending bracket locks = refl
+foreign_no_ending brace the_end = refl
+foreign_no_ending brace words = refl
+foreign_no_ending brace locks = refl
 
-finish_in_none : (outer : List Around) (before : Block) (purpose : Purpose) (x : Partial) → body.go_on outer before purpose x finish ≡ None
-finish_in_none outer before purpose x = simp (finish_no_ending (ending_of purpose), finish_no_operand x.outer x.level x.operand)
+foreign_no_operand : (outer : List Level) (level : Level) (operand : Option Expression) {symbol : Symbol} → IsForeign symbol → partial.moved outer level operand symbol ≡ None
+foreign_no_operand outer level None the_end = refl
+foreign_no_operand outer level None words = refl
+foreign_no_operand outer level None locks = refl
+foreign_no_operand outer level (Some e) the_end = refl
+foreign_no_operand outer level (Some e) words = refl
+foreign_no_operand outer level (Some e) locks = refl
 
-finish_refused_at : (outer : List Around) (before : Block) (place : Place) → body.moved outer before place finish ≡ None
-finish_refused_at outer before at_statement = refl
-finish_refused_at outer before (after_name n) = refl
-finish_refused_at outer before (after_equals n) = finish_in_none outer before (assigned n) nothing
-finish_refused_at outer before (in_expression purpose x) = finish_in_none outer before purpose x
-finish_refused_at outer before (after_word w) = refl
-finish_refused_at outer before (before_end s) = refl
-finish_refused_at outer before (after_then condition first) = refl
-finish_refused_at outer before (after_else condition first) = refl
+foreign_in_none : (outer : List Around) (before : Block) (purpose : Purpose) (x : Partial) {symbol : Symbol} → IsForeign symbol → body.go_on outer before purpose x symbol ≡ None
+foreign_in_none outer before purpose x f = simp (foreign_no_ending (ending_of purpose) f, foreign_no_operand x.outer x.level x.operand f)
 
-pub finish_refused : (b : Body) → body_with b finish ≡ None
-finish_refused b = finish_refused_at b.outer b.before b.place
+foreign_no_beginning : (outer : List Around) (before : Block) {symbol : Symbol} → IsForeign symbol → body.begin outer before symbol ≡ None
+foreign_no_beginning outer before the_end = refl
+foreign_no_beginning outer before words = refl
+foreign_no_beginning outer before locks = refl
+
+foreign_behind_equals : (outer : List Around) (before : Block) (n : ℕ) {symbol : Symbol} → IsForeign symbol → body.behind_equals outer before n symbol ≡ None
+foreign_behind_equals outer before n the_end = foreign_in_none outer before (assigned n) nothing the_end
+foreign_behind_equals outer before n words = foreign_in_none outer before (assigned n) nothing words
+foreign_behind_equals outer before n locks = foreign_in_none outer before (assigned n) nothing locks
+
+foreign_behind_then : (outer : List Around) (before : Block) (condition : Expression) (first : Block) {symbol : Symbol} → IsForeign symbol → body.behind_then outer before condition first symbol ≡ None
+foreign_behind_then outer before condition first the_end = refl
+foreign_behind_then outer before condition first words = refl
+foreign_behind_then outer before condition first locks = refl
+
+foreign_refused_at : (outer : List Around) (before : Block) (place : Place) {symbol : Symbol} → IsForeign symbol → body.moved outer before place symbol ≡ None
+foreign_refused_at outer before at_statement f = foreign_no_beginning outer before f
+foreign_refused_at outer before (after_name n) the_end = refl
+foreign_refused_at outer before (after_name n) words = refl
+foreign_refused_at outer before (after_name n) locks = refl
+foreign_refused_at outer before (after_equals n) f = foreign_behind_equals outer before n f
+foreign_refused_at outer before (in_expression purpose x) f = foreign_in_none outer before purpose x f
+foreign_refused_at outer before (after_word w) the_end = refl
+foreign_refused_at outer before (after_word w) words = refl
+foreign_refused_at outer before (after_word w) locks = refl
+foreign_refused_at outer before (before_end s) the_end = refl
+foreign_refused_at outer before (before_end s) words = refl
+foreign_refused_at outer before (before_end s) locks = refl
+foreign_refused_at outer before (after_then condition first) f = foreign_behind_then outer before condition first f
+foreign_refused_at outer before (after_else condition first) the_end = refl
+foreign_refused_at outer before (after_else condition first) words = refl
+foreign_refused_at outer before (after_else condition first) locks = refl
+
+pub foreign_refused : (b : Body) {symbol : Symbol} → IsForeign symbol → body_with b symbol ≡ None
+foreign_refused b f = foreign_refused_at b.outer b.before b.place f
 
 -- ---- the beginning
 

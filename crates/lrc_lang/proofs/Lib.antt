@@ -1,3 +1,5 @@
+pub mod Answers
+pub mod Behind
 pub mod Bodies
 pub mod Expressions
 pub mod LexemesExist
@@ -10,6 +12,8 @@ pub mod LexemesSteps
 pub mod LexemesUnique
 pub mod Names
 pub mod Reaching
+pub mod Reading
+pub mod Stages
 pub mod States
 pub mod Taking
 pub mod Trees

@@ -11,7 +11,7 @@ use Rattle.lrc_lang.specs.Body as body
 use Rattle.lrc_lang.specs.State as state
 use Rattle.lrc_lang.specs.State.{Stage, words, words_number, words_end, locks, locks_number, locks_end, statements, nothing, State, state_with, program_in}
 use Rattle.lrc_lang.proofs.Bodies as bodies
-use Rattle.lrc_lang.proofs.Bodies.{CompletesBody, turns_body, back_body, whole_body, body_completion, body_completed, finish_refused}
+use Rattle.lrc_lang.proofs.Bodies.{CompletesBody, turns_body, back_body, whole_body, body_completion, body_completed, the_end, foreign_refused}
 
 -- what completes a text at a stage, with these numbers and statements so far
 pub data FromStage : Body → Stage → ℕ → ℕ → ProgramTree → List Symbol → Type 0 where
@@ -45,7 +45,7 @@ in_body b w l = record { stage = statements; words = w; locks = l; body = b }
 statements_turn : (b : Body) (w l : ℕ) {whole : Block} {p : ProgramTree} {all : List Symbol} →
     bodies.Turns (body_with b) (whole_of b) whole all → p ≡ record { words = w; locks = l; statements = whole } →
     Turns (state.in_statements (in_body b w l)) (in_body b w l) p all
-statements_turn b w l (bodies.goes {symbol = finish} c q k) e = absurd (none_some (sym (finish_refused b) ∙ q))
+statements_turn b w l (bodies.goes {symbol = finish} c q k) e = absurd (none_some (sym (foreign_refused b the_end) ∙ q))
 statements_turn b w l (bodies.goes {symbol = symbol} c q k) e =
     goes _ (ap (λ next. if_some next (λ c. Some (in_body c w l))) q) (in_statements k e)
 statements_turn b w l (bodies.stops q) e =

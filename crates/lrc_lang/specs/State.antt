@@ -74,7 +74,6 @@ moved nothing s symbol = None
 abbrev pub state_with : State → Symbol → Option State
 state_with s symbol = moved s.stage s symbol
 
-
 -- the program, once the text has ended
 abbrev pub program_in : State → ProgramTree
 program_in s = record { words = s.words; locks = s.locks; statements = s.body.before }

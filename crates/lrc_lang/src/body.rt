@@ -7,14 +7,13 @@ ghost use Rattle.lrc_lang.specs.Seen.{symbol_seen, partial_seen, Gives, GivesNew
 ghost use Rattle.lrc_lang.specs.SeenBody.{IsExpected, purpose_seen, owner_seen, outer_seen, before_seen, body_seen};
 ghost use Rattle.lrc_lang.specs.Tree.{if_else, empty, expression_of, statement_of, block_of};
 
-use std::alloc::Global;
-use std::mem;
-
 use crate::fault::FaultKind;
 use crate::partial::Partial;
 use crate::program::{Expression, Statement};
 use crate::symbol::Symbol;
 use crate::token::{Keyword, Sign};
+use std::alloc::Global;
+use std::mem;
 
 /// What an expression stands in a statement for.
 #[derive(Debug, Drop)]

@@ -7,11 +7,10 @@ ghost use Rattle.lrc_lang.specs.Seen.{symbol_seen};
 ghost use Rattle.lrc_lang.specs.Token.{name, sign};
 ghost use Rattle.lrc_lang.specs.View.{token_of};
 
-use std::alloc::Global;
-
 use crate::fault::FaultKind;
 use crate::symbol::{Symbol, symbol_of_sign};
 use crate::token::{Keyword, Sign, Token};
+use std::alloc::Global;
 
 /// How many different names a text may have.
 const MOST_NAMES: usize = 32;

@@ -1,16 +1,14 @@
 // The parser: from a text to its trees.
 
-ghost use Rattle.std.specs.Prelude.{◌≡◌, ◌≢◌, ◌≤◌, ◌⊎◌, ℕ, List, length, IfOk, IfErr, MatchResult};
+ghost use Rattle.std.specs.Prelude.{◌≡◌, ◌≢◌, ◌≤◌, ◌⊎◌, ℕ, List, length, ◌↔◌, IsTrue, IfOk, IfErr, MatchResult};
 ghost use Rattle.lrc_lang.specs.declared.fault.FaultKind.{FaultKind};
 ghost use Rattle.lrc_lang.specs.declared.fault.FaultKind.TheVariants.{NoMemory};
 ghost use Rattle.lrc_lang.specs.Faults.{IsText, HasFirstFault};
 ghost use Rattle.lrc_lang.specs.Grammar.{IsProgram};
 ghost use Rattle.lrc_lang.specs.SeenParser.{IsOutOfMemory, TakesLexeme};
-ghost use Rattle.lrc_lang.specs.Token.{Token as TokenSeen};
+ghost use Rattle.lrc_lang.specs.Token.{Token as TokenSeen, token, finish};
 ghost use Rattle.lrc_lang.specs.Tree.{ProgramTree, program_of};
 ghost use Rattle.lrc_lang.specs.View.{lexeme_of};
-
-use std::alloc::Global;
 
 use crate::fault::{FaultKind, ParseFault};
 use crate::lexer::Lexer;
@@ -18,6 +16,7 @@ use crate::limits::Limits;
 use crate::program::Program;
 use crate::state::State;
 use crate::token::{Lexeme, Token};
+use std::alloc::Global;
 
 /// How many bytes a text may have.
 const MOST_BYTES: usize = 65_536;
@@ -59,18 +58,14 @@ fn read(alloc: Global, text: &[u8]) -> Result<Program, ParseFault>
         if let Err(kind) = take(&mut state, &mut limits, found.lexeme) {
             return Err(fault(found.line, kind));
         }
-        if let Lexeme::Token(Token::End) = found.lexeme {
+        if is_end(found.lexeme) {
             return Ok(state.into_program());
         }
     }
 }
 
 /// Takes what stands next.
-fn take<'t>(
-    state: &mut State,
-    limits: &mut Limits<'t>,
-    lexeme: Lexeme<'t>,
-) -> Result<(), FaultKind>
+fn take<'t>(state: &mut State, limits: &mut Limits<'t>, lexeme: Lexeme<'t>) -> Result<(), FaultKind>
     ensures { TakesLexeme result state.old limits.old (lexeme_of lexeme.entry) state.new limits.new }
 {
     match lexeme {
@@ -81,6 +76,13 @@ fn take<'t>(
         Lexeme::BadByte => Err(FaultKind::BadByte),
         Lexeme::BadNumber => Err(FaultKind::BadNumber),
     }
+}
+
+/// Whether this is the end of the text.
+fn is_end(lexeme: Lexeme<'_>) -> bool
+    ensures { IsTrue result ↔ (lexeme_of lexeme.entry ≡ token finish) }
+{
+    matches!(lexeme, Lexeme::Token(Token::End))
 }
 
 /// The fault of this kind of a token on this line. Where memory ran out it is on no line.

@@ -6,13 +6,12 @@ ghost use Rattle.lrc_lang.specs.Partial.{joined, no_pending, level_with, whole_o
 ghost use Rattle.lrc_lang.specs.Seen.{joins_seen, pending_seen, level_seen, partial_seen, symbol_seen, Gives, GivesNew};
 ghost use Rattle.lrc_lang.specs.Tree.{expression_of};
 
-use std::alloc::{AllocError, Global};
-use std::mem;
-
 use crate::fault::FaultKind;
 use crate::program::{Expression, Operator};
 use crate::symbol::Symbol;
 use crate::token::{Keyword, Sign};
+use std::alloc::{AllocError, Global};
+use std::mem;
 
 /// What an operator joins.
 #[derive(Clone, Copy, Debug)]
@@ -206,12 +205,7 @@ impl Partial {
     }
 
     /// Behind an operand.
-    fn go_on(
-        &mut self,
-        alloc: Global,
-        operand: Expression,
-        symbol: Symbol,
-    ) -> Result<(), FaultKind>
+    fn go_on(&mut self, alloc: Global, operand: Expression, symbol: Symbol) -> Result<(), FaultKind>
         requires { self.old.operand ≡ None }
         ensures { GivesNew result (partial_seen self.new) (go_on (partial_seen self.old).outer (level_seen self.old.level) (expression_of operand) (symbol_seen symbol)) }
     {

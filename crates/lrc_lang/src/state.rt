@@ -2,13 +2,12 @@
 
 ghost use Rattle.std.specs.Prelude.{◌≡◌, ◌≤◌};
 
-use std::alloc::Global;
-
 use crate::body::Body;
 use crate::fault::FaultKind;
 use crate::program::Program;
 use crate::symbol::Symbol;
 use crate::token::{Keyword, Sign};
+use std::alloc::Global;
 
 /// What has to come next.
 #[derive(Clone, Copy, Debug)]

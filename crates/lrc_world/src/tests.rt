@@ -100,6 +100,47 @@ fn steps_are_used_up(rt: HostRuntime) -> Result<(), Fail> {
     Ok(())
 }
 
+// `words 1; locks 1; acquire 0; acquire 0;` or `.. release 0; barrier; print 1;`
+fn with_lock(alloc: Global, twice: bool) -> Result<Program, AllocError> {
+    let mut statements = Vec::new(alloc);
+    statements.push(Statement::Acquire(Expression::Number(0)))?;
+    if twice {
+        statements.push(Statement::Acquire(Expression::Number(0)))?;
+    } else {
+        statements.push(Statement::Release(Expression::Number(0)))?;
+        statements.push(Statement::Barrier)?;
+        statements.push(Statement::Print(Expression::Number(1)))?;
+    }
+    Ok(Program {
+        words: 1,
+        locks: 1,
+        statements,
+    })
+}
+
+#[test]
+fn locks_are_granted_and_a_barrier_is_waited_at(rt: HostRuntime) -> Result<(), Fail> {
+    let program = with_lock(rt.alloc(), false)?;
+    let (_, report) = drive(rt.alloc(), &program, 1, &OPTIONS, Picker::Oldest)?;
+    let acts = [
+        act(Deed::Acquire(0)),
+        act(Deed::Release(0)),
+        act(Deed::Arrive),
+    ];
+    assert_eq!(rt; report.acts.as_slice(), acts.as_slice());
+    assert_eq!(rt; report.ends.as_slice(), [End::Unfinished].as_slice());
+
+    let program = with_lock(rt.alloc(), true)?;
+    let (_, report) = drive(rt.alloc(), &program, 1, &OPTIONS, Picker::Oldest)?;
+    let acts = [act(Deed::Acquire(0)), act(Deed::Trap(Cause::LockHeld))];
+    assert_eq!(rt; report.acts.as_slice(), acts.as_slice());
+    assert_eq!(rt;
+        report.ends.as_slice(),
+        [End::Trapped(Cause::LockHeld)].as_slice()
+    );
+    Ok(())
+}
+
 #[test]
 fn a_word_out_of_range_traps(rt: HostRuntime) -> Result<(), Fail> {
     let mut statements = Vec::new(rt.alloc());

@@ -1,6 +1,5 @@
 // Programs and faults that are given from outside: each text with its trees as `{:?}` shows them, or with its fault.
 use super::*;
-
 use std::process::Abort;
 use std::test::Fail;
 
@@ -16,16 +15,46 @@ fn shown(alloc: Global, text: &str) -> Result<String, Fail> {
 fn expressions_have_their_trees(rt: HostRuntime) -> Result<(), Fail> {
     let alloc = rt.alloc();
     let table = [
-        ("1 + 2 * 3", "Binary(Number(1), Add, Binary(Number(2), Multiply, Number(3)))"),
-        ("1 - 2 - 3", "Binary(Binary(Number(1), Subtract, Number(2)), Subtract, Number(3))"),
-        ("1 - (2 - 3)", "Binary(Number(1), Subtract, Binary(Number(2), Subtract, Number(3)))"),
-        ("8 / 4 % 3", "Binary(Binary(Number(8), Divide, Number(4)), Remainder, Number(3))"),
-        ("(1 + 2) * 3", "Binary(Binary(Number(1), Add, Number(2)), Multiply, Number(3))"),
-        ("me + nodes == 007", "Binary(Binary(Me, Add, Nodes), Equal, Number(7))"),
-        ("1 < 2 + 3", "Binary(Number(1), Less, Binary(Number(2), Add, Number(3)))"),
-        ("(1 <= 2) >= 3", "Binary(Binary(Number(1), LessOrEqual, Number(2)), GreaterOrEqual, Number(3))"),
-        ("1 != (2 > 3)", "Binary(Number(1), NotEqual, Binary(Number(2), Greater, Number(3)))"),
-        ("x + Y + x + y", "Binary(Binary(Binary(Private(0), Add, Private(1)), Add, Private(0)), Add, Private(2))"),
+        (
+            "1 + 2 * 3",
+            "Binary(Number(1), Add, Binary(Number(2), Multiply, Number(3)))",
+        ),
+        (
+            "1 - 2 - 3",
+            "Binary(Binary(Number(1), Subtract, Number(2)), Subtract, Number(3))",
+        ),
+        (
+            "1 - (2 - 3)",
+            "Binary(Number(1), Subtract, Binary(Number(2), Subtract, Number(3)))",
+        ),
+        (
+            "8 / 4 % 3",
+            "Binary(Binary(Number(8), Divide, Number(4)), Remainder, Number(3))",
+        ),
+        (
+            "(1 + 2) * 3",
+            "Binary(Binary(Number(1), Add, Number(2)), Multiply, Number(3))",
+        ),
+        (
+            "me + nodes == 007",
+            "Binary(Binary(Me, Add, Nodes), Equal, Number(7))",
+        ),
+        (
+            "1 < 2 + 3",
+            "Binary(Number(1), Less, Binary(Number(2), Add, Number(3)))",
+        ),
+        (
+            "(1 <= 2) >= 3",
+            "Binary(Binary(Number(1), LessOrEqual, Number(2)), GreaterOrEqual, Number(3))",
+        ),
+        (
+            "1 != (2 > 3)",
+            "Binary(Number(1), NotEqual, Binary(Number(2), Greater, Number(3)))",
+        ),
+        (
+            "x + Y + x + y",
+            "Binary(Binary(Binary(Private(0), Add, Private(1)), Add, Private(0)), Add, Private(2))",
+        ),
         ("((((5))))", "Number(5)"),
     ];
     for (text, want) in table {
@@ -84,15 +113,27 @@ fn faults_have_their_kind_and_line(rt: HostRuntime) -> Result<(), Fail> {
     let alloc = rt.alloc();
     let table = [
         ("", "line 1: unexpected token"),
-        ("words 1; locks 0; x = 18446744073709551616;", "line 1: bad number"),
+        (
+            "words 1; locks 0; x = 18446744073709551616;",
+            "line 1: bad number",
+        ),
         ("words 1; locks 0;\nx = $;", "line 2: bad byte"),
         ("words 1; locks 0; me = 1;", "line 1: unexpected token"),
         ("words 4097;", "line 1: over a limit"),
         ("words 0;", "line 1: over a limit"),
         ("words 1; locks 65;", "line 1: over a limit"),
-        ("words 1; locks 0; print 1 == 2 == 3;", "line 1: unexpected token"),
-        ("words 1; locks 0; if 1 { } else { } else { }", "line 1: unexpected token"),
-        ("words 1; locks 0;\n\nprint\n1\n", "line 5: unexpected token"),
+        (
+            "words 1; locks 0; print 1 == 2 == 3;",
+            "line 1: unexpected token",
+        ),
+        (
+            "words 1; locks 0; if 1 { } else { } else { }",
+            "line 1: unexpected token",
+        ),
+        (
+            "words 1; locks 0;\n\nprint\n1\n",
+            "line 5: unexpected token",
+        ),
         ("words 1; locks 0; }", "line 1: unexpected token"),
         ("words 1; locks 0; if 1 { ", "line 1: unexpected token"),
         ("words 1; locks 0; print (1;", "line 1: unexpected token"),

@@ -17,7 +17,7 @@ returns-in-Running c =
     let running : Alone = record { thread = Some t; memory = n.memory.items; left = n.left } in
     let asked = turn_asked running t n.left (next_of t) c.self.invariant.past (fine t) refl in
     c.deed_for.ensures
-    ∙ ap (λ ask. deed_asked ask n.left c.deref.result.now) c.ask.ensures
+    ∙ ap (λ ask. deed_asked ask n.left c.deref.result.now) c.ask.ensures.asked
     ∙ ap (λ memory. deed_asked (ask_of (next_of t)) n.left memory) c.deref.ensures.value
     ∙ sym asked
     ∙ sym (ap (λ (s : Standing). deed_next (record { thread = thread_of s t; memory = n.memory.items; left = n.left })) c.in-Running.is)
