@@ -8,6 +8,7 @@ use Rattle.lrc_lang.specs.Symbol.{Symbol, number, name, operator, keyword, sign,
 use Rattle.lrc_lang.specs.Tree.{Expression, binary}
 use Rattle.lrc_lang.specs.Grammar.{Joins, factors, terms, sums, joins, IsFactor, a_number, a_name, me, nodes, parentheses, IsTerm, factor, product, IsSum, term, sum, IsExpression, one_sum, comparison}
 use Rattle.lrc_lang.specs.Partial.{Pending, Level, no_pending, Partial, nothing, joined, term_of, sum_of, whole_of, waiting, compared_with, level_with, awaiting, behind, begin, close, go_on, moved, partial_with, value_in, value_of}
+use Rattle.lrc_lang.proofs.Options.{none_some, some_same}
 
 -- ---- what completes an expression
 
@@ -179,12 +180,6 @@ pub turns : (x : Partial) {e : Expression} {all rest : List Symbol} → Complete
 turns x k = turns_at x.outer x.level x.operand k
 
 -- ---- and back
-
-none_some : {A : Type 0} {x : A} → None ≡ Some x → ⊥
-none_some q = cc
-
-some_same : {A : Type 0} {x y : A} → Some x ≡ Some y → x ≡ y
-some_same q = cc
 
 at_same : {x y : Partial} (e : Expression) (all rest : List Symbol) → Some x ≡ Some y → Completes y e all rest → Completes x e all rest
 at_same e all rest q k = subst (λ x. Completes x e all rest) (sym (some_same q)) k

@@ -1,7 +1,6 @@
-pub mod Answers
 pub mod Behind
-pub mod Bodies
 pub mod Expressions
+pub mod Foreign
 pub mod LexemesExist
 pub mod LexemesLines
 pub mod LexemesNumbers
@@ -11,9 +10,15 @@ pub mod LexemesSpans
 pub mod LexemesSteps
 pub mod LexemesUnique
 pub mod Names
+pub mod OneAnswer
+pub mod Options
 pub mod Reaching
 pub mod Reading
 pub mod Stages
+pub mod StatementSteps
+pub mod Statements
+pub mod StatementsBack
+pub mod StatementsEnd
 pub mod States
 pub mod Taking
 pub mod Trees

@@ -9,12 +9,7 @@ use Rattle.lrc_lang.specs.Faults.{IsUnexpected}
 use Rattle.lrc_lang.specs.State as state
 use Rattle.lrc_lang.specs.State.{State, state_with, program_in}
 use Rattle.lrc_lang.proofs.States.{CompletesState, Turns, goes, stops, turns_state, back_state, completion, completed, from_start, to_start}
-
-none_some : {A : Type 0} {x : A} → None ≡ Some x → ⊥
-none_some q = cc
-
-some_same : {A : Type 0} {x y : A} → Some x ≡ Some y → x ≡ y
-some_same q = cc
+use Rattle.lrc_lang.proofs.Options.{none_some, some_same}
 
 pub fold-append : {A B : Type 0} (f : B → A → B) (a : B) (xs ys : List A) → fold f a (xs ++ ys) ≡ fold f (fold f a xs) ys
 fold-append f a [] ys = refl

@@ -12,14 +12,9 @@ use Rattle.lrc_lang.specs.State as state
 use Rattle.lrc_lang.specs.State.{Stage, words, words_number, words_end, locks, locks_number, locks_end, statements, nothing, State, state_with}
 use Rattle.lrc_lang.specs.SeenState.{IsOverNumber}
 use Rattle.lrc_lang.specs.Faults.{IsNumberTooLarge}
-use Rattle.lrc_lang.proofs.Bodies as bodies
-use Rattle.lrc_lang.proofs.Bodies.{foreign_refused}
-
-none_some : {A : Type 0} {x : A} → None ≡ Some x → ⊥
-none_some q = cc
-
-some_same : {A : Type 0} {x y : A} → Some x ≡ Some y → x ≡ y
-some_same q = cc
+use Rattle.lrc_lang.proofs.Foreign as foreign
+use Rattle.lrc_lang.proofs.Foreign.{foreign_refused}
+use Rattle.lrc_lang.proofs.Options.{none_some, some_same}
 
 -- a stage where no number of words or locks comes next
 abbrev IsOther : Stage → Type 0
@@ -91,8 +86,8 @@ no_body s (Some b) e q = none_some (sym e)
 
 behind_statements : (s : State) (symbol : Symbol) {t : State} → s.stage ≡ statements → state.in_statements s symbol ≡ Some t → IsBehindSymbol symbol t.stage
 behind_statements s finish e q = subst IsOther (sym (finished_stage s (whole_of s.body) q)) tt
-behind_statements s (keyword Words) e q = absurd (no_body s (body_with s.body (keyword Words)) (foreign_refused s.body bodies.words) q)
-behind_statements s (keyword Locks) e q = absurd (no_body s (body_with s.body (keyword Locks)) (foreign_refused s.body bodies.locks) q)
+behind_statements s (keyword Words) e q = absurd (no_body s (body_with s.body (keyword Words)) (foreign_refused s.body foreign.words) q)
+behind_statements s (keyword Locks) e q = absurd (no_body s (body_with s.body (keyword Locks)) (foreign_refused s.body foreign.locks) q)
 behind_statements s symbol e q = other_stage s (body_with s.body symbol) e q
 
 behind_at : (s : State) (stage : Stage) (symbol : Symbol) {t : State} → s.stage ≡ stage → state.moved stage s symbol ≡ Some t → IsBehindSymbol symbol t.stage

@@ -10,8 +10,13 @@ use Rattle.lrc_lang.specs.Body.{Body, body_with, whole_of, if_some}
 use Rattle.lrc_lang.specs.Body as body
 use Rattle.lrc_lang.specs.State as state
 use Rattle.lrc_lang.specs.State.{Stage, words, words_number, words_end, locks, locks_number, locks_end, statements, nothing, State, state_with, program_in}
-use Rattle.lrc_lang.proofs.Bodies as bodies
-use Rattle.lrc_lang.proofs.Bodies.{CompletesBody, turns_body, back_body, whole_body, body_completion, body_completed, the_end, foreign_refused}
+use Rattle.lrc_lang.proofs.Statements.{CompletesBody, all_statements, statements_all}
+use Rattle.lrc_lang.proofs.StatementSteps as steps
+use Rattle.lrc_lang.proofs.StatementSteps.{turns_body}
+use Rattle.lrc_lang.proofs.StatementsBack.{back_body, whole_body}
+use Rattle.lrc_lang.proofs.StatementsEnd.{body_completion, body_completed}
+use Rattle.lrc_lang.proofs.Foreign.{the_end, foreign_refused}
+use Rattle.lrc_lang.proofs.Options.{none_some, some_same}
 
 -- what completes a text at a stage, with these numbers and statements so far
 pub data FromStage : Body → Stage → ℕ → ℕ → ProgramTree → List Symbol → Type 0 where
@@ -33,22 +38,16 @@ pub data Turns (step : Symbol → Option State) (s : State) (p : ProgramTree) : 
   goes : {symbol : Symbol} {all : List Symbol} (t : State) → step symbol ≡ Some t → CompletesState t p all → Turns step s p (symbol ∷ all)
   stops : p ≡ program_in s → Turns step s p []
 
-none_some : {A : Type 0} {x : A} → None ≡ Some x → ⊥
-none_some q = cc
-
-some_same : {A : Type 0} {x y : A} → Some x ≡ Some y → x ≡ y
-some_same q = cc
-
 abbrev in_body : Body → ℕ → ℕ → State
 in_body b w l = record { stage = statements; words = w; locks = l; body = b }
 
 statements_turn : (b : Body) (w l : ℕ) {whole : Block} {p : ProgramTree} {all : List Symbol} →
-    bodies.Turns (body_with b) (whole_of b) whole all → p ≡ record { words = w; locks = l; statements = whole } →
+    steps.Turns (body_with b) (whole_of b) whole all → p ≡ record { words = w; locks = l; statements = whole } →
     Turns (state.in_statements (in_body b w l)) (in_body b w l) p all
-statements_turn b w l (bodies.goes {symbol = finish} c q k) e = absurd (none_some (sym (foreign_refused b the_end) ∙ q))
-statements_turn b w l (bodies.goes {symbol = symbol} c q k) e =
+statements_turn b w l (steps.goes {symbol = finish} c q k) e = absurd (none_some (sym (foreign_refused b the_end) ∙ q))
+statements_turn b w l (steps.goes {symbol = symbol} c q k) e =
     goes _ (ap (λ next. if_some next (λ c. Some (in_body c w l))) q) (in_statements k e)
-statements_turn b w l (bodies.stops q) e =
+statements_turn b w l (steps.stops q) e =
     goes _ (ap (λ next. if_some next (λ whole. Some (state.finished (in_body b w l) whole))) q) (at_end e)
 
 stage_turns : (b : Body) (stage : Stage) (w l : ℕ) {p : ProgramTree} {all : List Symbol} → FromStage b stage w l p all →
@@ -181,12 +180,12 @@ completed names s = completed_at names s.body s.stage s.words s.locks
 -- ---- the beginning
 
 pub from_start : (p : ProgramTree) (all : List Symbol) → AreSymbolsOf p all → CompletesState state.start p all
-from_start p all (program d) = at_words (at_words_number (at_words_end (at_locks (at_locks_number (at_locks_end (in_statements (bodies.all_statements d) refl))))))
+from_start p all (program d) = at_words (at_words_number (at_words_end (at_locks (at_locks_number (at_locks_end (in_statements (all_statements d) refl))))))
 
 to_start_statements : {p : ProgramTree} {w l : ℕ} {all : List Symbol} → FromStage body.start statements w l p all →
     AreSymbolsOf p (keyword Words ∷ number w ∷ sign Semicolon ∷ keyword Locks ∷ number l ∷ sign Semicolon ∷ all)
 to_start_statements {w = w} {l = l} {all = all} (in_statements k e) =
-    subst (λ p. AreSymbolsOf p (keyword Words ∷ number w ∷ sign Semicolon ∷ keyword Locks ∷ number l ∷ sign Semicolon ∷ all)) (sym e) (program (bodies.statements_all k))
+    subst (λ p. AreSymbolsOf p (keyword Words ∷ number w ∷ sign Semicolon ∷ keyword Locks ∷ number l ∷ sign Semicolon ∷ all)) (sym e) (program (statements_all k))
 
 to_start_ : (p : ProgramTree) (all : List Symbol) → FromStage body.start words 1 0 p all → AreSymbolsOf p all
 to_start_ p all (at_words (at_words_number (at_words_end (at_locks (at_locks_number (at_locks_end k)))))) = to_start_statements k

@@ -209,7 +209,7 @@ fn large_texts_need_no_deep_stack(rt: HostRuntime) -> Result<(), Fail> {
     let front = repeated(alloc, "words 1; locks 0;", "while 1 {", 16, "")?;
     let front = repeated(alloc, front.as_str(), "if 1 {", 16, "")?;
     let front = repeated(alloc, front.as_str(), "x = 1;", 10_000, "")?;
-    let front = repeated(alloc, front.as_str(), " ", 65_536 - 32 - front.len(), "")?;
+    let front = repeated(alloc, front.as_str(), " ", 65_504usize.saturating_sub(front.len()), "")?;
     let text = repeated(alloc, front.as_str(), "}", 32, "")?;
     assert_eq!(rt; text.len(), 65_536);
     check(&rt, text.as_str(), None)?;

@@ -1,4 +1,4 @@
-use Rattle.lrc_lang.proofs.Answers.{of_program, of_fault}
+use Rattle.lrc_lang.proofs.OneAnswer.{of_program, of_fault}
 use Rattle.lrc_lang.proofs.parser.parse.Goals as goal
 
 pub returns-clause-of_program : goal.returns-clause-of_program
