@@ -1,19 +1,17 @@
 //! The program `treadmarks`: reads its words and the files that they name, and hands both to the library `lrc_cli`.
 #![tactic(auto)]
 
-ghost use Rattle.std.specs.Prelude.{◌≡◌, ◌≤◌, IfOk, IfSome, is_some, take};
-ghost use Rattle.treadmarks.specs.Stub.{names_events};
+ghost use Rattle.std.specs.Prelude.{◌≡◌, IfOk, IfSome, is_some, take};
+ghost use Rattle.lrc_cli.specs.Answer.{names_events};
 
 use lrc_cli::choice::{Choice, ChooseFault};
-use lrc_cli::choose;
-use std::alloc::{AllocError, Global};
-use std::env;
-use std::fs;
+use lrc_cli::{choose, perform};
+use std::alloc::Global;
 use std::fs::Files;
-use std::io;
-use std::io::{BufWriter, ErrorKind, Read, Write};
+use std::io::{BufWriter, ErrorKind, Read};
 use std::process::ExitCode;
 use std::rt::Env;
+use std::{env, fs, io};
 use thiserror::Error;
 
 /// One byte more than the longest text of a program has.
@@ -139,10 +137,7 @@ fn read_text(rt: &(impl Files + Input + AllocGlobal), path: &str) -> io::Result<
 }
 
 /// Reads the text of the events, where a choice names one.
-fn read_events(
-    rt: &(impl Files + AllocGlobal),
-    choice: &Choice<'_>,
-) -> io::Result<Option<Vec<u8>>>
+fn read_events(rt: &(impl Files + AllocGlobal), choice: &Choice<'_>) -> io::Result<Option<Vec<u8>>>
     ensures { IfOk result (λ events. is_some events ≡ names_events choice.now) }
 {
     match choice {
@@ -161,22 +156,4 @@ fn read_up_to<R: Read + Drop>(alloc: Global, reader: R, most: u64) -> io::Result
     let mut bytes = Vec::new(alloc);
     reader.take(most).read_to_end(&mut bytes)?;
     Ok(bytes)
-}
-
-fn perform<W: Write, E: Write>(
-    _alloc: Global,
-    choice: &Choice<'_>,
-    text: &[u8],
-    events: Option<&[u8]>,
-    out: &mut W,
-    _err: &mut E,
-) -> u8
-    requires { is_some events ≡ names_events choice.now }
-{
-    let _ = out.write_all(text);
-    if let Some(text) = events {
-        let _ = out.write_all(text);
-    }
-    let _ = out.flush();
-    0
 }
