@@ -1,6 +1,6 @@
 // What the words of the command line ask for.
 
-ghost use Rattle.std.specs.Prelude.{◌≤◌};
+ghost use Rattle.std.specs.Prelude.{◌≡◌, ◌≤◌};
 
 use thiserror::Error;
 
@@ -29,6 +29,8 @@ pub struct Simulation<'w> {
     pub steps: Steps,
     /// The file of the events, if one is named.
     pub events: Option<&'w str>,
+    /// For now a run has one node.
+    pub ghost alone: { nodes.count ≡ 1 },
 }
 
 /// What the words ask for.

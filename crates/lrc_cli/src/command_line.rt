@@ -93,6 +93,7 @@ fn number_of(options: &ArgMatches<'_>, name: &str, default: u64) -> u64
 fn nodes_up_to(most: u32, count: u64) -> Result<Nodes, ChooseFault>
     requires { most ≤ 16 }
     ensures ok { IfOk result (λ nodes. nodes.count ≡ count) }
+    ensures few { IfOk result (λ nodes. nodes.count ≤ most) }
     ensures err { IfErr result (λ fault. (fault ≡ BadNumber) × IsOutOfRange 1 most count) }
 {
     match u32::try_from(count) {

@@ -16,10 +16,10 @@ pub(crate) fn put_parts<W: Write>(writer: &mut W, parts: &[Vec<u8>]) -> io::Resu
     for part in parts {
         put(writer, part)?;
     }
-    writer.flush()
+    Ok(())
 }
 
-/// Writes a text. Unlike `write_all` it says what a failed write leaves: some bytes from the front of the text.
+/// Writes a text and flushes it. Unlike `write_all` it says what a failed write leaves: some bytes from the front of the text.
 pub(crate) fn put<W: Write>(writer: &mut W, text: &[u8]) -> io::Result<()>
     ensures ok { OnOk result (Appends (W.contents writer.old) (W.contents writer.new) text.now) }
     ensures err { OnErr result (AppendsFront (W.contents writer.old) (W.contents writer.new) text.now) }
@@ -27,7 +27,7 @@ pub(crate) fn put<W: Write>(writer: &mut W, text: &[u8]) -> io::Result<()>
     let mut rest = text;
     for _turn in 0..u64::MAX {
         if rest.is_empty() {
-            return Ok(());
+            return writer.flush();
         }
         match writer.write(rest) {
             Ok(0) => return Err(io::Error::from(ErrorKind::WriteZero)),

@@ -1,7 +1,7 @@
 use Rattle.std.proofs.Common.{◌≡◌, ◌∙◌, ℕ, List, drop, sym, ap, subst}
 use Rattle.std.proofs.lemmas.List.{take_rest}
 use Rattle.std.specs.Borrow.{Bor}
-use Rattle.lrc_cli.proofs.WriteLemmas.{IsUnderWay, nil_of, way_begins, way_ends, way_front, way_kept, way_more, way_refused, way_written}
+use Rattle.lrc_cli.proofs.WriteLemmas.{IsUnderWay, nil_of, on_err, on_ok, way_begins, way_ends, way_front, way_kept, way_more, way_refused, way_written}
 use Rattle.lrc_cli.proofs.output.put.Goals as goal
 use Rattle.lrc_cli.proofs.output.put.Goals.{in-Ok, in-Err}
 
@@ -10,7 +10,15 @@ loop-turn-init g c = way_begins _ c.args.text.now
 
 pub returns-then-is_empty-clause-ok : goal.returns-then-is_empty-clause-ok
 returns-then-is_empty-clause-ok g c =
-    way_ends _ _ c.args.text.now c.loop-turn.rest.now (nil_of c.loop-turn.rest.now c.if-is_empty.ensures) c.loop-turn.invariant
+    on_ok c.flush.result _
+    (way_ends _ _ c.args.text.now c.loop-turn.rest.now (nil_of c.loop-turn.rest.now c.if-is_empty.ensures)
+    (way_kept _ _ _ c.args.text.now c.loop-turn.rest.now c.loop-turn.invariant c.flush.ensures.bytes))
+
+pub returns-then-is_empty-clause-err : goal.returns-then-is_empty-clause-err
+returns-then-is_empty-clause-err g c =
+    on_err c.flush.result _
+    (way_front _ _ c.args.text.now c.loop-turn.rest.now
+    (way_kept _ _ _ c.args.text.now c.loop-turn.rest.now c.loop-turn.invariant c.flush.ensures.bytes))
 
 pub returns-in-Ok-eq0-clause-err : goal.returns-in-Ok-eq0-clause-err
 returns-in-Ok-eq0-clause-err g c =

@@ -1,11 +1,7 @@
 use Rattle.std.proofs.Common.{◌≡◌, ◌∙◌, ◌+◌, ◌++◌, ℕ, List, Result, Ok, Err, OnErr, drop, sym, ap, subst}
 use Rattle.lrc_cli.specs.ReportText.{whole_text}
-use Rattle.lrc_cli.proofs.WriteLemmas.{IsUnderWay, parts_at, way_front, way_kept, way_part, way_stops}
+use Rattle.lrc_cli.proofs.WriteLemmas.{IsUnderWay, on_err, parts_at, way_part, way_stops}
 use Rattle.lrc_cli.proofs.output.put_parts.Goals as goal
-
-on_err : {T E : Type 0} (r : Result T E) (P : Type 0) → P → OnErr r P
-on_err (Ok x) P h = tt
-on_err (Err e) P h = h
 
 pub returns-in_err-put-clause-err : goal.returns-in_err-put-clause-err
 returns-in_err-put-clause-err g c =
@@ -29,9 +25,3 @@ loop-part-preserved g c =
     way_part _ _ _ (whole_text parts) c.deref.result.now (whole_text (drop (i + 1) parts))
     (subst (IsUnderWay (g.W.Write.contents c.args.writer.now) (g.W.Write.contents c.loop-part.writer) (whole_text parts)) here c.loop-part.invariant)
     c.in_ok-put.ensures.ok
-
-pub returns-clause-err : goal.returns-clause-err
-returns-clause-err g c =
-    on_err c.flush.result _
-    (way_front _ _ (whole_text c.args.parts.now) _
-    (way_kept _ _ _ (whole_text c.args.parts.now) (whole_text (drop c.loop-part.part-index c.args.parts.now)) c.loop-part.invariant c.flush.ensures.bytes))
