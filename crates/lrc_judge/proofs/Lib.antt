@@ -1,3 +1,4 @@
+pub mod Decided
 pub mod Gathering
 pub mod HandedOn
 pub mod NextPast

@@ -1,19 +1,20 @@
 -- What the writes to a word so far say of a read.
-use Rattle.std.proofs.Common.{◌≡◌, ◌≢◌, ℕ, ◌+◌, ◌<◌, ◌≤◌, ◌⊎◌, List, inl, inr, refl, sym, subst, ◌∙◌, ap, arith}
+use Rattle.std.proofs.Common.{◌≡◌, ◌≢◌, ℕ, zero, suc, add-one, length, ◌+◌, ◌<◌, ◌≤◌, ◌⊎◌, List, inl, inr, refl, sym, subst, ◌∙◌, ap, arith}
 use Rattle.std.specs.Prelude.{◌↔◌, ◌||◌, ◌&&◌, ◌==◌, Option, Some, None, Bool, true, false, not, IsTrue, nat_eq, MatchOption}
 use Rattle.std.specs.Option.{option_map_or}
-use Rattle.std.proofs.lemmas.Bool.{cases_eq, cases_Bool, false≢true, true≢false, eqb-true, eq-eqb, and_parts, and_from, or_cases, or_left, or_right}
+use Rattle.std.proofs.lemmas.Bool.{cases_eq, cases_lt, cases_Bool, false≢true, true≢false, eqb-true, eq-eqb, and_parts, and_from, or_cases, or_left, or_right}
 use Rattle.lrc_trace.specs.declared.act.Act.{Act}
 use Rattle.lrc_trace.specs.declared.act.Deed.{Deed}
 use Rattle.lrc_trace.specs.declared.act.Deed.TheVariants.{Write}
 use Rattle.lrc_trace.specs.Run.{Does, IsDone}
 use Rattle.lrc_trace.specs.Order.{HappensBefore}
-use Rattle.lrc_trace.specs.Reading.{WrittenBefore, IsSomeWrite, AreOrdered, IsLastWrite, IsLatest, MayRead}
-use Rattle.lrc_trace.proofs.Positions.{Does-one_deed}
+use Rattle.lrc_trace.specs.Reading.{WrittenBefore, IsSomeWrite, AreOrdered, IsLastWrite, IsLatest, MayRead, ReadsLazily}
+use Rattle.lrc_trace.proofs.Positions.{Does-one_deed, Does-within}
+use Rattle.lrc_trace.proofs.Intervals.{act_at}
 use Rattle.lrc_trace.proofs.HappensBefore.{forward, transitive}
-use Rattle.lrc_judge.specs.declared.order.Order.{Order}
+use Rattle.lrc_judge.specs.Reading.{Misreads}
+use Rattle.lrc_judge.proofs.Decided.{HappensBefore-decided}
 use Rattle.lrc_judge.specs.declared.reading.Stored.{Stored}
-use Rattle.lrc_judge.specs.Order.{is_before, IsOrderOf}
 
 -- the last write before position n, if there is one
 abbrev pub IsLast : List Act → ℕ → ℕ → ℕ → Option Stored → Type 0
@@ -35,7 +36,7 @@ module _ (run : List Act) (j word value : ℕ) where
   -- before the first position there is none
   pub IsTally-start : (is_written : Bool) → is_written ≡ (value == 0) → IsTally run j word value 0 is_written true None
   IsTally-start is_written e = record {
-    written = (λ t. inl (eqb-true value 0 (sym e ∙ t)), λ s. elim s [ inl zero ↦ e ∙ eq-eqb value 0 zero | inr (i, lt, _) ↦ absurd (omega arith) ]);
+    written = (λ t. inl (eqb-true value 0 (sym e ∙ t)), λ s. elim s [ inl nothing ↦ e ∙ eq-eqb value 0 nothing | inr (i, lt, _) ↦ absurd (omega arith) ]);
     ordered = (λ _ i k u v lt. absurd (omega arith), λ _. refl);
     latest = λ k v lt. absurd (omega arith);
   }
@@ -43,8 +44,8 @@ module _ (run : List Act) (j word value : ℕ) where
   -- a position without such a write
   pub IsTally-same : (n : ℕ) (is_written are_ordered : Bool) (last : Option Stored) → ((v : ℕ) → WrittenBefore run j word n v → ⊥) → IsTally run j word value n is_written are_ordered last → IsTally run j word value (n + 1) is_written are_ordered last
   IsTally-same n is_written are_ordered last none t = record {
-    written = (λ h. elim (t.written.0 h) [ inl zero ↦ inl zero | inr (i, lt, w) ↦ inr (i, omega arith, w) ], λ s. t.written.1 (elim s [
-      | inl zero ↦ inl zero
+    written = (λ h. elim (t.written.0 h) [ inl nothing ↦ inl nothing | inr (i, lt, w) ↦ inr (i, omega arith, w) ], λ s. t.written.1 (elim s [
+      | inl nothing ↦ inl nothing
       | inr (i, lt, w) ↦ inr (i, below i value lt w, w)
     ]));
     ordered = (λ h i k u v lt a b. t.ordered.0 h i k u v (below k v lt b) a b, λ o. t.ordered.1 (λ i k u v lt. o i k u v (omega arith)));
@@ -59,20 +60,20 @@ module _ (run : List Act) (j word value : ℕ) where
       latest (Some w) (lt, a, max) = (omega arith, a, λ k v lt' b. max k v (below k v lt' b) b)
 
   -- a position with such a write
-  module _ (order : Order) (is : IsOrderOf run order) (write : Stored) (here : WrittenBefore run j word write.position write.value) where
+  module _ (before : ℕ → ℕ → Bool) (is : (i k : ℕ) → (before i k ≡ true) ↔ HappensBefore run i k) (write : Stored) (here : WrittenBefore run j word write.position write.value) where
     abbrev n : ℕ
     n = write.position
 
     abbrev v : ℕ
     v = write.value
 
-    more_here : (is_written are_ordered : Bool) (last : Option Stored) → IsTally run j word value n is_written are_ordered last → IsTally run j word value (n + 1) (is_written || (v == value)) (are_ordered && option_map_or (λ (w : Stored). is_before order w.position n) last true) (Some write)
+    more_here : (is_written are_ordered : Bool) (last : Option Stored) → IsTally run j word value n is_written are_ordered last → IsTally run j word value (n + 1) (is_written || (v == value)) (are_ordered && option_map_or (λ (w : Stored). before w.position n) last true) (Some write)
     more_here is_written are_ordered last t = record {
       written = (λ h. elim (or_cases is_written (v == value) h) [
-        | inl old ↦ elim (t.written.0 old) [ inl zero ↦ inl zero | inr (i, lt, w) ↦ inr (i, omega arith, w) ]
+        | inl old ↦ elim (t.written.0 old) [ inl nothing ↦ inl nothing | inr (i, lt, w) ↦ inr (i, omega arith, w) ]
         | inr new ↦ inr (n, omega arith, subst (λ x. WrittenBefore run j word n x) (eqb-true v value new) here)
       ], λ s. elim s [
-        | inl zero ↦ or_left is_written (v == value) (t.written.1 (inl zero))
+        | inl nothing ↦ or_left is_written (v == value) (t.written.1 (inl nothing))
         | inr (i, lt, w) ↦
             elim (cases_eq i n) [
               | inl there ↦ or_right is_written (v == value) (eq-eqb v value (WrittenBefore-one here (subst (λ m. WrittenBefore run j word m value) there w)))
@@ -83,15 +84,15 @@ module _ (run : List Act) (j word value : ℕ) where
       latest = (omega arith, here, λ k x lt b. omega arith);
     }
       where
-        ordered : (last : Option Stored) → IsLast run j word n last → option_map_or (λ (w : Stored). is_before order w.position n) last true ≡ true → ((i k x y : ℕ) → k < n → WrittenBefore run j word i x → WrittenBefore run j word k y → i < k → HappensBefore run i k) → (i k x y : ℕ) → k < n + 1 → WrittenBefore run j word i x → WrittenBefore run j word k y → i < k → HappensBefore run i k
-        ordered None none yes' old i k x y lt a b before =
+        ordered : (last : Option Stored) → IsLast run j word n last → option_map_or (λ (w : Stored). before w.position n) last true ≡ true → ((i k x y : ℕ) → k < n → WrittenBefore run j word i x → WrittenBefore run j word k y → i < k → HappensBefore run i k) → (i k x y : ℕ) → k < n + 1 → WrittenBefore run j word i x → WrittenBefore run j word k y → i < k → HappensBefore run i k
+        ordered None none yes' old i k x y lt a b lower =
             elim (cases_eq k n) [
               | inl there ↦ absurd (none i x (omega arith) a)
-              | inr other ↦ old i k x y (omega arith) a b before
+              | inr other ↦ old i k x y (omega arith) a b lower
             ]
-        ordered (Some w) (within, written, max) before_n old i k x y lt a b before =
+        ordered (Some w) (within, written, max) before_n old i k x y lt a b lower =
             elim (cases_eq k n) [
-              | inr other ↦ old i k x y (omega arith) a b before
+              | inr other ↦ old i k x y (omega arith) a b lower
               | inl there ↦
                   let last_before : HappensBefore run w.position n = (is w.position n).0 before_n in
                   let le = max i x (omega arith) a in
@@ -102,14 +103,14 @@ module _ (run : List Act) (j word value : ℕ) where
                   subst (λ m. HappensBefore run i m) (sym there) to_n
             ]
 
-        related : (last : Option Stored) → IsLast run j word n last → ((i k x y : ℕ) → k < n + 1 → WrittenBefore run j word i x → WrittenBefore run j word k y → i < k → HappensBefore run i k) → option_map_or (λ (w : Stored). is_before order w.position n) last true ≡ true
+        related : (last : Option Stored) → IsLast run j word n last → ((i k x y : ℕ) → k < n + 1 → WrittenBefore run j word i x → WrittenBefore run j word k y → i < k → HappensBefore run i k) → option_map_or (λ (w : Stored). before w.position n) last true ≡ true
         related None none o = refl
         related (Some w) (within, written, max) o = (is w.position n).1 (o w.position n w.value v (omega arith) written here within)
 
-    pub IsTally-more : (at : ℕ) (is_written are_ordered : Bool) (last : Option Stored) → write.position ≡ at → IsTally run j word value at is_written are_ordered last → IsTally run j word value (at + 1) (is_written || (write.value == value)) (are_ordered && option_map_or (λ (w : Stored). is_before order w.position write.position) last true) (Some write)
+    pub IsTally-more : (at : ℕ) (is_written are_ordered : Bool) (last : Option Stored) → write.position ≡ at → IsTally run j word value at is_written are_ordered last → IsTally run j word value (at + 1) (is_written || (write.value == value)) (are_ordered && option_map_or (λ (w : Stored). before w.position write.position) last true) (Some write)
     IsTally-more at is_written are_ordered last e t =
-        let before = subst (λ m. IsTally run j word value m is_written are_ordered last) (sym e) t in
-        subst (λ m. IsTally run j word value (m + 1) (is_written || (write.value == value)) (are_ordered && option_map_or (λ (w : Stored). is_before order w.position write.position) last true) (Some write)) e (more_here is_written are_ordered last before)
+        let there = subst (λ m. IsTally run j word value m is_written are_ordered last) (sym e) t in
+        subst (λ m. IsTally run j word value (m + 1) (is_written || (write.value == value)) (are_ordered && option_map_or (λ (w : Stored). before w.position write.position) last true) (Some write)) e (more_here is_written are_ordered last there)
 
   -- at the read itself the tally decides what it may give
   module _ (is_written are_ordered : Bool) (last : Option Stored) (t : IsTally run j word value j is_written are_ordered last) where
@@ -120,10 +121,10 @@ module _ (run : List Act) (j word value : ℕ) where
     all_ordered o = t.ordered.1 (λ i k x y lt. o i k x y)
 
     some_write : is_written ≡ true → IsSomeWrite run j word value
-    some_write h = elim (t.written.0 h) [ inl zero ↦ inl zero | inr (i, lt, w) ↦ inr (i, w) ]
+    some_write h = elim (t.written.0 h) [ inl nothing ↦ inl nothing | inr (i, lt, w) ↦ inr (i, w) ]
 
     write_of_some : IsSomeWrite run j word value → is_written ≡ true
-    write_of_some s = t.written.1 (elim s [ inl zero ↦ inl zero | inr (i, w) ↦ inr (i, forward w.before, w) ])
+    write_of_some s = t.written.1 (elim s [ inl nothing ↦ inl nothing | inr (i, w) ↦ inr (i, forward w.before, w) ])
 
     -- the value of the last write, or 0
     latest_is : (last : Option Stored) → IsLast run j word j last → (value ≡ option_map_or (λ (w : Stored). w.value) last 0) ↔ IsLatest run j word value
@@ -174,3 +175,86 @@ module _ (run : List Act) (j word value : ℕ) where
             | inr unordered ↦ or_left (not are_ordered) _ (ap not unordered)
           ]),
         )
+
+-- whether position i happens before position k
+before_of : (run : List Act) → ℕ → ℕ → Bool
+before_of run i k = elim (HappensBefore-decided run i k) [ inl h ↦ true | inr _ ↦ false ]
+
+before_of-is : (run : List Act) (i k : ℕ) → (before_of run i k ≡ true) ↔ HappensBefore run i k
+unfolding before_of
+before_of-is run i k =
+    elim (HappensBefore-decided run i k) as (λ d. (elim d [ inl h ↦ true | inr _ ↦ false ] ≡ true) ↔ HappensBefore run i k) [
+      | inl h ↦ (λ _. h, λ _. refl)
+      | inr other ↦ (λ e. absurd (false≢true e), λ h. absurd (other h))
+    ]
+
+-- there is a tally of any positions
+record SomeTally (run : List Act) (j word value n : ℕ) : Type 0 where
+  is_written : Bool
+  are_ordered : Bool
+  last : Option Stored
+  tally : IsTally run j word value n is_written are_ordered last
+
+module _ (run : List Act) (j word value : ℕ) where
+  some_same : (n : ℕ) → ((v : ℕ) → WrittenBefore run j word n v → ⊥) → SomeTally run j word value n → SomeTally run j word value (n + 1)
+  some_same n none t = record { is_written = t.is_written; are_ordered = t.are_ordered; last = t.last; tally = IsTally-same run j word value n t.is_written t.are_ordered t.last none t.tally }
+
+  some_more : (n v : ℕ) → WrittenBefore run j word n v → SomeTally run j word value n → SomeTally run j word value (n + 1)
+  some_more n v here t =
+      let write : Stored = record { position = n; value = v } in
+      record {
+        is_written = t.is_written || (v == value);
+        are_ordered = t.are_ordered && option_map_or (λ (w : Stored). before_of run w.position n) t.last true;
+        last = Some write;
+        tally = IsTally-more run j word value (before_of run) (before_of-is run) write here n t.is_written t.are_ordered t.last refl t.tally;
+      }
+
+  -- what stands at a position
+  written_at : (n : ℕ) → ((v : ℕ) × WrittenBefore run j word n v) ⊎ ((v : ℕ) → WrittenBefore run j word n v → ⊥)
+  written_at n =
+      elim (HappensBefore-decided run n j) [
+        | inr other ↦ inr (λ v w. other w.before)
+        | inl h ↦
+            elim (cases_lt n (length run)) [
+              | inr past ↦ inr (λ v w. let inside = Does-within w.write.1 in omega arith)
+              | inl inside ↦ let (act, here) = act_at run n inside in go act.node act.deed here h
+            ]
+      ]
+    where
+      go : (p : ℕ) (d : Deed) → Does run n p d → HappensBefore run n j → ((v : ℕ) × WrittenBefore run j word n v) ⊎ ((v : ℕ) → WrittenBefore run j word n v → ⊥)
+      go p (Write to v) here h =
+          elim (cases_eq to word) [
+            | inl same ↦ inl (v, record { write = (p, subst (λ m. Does run n p (Write m v)) same here); before = h })
+            | inr other ↦ inr (λ u w. let e = Does-one_deed here w.write.1 in let same : to ≡ word = cc in other same)
+          ]
+      go p d here h = inr (λ u w. let e = Does-one_deed here w.write.1 in let never : ⊥ = cc in never)
+
+  some_tally : (n : ℕ) → SomeTally run j word value n
+  some_tally zero = record { is_written = value == 0; are_ordered = true; last = None; tally = IsTally-start run j word value (value == 0) refl }
+  some_tally (suc n) = rw (← add-one n) (elim (written_at n) [
+      | inl (v, here) ↦ some_more n v here (some_tally n)
+      | inr none ↦ some_same n none (some_tally n)
+    ])
+
+  -- whether the read may give the value is decided
+  pub MayRead-decided : MayRead run j word value ⊎ (MayRead run j word value → ⊥)
+  MayRead-decided =
+      let t = some_tally j in
+      let r = t.is_written && (not t.are_ordered || (value == option_map_or (λ (w : Stored). w.value) t.last 0)) in
+      let d = decides run j word value t.is_written t.are_ordered t.last t.tally r refl in
+      elim (cases_Bool r) [
+        | inl may ↦ inl (d.0 may)
+        | inr fails ↦ inr (λ m. false≢true (sym fails ∙ d.1 m))
+      ]
+
+-- no position misreads exactly where all reads are lazy
+pub no_misread : (run : List Act) → ((j : ℕ) → Misreads run j → ⊥) ↔ ReadsLazily run
+no_misread run =
+    (
+      λ none j word value r.
+      elim (MayRead-decided run j word value) [
+        | inl may ↦ may
+        | inr refused ↦ absurd (none j (record { word = word; value = value; read = r; refused = refused }))
+      ],
+      λ lazy j m. m.refused (lazy j m.word m.value m.read),
+    )

@@ -4,6 +4,7 @@
 //! detectors and memory systems, who can judge their own traces.
 #![tactic(auto)]
 
+pub mod laws;
 pub mod order;
 mod past;
 pub mod races;

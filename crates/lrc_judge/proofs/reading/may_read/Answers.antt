@@ -6,6 +6,7 @@ use Rattle.lrc_trace.specs.declared.act.Deed.TheVariants.{Write}
 use Rattle.lrc_trace.specs.Run.{IsDone}
 use Rattle.lrc_trace.specs.Order.{HappensBefore}
 use Rattle.lrc_trace.specs.Reading.{WrittenBefore}
+use Rattle.lrc_judge.specs.Order.{is_before}
 use Rattle.lrc_judge.proofs.Tally.{IsTally, IsTally-same, IsTally-more, decides}
 use Rattle.lrc_judge.proofs.reading.may_read.Goals as goal
 use Rattle.lrc_judge.proofs.reading.may_read.Goals.{then-is_before, else-is_before}
@@ -28,7 +29,7 @@ loop-earlier-preserved c =
             write = subst (λ m. IsDone run m (Write c.args.word write.value)) (sym at) c.in-Some.ensures.1;
             before = subst (λ m. HappensBefore run m c.args.position) (sym at) before;
           } in
-          let more = IsTally-more run c.args.position c.args.word c.args.value c.args.order.now c.requires.order write here c.loop-earlier.earlier old.is_written old.are_ordered old.last at c.loop-earlier.invariant in
+          let more = IsTally-more run c.args.position c.args.word c.args.value (is_before c.args.order.now) c.requires.order write here c.loop-earlier.earlier old.is_written old.are_ordered old.last at c.loop-earlier.invariant in
           rw (w.tally-is, w.with-tally.ensures.written, w.with-tally.ensures.ordered, w.with-tally.ensures.last) more
       | else-is_before w ↦ rw w.tally-is (IsTally-same run c.args.position c.args.word c.args.value c.loop-earlier.earlier old.is_written old.are_ordered old.last (λ v s. false≢true (w.if-is_before.ensures ∙ (c.requires.order c.loop-earlier.earlier c.args.position).1 s.before)) c.loop-earlier.invariant)
     ]

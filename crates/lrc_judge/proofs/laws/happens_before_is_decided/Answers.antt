@@ -1,0 +1,5 @@
+use Rattle.lrc_judge.proofs.Decided.{HappensBefore-decided}
+use Rattle.lrc_judge.proofs.laws.happens_before_is_decided.Goals as goal
+
+pub returns : goal.returns
+returns c = λ run i j. HappensBefore-decided run i j

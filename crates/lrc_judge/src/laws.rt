@@ -1,0 +1,24 @@
+// Laws of the definitions that the judge computes. Each function is a theorem: its body is empty, and its clause is the
+// law.
+ghost use Rattle.std.specs.Prelude.{ℕ, ◌↔◌, ◌⊎◌, List};
+ghost use Rattle.lrc_trace.specs.declared.act.Act.{Act};
+ghost use Rattle.lrc_trace.specs.Order.{HappensBefore};
+ghost use Rattle.lrc_trace.specs.Reading.{ReadsLazily};
+ghost use Rattle.lrc_trace.specs.Synchronization.{IsWellSynchronized};
+ghost use Rattle.lrc_judge.specs.Reading.{Misreads};
+ghost use Rattle.lrc_judge.specs.Synchronization.{Breaks};
+
+/// One position happens before another, or it does not.
+pub fn happens_before_is_decided()
+    ensures { (run : List Act) (i j : ℕ) → HappensBefore run i j ⊎ (¬ HappensBefore run i j) }
+{}
+
+/// No read gives a value that it may not give, exactly where the run reads lazily.
+pub fn no_misread_is_lazy_reading()
+    ensures { (run : List Act) → ((j : ℕ) → ¬ Misreads run j) ↔ ReadsLazily run }
+{}
+
+/// No position breaks well-synchronization, exactly where the run is well synchronized.
+pub fn no_break_is_well_synchronized()
+    ensures { (nodes : ℕ) (run : List Act) → ((j : ℕ) → ¬ Breaks nodes run j) ↔ IsWellSynchronized nodes run }
+{}
