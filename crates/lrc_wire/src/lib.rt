@@ -1,0 +1,17 @@
+//! Message bytes.
+#![tactic(auto)]
+
+mod envelope;
+mod fault;
+mod kind;
+mod limits;
+mod message;
+mod reading;
+
+pub use envelope::Envelope;
+pub use fault::{EncodeFault, WireFault};
+pub use limits::{MOST_BODY_BYTES, MOST_LOCKS, MOST_NODES};
+pub use message::{
+    Arrive, ChangesReply, ChangesRequest, Clean, Depart, Discard, IndexedChanges, LockForward,
+    LockGrant, LockRequest, Message, PageReply, PageRequest,
+};
