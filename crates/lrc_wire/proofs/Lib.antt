@@ -5,3 +5,6 @@ pub mod Shapes
 pub mod Bytes
 pub mod Agrees
 pub mod Parts
+pub mod Intervals
+pub mod ChangeParts
+pub mod Bodies

@@ -52,9 +52,13 @@ indices ns = number w32 (length ns) · numbers w32 ns
 unfoldable pub change : Change → List ℕ
 change c = byte c.offset · number w64 c.value
 
--- an interval's index, how many changes, and the changes
+-- how many changes, and the changes
+unfoldable pub changes : List Change → List ℕ
+changes cs = byte (length cs) · flat_map change cs
+
+-- an interval's index, and what it changed
 unfoldable pub indexed_changes : IndexedChangesRecord → List ℕ
-indexed_changes part = number w32 part.index · byte (length part.changes) · flat_map change part.changes
+indexed_changes part = number w32 part.index · changes part.changes
 
 -- how many parts, and the parts
 unfoldable pub changes_by_index : List IndexedChangesRecord → List ℕ
