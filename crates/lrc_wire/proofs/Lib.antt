@@ -8,3 +8,4 @@ pub mod Parts
 pub mod Intervals
 pub mod ChangeParts
 pub mod Bodies
+pub mod Envelopes
