@@ -1,9 +1,9 @@
 -- Reading all of the bytes agrees with how envelopes are spelled.
-use Rattle.std.proofs.Common.{◌≡◌, ◌∙◌, ℕ, ◌+◌, ◌<◌, ◌≤◌, ◌⊎◌, Bool, true, false, cond, eqb, ltb, leb, List, [], ◌∷◌, ◌++◌, length, Option, Some, None, Ok, Err, refl, sym, ap, subst, append_assoc, arith, inl, inr}
+use Rattle.std.proofs.Common.{◌≡◌, ◌∙◌, ℕ, ◌+◌, ◌<◌, ◌≤◌, ◌⊎◌, Bool, true, false, cond, eqb, ltb, leb, List, [], ◌∷◌, ◌++◌, length, take, Option, Some, None, Ok, Err, refl, sym, ap, subst, append_assoc, arith, inl, inr}
 use Rattle.std.specs.Prelude.{ok_or}
 use Rattle.std.specs.Int.{w32}
 use Rattle.std.proofs.lemmas.Bool.{eqb-true, eq-eqb, ltb-false, le-ltb, leb-true, le-leb}
-use Rattle.std.proofs.lemmas.List.{append-nil, nil_from_length, length-append}
+use Rattle.std.proofs.lemmas.List.{append-nil, nil_from_length, length-append, take_at}
 use Rattle.lrc_wire.specs.declared.limits.TheConstants.{MOST_NODES, MOST_BODY_BYTES, HEADER_BYTES}
 use Rattle.lrc_wire.specs.declared.kind.Kind.{Kind}
 use Rattle.lrc_wire.specs.declared.kind.Kind.TheVariants as kinds
@@ -293,3 +293,23 @@ envelope_again bytes e h =
     let first : header_at bytes ≡ Ok (header_of e, body e.message) = ap header_at all ∙ header_again (header_of e) (body e.message) (is_header e h.fits h.short) in
     let second = whole_body_again e.message h.fits.message in
     rw (long, first, second) refl
+
+-- ---- no spelling begins another
+
+front_of : (a x : List ℕ) (m : EnvelopeRecord) → Spells m a → header_at (a ++ x) ≡ Ok (header_of m, body m.message ++ x)
+front_of a x m h =
+    let all : a ++ x ≡ spelled_header (header_of m) ++ (body m.message ++ x) =
+      ap (λ (t : List ℕ). t ++ x) (h.spelled ∙ ap (λ (t : List ℕ). t ++ body m.message) (header_is m)) ∙ append_assoc (spelled_header (header_of m)) (body m.message) x in
+    ap header_at all ∙ header_again (header_of m) (body m.message ++ x) (is_header m h.fits h.short)
+
+pub one_spelling : (m n : EnvelopeRecord) (a b x y : List ℕ) → Spells m a → Spells n b → a ++ x ≡ b ++ y → (a ≡ b) × (m ≡ n)
+one_spelling m n a b x y hm hn e =
+    let same = ok_is (header_of m, body m.message ++ x) (header_of n, body n.message ++ y) (sym (front_of a x m hm) ∙ ap header_at e ∙ front_of b y n hn) in
+    let heads : header_of m ≡ header_of n = ap (λ (p : Header × List ℕ). p.0) same in
+    let rests : body m.message ++ x ≡ body n.message ++ y = ap (λ (p : Header × List ℕ). p.1) same in
+    let len : length (body m.message) ≡ length (body n.message) = ap (λ (h : Header). h.body_len) heads in
+    let bodies : body m.message ≡ body n.message =
+      sym (take_at (body m.message) x (length (body n.message)) len) ∙ ap (take (length (body n.message))) rests ∙ take_at (body n.message) y (length (body n.message)) refl in
+    let headers : header m ≡ header n = header_is m ∙ ap spelled_header heads ∙ sym (header_is n) in
+    let bytes : a ≡ b = hm.spelled ∙ ap (λ (t : List ℕ). t ++ body m.message) headers ∙ ap (λ (t : List ℕ). header n ++ t) bodies ∙ sym hn.spelled in
+    (bytes, ok_is m n (sym (envelope_again a m hm) ∙ ap envelope_of bytes ∙ envelope_again b n hn))

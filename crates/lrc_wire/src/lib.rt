@@ -4,6 +4,7 @@
 mod envelope;
 mod fault;
 mod kind;
+pub mod laws;
 mod limits;
 mod message;
 mod reading;
@@ -11,6 +12,7 @@ mod reading;
 pub use envelope::Envelope;
 pub use fault::{EncodeFault, WireFault};
 pub use limits::{MOST_BODY_BYTES, MOST_LOCKS, MOST_NODES};
+pub use reading::decode;
 pub use message::{
     Arrive, ChangesReply, ChangesRequest, Clean, Depart, Discard, IndexedChanges, LockForward,
     LockGrant, LockRequest, Message, PageReply, PageRequest,

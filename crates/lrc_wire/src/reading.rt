@@ -46,8 +46,9 @@ fn whole_body(
     Ok(message)
 }
 
+/// The envelope that all of the bytes spell.
 #[tactic(auto, unfolding(crate::specs::Reading::envelope_of))]
-fn envelope(alloc: Global, mut bytes: &[u8]) -> Result<Envelope, WireFault>
+fn read_envelope(alloc: Global, mut bytes: &[u8]) -> Result<Envelope, WireFault>
     ensures { Gives (λ envelope. envelope) result (envelope_of bytes.entry.now) }
 {
     if bytes.len() < HEADER_BYTES {
@@ -61,4 +62,17 @@ fn envelope(alloc: Global, mut bytes: &[u8]) -> Result<Envelope, WireFault>
         number: header.number,
         message,
     })
+}
+
+/// The envelope that the bytes spell, all of them. Otherwise the first fault from the left; `NoMemory` may come in
+/// place of either. No memory is taken for what a count promises and the bytes do not have.
+pub fn decode(alloc: Global, bytes: &[u8]) -> Result<Envelope, WireFault>
+    // What is read is spelled so.
+    ensures found { IfOk result (λ envelope. Spells envelope bytes.now) }
+    // What is spelled so is read.
+    ensures only { (envelope : EnvelopeRecord) → Spells envelope bytes.now → Gives (λ read. read) result (Ok envelope) }
+    // Which fault it is.
+    ensures exact { Gives (λ read. read) result (envelope_of bytes.now) }
+{
+    read_envelope(alloc, bytes)
 }
