@@ -9,3 +9,4 @@ pub mod Intervals
 pub mod ChangeParts
 pub mod Bodies
 pub mod Envelopes
+pub mod Written

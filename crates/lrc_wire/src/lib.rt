@@ -8,6 +8,7 @@ pub mod laws;
 mod limits;
 mod message;
 mod reading;
+mod writing;
 
 pub use envelope::Envelope;
 pub use fault::{EncodeFault, WireFault};

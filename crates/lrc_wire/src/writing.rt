@@ -1,0 +1,3 @@
+//! Writing envelopes.
+
+mod parts;
