@@ -1,3 +1,4 @@
 //! Writing envelopes.
 
-mod parts;
+mod changes;
+mod intervals;

@@ -5,7 +5,7 @@ use Rattle.lrc_store.specs.Interval.{IntervalRecord, IsInterval}
 use Rattle.lrc_wire.specs.Ranges.{HasBits}
 use Rattle.lrc_wire.specs.Spelling.{interval}
 use Rattle.lrc_wire.proofs.Written.{flat_map-take_more}
-use Rattle.lrc_wire.proofs.writing.parts.put_each_interval.Goals as goal
+use Rattle.lrc_wire.proofs.writing.intervals.put_each_interval.Goals as goal
 
 pub loop-record-preserved : goal.loop-record-preserved
 loop-record-preserved c =

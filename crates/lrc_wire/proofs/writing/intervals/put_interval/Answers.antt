@@ -1,6 +1,6 @@
 use Rattle.std.proofs.Common.{arith}
 use Rattle.lrc_wire.proofs.Parts.{pages_few}
-use Rattle.lrc_wire.proofs.writing.parts.put_interval.Goals as goal
+use Rattle.lrc_wire.proofs.writing.intervals.put_interval.Goals as goal
 
 pub put_pages-requires : goal.put_pages-requires
 put_pages-requires c =

@@ -4,7 +4,7 @@ use Rattle.std.proofs.lemmas.List.Elements.{All-more}
 use Rattle.lrc_wire.specs.Ranges.{HasBits}
 use Rattle.lrc_wire.specs.Spelling.{number}
 use Rattle.lrc_wire.proofs.Written.{numbers-take_more}
-use Rattle.lrc_wire.proofs.writing.parts.put_entries.Goals as goal
+use Rattle.lrc_wire.proofs.writing.intervals.put_entries.Goals as goal
 
 pub loop-node-preserved : goal.loop-node-preserved
 unfolding number

@@ -1,17 +1,13 @@
-//! Writing the parts of bodies.
+//! Writing flags, times and intervals.
 
-ghost use Rattle.std.specs.Prelude.{◌≡◌, ◌++◌, ◌<◌, ◌≤◌, ◌^◌, length, All, OnOk};
-ghost use Rattle.std.specs.Int.{w16, w32, w64};
+ghost use Rattle.std.specs.Prelude.{◌≡◌, ◌++◌, ◌<◌, ◌^◌, length, All, OnOk};
+ghost use Rattle.std.specs.Int.{w16, w32};
 ghost use Rattle.std.specs.List.{flat_map};
-ghost use Rattle.lrc_page.specs.declared.TheConstants.{PAGE_WORDS};
 ghost use Rattle.lrc_store.specs.Interval.{IsInterval};
-ghost use Rattle.lrc_wire.specs.Records.{IsIndexedChanges};
-ghost use Rattle.lrc_wire.specs.Ranges.{HasBits, IsTime, ArePageValues};
-ghost use Rattle.lrc_wire.specs.Spelling.{numbers, flag, time, pages, interval, intervals, indices, change, changes, indexed_changes, changes_by_index};
+ghost use Rattle.lrc_wire.specs.Ranges.{HasBits, IsTime};
+ghost use Rattle.lrc_wire.specs.Spelling.{numbers, flag, time, pages, interval, intervals};
 
-use crate::message::IndexedChanges;
 use bytes::BufMut;
-use lrc_page::{Changes, PAGE_WORDS as WORDS, Page};
 use lrc_store::Interval;
 use lrc_time::Time;
 use std::alloc::AllocError;
@@ -49,16 +45,6 @@ fn put_numbers_16(out: &mut Vec<u8>, list: &[u16]) -> Result<(), AllocError>
 {
     for number in list {
         out.put_u16(*number)?;
-    }
-    Ok(())
-}
-
-#[tactic(auto, unfolding(crate::specs::Spelling::numbers, crate::specs::Spelling::number))]
-fn put_numbers_32(out: &mut Vec<u8>, list: &[u32]) -> Result<(), AllocError>
-    ensures { OnOk result (out.new.items ≡ out.old.items ++ numbers w32 list.now) }
-{
-    for number in list {
-        out.put_u32(*number)?;
     }
     Ok(())
 }
@@ -103,14 +89,4 @@ pub(super) fn put_intervals(out: &mut Vec<u8>, list: &[Interval]) -> Result<(), 
 {
     out.put_u32(list.len() as u32)?;
     put_each_interval(out, list)
-}
-
-#[tactic(auto, unfolding(crate::specs::Spelling::indices, crate::specs::Spelling::number))]
-pub(super) fn put_indices(out: &mut Vec<u8>, list: &[u32]) -> Result<(), AllocError>
-    requires { length list.now < 2 ^ 32 }
-    ensures written { OnOk result (out.new.items ≡ out.old.items ++ indices list.now) }
-    ensures bits { OnOk result (All (HasBits 32) list.now) }
-{
-    out.put_u32(list.len() as u32)?;
-    put_numbers_32(out, list)
 }

@@ -4,7 +4,7 @@ use Rattle.std.specs.List.{flat_map}
 use Rattle.lrc_store.specs.Interval.{IsInterval}
 use Rattle.lrc_wire.specs.Ranges.{HasBits}
 use Rattle.lrc_wire.specs.Spelling.{interval}
-use Rattle.lrc_wire.proofs.writing.parts.put_each_interval.Given as goal
+use Rattle.lrc_wire.proofs.writing.intervals.put_each_interval.Given as goal
 
 abbrev pub invariant-loop-record : goal.invariant-loop-record
 invariant-loop-record l = record {

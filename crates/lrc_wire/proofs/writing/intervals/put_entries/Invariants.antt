@@ -3,7 +3,7 @@ use Rattle.std.specs.Prelude.{All}
 use Rattle.std.specs.Int.{w32}
 use Rattle.lrc_wire.specs.Ranges.{HasBits}
 use Rattle.lrc_wire.specs.Spelling.{numbers}
-use Rattle.lrc_wire.proofs.writing.parts.put_entries.Given as goal
+use Rattle.lrc_wire.proofs.writing.intervals.put_entries.Given as goal
 
 abbrev pub invariant-loop-node : goal.invariant-loop-node
 invariant-loop-node l = record {
