@@ -10,3 +10,4 @@ pub mod ChangeParts
 pub mod Bodies
 pub mod Envelopes
 pub mod Written
+pub mod Lengths
