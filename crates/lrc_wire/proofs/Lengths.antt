@@ -88,3 +88,6 @@ pub length-take_more : {A : Type 0} (f : A → List ℕ) (xs : List A) (i : ℕ)
     → length (flat_map f (take (i + 1) xs)) ≡ length (flat_map f (take i xs)) + length (f (get_or xs i d))
 length-take_more f xs i d within =
     ap length (sym (flat_map-take_more f [] xs i d within)) ∙ length-append (flat_map f (take i xs)) (f (get_or xs i d))
+
+-- how long what stands one after the other is
+pub ruleset lengths = (length-append, length_byte, length_flag, length_number_16, length_number_32, length_number_64)

@@ -83,3 +83,33 @@ fn values_len(page: &Page) -> usize
     let _first = page.get(0);
     8 * PAGE_WORDS
 }
+
+/// The length itself, where a body may have it.
+fn limited(len: usize) -> Option<usize>
+    ensures within { IfSome result (λ n. n ≡ len) }
+    ensures short { IfSome result (λ n. n ≤ MOST_BODY_BYTES) }
+    ensures over { IfNone result (MOST_BODY_BYTES < len) }
+{
+    (len <= MOST_BODY_BYTES).then_some(len)
+}
+
+/// How many bytes the body of a message has. None where it is more than a body may have.
+#[tactic(auto, using(crate::proofs::Lengths::lengths))]
+pub(super) fn body_len(message: &Message) -> Option<usize>
+    ensures within { IfSome result (λ n. n ≡ length (body message.now)) }
+    ensures short { IfSome result (λ n. n ≤ MOST_BODY_BYTES) }
+    ensures over { IfNone result (MOST_BODY_BYTES < length (body message.now)) }
+{
+    match message {
+        Message::LockRequest(m) => limited(1 + time_len(&m.time)),
+        Message::LockForward(m) => limited(2 + time_len(&m.time)),
+        Message::LockGrant(m) => limited(1 + time_len(&m.time) + intervals_len(&m.intervals)?),
+        Message::Arrive(m) => limited(5 + time_len(&m.time) + intervals_len(&m.intervals)?),
+        Message::Depart(m) => limited(5 + time_len(&m.time) + intervals_len(&m.intervals)?),
+        Message::Clean(_) | Message::Discard(_) => Some(4),
+        Message::ChangesRequest(m) => limited(2 + indices_len(&m.indices)?),
+        Message::ChangesReply(m) => limited(2 + parts_len(&m.parts)?),
+        Message::PageRequest(_) => Some(2),
+        Message::PageReply(m) => Some(2 + values_len(&m.copy)),
+    }
+}
