@@ -89,5 +89,20 @@ pub length-take_more : {A : Type 0} (f : A → List ℕ) (xs : List A) (i : ℕ)
 length-take_more f xs i d within =
     ap length (sym (flat_map-take_more f [] xs i d within)) ∙ length-append (flat_map f (take i xs)) (f (get_or xs i d))
 
+-- ---- how many parts a body has at most
+
+count_le : {A : Type 0} (f : A → List ℕ) → ((x : A) → 1 ≤ length (f x)) → (xs : List A) → length xs ≤ length (flat_map f xs)
+count_le f some [] = omega arith
+count_le f some (x ∷ xs) = rw flat_map-cons (omega (arith, length-append (f x) (flat_map f xs), some x, count_le f some xs))
+
+pub few_intervals : (is : List IntervalRecord) → length is ≤ length (intervals is)
+few_intervals is = omega (arith, length_intervals is, count_le interval (λ i. omega (arith, length_interval i)) is)
+
+pub few_indices : (ns : List ℕ) → length ns ≤ length (indices ns)
+few_indices ns = omega (arith, length_indices ns)
+
+pub few_parts : (ps : List IndexedChangesRecord) → length ps ≤ length (changes_by_index ps)
+few_parts ps = omega (arith, length_changes_by_index ps, count_le indexed_changes (λ p. omega (arith, length_indexed_changes p)) ps)
+
 -- how long what stands one after the other is
 pub ruleset lengths = (length-append, length_byte, length_flag, length_number_16, length_number_32, length_number_64)

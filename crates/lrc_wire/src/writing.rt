@@ -1,5 +1,6 @@
 //! Writing envelopes.
 
+mod bodies;
 mod changes;
 mod intervals;
 mod sizes;

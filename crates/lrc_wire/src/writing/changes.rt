@@ -26,7 +26,8 @@ fn put_numbers_32(out: &mut Vec<u8>, list: &[u32]) -> Result<(), AllocError>
 #[tactic(auto, unfolding(crate::specs::Spelling::indices, crate::specs::Spelling::number))]
 pub(super) fn put_indices(out: &mut Vec<u8>, list: &[u32]) -> Result<(), AllocError>
     requires { length list.now < 2 ^ 32 }
-    ensures { OnOk result (out.new.items ≡ out.old.items ++ indices list.now) }
+    ensures written { OnOk result (out.new.items ≡ out.old.items ++ indices list.now) }
+    ensures bits { All (HasBits 32) list.now }
 {
     out.put_u32(list.len() as u32)?;
     put_numbers_32(out, list)
