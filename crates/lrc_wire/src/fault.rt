@@ -1,6 +1,7 @@
 //! Why bytes are no message, and why a message has no bytes.
 
 ghost use Rattle.std.specs.Prelude.{◌≡◌};
+ghost use Rattle.lrc_wire.specs.declared.fault.EncodeFault.TheVariants as encode_faults;
 ghost use Rattle.lrc_wire.specs.declared.fault.WireFault.TheVariants.{NoMemory};
 
 use std::alloc::{AllocError, AllocFailed};
@@ -59,5 +60,21 @@ impl<T: Drop> From<AllocFailed<T>> for WireFault {
 
     fn from(_error: AllocFailed<T>) -> WireFault {
         WireFault::NoMemory
+    }
+}
+
+impl From<AllocError> for EncodeFault {
+    ghost from_gives = { λ _ e. e ≡ encode_faults.NoMemory };
+
+    fn from(_error: AllocError) -> EncodeFault {
+        EncodeFault::NoMemory
+    }
+}
+
+impl<T: Drop> From<AllocFailed<T>> for EncodeFault {
+    ghost from_gives = { λ _ e. e ≡ encode_faults.NoMemory };
+
+    fn from(_error: AllocFailed<T>) -> EncodeFault {
+        EncodeFault::NoMemory
     }
 }

@@ -14,6 +14,7 @@ pub use envelope::Envelope;
 pub use fault::{EncodeFault, WireFault};
 pub use limits::{MOST_BODY_BYTES, MOST_LOCKS, MOST_NODES};
 pub use reading::decode;
+pub use writing::encode;
 pub use message::{
     Arrive, ChangesReply, ChangesRequest, Clean, Depart, Discard, IndexedChanges, LockForward,
     LockGrant, LockRequest, Message, PageReply, PageRequest,
