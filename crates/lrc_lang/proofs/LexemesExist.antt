@@ -1,14 +1,13 @@
 -- Every text has lexemes: something stands at the front of what is left of it, and the rest is shorter.
-use Rattle.std.proofs.Common.{◌≡◌, ◌≢◌, ◌⊎◌, ℕ, zero, suc, ◌+◌, ◌<◌, ◌≤◌, ◌^◌, List, [], ◌∷◌, ◌++◌, length, refl, sym, ap, ◌∙◌, subst, arith, inl, inr, Bool, true, false}
+use Rattle.std.proofs.Common.{◌≡◌, ◌≢◌, ◌⊎◌, ℕ, zero, suc, ◌+◌, ◌<◌, ◌≤◌, List, [], ◌∷◌, length, refl, sym, ap, ◌∙◌, arith, inl, inr, Bool, true, false}
 use Rattle.std.specs.Bool.{Decides}
 use Rattle.std.specs.Str.{bytes_eq}
 use Rattle.std.proofs.lemmas.List.Elements.{All-nil, All-cons}
 use Rattle.std.proofs.lemmas.Slice.Eq.{bytes_eq-Decides}
 use native.Mathlib.Decide.{dec_le, ℕ_discrete}
-use Rattle.lrc_lang.specs.declared.token.Keyword.{Keyword}
 use Rattle.lrc_lang.specs.declared.token.Sign.{Sign}
-use Rattle.lrc_lang.specs.Token.{number, name, keyword, sign, finish, Token, Lexeme, token, bad_byte, bad_number, Placed}
-use Rattle.lrc_lang.specs.Lexemes.{IsBlank, IsLineFeed, IsHash, IsDigit, IsLetter, IsLetterOrDigit, IsWithinLine, BeginsWith, IsSpan, value_of, IsNoNumber, keyword_text, IsKeyword, sign_text, at, Lexes, passes_blank, passes_line_feed, passes_comment, stops_at_end, Follows, NextIs}
+use Rattle.lrc_lang.specs.Token.{number, name, keyword, sign, finish, Lexeme, token, bad_byte, bad_number, Placed}
+use Rattle.lrc_lang.specs.Lexemes.{IsBlank, IsDigit, IsLetter, IsLetterOrDigit, IsWithinLine, BeginsWith, IsSpan, value_of, keyword_text, IsKeyword, sign_text, at, Lexes, passes_blank, passes_line_feed, passes_comment, stops_at_end, Follows, NextIs}
 use Rattle.lrc_lang.specs.Lexer.{IsReady, Passes, Takes}
 use Rattle.lrc_lang.proofs.LexemesSpans.{span_takes, span_keeps}
 use Rattle.lrc_lang.proofs.LexemesSteps.{number_is_taken, bad_number_is_taken, keyword_is_taken, name_is_taken}
@@ -53,14 +52,14 @@ dec_same xs ys = go (bytes_eq xs ys) (bytes_eq-Decides xs ys)
 
 dec_keyword : (word : List ℕ) → Dec (IsKeyword word)
 dec_keyword word = elim (dec_same word (keyword_text (keyword_from word))) [
-    yes e ↦ yes (keyword_from word, e)
+  | yes e ↦ yes (keyword_from word, e)
   | no h ↦ no (λ is. h (is.1 ∙ ap keyword_text (sym (ap keyword_from is.1 ∙ keyword_from-text is.0))))
 ]
 
 -- a sign that is spelled so, or that there is none
 dec_sign : (text : List ℕ) → ((mark : Sign) × (sign_text mark ≡ text)) ⊎ ((mark : Sign) → sign_text mark ≢ text)
 dec_sign text = elim (dec_same (sign_text (sign_from text)) text) [
-    yes e ↦ inl (sign_from text, e)
+  | yes e ↦ inl (sign_from text, e)
   | no h ↦ inr (λ mark e. h (ap sign_text (sym (ap sign_from e) ∙ sign_from-text mark) ∙ e))
 ]
 
@@ -71,7 +70,7 @@ split_of P test [] = ([], [], record { whole = refl; each = All-nil P; no_more =
 split_of P test (byte ∷ text) =
     let r = split_of P test text in
     elim (test byte) [
-        yes p ↦ (byte ∷ r.0, r.1, record { whole = ap (λ t. byte ∷ t) r.2.whole; each = All-cons P byte r.0 p r.2.each; no_more = r.2.no_more })
+      | yes p ↦ (byte ∷ r.0, r.1, record { whole = ap (λ t. byte ∷ t) r.2.whole; each = All-cons P byte r.0 p r.2.each; no_more = r.2.no_more })
       | no h ↦ ([], byte ∷ text, record { whole = refl; each = All-nil P; no_more = h })
     ]
 
@@ -84,10 +83,10 @@ digits_taken text begins =
     let s = split_of IsDigit dec_digit text in
     let shorter = span_takes begins s.2 in
     elim (dec_le (value_of s.0) 18446744073709551615) [
-        yes fits ↦ elim (dec_begins IsLetter dec_letter s.1) [
-            yes letter ↦ (bad_number, s.1, bad_number_is_taken begins s.2 (inr letter), shorter)
-          | no other ↦ (token (number (value_of s.0)), s.1, number_is_taken begins s.2 other (omega arith, refl), shorter)
-        ]
+      | yes fits ↦ elim (dec_begins IsLetter dec_letter s.1) [
+        | yes letter ↦ (bad_number, s.1, bad_number_is_taken begins s.2 (inr letter), shorter)
+        | no other ↦ (token (number (value_of s.0)), s.1, number_is_taken begins s.2 other (omega arith, refl), shorter)
+      ]
       | no over ↦ (bad_number, s.1, bad_number_is_taken begins s.2 (inl (omega (arith, over))), shorter)
     ]
 
@@ -97,7 +96,7 @@ word_taken text begins =
     let s = split_of IsLetterOrDigit (λ byte. dec_either (dec_letter byte) (dec_digit byte)) text in
     let shorter = span_takes (begins_word text begins) s.2 in
     elim (dec_keyword s.0) [
-        yes is ↦ (token (keyword is.0), s.1, keyword_is_taken begins s.2 is.1, shorter)
+      | yes is ↦ (token (keyword is.0), s.1, keyword_is_taken begins s.2 is.1, shorter)
       | no other ↦ (token (name s.0), s.1, name_is_taken begins s.2 other, shorter)
     ]
   where
@@ -111,17 +110,17 @@ other_taken first behind ready no_digit no_letter = go behind ready
   where
     short : (behind : List ℕ) → IsReady (first ∷ behind) → (BeginsWith (λ byte. byte ≡ 61) behind → (longer : Sign) → sign_text longer ≢ first ∷ 61 ∷ []) → Taken (first ∷ behind)
     short behind ready no_longer = elim (dec_sign (first ∷ [])) [
-        inl is ↦ (token (sign is.0), behind, short_sign_is_taken is.1 no_longer, omega arith)
+      | inl is ↦ (token (sign is.0), behind, short_sign_is_taken is.1 no_longer, omega arith)
       | inr none ↦ (bad_byte, behind, bad_byte_is_taken ready no_digit no_letter no_longer none, omega arith)
     ]
 
     go : (behind : List ℕ) → IsReady (first ∷ behind) → Taken (first ∷ behind)
     go [] ready = short [] ready (λ h. absurd h)
     go (second ∷ rest) ready = elim (dec_sign (first ∷ 61 ∷ [])) [
-        inl is ↦ elim (ℕ_discrete second 61) [
-            yes e ↦ (token (sign is.0), rest, long_sign_is_taken is.1 (ap (λ b. b ∷ rest) e), omega arith)
-          | no other ↦ short (second ∷ rest) ready (λ e. absurd (other e))
-        ]
+      | inl is ↦ elim (ℕ_discrete second 61) [
+        | yes e ↦ (token (sign is.0), rest, long_sign_is_taken is.1 (ap (λ b. b ∷ rest) e), omega arith)
+        | no other ↦ short (second ∷ rest) ready (λ e. absurd (other e))
+      ]
       | inr none ↦ short (second ∷ rest) ready (λ e. none)
     ]
 
@@ -142,11 +141,11 @@ unfolding Taken
 lexed turns line [] within = (_, stops_at_end)
 lexed zero line (byte ∷ rest) within = absurd (omega arith)
 lexed (suc turns) line (byte ∷ rest) within = elim (dec_blank byte) [
-    yes blank ↦ let r = lexed turns line rest (omega arith) in (r.0, passes_blank blank r.1)
+  | yes blank ↦ let r = lexed turns line rest (omega arith) in (r.0, passes_blank blank r.1)
   | no no_blank ↦ elim (ℕ_discrete byte 10) [
-      yes feed ↦ let r = lexed turns (line + 1) rest (omega arith) in (r.0, passes_line_feed feed r.1)
+    | yes feed ↦ let r = lexed turns (line + 1) rest (omega arith) in (r.0, passes_line_feed feed r.1)
     | no no_feed ↦ elim (ℕ_discrete byte 35) [
-        yes hash ↦
+      | yes hash ↦
           let s = split_of IsWithinLine (λ b. dec_not (ℕ_discrete b 10)) rest in
           let shorter = span_keeps s.2 in
           let r = lexed turns line s.1 (omega arith) in
@@ -154,9 +153,9 @@ lexed (suc turns) line (byte ∷ rest) within = elim (dec_blank byte) [
       | no no_hash ↦
           let ready : IsReady (byte ∷ rest) = λ h. elim h [ inl b ↦ no_blank b | inr g ↦ elim g [ inl f ↦ no_feed f | inr c ↦ no_hash c ] ] in
           let t : Taken (byte ∷ rest) = elim (dec_digit byte) [
-              yes digit ↦ digits_taken (byte ∷ rest) digit
+            | yes digit ↦ digits_taken (byte ∷ rest) digit
             | no no_digit ↦ elim (dec_letter byte) [
-                yes letter ↦ word_taken (byte ∷ rest) letter
+              | yes letter ↦ word_taken (byte ∷ rest) letter
               | no no_letter ↦ other_taken byte rest ready no_digit no_letter
             ]
           ] in
@@ -176,8 +175,8 @@ follows_exists line rest found = follows_from (exists line rest) found
 pub next_from : {line behind : ℕ} {text middle rest : List ℕ} {found : Lexeme} → Passes line text behind middle → Takes middle found rest → NextIs line text (at behind found) behind rest
 next_from {line} {behind} {text} {middle} {rest} {found} passed taken = record {
   split = λ all inside.
-    let more = follows_exists behind rest found in
-    (more.0, unique inside (joined more.0 more.1), more.1);
+      let more = follows_exists behind rest found in
+      (more.0, unique inside (joined more.0 more.1), more.1);
   joined = joined;
 }
   where

@@ -1,12 +1,12 @@
 -- Lines are counted by line feeds, to the end of the text.
-use Rattle.std.proofs.Common.{◌≡◌, ◌≢◌, ◌⊎◌, ℕ, zero, suc, ◌+◌, ◌<◌, ◌≤◌, List, [], ◌∷◌, ◌++◌, ◌==◌, length, refl, sym, ap, ◌∙◌, subst, arith, inl, inr, cond, All, count_by}
+use Rattle.std.proofs.Common.{◌≡◌, ◌≢◌, ℕ, ◌+◌, List, [], ◌∷◌, ◌++◌, ◌==◌, refl, ap, ◌∙◌, arith, cond, All, count_by}
 use Rattle.std.proofs.lemmas.Bool.Decides.{nat_tests}
 use Rattle.std.proofs.lemmas.List.Elements.{All-head, All-tail}
 use Rattle.std.proofs.lemmas.List.Sums.{sum_by-cons}
 use Rattle.lrc_lang.specs.declared.token.Sign.{Sign}
 use Rattle.lrc_lang.specs.declared.token.Sign.TheVariants as signs
-use Rattle.lrc_lang.specs.Token.{number, name, keyword, sign, finish, Lexeme, token, bad_byte, bad_number, Placed}
-use Rattle.lrc_lang.specs.Lexemes.{IsLineFeed, IsDigit, IsLetterOrDigit, IsWithinLine, IsSpan, sign_text, at, Lexes, passes_blank, passes_line_feed, passes_comment, takes_number, takes_keyword, takes_name, takes_sign, stops_at_number, stops_at_byte, stops_at_end}
+use Rattle.lrc_lang.specs.Token.{finish, Lexeme, token, Placed}
+use Rattle.lrc_lang.specs.Lexemes.{IsDigit, IsLetterOrDigit, IsSpan, sign_text, at, Lexes, passes_blank, passes_line_feed, passes_comment, takes_number, takes_keyword, takes_name, takes_sign, stops_at_number, stops_at_byte, stops_at_end}
 
 -- how many line feeds a text has
 abbrev feeds : List ℕ → ℕ

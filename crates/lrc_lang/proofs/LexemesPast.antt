@@ -43,11 +43,11 @@ nothing_follows line rest bad_number off = refl
 pub one_past : {text rest last : List ℕ} {passed : List Placed} {found : Placed} {line behind : ℕ} → IsPast text passed line rest → NextIs line rest found behind last → GoesOn found.lexeme → IsPast text (passed ++ found ∷ []) behind last
 one_past {text} {rest} {last} {passed} {found} past next on = record {
   split = λ all inside.
-    let here = past.split all inside in
-    let there = next.split here.0 here.2 in
-    (there.0, here.1 ∙ ap (λ m. passed ++ m) there.1 ∙ sym (append_assoc passed (found ∷ []) there.0), follows_on found.lexeme on there.2);
+      let here = past.split all inside in
+      let there = next.split here.0 here.2 in
+      (there.0, here.1 ∙ ap (λ m. passed ++ m) there.1 ∙ sym (append_assoc passed (found ∷ []) there.0), follows_on found.lexeme on there.2);
   joined = λ more inside.
-    subst (Lexes 1 text) (sym (append_assoc passed (found ∷ []) more)) (past.joined (found ∷ more) (next.joined more (on_follows found.lexeme on inside)));
+      subst (Lexes 1 text) (sym (append_assoc passed (found ∷ []) more)) (past.joined (found ∷ more) (next.joined more (on_follows found.lexeme on inside)));
 }
 
 -- what stands in a text begins with what has been passed and what is found next

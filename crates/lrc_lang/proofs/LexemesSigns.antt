@@ -1,9 +1,9 @@
 -- Signs: one byte, or one byte and `=`.
-use Rattle.std.proofs.Common.{◌≡◌, ◌≢◌, ◌⊎◌, ℕ, zero, suc, ◌+◌, ◌<◌, ◌≤◌, List, [], ◌∷◌, ◌++◌, length, refl, sym, ap, ◌∙◌, subst, arith, inl, inr}
+use Rattle.std.proofs.Common.{◌≡◌, ◌≢◌, ◌⊎◌, ℕ, ◌≤◌, List, [], ◌∷◌, ◌++◌, length, refl, sym, ap, ◌∙◌, subst, arith, inl, inr}
 use Rattle.lrc_lang.specs.declared.token.Sign.{Sign}
 use Rattle.lrc_lang.specs.declared.token.Sign.TheVariants.{Semicolon, Assign, OpenBracket, CloseBracket, OpenBrace, CloseBrace, OpenParenthesis, CloseParenthesis, Plus, Minus, Star, Slash, Percent, Equal, NotEqual, Less, LessOrEqual, Greater, GreaterOrEqual}
-use Rattle.lrc_lang.specs.Token.{sign, finish, Lexeme, token, bad_byte, Placed}
-use Rattle.lrc_lang.specs.Lexemes.{IsBlank, IsLineFeed, IsHash, IsDigit, IsLetter, BeginsWith, HasFront, sign_text, IsSign, BeginsNothing, at, Lexes, takes_sign, stops_at_byte}
+use Rattle.lrc_lang.specs.Token.{sign, token, bad_byte}
+use Rattle.lrc_lang.specs.Lexemes.{IsDigit, IsLetter, BeginsWith, HasFront, sign_text, takes_sign, stops_at_byte}
 use Rattle.lrc_lang.specs.Lexer.{IsReady, Takes}
 
 -- how a sign may be spelled
@@ -76,7 +76,7 @@ short_sign_is_taken {first} {behind} {mark} is no_longer line more follows =
     takes_sign (record {
       whole = sym (ap (λ t. t ++ behind) is);
       longest = λ other front. elim (front_of_sign first behind other front) [
-          inl one ↦ omega (arith, ap length one, ap length is)
+        | inl one ↦ omega (arith, ap length one, ap length is)
         | inr two ↦ absurd (no_longer two.1 other two.0)
       ];
     }) follows

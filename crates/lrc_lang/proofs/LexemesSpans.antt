@@ -1,7 +1,6 @@
 -- Fronts of a text that are as long as they can be.
-use Rattle.std.proofs.Common.{◌≡◌, ◌≢◌, ◌⊎◌, ℕ, zero, suc, ◌+◌, ◌<◌, ◌≤◌, List, [], ◌∷◌, ◌++◌, length, get_or, take, drop, sym, ap, ◌∙◌, subst, arith, All, length-append}
-use Rattle.std.proofs.lemmas.List.{take-append-drop, drop_more, take_all, drop_all, append-nil}
-use Rattle.std.proofs.lemmas.List.Elements.{All-head, All-tail}
+use Rattle.std.proofs.Common.{◌≡◌, ℕ, ◌<◌, ◌≤◌, List, [], ◌∷◌, ◌++◌, length, get_or, take, drop, sym, ap, subst, arith, All, length-append}
+use Rattle.std.proofs.lemmas.List.{take-append-drop, drop_more}
 use Rattle.lrc_lang.specs.Lexemes.{BeginsWith, IsSpan}
 
 -- a front that ends before a byte of another kind
@@ -10,14 +9,6 @@ span_before P text place within each other = record {
   whole = sym (take-append-drop place text);
   each = each;
   no_more = λ h. other (rw (drop_more text place 0 within) at h);
-}
-
--- a front that is the whole text
-pub span_to_end : (P : ℕ → Type 0) (text : List ℕ) (place : ℕ) → length text ≤ place → All P (take place text) → IsSpan P text (take place text) (drop place text)
-span_to_end P text place past each = record {
-  whole = sym (take-append-drop place text);
-  each = each;
-  no_more = λ h. rw (drop_all place text past) at h;
 }
 
 -- where the text begins so, the rest is shorter

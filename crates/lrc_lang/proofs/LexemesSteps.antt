@@ -1,10 +1,10 @@
 -- One lexeme at the front of a text, from what the lexer has found out about the text.
-use Rattle.std.proofs.Common.{◌≡◌, ◌≢◌, ◌⊎◌, ℕ, ◌+◌, ◌-◌, ◌<◌, ◌≤◌, ◌^◌, List, [], ◌∷◌, ◌++◌, length, get_or, take, drop, sym, ap, ◌∙◌, subst, arith, inl, inr}
+use Rattle.std.proofs.Common.{◌≡◌, ℕ, ◌+◌, ◌-◌, ◌<◌, ◌≤◌, ◌^◌, List, ◌∷◌, length, get_or, take, drop, sym, subst, arith}
 use Rattle.std.proofs.lemmas.List.{nil_from_length}
 use Rattle.std.proofs.lemmas.Slice.{first_rest}
 use Rattle.lrc_lang.specs.declared.token.Keyword.{Keyword}
-use Rattle.lrc_lang.specs.Token.{number, name, keyword, sign, finish, Lexeme, token, bad_byte, bad_number, Placed}
-use Rattle.lrc_lang.specs.Lexemes.{IsBlank, IsLineFeed, IsHash, IsDigit, IsLetter, IsLetterOrDigit, IsWithinLine, BeginsWith, IsSpan, value_of, IsDigits, IsNumber, IsNoNumber, keyword_text, IsKeyword, IsWord, at, Lexes, passes_blank, passes_line_feed, passes_comment, takes_number, takes_keyword, takes_name, stops_at_number, stops_at_end}
+use Rattle.lrc_lang.specs.Token.{number, name, keyword, finish, token, bad_number}
+use Rattle.lrc_lang.specs.Lexemes.{IsBlank, IsLineFeed, IsHash, IsDigit, IsLetter, IsLetterOrDigit, IsWithinLine, BeginsWith, IsSpan, value_of, IsNoNumber, keyword_text, IsKeyword, Lexes, passes_blank, passes_line_feed, passes_comment, takes_number, takes_keyword, takes_name, stops_at_number, stops_at_end}
 use Rattle.lrc_lang.specs.Lexer.{Passes, Takes}
 
 pub number_is_taken : {text digits rest : List ℕ} {value : ℕ} → BeginsWith IsDigit text → IsSpan IsDigit text digits rest → ¬ BeginsWith IsLetter rest → (value_of digits < 2 ^ 64) × (value ≡ value_of digits) → Takes text (token (number value)) rest

@@ -1,5 +1,5 @@
 -- A text has one list of lexemes at most: its first byte tells which rule holds, and each rule takes one front.
-use Rattle.std.proofs.Common.{◌≡◌, ◌≢◌, ◌⊎◌, ℕ, zero, suc, ◌+◌, ◌<◌, ◌≤◌, Bool, true, false, cond, eqb, leb, ◌&&◌, ◌||◌, List, [], ◌∷◌, ◌++◌, length, take, drop, refl, sym, ap, ◌∙◌, subst, arith, inl, inr, All}
+use Rattle.std.proofs.Common.{◌≡◌, ◌⊎◌, ℕ, ◌+◌, cond, eqb, leb, ◌&&◌, ◌||◌, List, [], ◌∷◌, ◌++◌, length, take, drop, refl, sym, ap, ◌∙◌, subst, arith, inl, inr, All}
 use Rattle.std.proofs.lemmas.Bool.Decides.{nat_tests}
 use Rattle.std.proofs.lemmas.List.{take_at, drop_at}
 use Rattle.std.proofs.lemmas.List.Elements.{All-head, All-tail}
@@ -7,8 +7,8 @@ use Rattle.lrc_lang.specs.declared.token.Keyword.{Keyword}
 use Rattle.lrc_lang.specs.declared.token.Keyword.TheVariants as keywords
 use Rattle.lrc_lang.specs.declared.token.Sign.{Sign}
 use Rattle.lrc_lang.specs.declared.token.Sign.TheVariants as signs
-use Rattle.lrc_lang.specs.Token.{number, name, keyword, sign, finish, Lexeme, token, bad_byte, bad_number, Placed}
-use Rattle.lrc_lang.specs.Lexemes.{IsBlank, IsLineFeed, IsHash, IsDigit, IsLetter, IsLetterOrDigit, IsWithinLine, BeginsWith, HasFront, IsSpan, value_of, IsDigits, IsNumber, IsNoNumber, keyword_text, IsKeyword, IsWord, sign_text, IsSign, BeginsNothing, at, Lexes, passes_blank, passes_line_feed, passes_comment, takes_number, takes_keyword, takes_name, takes_sign, stops_at_number, stops_at_byte, stops_at_end}
+use Rattle.lrc_lang.specs.Token.{number, name, keyword, sign, finish, token, bad_byte, bad_number, Placed}
+use Rattle.lrc_lang.specs.Lexemes.{IsBlank, IsLineFeed, IsHash, IsDigit, IsLetter, IsLetterOrDigit, IsWithinLine, BeginsWith, HasFront, IsSpan, value_of, IsNumber, IsNoNumber, keyword_text, IsKeyword, sign_text, IsSign, BeginsNothing, at, Lexes, passes_blank, passes_line_feed, passes_comment, takes_number, takes_keyword, takes_name, takes_sign, stops_at_number, stops_at_byte, stops_at_end}
 
 -- ---- spans
 
@@ -223,7 +223,7 @@ unique {line} {text} {other = other} (takes_number {digits = front} {rest = rest
     let v = view_at (kind-begins_digit text h.begins) again in
     let same = span_unique h.span v.2 in
     elim v.3 [
-        inl w ↦
+      | inl w ↦
           let behind = unique inside (subst (λ r. Lexes line r w.0) (sym same.1) w.2) in
           cc (w.3, same.0)
       | inr w ↦ absurd (number_or_not is (subst (λ r. IsNoNumber front r) (sym same.1) (subst (λ f. IsNoNumber f v.1) (sym same.0) w.0)))
@@ -233,7 +233,7 @@ unique {line} {text} {other = other} (takes_keyword {rest = rest} {which = which
     let same = span_unique h.span v.3 in
     let behind = unique inside (subst (λ r. Lexes line r v.2) (sym same.1) v.4) in
     elim v.5 [
-        inl w ↦
+      | inl w ↦
           let spelled = keyword_text-injective which w.0 (same.0 ∙ w.1) in
           cc (w.2)
       | inr w ↦ absurd (w.0 (which, sym same.0))
@@ -243,13 +243,13 @@ unique {line} {text} {other = other} (takes_name {word = front} {rest = rest} {m
     let same = span_unique h.span v.3 in
     let behind = unique inside (subst (λ r. Lexes line r v.2) (sym same.1) v.4) in
     elim v.5 [
-        inl w ↦ absurd (is (w.0, same.0 ∙ w.1))
+      | inl w ↦ absurd (is (w.0, same.0 ∙ w.1))
       | inr w ↦ cc (w.1, same.0)
     ]
 unique {line} {text} {other = other} (takes_sign {rest = rest} {mark = mark} {more = more} is inside) again =
     let v = view_at (kind-sign is) again in
     elim v [
-        inl w ↦
+      | inl w ↦
           let same = sign_unique is w.3 in
           let behind = unique inside (subst (λ r. Lexes line r w.2) (sym same.1) w.4) in
           cc (w.5, same.0)
@@ -259,13 +259,13 @@ unique {line} {text} {other = other} (stops_at_number {digits = front} {rest = r
     let v = view_at (kind-begins_digit text h.begins) again in
     let same = span_unique h.span v.2 in
     elim v.3 [
-        inl w ↦ absurd (number_or_not w.1 (subst (λ r. IsNoNumber v.0 r) same.1 (subst (λ f. IsNoNumber f rest) same.0 bad)))
+      | inl w ↦ absurd (number_or_not w.1 (subst (λ r. IsNoNumber v.0 r) same.1 (subst (λ f. IsNoNumber f rest) same.0 bad)))
       | inr w ↦ sym w.1
     ]
 unique {line} {text} {other = other} (stops_at_byte h) again =
     let v = view_at (kind-nothing h) again in
     elim v [
-        inl w ↦ absurd (h.no_sign w.0 (w.1, w.3.whole))
+      | inl w ↦ absurd (h.no_sign w.0 (w.1, w.3.whole))
       | inr w ↦ sym w.1
     ]
 unique stops_at_end again = sym (view_at refl again)

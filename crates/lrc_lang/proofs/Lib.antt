@@ -1,3 +1,6 @@
+pub mod Behind
+pub mod Expressions
+pub mod Foreign
 pub mod LexemesExist
 pub mod LexemesLines
 pub mod LexemesNumbers
@@ -6,3 +9,16 @@ pub mod LexemesSigns
 pub mod LexemesSpans
 pub mod LexemesSteps
 pub mod LexemesUnique
+pub mod Names
+pub mod OneAnswer
+pub mod Options
+pub mod Reaching
+pub mod Reading
+pub mod Stages
+pub mod StatementSteps
+pub mod Statements
+pub mod StatementsBack
+pub mod StatementsEnd
+pub mod States
+pub mod Taking
+pub mod Trees

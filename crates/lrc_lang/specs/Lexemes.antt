@@ -12,6 +12,7 @@ use Rattle.lrc_lang.specs.Token.{number, name, keyword, sign, finish, Lexeme, to
 abbrev pub IsBlank : ℕ → Type 0
 IsBlank byte = (byte ≡ 9) ⊎ (byte ≡ 13) ⊎ (byte ≡ 32)
 
+-- what ends a line
 abbrev pub IsLineFeed : ℕ → Type 0
 IsLineFeed byte = byte ≡ 10
 
@@ -37,7 +38,7 @@ IsWithinLine byte = ¬ IsLineFeed byte
 
 -- ---- fronts of a text
 
--- the text has a first byte, and it is such a byte
+-- the text has a first byte, and it is of this kind
 abbrev pub BeginsWith : (ℕ → Type 0) → List ℕ → Type 0
 BeginsWith IsSuch [] = ⊥
 BeginsWith IsSuch (byte ∷ rest) = IsSuch byte
@@ -46,7 +47,8 @@ BeginsWith IsSuch (byte ∷ rest) = IsSuch byte
 abbrev pub HasFront : List ℕ → List ℕ → Type 0
 HasFront text front = (rest : List ℕ) × (text ≡ front ++ rest)
 
--- front is the such bytes at the beginning of the text, as many as stand there, and rest is what stands behind them
+-- front is the bytes of this kind at the beginning of the text, as many as stand there, and rest is what stands behind
+-- them
 pub record IsSpan (IsSuch : ℕ → Type 0) (text front rest : List ℕ) : Type 0 where
   pub whole : text ≡ front ++ rest
   pub each : All IsSuch front
@@ -89,6 +91,7 @@ keyword_text keywords.While = codes "while"
 keyword_text keywords.Me = codes "me"
 keyword_text keywords.Nodes = codes "nodes"
 
+-- the word is spelled as a keyword
 abbrev pub IsKeyword : List ℕ → Type 0
 IsKeyword word = (which : Keyword) × (word ≡ keyword_text which)
 

@@ -3,7 +3,7 @@ use Rattle.std.specs.Prelude.{ℕ, ◌⊎◌, List, ◌∷◌}
 use Rattle.lrc_lang.specs.declared.lexer.Class.{Class}
 use Rattle.lrc_lang.specs.declared.lexer.Class.TheVariants as classes
 use Rattle.lrc_lang.specs.Token.{Lexeme, Placed}
-use Rattle.lrc_lang.specs.Lexemes.{IsBlank, IsLineFeed, IsHash, IsDigit, IsLetter, IsLetterOrDigit, IsWithinLine, BeginsWith, at, Lexes, Follows}
+use Rattle.lrc_lang.specs.Lexemes.{IsBlank, IsLineFeed, IsHash, IsDigit, IsLetterOrDigit, IsWithinLine, BeginsWith, at, Lexes, Follows}
 
 -- which bytes a class has
 abbrev pub Has : Class → ℕ → Type 0

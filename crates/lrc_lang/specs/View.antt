@@ -1,5 +1,4 @@
 -- The code's tokens as the definitions see them.
-use Rattle.std.specs.Prelude.{ℕ, List}
 use Rattle.lrc_lang.specs.declared.token.Token as code
 use Rattle.lrc_lang.specs.declared.token.Token.TheVariants as tokens
 use Rattle.lrc_lang.specs.declared.token.Lexeme as code_lexeme

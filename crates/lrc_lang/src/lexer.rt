@@ -9,11 +9,14 @@ ghost use Rattle.lrc_lang.specs.View.{lexeme_of, placed_of};
 
 use crate::token::{Keyword, Lexeme, Placed, Sign, Token};
 
-/// A text that is read from the left: what is left of it, and the line on which that begins.
+/// A text that is read from the left.
 #[derive(Debug, Drop)]
 pub struct Lexer<'t> {
+    /// What is left of the text.
     pub rest: &'t [u8],
+    /// The line on which that begins, counted from 1.
     pub line: u32,
+    /// The line stays in range, however many line feeds are left.
     ghost line_fits: { line + length rest.now < 2 ^ 32 },
 }
 
@@ -40,8 +43,8 @@ impl<'t> Lexer<'t> {
         }
     }
 
-    /// Passes over spaces, line feeds and comments, and takes what stands next. Behind the end of the text the end
-    /// stands again; behind a fault nothing is promised.
+    /// Passes over blanks, line feeds and comments, and takes what stands next. Once that was the end of the text or
+    /// a fault, nothing is promised of what a further call finds.
     pub fn next_lexeme(&mut self) -> Placed<'t>
         ensures next { NextIs self.old.line self.old.rest.now (placed_of result) self.new.line self.new.rest.now }
         ensures shorter { IsShorter (lexeme_of result.lexeme) self.old.rest.now self.new.rest.now }
@@ -53,7 +56,7 @@ impl<'t> Lexer<'t> {
         Placed { line, lexeme }
     }
 
-    /// Passes over spaces, line feeds and comments.
+    /// Passes over blanks, line feeds and comments.
     fn skip(&mut self)
         ensures passed { Passes self.old.line self.old.rest.now self.new.line self.new.rest.now }
         ensures ready { IsReady self.new.rest.now }
@@ -250,5 +253,55 @@ fn begins_with_letter(text: &[u8]) -> bool
     match text {
         [byte, ..] => is_letter(*byte),
         [] => false,
+    }
+}
+
+#[cfg(test)]
+mod tests {
+    use super::*;
+
+    fn token(line: u32, token: Token<'_>) -> Placed<'_> {
+        Placed {
+            line,
+            lexeme: Lexeme::Token(token),
+        }
+    }
+
+    #[test]
+    fn reads_a_text(rt: HostRuntime) {
+        let text = b"words 007;\t# a comment\r\xff # \n\r\nwhile Me<=_x1!= 18446744073709551615\n";
+        let mut lexer = Lexer::new(text);
+        let expected = [
+            token(1, Token::Keyword(Keyword::Words)),
+            token(1, Token::Number(7)),
+            token(1, Token::Sign(Sign::Semicolon)),
+            token(3, Token::Keyword(Keyword::While)),
+            token(3, Token::Name(b"Me")),
+            token(3, Token::Sign(Sign::LessOrEqual)),
+            token(3, Token::Name(b"_x1")),
+            token(3, Token::Sign(Sign::NotEqual)),
+            token(3, Token::Number(18446744073709551615)),
+            token(4, Token::End),
+        ];
+        for placed in expected {
+            assert_eq!(rt; lexer.next_lexeme(), placed);
+        }
+    }
+
+    #[test]
+    fn finds_faults(rt: HostRuntime) {
+        let table: [(&[u8], Lexeme<'_>); 6] = [
+            (b"\n# !\n 18446744073709551616", Lexeme::BadNumber),
+            (b"\n\n1a", Lexeme::BadNumber),
+            (b"\r\n\n0_", Lexeme::BadNumber),
+            (b"\n\n! =", Lexeme::BadByte),
+            (b"\n#\n\xc3\xa9", Lexeme::BadByte),
+            (b"\n\n\x0b", Lexeme::BadByte),
+        ];
+        for (text, lexeme) in table {
+            assert!(rt; text.len() < 100);
+            let found = Lexer::new(text).next_lexeme();
+            assert_eq!(rt; found, Placed { line: 3, lexeme });
+        }
     }
 }

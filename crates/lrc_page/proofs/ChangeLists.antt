@@ -1,6 +1,6 @@
 -- Lemmas on changes, for the crates above too.
 use Rattle.std.proofs.Common.{ℕ, zero, suc, ◌≡◌, ◌≢◌, ◌+◌, ◌-◌, ◌<◌, ◌≤◌, ◌⊎◌, ◌∙◌, ◌↔◌, Bool, true, false, not, cond, eqb, List, [], ◌∷◌, ◌++◌, length, map, get_or, set, take, Option, None, Some, refl, ap, subst, sym, inl, inr, ⊎_elim, arith}
-use Rattle.std.specs.Prelude.{filter, unwrap_or, All, Contains}
+use Rattle.std.specs.Prelude.{filter, unwrap_or, All, Contains, fold}
 use Rattle.std.specs.Option.{option_or, ForSome}
 use Rattle.std.specs.List.{enumerate_from}
 use Rattle.std.proofs.lemmas.Bool.{and_parts, and_from, cases_eq, eqb-true, eqb-false, eq-eqb, ne_eqb, not-true}
@@ -12,7 +12,7 @@ use Rattle.std.proofs.lemmas.List.Quantifiers.{all_pairs_push}
 use Rattle.std.proofs.lemmas.Grind.{get_or-set_at, same_number_lists}
 use Rattle.std.proofs.lemmas.Option.{cond_some, slice_get_within, get_or_from_slice_get, slice_get-get_or}
 use Rattle.lrc_page.specs.declared.changes.Change.{Change}
-use lib.Pointwise.{pointwise, pointwise_decides}
+use Rattle.std.specs.Cmp.Lexicographic.{pointwise, pointwise_decides}
 use Rattle.lrc_page.specs.Changes.{same_change, every_word, changes_between, change_at, applied, last_change, IsAscending}
 
 -- a change
@@ -190,6 +190,19 @@ applied-one page c =
 pub applied-push : (page : List ℕ) (cs : List Change) (c : Change)
     → applied page (cs ++ c ∷ []) ≡ set (applied page cs) c.offset c.value
 applied-push page cs c = applied-append page cs (c ∷ []) ∙ applied-one (applied page cs) c
+
+-- several lists of changes, one after another, word by word
+pub length-fold-applied : (page : List ℕ) (lists : List (List Change)) → length (fold applied page lists) ≡ length page
+length-fold-applied page [] = refl
+length-fold-applied page (cs ∷ lists) = length-fold-applied (applied page cs) lists ∙ length-applied page cs
+
+pub get_or-fold-applied : (page : List ℕ) (lists : List (List Change)) (offset : ℕ) → offset < length page
+    → get_or (fold applied page lists) offset 0
+    ≡ fold (λ value cs. unwrap_or (change_at cs offset) value) (get_or page offset 0) lists
+get_or-fold-applied page [] offset within = refl
+get_or-fold-applied page (cs ∷ lists) offset within =
+    get_or-fold-applied (applied page cs) lists offset (omega (arith, length-applied page cs))
+    ∙ ap (λ start. fold (λ value ds. unwrap_or (change_at ds offset) value) start lists) (get_or-applied page cs offset within)
 
 -- a loop that writes the changes in turn, one turn on
 pub applied-more : (start before after : List ℕ) (cs : List Change) (k : ℕ) (d : Change) → k < length cs

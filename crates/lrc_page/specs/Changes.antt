@@ -1,6 +1,8 @@
 -- Changes: what a page has that its twin has not, as offsets with values.
 use Rattle.std.specs.Prelude.{ℕ, ◌-◌, ◌<◌, ◌==◌, Bool, not, if◌then◌else◌, List, [], ◌∷◌, length, map, filter, Option, None, Some, unwrap_or, slice_index, slice_get, AllPairs}
 use Rattle.std.specs.Ordering.{on, eq_of_both}
+use Rattle.std.specs.Cmp.{IsEquivalence, and_equiv, on_equiv, nat_eq_equiv}
+use Rattle.std.specs.Cmp.Lexicographic.{pointwise, lists_equiv}
 use Rattle.std.specs.Option.{option_or}
 use Rattle.std.specs.List.{enumerate_from}
 use Rattle.lrc_page.specs.declared.changes.Change.{Change}
@@ -8,6 +10,11 @@ use Rattle.lrc_page.specs.declared.changes.Change.{Change}
 -- two changes are the same, as a test
 abbrev pub same_change : Change → Change → Bool
 same_change = eq_of_both (on (λ c. c.offset) ◌==◌) (on (λ c. c.value) ◌==◌)
+
+-- the test of two lists of changes, change by change, is an equivalence
+pub same_changes_equiv : IsEquivalence (pointwise same_change)
+same_changes_equiv =
+    lists_equiv (and_equiv (on_equiv (λ c. c.offset) nat_eq_equiv) (on_equiv (λ c. c.value) nat_eq_equiv))
 
 -- a change of every word, to the value that the page has
 abbrev pub every_word : List ℕ → List Change

@@ -1,9 +1,8 @@
 ghost use Rattle.std.specs.Prelude.{◌≡◌, ◌<◌, ◌↔◌, IsTrue, IfOk, OnOk, OnErr, [], ◌∷◌, ◌++◌, length, slice_get};
 ghost use Rattle.std.specs.Option.{ForSome};
-ghost use Rattle.std.specs.Cmp.Rules.{comparing};
-ghost use Rattle.std.proofs.Common.{rules};
-ghost use lib.Pointwise.{pointwise};
-ghost use Rattle.lrc_page.specs.Changes.{same_change, last_change, applied, changes_between};
+ghost use Rattle.std.specs.Cmp.{partial_equiv_from_equiv};
+ghost use Rattle.std.specs.Cmp.Lexicographic.{pointwise};
+ghost use Rattle.lrc_page.specs.Changes.{same_change, same_changes_equiv, last_change, applied, changes_between};
 
 use crate::{PAGE_WORDS, Page};
 use std::alloc::{AllocError, Global};
@@ -39,7 +38,7 @@ impl Model for Changes {
 impl PartialEq for Changes {
     ghost eq = { pointwise same_change };
 
-    ghost laws = { Prim.search (comparing, rules) };
+    ghost laws = { partial_equiv_from_equiv same_changes_equiv };
 
     fn eq(&self, other: &Changes) -> bool
         ensures eq { result ≡ pointwise same_change self.now other.now }
@@ -50,7 +49,7 @@ impl PartialEq for Changes {
 }
 
 impl Eq for Changes {
-    ghost laws = { Prim.search (comparing, rules) };
+    ghost laws = { same_changes_equiv };
 }
 
 impl Changes {

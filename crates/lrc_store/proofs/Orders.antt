@@ -1,11 +1,11 @@
 -- Lists in order, and the part of a list that passes a test, put in order.
-use Rattle.std.proofs.Common.{◌≡◌, ◌≢◌, ℕ, zero, suc, ◌+◌, ◌<◌, ◌≤◌, ◌⊎◌, ◌∙◌, ◌↔◌, Bool, true, false, cond, nat_lt, nat_le, eqb, eqb-true, ◌&&◌, ◌||◌, IsTrue, List, [], ◌∷◌, length, get_or, set, map, refl, ap, sym, subst, inl, inr, ⊎_elim, arith}
+use Rattle.std.proofs.Common.{◌≡◌, ◌≢◌, ℕ, zero, suc, ◌<◌, ◌⊎◌, ◌∙◌, ◌↔◌, Bool, true, false, cond, IsTrue, List, [], ◌∷◌, length, get_or, set, map, refl, ap, sym, subst, inl, inr, ⊎_elim, arith}
 use Rattle.std.specs.Cmp.{IsStrictWeakOrder}
 use Rattle.std.specs.List.{All, AllPairs, Contains, filter, swap}
 use Rattle.std.specs.List.Sorted.{IsPermutation, IsSortedBy}
-use Rattle.std.proofs.lemmas.Bool.{true≢false, cases_eq, cases_lt, and_parts, false_from_ne_true, true_from_ne_false, lt-ltb, le-ltb, ltb-true, ltb-false, eq-eqb, ne_eqb}
+use Rattle.std.proofs.lemmas.Bool.{true≢false, cases_eq, cases_lt, true_from_ne_false}
 use Rattle.std.proofs.lemmas.List.{length-map, get_or-map, map-set}
-use Rattle.std.proofs.lemmas.List.Elements.{All-contains, All-head, All-tail, Contains-get_or}
+use Rattle.std.proofs.lemmas.List.Elements.{All-tail, Contains-get_or}
 use Rattle.std.proofs.lemmas.List.Edits.{length-swap, swap_is, swapped_from_swap}
 use Rattle.std.proofs.lemmas.List.Kept.{AllPairs-cons, AllPairs-filter}
 use Rattle.std.proofs.lemmas.List.Sorted.{sorted_far, Contains-permutation, IsPermutation-sym, IsPermutation-keeps, IsPermutation-refl, IsPermutation-trans, IsPermutation-swap}
@@ -38,9 +38,9 @@ filter-Contains {X} test xs y = (from xs, λ both. into xs both.0 both.1)
     from_cons x xs false fails rest there = let later = rest there in (Contains-later x xs y later.0, later.1)
     from_cons x xs true passes rest there =
         ⊎_elim
-          (λ (same : x ≡ y). ((zero, omega arith, same), ap test (sym same) ∙ passes))
-          (λ deeper. let later = rest deeper in (Contains-later x xs y later.0, later.1))
-          (cases_Contains x (filter test xs) y there)
+        (λ (same : x ≡ y). ((zero, omega arith, same), ap test (sym same) ∙ passes))
+        (λ deeper. let later = rest deeper in (Contains-later x xs y later.0, later.1))
+        (cases_Contains x (filter test xs) y there)
 
     from : (xs : List X) → Contains (filter test xs) y → Contains xs y × (test y ≡ true)
     from [] there = absurd (none_Contains y there)
@@ -51,11 +51,11 @@ filter-Contains {X} test xs y = (from xs, λ both. into xs both.0 both.1)
         → Contains (x ∷ xs) y → Contains (cond b (x ∷ filter test xs) (filter test xs)) y
     into_cons x xs b is passes rest there =
         ⊎_elim
-          (λ (same : x ≡ y).
-            let kept : b ≡ true = sym is ∙ ap test same ∙ passes in
-            subst (λ (v : Bool). Contains (cond v (x ∷ filter test xs) (filter test xs)) y) (sym kept) (zero, omega arith, same))
-          (λ deeper. either b (rest deeper))
-          (cases_Contains x xs y there)
+        (λ (same : x ≡ y).
+        let kept : b ≡ true = sym is ∙ ap test same ∙ passes in
+        subst (λ (v : Bool). Contains (cond v (x ∷ filter test xs) (filter test xs)) y) (sym kept) (zero, omega arith, same))
+        (λ deeper. either b (rest deeper))
+        (cases_Contains x xs y there)
       where
         either : (v : Bool) → Contains (filter test xs) y → Contains (cond v (x ∷ filter test xs) (filter test xs)) y
         either true later = Contains-later x (filter test xs) y later
@@ -71,7 +71,8 @@ pub map-map : {X Y Z : Type 0} (f : X → Y) (g : Y → Z) (xs : List X) → map
 map-map f g [] = refl
 map-map f g (x ∷ xs) = ap (λ (l : List _). g (f x) ∷ l) (map-map f g xs)
 
-swap-map : {X Y : Type 0} (f : X → Y) (xs : List X) (i j : ℕ) → i < length xs → j < length xs → swap (map f xs) i j ≡ map f (swap xs i j)
+swap-map : {X Y : Type 0} (f : X → Y) (xs : List X) (i j : ℕ) → i < length xs → j < length xs
+    → swap (map f xs) i j ≡ map f (swap xs i j)
 swap-map f [] i j i_in j_in = absurd (omega arith)
 swap-map f (x ∷ rest) i j i_in j_in =
     let xs = x ∷ rest in
@@ -93,14 +94,13 @@ IsPermutation-from_map {X} {Y} f xs ys shuffled =
     IsPermutation-keeps (map f xs) (λ (l : List Y). (moved : List X) × IsPermutation xs moved × (l ≡ map f moved))
     (xs, IsPermutation-refl xs, refl)
     (λ l i j i_in j_in h.
-      let same_length : length l ≡ length h.0 = ap length h.2 ∙ length-map h.0 f in
-      let i_there : i < length h.0 = omega arith in
-      let j_there : j < length h.0 = omega arith in
-      (
-        swap h.0 i j,
-        IsPermutation-trans xs h.0 (swap h.0 i j) h.1 (IsPermutation-swap h.0 (swap h.0 i j) i j i_there j_there refl),
-        ap (λ (m : List Y). swap m i j) h.2 ∙ swap-map f h.0 i j i_there j_there
-      ))
+    let same_length : length l ≡ length h.0 = ap length h.2 ∙ length-map h.0 f in
+    let i_there : i < length h.0 = omega arith in
+    let j_there : j < length h.0 = omega arith in (
+      swap h.0 i j,
+      IsPermutation-trans xs h.0 (swap h.0 i j) h.1 (IsPermutation-swap h.0 (swap h.0 i j) i j i_there j_there refl),
+      ap (λ (m : List Y). swap m i j) h.2 ∙ swap-map f h.0 i j i_there j_there,
+    ))
     ys shuffled
 
 -- what holds of whatever is in a list holds of each of its elements
@@ -130,45 +130,47 @@ AllComparable-swap {X} before xs a b a_in b_in all i j d i_in j_in differ =
     let at_a : (m : ℕ) → m ≡ a → get_or ys m d ≡ get_or xs b d = λ m same. ap (λ n. get_or ys n d) same ∙ swapped.0 in
     let at_b : (m : ℕ) → m ≡ b → get_or ys m d ≡ get_or xs a d = λ m same. ap (λ n. get_or ys n d) same ∙ swapped.1 in
     let carried : (m n : ℕ) → get_or ys i d ≡ get_or xs m d → get_or ys j d ≡ get_or xs n d → m < length xs → n < length xs → m ≢ n
-            → Comparable before (get_or ys i d) (get_or ys j d) =
-        λ m n first second m_in n_in apart.
-          subst (λ (x : X). Comparable before x (get_or ys j d)) (sym first)
-          (subst (λ (y : X). Comparable before (get_or xs m d) y) (sym second) (all m n d m_in n_in apart)) in
+    → Comparable before (get_or ys i d) (get_or ys j d) =
+    λ m n first second m_in n_in apart.
+    subst (λ (x : X). Comparable before x (get_or ys j d)) (sym first)
+    (subst (λ (y : X). Comparable before (get_or xs m d) y) (sym second) (all m n d m_in n_in apart)) in
     ⊎_elim
-      (λ (i_a : i ≡ a). ⊎_elim
-        (λ (j_a : j ≡ a). absurd (omega arith))
-        (λ (j_not_a : j ≢ a). ⊎_elim
-          (λ (j_b : j ≡ b). carried b a (at_a i i_a) (at_b j j_b) b_in a_in (λ same. differ (omega arith)))
-          (λ (j_not_b : j ≢ b). carried b j (at_a i i_a) (swapped.2 j j_not_a j_not_b) b_in (omega arith) (λ same. j_not_b (sym same)))
-          (cases_eq j b))
-        (cases_eq j a))
-      (λ (i_not_a : i ≢ a). ⊎_elim
-        (λ (i_b : i ≡ b). ⊎_elim
-          (λ (j_a : j ≡ a). carried a b (at_b i i_b) (at_a j j_a) a_in b_in (λ same. differ (omega arith)))
-          (λ (j_not_a : j ≢ a). carried a j (at_b i i_b) (swapped.2 j j_not_a (λ same. differ (omega arith))) a_in (omega arith) (λ same. j_not_a (sym same)))
-          (cases_eq j a))
-        (λ (i_not_b : i ≢ b). ⊎_elim
-          (λ (j_a : j ≡ a). carried i b (swapped.2 i i_not_a i_not_b) (at_a j j_a) (omega arith) b_in i_not_b)
-          (λ (j_not_a : j ≢ a). ⊎_elim
-            (λ (j_b : j ≡ b). carried i a (swapped.2 i i_not_a i_not_b) (at_b j j_b) (omega arith) a_in i_not_a)
-            (λ (j_not_b : j ≢ b). carried i j (swapped.2 i i_not_a i_not_b) (swapped.2 j j_not_a j_not_b) (omega arith) (omega arith) differ)
-            (cases_eq j b))
-          (cases_eq j a))
-        (cases_eq i b))
-      (cases_eq i a)
+    (λ (i_a : i ≡ a). ⊎_elim
+    (λ (j_a : j ≡ a). absurd (omega arith))
+    (λ (j_not_a : j ≢ a). ⊎_elim
+    (λ (j_b : j ≡ b). carried b a (at_a i i_a) (at_b j j_b) b_in a_in (λ same. differ (omega arith)))
+    (λ (j_not_b : j ≢ b). carried b j (at_a i i_a) (swapped.2 j j_not_a j_not_b) b_in (omega arith) (λ same. j_not_b (sym same)))
+    (cases_eq j b))
+    (cases_eq j a))
+    (λ (i_not_a : i ≢ a). ⊎_elim
+    (λ (i_b : i ≡ b). ⊎_elim
+    (λ (j_a : j ≡ a). carried a b (at_b i i_b) (at_a j j_a) a_in b_in (λ same. differ (omega arith)))
+    (λ (j_not_a : j ≢ a).
+    carried a j (at_b i i_b) (swapped.2 j j_not_a (λ same. differ (omega arith))) a_in (omega arith)
+    (λ same. j_not_a (sym same)))
+    (cases_eq j a))
+    (λ (i_not_b : i ≢ b). ⊎_elim
+    (λ (j_a : j ≡ a). carried i b (swapped.2 i i_not_a i_not_b) (at_a j j_a) (omega arith) b_in i_not_b)
+    (λ (j_not_a : j ≢ a). ⊎_elim
+    (λ (j_b : j ≡ b). carried i a (swapped.2 i i_not_a i_not_b) (at_b j j_b) (omega arith) a_in i_not_a)
+    (λ (j_not_b : j ≢ b). carried i j (swapped.2 i i_not_a i_not_b) (swapped.2 j j_not_a j_not_b) (omega arith) (omega arith) differ)
+    (cases_eq j b))
+    (cases_eq j a))
+    (cases_eq i b))
+    (cases_eq i a)
 
 -- a list moved about keeps that any two of its elements can be compared
 comparable-permutation : {X : Type 0} (before : X → X → Bool) (xs ys : List X)
     → AllPairs (Comparable before) xs → IsPermutation xs ys → AllPairs (Comparable before) ys
 comparable-permutation before xs ys comparable moved =
     let all : AllComparable before xs =
-        λ i j d i_in j_in differ.
-          ⊎_elim
-            (λ (less : i < j). comparable i j d less j_in)
-            (λ at_most. other_way before _ _ (comparable j i d (omega arith) i_in))
-            (cases_lt i j) in
+    λ i j d i_in j_in differ.
+    ⊎_elim
+    (λ (less : i < j). comparable i j d less j_in)
+    (λ at_most. other_way before _ _ (comparable j i d (omega arith) i_in))
+    (cases_lt i j) in
     let kept : AllComparable before ys =
-        IsPermutation-keeps xs (AllComparable before) all (λ l a b a_in b_in h. AllComparable-swap before l a b a_in b_in h) ys moved in
+    IsPermutation-keeps xs (AllComparable before) all (λ l a b a_in b_in h. AllComparable-swap before l a b a_in b_in h) ys moved in
     λ i j d less within. kept i j d (omega arith) within (omega arith)
 
 module _ {X : Type 0} (before : X → X → Bool) (order : IsStrictWeakOrder before) where
@@ -180,7 +182,8 @@ module _ {X : Type 0} (before : X → X → Bool) (order : IsStrictWeakOrder bef
       true_from_ne_false _ (λ fails. true≢false (sym first ∙ order.chain a c b fails (order.one_way b c second)))
 
   -- what comes before the first of a list in order comes before all of it
-  before_all : (x y : X) (ys : List X) → before x y ≡ true → AllPairs (λ a b. IsTrue (before a b)) (y ∷ ys) → All (λ z. IsTrue (before x z)) (y ∷ ys)
+  before_all : (x y : X) (ys : List X) → before x y ≡ true → AllPairs (λ a b. IsTrue (before a b)) (y ∷ ys)
+      → All (λ z. IsTrue (before x z)) (y ∷ ys)
   before_all x y ys first ascending zero d within = first
   before_all x y ys first ascending (suc k) d within =
       goes_on x y (get_or ys k d) first (ascending zero (suc k) d (omega arith) within)
@@ -207,33 +210,33 @@ module _ {X : Type 0} (before : X → X → Bool) (order : IsStrictWeakOrder bef
   one_list (x ∷ xs) (y ∷ ys) xs_up ys_up forth back =
       let Up : X → X → Type 0 = λ a b. IsTrue (before a b) in
       let heads : x ≡ y =
-          ⊎_elim
-            (λ (same : y ≡ x). sym same)
-            (λ (x_later : Contains ys x).
-              ⊎_elim
-                (λ (same : x ≡ y). same)
-                (λ (y_later : Contains xs y).
-                  absurd (not_both x y (head_ascending Up x xs xs_up y y_later) (head_ascending Up y ys ys_up x x_later)))
-                (cases_Contains x xs y (back y (Contains-first y ys))))
-            (cases_Contains y ys x (forth x (Contains-first x xs))) in
+      ⊎_elim
+      (λ (same : y ≡ x). sym same)
+      (λ (x_later : Contains ys x).
+      ⊎_elim
+      (λ (same : x ≡ y). same)
+      (λ (y_later : Contains xs y).
+      absurd (not_both x y (head_ascending Up x xs xs_up y y_later) (head_ascending Up y ys ys_up x x_later)))
+      (cases_Contains x xs y (back y (Contains-first y ys))))
+      (cases_Contains y ys x (forth x (Contains-first x xs))) in
       let tails : xs ≡ ys =
-          one_list xs ys (tail_ascending Up x xs xs_up) (tail_ascending Up y ys ys_up)
-          (λ z there.
-            ⊎_elim
-              (λ (same : y ≡ z).
-                let after : before x z ≡ true = head_ascending Up x xs xs_up z there in
-                let again : before x x ≡ true = subst (λ (v : X). before x v ≡ true) (sym (heads ∙ same)) after in
-                absurd (not_both x x again again))
-              (λ (later : Contains ys z). later)
-              (cases_Contains y ys z (forth z (Contains-later x xs z there))))
-          (λ z there.
-            ⊎_elim
-              (λ (same : x ≡ z).
-                let after : before y z ≡ true = head_ascending Up y ys ys_up z there in
-                let again : before y y ≡ true = subst (λ (v : X). before y v ≡ true) (sym (sym heads ∙ same)) after in
-                absurd (not_both y y again again))
-              (λ (later : Contains xs z). later)
-              (cases_Contains x xs z (back z (Contains-later y ys z there)))) in
+      one_list xs ys (tail_ascending Up x xs xs_up) (tail_ascending Up y ys ys_up)
+      (λ z there.
+      ⊎_elim
+      (λ (same : y ≡ z).
+      let after : before x z ≡ true = head_ascending Up x xs xs_up z there in
+      let again : before x x ≡ true = subst (λ (v : X). before x v ≡ true) (sym (heads ∙ same)) after in
+      absurd (not_both x x again again))
+      (λ (later : Contains ys z). later)
+      (cases_Contains y ys z (forth z (Contains-later x xs z there))))
+      (λ z there.
+      ⊎_elim
+      (λ (same : x ≡ z).
+      let after : before y z ≡ true = head_ascending Up y ys ys_up z there in
+      let again : before y y ≡ true = subst (λ (v : X). before y v ≡ true) (sym (sym heads ∙ same)) after in
+      absurd (not_both y y again again))
+      (λ (later : Contains xs z). later)
+      (cases_Contains x xs z (back z (Contains-later y ys z there)))) in
       cc
 
   -- ---- an element put in its place
@@ -247,13 +250,13 @@ module _ {X : Type 0} (before : X → X → Bool) (order : IsStrictWeakOrder bef
       by_test rest true there = cases_Contains x (y ∷ ys) z there
       by_test rest false there =
           ⊎_elim
-            (λ (same : y ≡ z). inr (zero, omega arith, same))
-            (λ deeper.
-              ⊎_elim
-                (λ (same : x ≡ z). inl same)
-                (λ later. inr (Contains-later y ys z later))
-                (rest deeper))
-            (cases_Contains y (placed before x ys) z there)
+          (λ (same : y ≡ z). inr (zero, omega arith, same))
+          (λ deeper.
+          ⊎_elim
+          (λ (same : x ≡ z). inl same)
+          (λ later. inr (Contains-later y ys z later))
+          (rest deeper))
+          (cases_Contains y (placed before x ys) z there)
 
   placed-Contains_itself : (x : X) (ys : List X) → Contains (placed before x ys) x
   placed-Contains_itself x [] = Contains-first x []
@@ -272,9 +275,9 @@ module _ {X : Type 0} (before : X → X → Bool) (order : IsStrictWeakOrder bef
       by_test rest true = Contains-later x (y ∷ ys) z there
       by_test rest false =
           ⊎_elim
-            (λ (same : y ≡ z). (zero, omega arith, same))
-            (λ later. Contains-later y (placed before x ys) z (rest later))
-            (cases_Contains y ys z there)
+          (λ (same : y ≡ z). (zero, omega arith, same))
+          (λ later. Contains-later y (placed before x ys) z (rest later))
+          (cases_Contains y ys z there)
 
   placed-ascending : (x : X) (ys : List X) → All (Comparable before x) ys → AllPairs (λ a b. IsTrue (before a b)) ys
       → AllPairs (λ a b. IsTrue (before a b)) (placed before x ys)
@@ -290,17 +293,17 @@ module _ {X : Type 0} (before : X → X → Bool) (order : IsStrictWeakOrder bef
       by_test rest false not_first =
           let Up : X → X → Type 0 = λ a c. IsTrue (before a c) in
           let second : before y x ≡ true =
-              ⊎_elim
-                (λ (first : before x y ≡ true). absurd (true≢false (sym first ∙ not_first)))
-                (λ (second : before y x ≡ true). second)
-                (comparable zero y (omega arith)) in
+          ⊎_elim
+          (λ (first : before x y ≡ true). absurd (true≢false (sym first ∙ not_first)))
+          (λ (second : before y x ≡ true). second)
+          (comparable zero y (omega arith)) in
           cons_ascending y (placed before x ys)
           (All-from_Contains (λ z. IsTrue (before y z)) (placed before x ys)
-            (λ z there.
-              ⊎_elim
-                (λ (same : x ≡ z). subst (λ (v : X). before y v ≡ true) same second)
-                (λ later. head_ascending Up y ys ascending z later)
-                (placed-Contains_cases x ys z there)))
+          (λ z there.
+          ⊎_elim
+          (λ (same : x ≡ z). subst (λ (v : X). before y v ≡ true) same second)
+          (λ later. head_ascending Up y ys ascending z later)
+          (placed-Contains_cases x ys z there)))
           rest
 
   -- ---- the part of a list that passes a test, in order
@@ -311,17 +314,19 @@ module _ {X : Type 0} (before : X → X → Bool) (order : IsStrictWeakOrder bef
     part-Contains (x ∷ xs) z there =
         by_test (λ later. let rest = part-Contains xs z later in (Contains-later x xs z rest.0, rest.1)) (test x) refl there
       where
-        by_test : (Contains (ascending_part before test xs) z → Contains (x ∷ xs) z × (test z ≡ true)) → (b : Bool) → test x ≡ b
+        by_test : (Contains (ascending_part before test xs) z → Contains (x ∷ xs) z × (test z ≡ true))
+            → (b : Bool) → test x ≡ b
             → Contains (cond b (placed before x (ascending_part before test xs)) (ascending_part before test xs)) z
             → Contains (x ∷ xs) z × (test z ≡ true)
         by_test deeper true passes there =
             ⊎_elim
-              (λ (same : x ≡ z). ((zero, omega arith, same), ap test (sym same) ∙ passes))
-              deeper
-              (placed-Contains_cases x (ascending_part before test xs) z there)
+            (λ (same : x ≡ z). ((zero, omega arith, same), ap test (sym same) ∙ passes))
+            deeper
+            (placed-Contains_cases x (ascending_part before test xs) z there)
         by_test deeper false fails there = deeper there
 
-    part-Contains_back : (xs : List X) (z : X) → Contains xs z → test z ≡ true → Contains (ascending_part before test xs) z
+    part-Contains_back : (xs : List X) (z : X) → Contains xs z → test z ≡ true
+        → Contains (ascending_part before test xs) z
     part-Contains_back [] z there passes = absurd (none_Contains z there)
     part-Contains_back (x ∷ xs) z there passes = by_test (λ later. part-Contains_back xs z later passes) (test x) refl
       where
@@ -329,18 +334,19 @@ module _ {X : Type 0} (before : X → X → Bool) (order : IsStrictWeakOrder bef
             → Contains (cond b (placed before x (ascending_part before test xs)) (ascending_part before test xs)) z
         by_test rest true kept =
             ⊎_elim
-              (λ (same : x ≡ z).
-                subst (λ (v : X). Contains (placed before x (ascending_part before test xs)) v) same
-                (placed-Contains_itself x (ascending_part before test xs)))
-              (λ later. placed-Contains_other x (ascending_part before test xs) z (rest later))
-              (cases_Contains x xs z there)
+            (λ (same : x ≡ z).
+            subst (λ (v : X). Contains (placed before x (ascending_part before test xs)) v) same
+            (placed-Contains_itself x (ascending_part before test xs)))
+            (λ later. placed-Contains_other x (ascending_part before test xs) z (rest later))
+            (cases_Contains x xs z there)
         by_test rest false dropped =
             ⊎_elim
-              (λ (same : x ≡ z). absurd (true≢false (sym passes ∙ ap test (sym same) ∙ dropped)))
-              rest
-              (cases_Contains x xs z there)
+            (λ (same : x ≡ z). absurd (true≢false (sym passes ∙ ap test (sym same) ∙ dropped)))
+            rest
+            (cases_Contains x xs z there)
 
-    part-ascending : (xs : List X) → AllPairs (Comparable before) xs → AllPairs (λ a b. IsTrue (before a b)) (ascending_part before test xs)
+    part-ascending : (xs : List X) → AllPairs (Comparable before) xs
+        → AllPairs (λ a b. IsTrue (before a b)) (ascending_part before test xs)
     part-ascending [] comparable = λ i j d less within. absurd (omega arith)
     part-ascending (x ∷ xs) comparable =
         by_test (part-ascending xs (tail_ascending (Comparable before) x xs comparable)) (test x)
@@ -350,7 +356,7 @@ module _ {X : Type 0} (before : X → X → Bool) (order : IsStrictWeakOrder bef
         by_test rest true =
             placed-ascending x (ascending_part before test xs)
             (All-from_Contains (Comparable before x) (ascending_part before test xs)
-              (λ z there. head_ascending (Comparable before) x xs comparable z (part-Contains xs z there).0))
+            (λ z there. head_ascending (Comparable before) x xs comparable z (part-Contains xs z there).0))
             rest
         by_test rest false = rest
 
@@ -359,7 +365,7 @@ module _ {X : Type 0} (before : X → X → Bool) (order : IsStrictWeakOrder bef
         → IsAscendingPart before test xs (ascending_part before test xs)
     IsAscendingPart-ascending_part xs comparable = record {
       exactly = λ z. (part-Contains xs z, λ both. part-Contains_back xs z both.0 both.1);
-      ascending = part-ascending xs comparable
+      ascending = part-ascending xs comparable;
     }
 
     -- there is one such part at most
@@ -371,21 +377,22 @@ module _ {X : Type 0} (before : X → X → Bool) (order : IsStrictWeakOrder bef
         (λ z there. (one.exactly z).1 ((other.exactly z).0 there))
 
     -- a sort of what passes gives such a part
-    pub IsAscendingPart-from_sort : (xs ys : List X) → AllPairs (Comparable before) xs → IsPermutation (filter test xs) ys
+    pub IsAscendingPart-from_sort : (xs ys : List X) → AllPairs (Comparable before) xs
+        → IsPermutation (filter test xs) ys
         → IsSortedBy before ys → IsAscendingPart before test xs ys
     IsAscendingPart-from_sort xs ys comparable moved sorted =
         let kept : AllPairs (Comparable before) ys =
-            comparable-permutation before (filter test xs) ys (AllPairs-filter (Comparable before) test xs comparable) moved in
+        comparable-permutation before (filter test xs) ys (AllPairs-filter (Comparable before) test xs comparable) moved in
         record {
           exactly = λ z. (
             λ there. (filter-Contains test xs z).0
                 (Contains-permutation ys (filter test xs) z (IsPermutation-sym (filter test xs) ys moved) there),
-            λ both. Contains-permutation (filter test xs) ys z moved ((filter-Contains test xs z).1 both)
+            λ both. Contains-permutation (filter test xs) ys z moved ((filter-Contains test xs z).1 both),
           );
           ascending = λ i j d less within.
               ⊎_elim
-                (λ (forth : before (get_or ys i d) (get_or ys j d) ≡ true). forth)
-                (λ (back : before (get_or ys j d) (get_or ys i d) ≡ true).
-                  absurd (true≢false (sym back ∙ sorted_far before order ys sorted i j d (omega arith) within)))
-                (kept i j d less within)
+              (λ (forth : before (get_or ys i d) (get_or ys j d) ≡ true). forth)
+              (λ (back : before (get_or ys j d) (get_or ys i d) ≡ true).
+              absurd (true≢false (sym back ∙ sorted_far before order ys sorted i j d (omega arith) within)))
+              (kept i j d less within);
         }

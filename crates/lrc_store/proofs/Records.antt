@@ -1,5 +1,5 @@
 -- Lemmas on interval records and what is stored of them.
-use Rattle.std.proofs.Common.{◌≡◌, ◌≢◌, ℕ, ◌<◌, ◌⊎◌, ◌∙◌, Bool, true, false, cond, eqb, eqb-true, Option, Some, None, List, [], ◌∷◌, length, get_or, set, map, refl, ap, sym, ⊎_elim, arith}
+use Rattle.std.proofs.Common.{◌≡◌, ◌≢◌, ℕ, ◌<◌, ◌∙◌, true, false, cond, eqb, eqb-true, Some, None, List, [], ◌∷◌, length, get_or, set, map, refl, ap, sym, ⊎_elim, arith}
 use Rattle.std.specs.List.{position, AllPairs}
 use Rattle.std.specs.List.Sorted.{IsStrictlyIncreasing}
 use Rattle.std.proofs.lemmas.Bool.{cases_lt, ne_eqb}
@@ -8,7 +8,7 @@ use Rattle.std.proofs.lemmas.List.Kept.{AllPairs-from_increasing}
 use Rattle.std.proofs.lemmas.List.Quantifiers.{position-Some}
 use Rattle.lrc_page.specs.declared.changes.Change.{Change}
 use Rattle.lrc_store.specs.Interval.{IntervalRecord}
-use Rattle.lrc_store.specs.Store.{NoticeRecord, StoredRecord, interval_of, without_changes, unread, notice_with}
+use Rattle.lrc_store.specs.Store.{NoticeRecord, interval_of, without_changes, unread, notice_with}
 use Rattle.lrc_store.proofs.Places.{map_one, map_none, fails-position_none}
 
 -- the pages of notices made of pages
@@ -34,18 +34,19 @@ apart notices rising i j d i_in j_in differ same =
     let at_j : get_or pages j d.page ≡ (get_or notices j d).page = get_or-map (λ notice. notice.page) notices j d d.page j_in in
     let pairs : AllPairs (λ x y. x < y) pages = AllPairs-from_increasing pages rising in
     ⊎_elim
-      (λ (less : i < j).
-        let below : get_or pages i d.page < get_or pages j d.page = pairs i j d.page less (omega arith) in
-        absurd (omega arith))
-      (λ at_most.
-        let below : get_or pages j d.page < get_or pages i d.page = pairs j i d.page (omega arith) (omega arith) in
-        absurd (omega arith))
-      (cases_lt i j)
+    (λ (less : i < j).
+    let below : get_or pages i d.page < get_or pages j d.page = pairs i j d.page less (omega arith) in
+    absurd (omega arith))
+    (λ at_most.
+    let below : get_or pages j d.page < get_or pages i d.page = pairs j i d.page (omega arith) (omega arith) in
+    absurd (omega arith))
+    (cases_lt i j)
 
-notice_with-other : (page : ℕ) (changes : List Change) (notice : NoticeRecord) → eqb notice.page page ≡ false → notice_with page changes notice ≡ notice
+pub notice_with-other : (page : ℕ) (changes : List Change) (notice : NoticeRecord)
+    → eqb notice.page page ≡ false → notice_with page changes notice ≡ notice
 notice_with-other page changes notice other = ap (λ b. cond b (record { page = page; changes = Some changes }) notice) other
 
-notice_with-same : (page : ℕ) (changes : List Change) (notice : NoticeRecord) → eqb notice.page page ≡ true
+pub notice_with-same : (page : ℕ) (changes : List Change) (notice : NoticeRecord) → eqb notice.page page ≡ true
     → notice_with page changes notice ≡ record { page = page; changes = Some changes }
 notice_with-same page changes notice same = ap (λ b. cond b (record { page = page; changes = Some changes }) notice) same
 
@@ -69,10 +70,10 @@ map-notice_with page changes notices place rising found =
     map_one (notice_with page changes) notices place _
     (λ d within. notice_with-same page changes _ (position-Some _ notices place d found).1)
     (λ k d within differ.
-      let passed = position-Some _ notices place d found in
-      let there : (get_or notices place d).page ≡ page = eqb-true _ _ passed.1 in
-      notice_with-other page changes _
-        (ne_eqb _ _ (λ same. apart notices rising k place d within passed.0 differ (same ∙ sym there))))
+    let passed = position-Some _ notices place d found in
+    let there : (get_or notices place d).page ≡ page = eqb-true _ _ passed.1 in
+    notice_with-other page changes _
+    (ne_eqb _ _ (λ same. apart notices rising k place d within passed.0 differ (same ∙ sym there))))
 
 -- a page without a notice gets none
 pub map-notice_with_none : (page : ℕ) (changes : List Change) (notices : List NoticeRecord)

@@ -1,9 +1,9 @@
 -- What `add` and `attach` leave true of a store.
-use Rattle.std.proofs.Common.{◌≡◌, ◌≢◌, ℕ, ◌+◌, ◌<◌, ◌≤◌, ◌⊎◌, ◌∙◌, Bool, true, false, cond, eqb, eqb-true, ◌&&◌, Option, Some, None, List, [], ◌∷◌, ◌++◌, length, get_or, set, map, refl, ap, sym, subst, ⊎_elim, arith}
+use Rattle.std.proofs.Common.{◌≡◌, ℕ, ◌+◌, ◌<◌, ◌≤◌, ◌∙◌, Bool, true, false, cond, eqb, eqb-true, Some, List, [], ◌∷◌, ◌++◌, length, get_or, set, map, refl, ap, sym, subst, ⊎_elim, arith}
 use Rattle.std.specs.List.{All, AllPairs, position}
 use Rattle.std.proofs.lemmas.Bool.{cases_lt, and_parts, false_from_ne_true}
 use Rattle.std.proofs.lemmas.List.{get_or-map, get_or_default, length-map, length-set, map_push}
-use Rattle.std.proofs.lemmas.List.Elements.{All-push, All-weaker, All-get_or}
+use Rattle.std.proofs.lemmas.List.Elements.{All-push, All-weaker}
 use Rattle.std.proofs.lemmas.List.Quantifiers.{all_pairs_push, position-Some}
 use Rattle.lrc_time.specs.Time.{entry}
 use Rattle.lrc_time.proofs.Times.{covers-raised, entry-set_same}
@@ -39,26 +39,32 @@ IsStore-added store interval sound is stamp pages next =
     let IsCounted : IntervalRecord → Type 0 = λ i. index_of i ≤ entry last i.node in
     let Follows : IntervalRecord → IntervalRecord → Type 0 = λ a b. a.node ≡ b.node → index_of a < index_of b in
     let stamps : All IsLong (all ++ interval ∷ []) =
-        All-push IsLong all interval (All-weaker (λ i. length i.stamp ≡ length store.last) IsLong (λ i h. h ∙ sym long) all sound.stamps) (stamp ∙ sym long) in
+    All-push IsLong all interval
+    (All-weaker (λ i. length i.stamp ≡ length store.last) IsLong (λ i h. h ∙ sym long) all sound.stamps)
+    (stamp ∙ sym long) in
     let in_range : All InRange (all ++ interval ∷ []) = All-push InRange all interval sound.pages pages in
     let counted : All IsCounted (all ++ interval ∷ []) =
-        All-push IsCounted all interval (All-weaker (λ i. index_of i ≤ entry store.last i.node) IsCounted (λ i h. omega (arith, above i.node)) all sound.counted) (omega arith) in
+    All-push IsCounted all interval
+    (All-weaker (λ i. index_of i ≤ entry store.last i.node) IsCounted (λ i h. omega (arith, above i.node)) all sound.counted)
+    (omega arith) in
     let ascending : AllPairs Follows (all ++ interval ∷ []) =
-        all_pairs_push Follows all interval sound.ascending
-        (λ k d within node_same.
-          let below = sound.counted k d within in
-          let entries : entry store.last (get_or all k d).node ≡ entry store.last node = ap (entry store.last) node_same in
-          omega arith) in
+    all_pairs_push Follows all interval sound.ascending
+    (λ k d within node_same.
+    let below = sound.counted k d within in
+    let entries : entry store.last (get_or all k d).node ≡ entry store.last node = ap (entry store.last) node_same in
+    omega arith) in
     record {
       stamps = subst (All IsLong) (sym same) stamps;
       pages = subst (All InRange) (sym same) in_range;
       counted = subst (All IsCounted) (sym same) counted;
-      ascending = subst (AllPairs Follows) (sym same) ascending
+      ascending = subst (AllPairs Follows) (sym same) ascending;
     }
 
 -- ---- the changes of a key
 
-kept_page : (page : ℕ) (changes : List Change) (notice : NoticeRecord) → (notice_with page changes notice).page ≡ notice.page
+-- changes leave a notice's page
+pub kept_page : (page : ℕ) (changes : List Change) (notice : NoticeRecord)
+    → (notice_with page changes notice).page ≡ notice.page
 kept_page page changes notice = by_test (eqb notice.page page) refl
   where
     by_test : (b : Bool) → eqb notice.page page ≡ b
@@ -80,8 +86,8 @@ pub interval_of-stored_with : (key : Key) (changes : List Change) (stored : Stor
 interval_of-stored_with key changes stored = by_test (is_at key.node key.index stored)
   where
     by_test : (b : Bool)
-        → interval_of (cond b (record { node = stored.node; stamp = stored.stamp; notices = map (notice_with key.page changes) stored.notices }) stored)
-            ≡ interval_of stored
+        → interval_of (cond b (record stored { notices = map (notice_with key.page changes) stored.notices }) stored)
+        ≡ interval_of stored
     by_test true =
         ap (λ (pages : List ℕ). record { node = stored.node; stamp = stored.stamp; pages = pages })
         (kept_pages key.page changes stored.notices)
@@ -100,14 +106,15 @@ pub intervals_of-attached : (store : StoreRecord) (key : Key) (changes : List Ch
     → intervals_of (attached store key changes) ≡ intervals_of store
 intervals_of-attached store key changes = intervals_of-changed key changes store.entries
 
-pub IsStore-attached : (store : StoreRecord) (key : Key) (changes : List Change) → IsStore store → IsStore (attached store key changes)
+pub IsStore-attached : (store : StoreRecord) (key : Key) (changes : List Change) → IsStore store
+    → IsStore (attached store key changes)
 IsStore-attached store key changes sound =
     let same : intervals_of store ≡ intervals_of (attached store key changes) = sym (intervals_of-attached store key changes) in
     record {
       stamps = subst (All (λ i. length i.stamp ≡ length store.last)) same sound.stamps;
       pages = subst (All (λ i. All (λ page. page < store.pages) i.pages)) same sound.pages;
       counted = subst (All (λ i. index_of i ≤ entry store.last i.node)) same sound.counted;
-      ascending = subst (AllPairs (λ a b. a.node ≡ b.node → index_of a < index_of b)) same sound.ascending
+      ascending = subst (AllPairs (λ a b. a.node ≡ b.node → index_of a < index_of b)) same sound.ascending;
     }
 
 -- no node and index are in the store twice
@@ -130,36 +137,42 @@ once entries ascending node index i j d i_in j_in at_i at_j =
     let i_at : index_of (get_or all i (interval_of d)) ≡ index = ap index_of first ∙ i_index in
     let j_at : index_of (get_or all j (interval_of d)) ≡ index = ap index_of second ∙ j_index in
     ⊎_elim
-      (λ (less : i < j).
-        let below = ascending i j (interval_of d) less (omega arith) nodes in
-        absurd (omega arith))
-      (λ at_most. ⊎_elim
-        (λ (more : j < i).
-          let below = ascending j i (interval_of d) more (omega arith) (sym nodes) in
-          absurd (omega arith))
-        (λ (same : i ≤ j). omega arith)
-        (cases_lt j i))
-      (cases_lt i j)
+    (λ (less : i < j).
+    let below = ascending i j (interval_of d) less (omega arith) nodes in
+    absurd (omega arith))
+    (λ at_most. ⊎_elim
+    (λ (more : j < i).
+    let below = ascending j i (interval_of d) more (omega arith) (sym nodes) in
+    absurd (omega arith))
+    (λ (same : i ≤ j). omega arith)
+    (cases_lt j i))
+    (cases_lt i j)
+
+-- an interval without the key gets no changes
+pub stored_with-other : (key : Key) (changes : List Change) (stored : StoredRecord)
+    → is_at key.node key.index stored ≡ false → stored_with key changes stored ≡ stored
+stored_with-other key changes stored other =
+    ap (λ b. cond b (record stored { notices = map (notice_with key.page changes) stored.notices }) stored) other
 
 -- the interval at a place gets changes
 pub map-stored_with : (entries : List StoredRecord) (key : Key) (changes : List Change) (place : ℕ)
     → AllPairs (λ a b. a.node ≡ b.node → index_of a < index_of b) (map interval_of entries)
     → position (is_at key.node key.index) entries ≡ Some place → (old : StoredRecord) → old ≡ get_or entries place old
     → map (stored_with key changes) entries
-        ≡ set entries place (record { node = old.node; stamp = old.stamp; notices = map (notice_with key.page changes) old.notices })
+    ≡ set entries place (record old { notices = map (notice_with key.page changes) old.notices })
 map-stored_with entries key changes place ascending found old read =
     let passed = position-Some _ entries place old found in
     map_one (stored_with key changes) entries place _
     (λ d within.
-      let same : get_or entries place d ≡ old = get_or_default entries place d old within ∙ sym read in
-      let at : is_at key.node key.index old ≡ true = ap (is_at key.node key.index) read ∙ passed.1 in
-      ap (stored_with key changes) same
-      ∙ ap (λ b. cond b (record { node = old.node; stamp = old.stamp; notices = map (notice_with key.page changes) old.notices }) old) at)
+    let same : get_or entries place d ≡ old = get_or_default entries place d old within ∙ sym read in
+    let at : is_at key.node key.index old ≡ true = ap (is_at key.node key.index) read ∙ passed.1 in
+    ap (stored_with key changes) same
+    ∙ ap (λ b. cond b (record old { notices = map (notice_with key.page changes) old.notices }) old) at)
     (λ k d within differ.
-      let other : is_at key.node key.index (get_or entries k d) ≡ false =
-          false_from_ne_true _ (λ at. differ
-            (once entries ascending key.node key.index k place d within passed.0 at (position-Some _ entries place d found).1)) in
-      ap (λ b. cond b (record { node = (get_or entries k d).node; stamp = (get_or entries k d).stamp; notices = map (notice_with key.page changes) (get_or entries k d).notices }) (get_or entries k d)) other)
+    let other : is_at key.node key.index (get_or entries k d) ≡ false =
+    false_from_ne_true _ (λ at. differ
+    (once entries ascending key.node key.index k place d within passed.0 at (position-Some _ entries place d found).1)) in
+    stored_with-other key changes (get_or entries k d) other)
 
 -- ---- the stamps
 
@@ -169,6 +182,6 @@ pub stamp_length : (store : StoreRecord) (i : ℕ) (stored : StoredRecord) → I
 stamp_length store i stored sound within read =
     let all = intervals_of store in
     let there : get_or all i (interval_of stored) ≡ interval_of stored =
-        get_or-map interval_of store.entries i stored (interval_of stored) within ∙ ap interval_of (sym read) in
+    get_or-map interval_of store.entries i stored (interval_of stored) within ∙ ap interval_of (sym read) in
     ap (λ (interval : IntervalRecord). length interval.stamp) (sym there)
     ∙ sound.stamps i (interval_of stored) (omega (arith, length-map store.entries interval_of))

@@ -1,6 +1,8 @@
 -- Interval records: what a node did between two synchronizations, as other nodes learn of it (Amza et al. 1996).
 use Rattle.std.specs.Prelude.{ℕ, ◌<◌, ◌≤◌, ◌==◌, ◌&&◌, ◌||◌, Bool, List, length, All, nat_lt}
 use Rattle.std.specs.List.Sorted.{IsStrictlyIncreasing}
+use Rattle.std.specs.Ordering.{on, eq_of_both}
+use lib.Pointwise.{pointwise}
 use Rattle.lrc_time.specs.Time.{entry, weight_of}
 use Rattle.lrc_store.specs.declared.interval.TheConstants.{MOST_PAGES}
 
@@ -13,6 +15,12 @@ pub record IntervalRecord : Type 0 where
 -- an interval's number among those of its node: what its stamp counts of its node
 abbrev pub index_of : IntervalRecord → ℕ
 index_of interval = entry interval.stamp interval.node
+
+-- two intervals are the same, as a test
+abbrev pub same_interval : IntervalRecord → IntervalRecord → Bool
+same_interval =
+    eq_of_both (on (λ i. i.node) ◌==◌)
+    (eq_of_both (on (λ i. i.stamp) (pointwise ◌==◌)) (on (λ i. i.pages) (pointwise ◌==◌)))
 
 -- the stamp counts the interval's node, and the interval itself; each page is named once, in order
 pub record IsInterval (interval : IntervalRecord) : Type 0 where

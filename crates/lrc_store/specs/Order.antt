@@ -1,5 +1,5 @@
 -- Parts of a list, put in order.
-use Rattle.std.specs.Prelude.{Bool, IsTrue, ◌↔◌, List, [], ◌∷◌, Contains, AllPairs, filter, if◌then◌else◌}
+use Rattle.std.specs.Prelude.{Bool, IsTrue, ◌↔◌, List, [], ◌∷◌, Contains, AllPairs, if◌then◌else◌}
 
 -- a list with exactly those elements of another that pass a test, each before all that follow it, and so each once
 pub record IsAscendingPart {X : Type 0} (before : X → X → Bool) (test : X → Bool) (all part : List X) : Type 0 where

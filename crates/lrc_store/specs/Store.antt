@@ -76,15 +76,14 @@ abbrev pub without_changes : IntervalRecord → StoredRecord
 without_changes interval = record {
   node = interval.node;
   stamp = interval.stamp;
-  notices = map unread interval.pages
+  notices = map unread interval.pages;
 }
 
 -- the store with one more interval
 abbrev pub added : StoreRecord → IntervalRecord → StoreRecord
-added store interval = record {
-  pages = store.pages;
+added store interval = record store {
   last = slice_set store.last interval.node (index_of interval);
-  entries = store.entries ++ without_changes interval ∷ []
+  entries = store.entries ++ without_changes interval ∷ [];
 }
 
 -- a notice that gets changes if it is of this page
@@ -96,16 +95,12 @@ notice_with page changes notice =
 abbrev pub stored_with : Key → List Change → StoredRecord → StoredRecord
 stored_with key changes stored =
     if is_at key.node key.index stored
-    then record { node = stored.node; stamp = stored.stamp; notices = map (notice_with key.page changes) stored.notices }
+    then record stored { notices = map (notice_with key.page changes) stored.notices }
     else stored
 
 -- the store with the changes of one key
 abbrev pub attached : StoreRecord → Key → List Change → StoreRecord
-attached store key changes = record {
-  pages = store.pages;
-  last = store.last;
-  entries = map (stored_with key changes) store.entries
-}
+attached store key changes = record store { entries = map (stored_with key changes) store.entries }
 
 -- ---- what is asked of it
 

@@ -28,7 +28,35 @@ impl Model for Interval {
 
     ghost view = { λ i. record { node = i.node; stamp = i.stamp; pages = i.pages.items } };
 
-    ghost invariant = { λ i. IsInterval (record { node = i.node; stamp = i.stamp; pages = i.pages.items }) };
+    ghost invariant = { λ i.
+        IsInterval (record { node = i.node; stamp = i.stamp; pages = i.pages.items }) };
+}
+
+impl PartialEq for Interval {
+    ghost use Rattle.std.specs.Prelude.{◌≡◌, ◌↔◌, IsTrue};
+    ghost use Rattle.std.specs.Cmp.Rules.{comparing};
+    ghost use Rattle.std.proofs.Common.{rules};
+    ghost use Rattle.lrc_store.specs.Interval.{same_interval};
+
+    ghost eq = { same_interval };
+
+    ghost laws = { Prim.search (comparing, rules) };
+
+    fn eq(&self, other: &Interval) -> bool
+        ensures eq { result ≡ same_interval self.now other.now }
+        ensures same { IsTrue result ↔ (self.now ≡ other.now) }
+    {
+        self.node == other.node
+            && self.stamp == other.stamp
+            && self.pages.as_slice() == other.pages.as_slice()
+    }
+}
+
+impl Eq for Interval {
+    ghost use Rattle.std.specs.Cmp.Rules.{comparing};
+    ghost use Rattle.std.proofs.Common.{rules};
+
+    ghost laws = { Prim.search (comparing, rules) };
 }
 
 impl Interval {

@@ -4,8 +4,11 @@
 
 pub mod interval;
 pub mod key;
+pub mod laws;
 pub mod store;
 mod stored;
+#[cfg(test)]
+mod tests;
 
 pub use interval::Interval;
 pub use key::Key;

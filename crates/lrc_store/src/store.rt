@@ -1,6 +1,6 @@
 // The intervals that a node knows.
 
-ghost use Rattle.std.specs.Prelude.{◌≡◌, ◌+◌, ◌<◌, ◌≤◌, ◌↔◌, All, IfOk, IsTrue, None, Some, OnErr, OnOk, length, map, position, []};
+ghost use Rattle.std.specs.Prelude.{◌≡◌, ◌+◌, ◌<◌, ◌≤◌, ◌↔◌, All, IfOk, IsTrue, OnErr, OnOk, length, map, position, []};
 ghost use Rattle.std.specs.Option.{option_copied};
 ghost use Rattle.lrc_time.specs.Time.{entry};
 ghost use Rattle.lrc_store.specs.Store.{is_at};
@@ -30,14 +30,16 @@ impl Model for Store {
 
     ghost view = { λ s. record { pages = s.pages; last = s.last; entries = s.entries.items } };
 
-    ghost invariant = { λ s. IsStore (record { pages = s.pages; last = s.last; entries = s.entries.items }) };
+    ghost invariant = { λ s.
+        IsStore (record { pages = s.pages; last = s.last; entries = s.entries.items }) };
 }
 
 impl Store {
     ghost use Rattle.lrc_store.specs.Interval.{index_of};
-    ghost use Rattle.lrc_store.specs.Store.{empty_store, added, attached, notice_at, changes_at, newer_of, missing_of, IsNewer, IsMissing};
+    ghost use Rattle.lrc_store.specs.Store.{IsStore, empty_store, added, attached, notice_at, changes_at};
+    ghost use Rattle.lrc_store.specs.Store.{IsMissing, IsNewer, missing_of, newer_of};
 
-    /// A store for this many nodes, 1 to 16, and pages, up to 64, that knows no interval.
+    /// A store that knows no interval, for this many nodes, 1 to 16, and pages, at most `MOST_PAGES`.
     pub fn new(alloc: Global, nodes: u8, pages: u16) -> Result<Self, AllocError>
         requires some { 1 ≤ nodes }
         requires few { nodes ≤ 16 }
@@ -58,8 +60,10 @@ impl Store {
         requires next { index_of interval.now ≡ entry self.old.last interval.now.node + 1 }
         ensures ok { OnOk result (self.new ≡ added self.old interval.now) }
         ensures err { OnErr result (self.new ≡ self.old) }
+        ensures sound { IsStore self.new }
     {
-        self.entries.push(Stored::new(interval)?)?;
+        let stored = Stored::new(*self.entries.allocator(), interval)?;
+        self.entries.push(stored)?;
         self.last.raise(interval.node, interval.index());
         Ok(())
     }
@@ -67,7 +71,8 @@ impl Store {
     /// The greatest index ever added of this node, 0 before any.
     pub fn last(&self, node: u8) -> u32
         requires { node < length self.now.last }
-        ensures { result ≡ entry self.now.last node }
+        ensures index { result ≡ entry self.now.last node }
+        ensures sound { IsStore self.now }
     {
         self.last.at(node)
     }
@@ -90,7 +95,8 @@ impl Store {
     pub fn changes(&self, key: Key) -> Option<&Changes>
         ensures { option_copied result ≡ changes_at self.now key }
     {
-        let stored = &self.entries[place_of(&self.entries, key.node, key.index)?];
+        let place = place_of(&self.entries, key.node, key.index)?;
+        let stored = &self.entries[place];
         stored.changes(key.page)
     }
 
@@ -144,9 +150,7 @@ impl Store {
 fn place_of(entries: &[Stored], node: u8, index: u32) -> Option<usize>
     ensures { result ≡ position (is_at node index) entries.now }
 {
-    entries
-        .iter()
-        .position(|stored| stored.is_at(node, index))
+    entries.iter().position(|stored| stored.is_at(node, index))
 }
 
 /// The key of each pair.

@@ -1,10 +1,10 @@
 // One interval in a store.
 
-ghost use Rattle.std.specs.Prelude.{◌≡◌, ◌<◌, ◌≤◌, ◌↔◌, ◌==◌, IsTrue, IfOk, IsSome, length, map, position, option_and_then};
+ghost use Rattle.std.specs.Prelude.{◌≡◌, ◌==◌, IfOk, length, map, option_and_then, position};
+ghost use Rattle.std.specs.List.{list_any};
 ghost use Rattle.std.specs.Option.{option_copied};
 ghost use Rattle.lrc_time.specs.Time.{knows, weight_of};
 ghost use Rattle.lrc_store.specs.Store.{unread};
-ghost use Rattle.std.specs.List.{list_any};
 
 use crate::interval::Interval;
 use crate::key::Key;
@@ -53,7 +53,8 @@ impl Model for Stored {
 
     ghost view = { λ s. record { node = s.node; stamp = s.stamp; notices = s.notices.items } };
 
-    ghost invariant = { λ s. IsInterval (interval_of (record { node = s.node; stamp = s.stamp; notices = s.notices.items })) };
+    ghost invariant = { λ s.
+        IsInterval (interval_of (record { node = s.node; stamp = s.stamp; notices = s.notices.items })) };
 }
 
 impl Stored {
@@ -61,10 +62,9 @@ impl Stored {
     ghost use Rattle.lrc_store.specs.Store.{interval_of, is_at, key_of, notice_of, notice_with, without_changes};
 
     /// The interval, of which no changes are known yet.
-    pub(crate) fn new(interval: &Interval) -> Result<Self, AllocError>
+    pub(crate) fn new(alloc: Global, interval: &Interval) -> Result<Self, AllocError>
         ensures { IfOk result (λ stored. stored ≡ without_changes interval.now) }
     {
-        let alloc = *interval.pages.allocator();
         Ok(Stored {
             node: interval.node,
             stamp: interval.stamp.copy(),
@@ -133,7 +133,8 @@ impl Stored {
 
     /// The changes of this page, if they are known.
     pub(crate) fn changes(&self, page: u16) -> Option<&Changes>
-        ensures { option_copied result ≡ option_and_then (λ notice. notice.changes) (notice_of page self.now) }
+        ensures { option_copied result
+            ≡ option_and_then (λ notice. notice.changes) (notice_of page self.now) }
     {
         let place = place_of(&self.notices, page)?;
         let notice = &self.notices[place];
@@ -142,7 +143,8 @@ impl Stored {
 
     /// Keeps the changes of this page.
     pub(crate) fn attach(&mut self, page: u16, changes: Changes)
-        ensures { self.new ≡ record { node = self.old.node; stamp = self.old.stamp; notices = map (notice_with page changes) self.old.notices } }
+        ensures { self.new
+            ≡ record self.old { notices = map (notice_with page changes) self.old.notices } }
     {
         if let Some(place) = place_of(&self.notices, page) {
             self.notices[place].keep(changes);

@@ -23,6 +23,12 @@ is_readable (valid values) = true
 is_readable (written values twin) = true
 is_readable (invalid values) = false
 
+-- the values that the copy has, whether or not they may be read
+abbrev pub values_of : PageCopy → List ℕ
+values_of (valid values) = values
+values_of (written values twin) = values
+values_of (invalid values) = values
+
 -- what a read at an offset gives
 abbrev pub read_at : PageCopy → ℕ → Option ℕ
 read_at (valid values) offset = Some (slice_index values offset)

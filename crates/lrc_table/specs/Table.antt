@@ -1,5 +1,5 @@
 -- The page table of one node.
-use Rattle.std.specs.Prelude.{ℕ, List, [], map, replicate, Option, slice_index_or, slice_set}
+use Rattle.std.specs.Prelude.{ℕ, List, [], map, replicate, slice_index_or, slice_set}
 use Rattle.std.specs.Option.{option_map}
 use Rattle.std.specs.List.{enumerate_from, filter_map}
 use Rattle.lrc_page.specs.declared.changes.Change.{Change}

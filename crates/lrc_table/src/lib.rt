@@ -3,6 +3,7 @@
 //! time, so a node names what it wrote by its changes against the twin, and applies the changes of the others.
 #![tactic(auto)]
 
+pub mod laws;
 mod slot;
 mod table;
 #[cfg(test)]

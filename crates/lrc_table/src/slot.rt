@@ -78,7 +78,12 @@ impl Slot {
 
     /// Writes a value at an offset and answers `true`, or `false` if the copy may not be written. The first write
     /// keeps a twin.
-    pub(crate) fn write(&mut self, alloc: Global, offset: u8, value: u64) -> Result<bool, AllocError>
+    pub(crate) fn write(
+        &mut self,
+        alloc: Global,
+        offset: u8,
+        value: u64,
+    ) -> Result<bool, AllocError>
         requires { offset < PAGE_WORDS }
         ensures done { IfOk result (λ done. done ≡ is_readable self.old) }
         ensures ok { OnOk result (self.new ≡ after_write self.old offset value) }

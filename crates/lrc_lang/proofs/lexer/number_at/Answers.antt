@@ -1,4 +1,4 @@
-use Rattle.std.proofs.Common.{refl, ◌<◌, ◌≡◌, inl, inr, arith, rules}
+use Rattle.std.proofs.Common.{refl, inl, inr, arith}
 use Rattle.lrc_lang.proofs.LexemesSteps.{number_is_taken, bad_number_is_taken}
 use Rattle.lrc_lang.proofs.lexer.number_at.Goals as goal
 

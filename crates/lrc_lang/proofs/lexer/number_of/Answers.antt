@@ -1,7 +1,6 @@
 -- The digits read so far write no greater number than all of them do.
-use Rattle.std.proofs.Common.{◌≡◌, ◌<◌, ◌≤◌, ◌+◌, ◌*◌, ◌-◌, ◌^◌, length, get_or, take, ap, ◌∙◌, arith, rules}
+use Rattle.std.proofs.Common.{ap, ◌∙◌, arith}
 use Rattle.std.proofs.lemmas.List.{take_all}
-use Rattle.std.specs.Option.{SomeIff}
 use Rattle.lrc_lang.specs.Lexemes.{value_of}
 use Rattle.lrc_lang.proofs.LexemesNumbers.{value_of_more, value_of_grows}
 use Rattle.lrc_lang.proofs.lexer.number_of.Goals as goal

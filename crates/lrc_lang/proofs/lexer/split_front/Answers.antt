@@ -1,7 +1,7 @@
-use Rattle.std.proofs.Common.{refl, length, sym, arith, rules}
+use Rattle.std.proofs.Common.{rules}
 use Rattle.std.proofs.lemmas.List.Elements.{All-more}
 use Rattle.lrc_lang.specs.Lexer.{Has}
-use Rattle.lrc_lang.proofs.LexemesSpans.{span_before, span_to_end}
+use Rattle.lrc_lang.proofs.LexemesSpans.{span_before}
 use Rattle.lrc_lang.proofs.lexer.split_front.Goals as goal
 
 pub returns-then-not-is_in : goal.returns-then-not-is_in

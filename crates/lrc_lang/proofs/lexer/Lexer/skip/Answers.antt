@@ -1,4 +1,4 @@
-use Rattle.std.proofs.Common.{◌≤◌, ◌-◌, length, take, drop, arith, length-take, length-drop}
+use Rattle.std.proofs.Common.{arith, length-take, length-drop}
 use Rattle.lrc_lang.proofs.LexemesSteps.{blank_is_passed, line_feed_is_passed, comment_is_passed}
 use Rattle.lrc_lang.proofs.LexemesSpans.{span_keeps}
 use Rattle.lrc_lang.proofs.lexer.Lexer.skip.Goals as goal

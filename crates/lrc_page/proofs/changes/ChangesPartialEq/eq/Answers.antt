@@ -1,5 +1,5 @@
 use Rattle.std.proofs.Common.{◌≡◌, ◌∙◌, sym, rules}
-use lib.Pointwise.{pointwise}
+use Rattle.std.specs.Cmp.Lexicographic.{pointwise}
 use Rattle.lrc_page.specs.Changes.{same_change}
 use Rattle.lrc_page.proofs.ChangeLists.{same_changes}
 use Rattle.lrc_page.proofs.changes.ChangesPartialEq.eq.Goals as goal
