@@ -1,9 +1,10 @@
 -- Reading all of the bytes agrees with how envelopes are spelled.
-use Rattle.std.proofs.Common.{◌≡◌, ◌∙◌, ℕ, ◌+◌, ◌<◌, ◌≤◌, ◌⊎◌, Bool, true, false, cond, eqb, ltb, leb, List, [], ◌∷◌, ◌++◌, length, take, Option, Some, None, Ok, Err, refl, sym, ap, subst, append_assoc, arith, inl, inr}
+use Rattle.std.proofs.Common.{◌≡◌, ◌∙◌, ℕ, ◌+◌, ◌-◌, ◌<◌, ◌≤◌, ◌⊎◌, Bool, true, false, cond, eqb, ltb, leb, List, [], ◌∷◌, ◌++◌, length, take, Option, Some, None, Ok, Err, refl, sym, ap, subst, append_assoc, arith, inl, inr}
 use Rattle.std.specs.Prelude.{ok_or}
 use Rattle.std.specs.Int.{w32}
-use Rattle.std.proofs.lemmas.Bool.{eqb-true, eq-eqb, ltb-false, le-ltb, leb-true, le-leb}
-use Rattle.std.proofs.lemmas.List.{append-nil, nil_from_length, length-append, take_at}
+use Rattle.std.proofs.lemmas.Bool.{eqb-true, eq-eqb, ltb-false, lt-ltb, le-ltb, cases_lt, leb-true, le-leb}
+use Rattle.std.proofs.Math.Seq.{take-append-add}
+use Rattle.std.proofs.lemmas.List.{append-nil, nil_from_length, length-append, length-take, length-take-le, take_at}
 use Rattle.lrc_wire.specs.declared.limits.TheConstants.{MOST_NODES, MOST_BODY_BYTES, HEADER_BYTES}
 use Rattle.lrc_wire.specs.declared.kind.Kind.{Kind}
 use Rattle.lrc_wire.specs.declared.kind.Kind.TheVariants as kinds
@@ -313,3 +314,40 @@ one_spelling m n a b x y hm hn e =
     let headers : header m ≡ header n = header_is m ∙ ap spelled_header heads ∙ sym (header_is n) in
     let bytes : a ≡ b = hm.spelled ∙ ap (λ (t : List ℕ). t ++ body m.message) headers ∙ ap (λ (t : List ℕ). header n ++ t) bodies ∙ sym hn.spelled in
     (bytes, ok_is m n (sym (envelope_again a m hm) ∙ ap envelope_of bytes ∙ envelope_again b n hn))
+
+-- ---- parts of a spelling, and more than one
+
+-- a spelling up to some byte after the header
+cut_after_header : (bytes : List ℕ) (e : EnvelopeRecord) (n : ℕ) → Spells e bytes → HEADER_BYTES ≤ n → take n bytes ≡ spelled_header (header_of e) ++ take (n - HEADER_BYTES) (body e.message)
+cut_after_header bytes e n h le =
+    let place : n ≡ length (header e) + (n - HEADER_BYTES) = omega (arith, header_long e) in
+    ap (take n) h.spelled ∙ ap (λ (k : ℕ). take k (header e ++ body e.message)) place ∙ take-append-add (header e) (body e.message) (n - HEADER_BYTES)
+    ∙ ap (λ (t : List ℕ). t ++ take (n - HEADER_BYTES) (body e.message)) (header_is e)
+
+pub cut_short : (e : EnvelopeRecord) (bytes : List ℕ) (n : ℕ) → Spells e bytes → n < length bytes → envelope_of (take n bytes) ≡ Err Short
+unfolding envelope_of whole_body_of
+cut_short e bytes n h lt =
+    let all : length bytes ≡ HEADER_BYTES + length (body e.message) = omega (arith, ap length h.spelled, length-append (header e) (body e.message), header_long e) in
+    let len : length (take n bytes) ≡ n = length-take-le n bytes (omega arith) in
+    elim (cases_lt n HEADER_BYTES) [
+      | inl early ↦
+        let early' : ltb (length (take n bytes)) HEADER_BYTES ≡ true = lt-ltb (length (take n bytes)) HEADER_BYTES (omega (arith, len)) in
+        rw early' refl
+      | inr late ↦
+        let rest : List ℕ = take (n - HEADER_BYTES) (body e.message) in
+        let late' : ltb (length (take n bytes)) HEADER_BYTES ≡ false = le-ltb (length (take n bytes)) HEADER_BYTES (omega (arith, len)) in
+        let read : header_at (take n bytes) ≡ Ok (header_of e, rest) = ap header_at (cut_after_header bytes e n h late) ∙ header_again (header_of e) rest (is_header e h.fits h.short) in
+        let few : ltb (length rest) (length (body e.message)) ≡ true = lt-ltb (length rest) (length (body e.message)) (omega (arith, length-take (n - HEADER_BYTES) (body e.message))) in
+        rw (late', read, few) refl
+    ]
+
+pub longer_long : (e : EnvelopeRecord) (bytes more : List ℕ) → Spells e bytes → 1 ≤ length more → envelope_of (bytes ++ more) ≡ Err Long
+unfolding envelope_of whole_body_of
+longer_long e bytes more h some =
+    let all : length (bytes ++ more) ≡ HEADER_BYTES + length (body e.message) + length more = omega (arith, length-append bytes more, ap length h.spelled, length-append (header e) (body e.message), header_long e) in
+    let long : ltb (length (bytes ++ more)) HEADER_BYTES ≡ false = le-ltb (length (bytes ++ more)) HEADER_BYTES (omega (arith, all)) in
+    let read = front_of bytes more e h in
+    let rest : length (body e.message ++ more) ≡ length (body e.message) + length more = length-append (body e.message) more in
+    let enough : ltb (length (body e.message ++ more)) (length (body e.message)) ≡ false = le-ltb (length (body e.message ++ more)) (length (body e.message)) (omega (arith, rest)) in
+    let over : ltb (length (body e.message)) (length (body e.message ++ more)) ≡ true = lt-ltb (length (body e.message)) (length (body e.message ++ more)) (omega (arith, rest)) in
+    rw (long, read, enough, over) refl
