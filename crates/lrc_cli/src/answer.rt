@@ -87,7 +87,13 @@ fn driven(alloc: Global, run: &Simulation<'_>, program: &Program) -> Result<Repo
     ensures ok { IfOk result (IsRunOf program.now run.now.nodes.count run.now.steps.count None) }
     ensures err { IfErr result (IsRunFault None) }
 {
-    let played = drive(alloc, program, run.nodes.count, &options_of(run), Picker::Oldest);
+    let played = drive(
+        alloc,
+        program,
+        run.nodes.count,
+        &options_of(run),
+        Picker::Oldest,
+    );
     let (_events, report) = played.map_err(fault_of_run)?;
     Ok(report)
 }

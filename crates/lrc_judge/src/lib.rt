@@ -12,7 +12,6 @@ mod reach;
 pub mod reading;
 mod segments;
 pub mod synchronization;
-
 #[cfg(test)]
 mod tests;
 

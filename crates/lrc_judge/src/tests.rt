@@ -171,7 +171,10 @@ fn faults_of_reading(rt: HostRuntime) -> Result<(), Fail> {
         act(0, Deed::Read(0, 5)),
         act(1, Deed::Read(0, 5)),
     ];
-    assert_eq!(rt; first_fault_of_reading(rt.alloc(), &never_written)?, Some(2));
+    assert_eq!(rt;
+        first_fault_of_reading(rt.alloc(), &never_written)?,
+        Some(2)
+    );
     let replaced = [
         act(0, Deed::Write(0, 5)),
         act(0, Deed::Write(0, 6)),

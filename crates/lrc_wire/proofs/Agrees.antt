@@ -47,9 +47,9 @@ pub Agrees-tested : {A : Type 0} (reads : List ℕ → Field A) (spelled : A →
     → Agrees (λ bytes. tested test fault (reads bytes)) spelled (λ x. P x × (test x ≡ true))
 Agrees-tested reads spelled P test fault agrees = record {
   takes = λ bytes x rest fits e.
-    let t = tested_ok test fault (reads bytes) (x, rest) e in
-    let u = agrees.takes bytes x rest fits t.0 in
-    (u.0, (u.1, t.1));
+      let t = tested_ok test fault (reads bytes) (x, rest) e in
+      let u = agrees.takes bytes x rest fits t.0 in
+      (u.0, (u.1, t.1));
   again = λ x rest h. tested_again test fault (reads (spelled x ++ rest)) (x, rest) (agrees.again x rest h.0) h.1;
 }
 

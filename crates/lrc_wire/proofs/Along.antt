@@ -25,7 +25,7 @@ elements_along {S} {A} element next P one (suc count) state bytes xs rest e =
     let b = bind_ok (elements_at element next count (next state a.0.0) a.0.1) (λ others. Ok (a.0.0 ∷ others.0, others.1)) (xs, rest) a.2 in
     let others = elements_along element next P one count (next state a.0.0) a.0.1 b.0.0 b.0.1 b.1 in
     subst (λ (y : List A × List ℕ). (length y.0 ≡ suc count) × Along P next state y.0) (ok_is (a.0.0 ∷ b.0.0, b.0.1) (xs, rest) b.2)
-      (ap suc others.0, (one state bytes a.0.0 a.0.1 a.1, others.1))
+    (ap suc others.0, (one state bytes a.0.0 a.0.1 a.1, others.1))
 
 -- what holds at a place, where the state counts the places
 pub along_at : {A : Type 0} (P : ℕ → A → Type 0) (start : ℕ) (xs : List A) (d : A) (k place : ℕ) → place ≡ start + k → k < length xs → Along P (λ i _. i + 1) start xs → P place (get_or xs k d)
@@ -69,7 +69,7 @@ module _ {K A : Type 0} (below : K → K → Bool) (key : A → K) (P : A → Ty
     above k [] h = All-nil (λ y. below k (key y) ≡ true)
     above k (x ∷ xs) h =
         All-cons (λ y. below k (key y) ≡ true) x xs h.0.1
-          (All-weaker (λ y. below (key x) (key y) ≡ true) (λ y. below k (key y) ≡ true) (λ y q. goes_on k (key x) (key y) h.0.1 q) xs (above (key x) xs h.1))
+        (All-weaker (λ y. below (key x) (key y) ≡ true) (λ y. below k (key y) ≡ true) (λ y q. goes_on k (key x) (key y) h.0.1 q) xs (above (key x) xs h.1))
 
     pub AllPairs-from_follow : (before : Option K) (xs : List A) → Follow before xs → AllPairs (λ a b. below (key a) (key b) ≡ true) xs
     AllPairs-from_follow before [] h = λ i j d lt within. absurd (omega arith)
@@ -80,11 +80,12 @@ module _ {K A : Type 0} (below : K → K → Bool) (key : A → K) (P : A → Ty
       → All (λ x. is_after below before (key x) ≡ true) xs → Follow before xs
   unfolding is_after
   follow_from_pairs before [] each pairs first = tt
-  follow_from_pairs before (x ∷ xs) each pairs first =
-      ((All-head P x xs each, All-head (λ y. is_after below before (key y) ≡ true) x xs first),
-        follow_from_pairs (Some (key x)) xs (All-tail P x xs each)
-          (λ i j d lt within. pairs (suc i) (suc j) d (omega arith) (omega arith))
-          (λ k d within. pairs 0 (suc k) d (omega arith) (omega arith)))
+  follow_from_pairs before (x ∷ xs) each pairs first = (
+    (All-head P x xs each, All-head (λ y. is_after below before (key y) ≡ true) x xs first),
+    follow_from_pairs (Some (key x)) xs (All-tail P x xs each)
+        (λ i j d lt within. pairs (suc i) (suc j) d (omega arith) (omega arith))
+        (λ k d within. pairs 0 (suc k) d (omega arith) (omega arith)),
+  )
 
 -- ---- numbers that ascend
 
@@ -100,8 +101,8 @@ module _ (P : ℕ → Type 0) where
   unfolding is_after
   follow_from_increasing xs each rises =
       follow_from_pairs ltb (λ n. n) P None xs each
-        (λ i j d lt within. lt-ltb (get_or xs i d) (get_or xs j d) (AllPairs-from_increasing xs rises i j d lt within))
-        (λ k d within. refl)
+      (λ i j d lt within. lt-ltb (get_or xs i d) (get_or xs j d) (AllPairs-from_increasing xs rises i j d lt within))
+      (λ k d within. refl)
 
 -- ---- how many fit below a bound
 

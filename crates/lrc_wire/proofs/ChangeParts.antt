@@ -25,12 +25,12 @@ count_agrees : Agrees count_at (number w32) (λ n. HasBits 32 n × (1 ≤ n))
 unfolding count_at
 count_agrees =
     Agrees-as _ (number w32) (λ n. HasBits 32 n × (leb 1 n ≡ true)) (λ n. HasBits 32 n × (1 ≤ n)) (λ n h. (h.0, leb-true 1 n h.1)) (λ n h. (h.0, le-leb 1 n h.1))
-      (Agrees-tested (number_at w32) (number w32) (HasBits 32) (λ n. leb 1 n) BadCount number32_agrees)
+    (Agrees-tested (number_at w32) (number w32) (HasBits 32) (λ n. leb 1 n) BadCount number32_agrees)
 
 index_agrees : Agrees (λ bytes. tested (λ n. leb 1 n) BadCount (number_at w32 bytes)) (number w32) IsIndex
 index_agrees =
     Agrees-as _ (number w32) (λ n. HasBits 32 n × (leb 1 n ≡ true)) IsIndex (λ n h. record { begun = leb-true 1 n h.1; bits = h.0 }) (λ n h. (h.bits, le-leb 1 n h.begun))
-      (Agrees-tested (number_at w32) (number w32) (HasBits 32) (λ n. leb 1 n) BadCount number32_agrees)
+    (Agrees-tested (number_at w32) (number w32) (HasBits 32) (λ n. leb 1 n) BadCount number32_agrees)
 
 next_index_agrees : (before : Option ℕ) → Agrees (next_index_at before) (number w32) (Ascends ltb (λ n. n) IsIndex before)
 unfolding next_index_at
@@ -40,17 +40,18 @@ elements_of_indices : (count : ℕ) → Agrees (elements_at next_index_at (λ _ 
 unfolding numbers
 elements_of_indices count =
     Agrees-as _ (flat_map (number w32)) (λ ns. (length ns ≡ count) × Follow ltb (λ n. n) IsIndex None ns) (λ ns. (length ns ≡ count) × All IsIndex ns × IsStrictlyIncreasing ns)
-      (λ ns h. (h.0, All-from_follow ltb (λ n. n) IsIndex None ns h.1, increasing_from_follow IsIndex None ns h.1))
-      (λ ns h. (h.0, follow_from_increasing IsIndex ns h.1 h.2))
-      (elements_agree next_index_at (λ _ index. Some index) (number w32) (Ascends ltb (λ n. n) IsIndex) next_index_agrees count None)
+    (λ ns h. (h.0, All-from_follow ltb (λ n. n) IsIndex None ns h.1, increasing_from_follow IsIndex None ns h.1))
+    (λ ns h. (h.0, follow_from_increasing IsIndex ns h.1 h.2))
+    (elements_agree next_index_at (λ _ index. Some index) (number w32) (Ascends ltb (λ n. n) IsIndex) next_index_agrees count None)
 
 indices_take : (bytes ns rest : List ℕ) → IsBytes bytes → indices_at bytes ≡ Ok (ns, rest) → Takes bytes (indices ns) rest × AreIndices ns
 unfolding indices_at indices
 indices_take bytes ns rest fits e =
     let a = step count_at (number w32) (λ n. HasBits 32 n × (1 ≤ n)) count_agrees bytes (λ count. elements_at next_index_at (λ _ index. Some index) count.0 None count.1) (ns, rest) fits e in
-    let b = (elements_of_indices a.value).takes a.rest ns rest a.took.rest_fits a.then in
-    (subst (λ (n : ℕ). Takes bytes (number w32 n ++ numbers w32 ns) rest) (sym b.1.0) (Takes-then bytes (number w32 a.value) a.rest (numbers w32 ns) rest a.took b.0),
-      record { some = omega (arith, b.1.0, a.fits.1); count = subst (HasBits 32) (sym b.1.0) a.fits.0; each = b.1.1; ascending = b.1.2 })
+    let b = (elements_of_indices a.value).takes a.rest ns rest a.took.rest_fits a.then in (
+      subst (λ (n : ℕ). Takes bytes (number w32 n ++ numbers w32 ns) rest) (sym b.1.0) (Takes-then bytes (number w32 a.value) a.rest (numbers w32 ns) rest a.took b.0),
+      record { some = omega (arith, b.1.0, a.fits.1); count = subst (HasBits 32) (sym b.1.0) a.fits.0; each = b.1.1; ascending = b.1.2 },
+    )
 
 indices_again : (ns rest : List ℕ) → AreIndices ns → indices_at (indices ns ++ rest) ≡ Ok (ns, rest)
 unfolding indices_at indices
@@ -74,7 +75,7 @@ IsChange c = InPage c.offset × HasBits 64 c.value
 offset_agrees : Agrees (λ bytes. tested (λ n. ltb n PAGE_WORDS) BadCount (byte_at bytes)) byte InPage
 offset_agrees =
     Agrees-as _ byte (λ n. HasBits 8 n × (ltb n PAGE_WORDS ≡ true)) InPage (λ n h. ltb-true n PAGE_WORDS h.1) (λ n lt. (omega arith, lt-ltb n PAGE_WORDS lt))
-      (Agrees-tested byte_at byte (HasBits 8) (λ n. ltb n PAGE_WORDS) BadCount byte_agrees)
+    (Agrees-tested byte_at byte (HasBits 8) (λ n. ltb n PAGE_WORDS) BadCount byte_agrees)
 
 next_offset_agrees : (before : Option ℕ) → Agrees (next_offset_at before) byte (Ascends ltb (λ n. n) InPage before)
 unfolding next_offset_at
@@ -87,7 +88,7 @@ next_change_takes before bytes c rest fits e =
     let b = step (number_at w64) (number w64) (HasBits 64) number64_agrees a.rest (λ value. Ok (record { offset = a.value; value = value.0 }, value.1)) (c, rest) a.took.rest_fits a.then in
     let made : Change × List ℕ = (record { offset = a.value; value = b.value }, b.rest) in
     subst (λ (y : Change × List ℕ). Takes bytes (change y.0) y.1 × Ascends ltb (λ c. c.offset) IsChange before y.0) (ok_is made (c, rest) b.then)
-      (Takes-then bytes (byte a.value) a.rest (number w64 b.value) b.rest a.took b.took, ((a.fits.0, b.fits), a.fits.1))
+    (Takes-then bytes (byte a.value) a.rest (number w64 b.value) b.rest a.took b.took, ((a.fits.0, b.fits), a.fits.1))
 
 next_change_again : (before : Option ℕ) (c : Change) (rest : List ℕ) → Ascends ltb (λ c. c.offset) IsChange before c → next_change_at before (change c ++ rest) ≡ Ok (c, rest)
 unfolding next_change_at change
@@ -108,14 +109,14 @@ elements_of_changes : (count : ℕ) → Agrees (elements_at next_change_at (λ _
 unfolding is_after
 elements_of_changes count =
     Agrees-as _ (flat_map change) (λ cs. (length cs ≡ count) × Follow ltb (λ c. c.offset) IsChange None cs) (λ cs. (length cs ≡ count) × ArePageChanges cs)
-      (λ cs h. (h.0, (All-from_follow ltb (λ c. c.offset) IsChange None cs h.1, λ i j d lt within. ltb-true _ _ (AllPairs-from_follow ltb (λ c. c.offset) IsChange lt-trans None cs h.1 i j d lt within))))
-      (λ cs h. (h.0, follow_from_pairs ltb (λ c. c.offset) IsChange None cs h.1.0 (λ i j d lt within. lt-ltb _ _ (h.1.1 i j d lt within)) (λ k d within. refl)))
-      (elements_agree next_change_at (λ _ c. Some c.offset) change (Ascends ltb (λ c. c.offset) IsChange) next_change_agrees count None)
+    (λ cs h. (h.0, (All-from_follow ltb (λ c. c.offset) IsChange None cs h.1, λ i j d lt within. ltb-true _ _ (AllPairs-from_follow ltb (λ c. c.offset) IsChange lt-trans None cs h.1 i j d lt within))))
+    (λ cs h. (h.0, follow_from_pairs ltb (λ c. c.offset) IsChange None cs h.1.0 (λ i j d lt within. lt-ltb _ _ (h.1.1 i j d lt within)) (λ k d within. refl)))
+    (elements_agree next_change_at (λ _ c. Some c.offset) change (Ascends ltb (λ c. c.offset) IsChange) next_change_agrees count None)
 
 changes_count_agrees : Agrees (λ bytes. tested (λ n. leb n PAGE_WORDS) BadCount (byte_at bytes)) byte (λ n. n ≤ PAGE_WORDS)
 changes_count_agrees =
     Agrees-as _ byte (λ n. HasBits 8 n × (leb n PAGE_WORDS ≡ true)) (λ n. n ≤ PAGE_WORDS) (λ n h. leb-true n PAGE_WORDS h.1) (λ n le. (omega arith, le-leb n PAGE_WORDS le))
-      (Agrees-tested byte_at byte (HasBits 8) (λ n. leb n PAGE_WORDS) BadCount byte_agrees)
+    (Agrees-tested byte_at byte (HasBits 8) (λ n. leb n PAGE_WORDS) BadCount byte_agrees)
 
 changes_take : (bytes : List ℕ) (cs : List Change) (rest : List ℕ) → IsBytes bytes → changes_at bytes ≡ Ok (cs, rest) → Takes bytes (changes cs) rest × ArePageChanges cs
 unfolding changes_at changes
@@ -148,7 +149,7 @@ next_part_takes before bytes p rest fits e =
     let b = step changes_at changes ArePageChanges changes_agree a.rest (λ cs. Ok (record { index = a.value; changes = cs.0 }, cs.1)) (p, rest) a.took.rest_fits a.then in
     let made : IndexedChangesRecord × List ℕ = (record { index = a.value; changes = b.value }, b.rest) in
     subst (λ (y : IndexedChangesRecord × List ℕ). Takes bytes (indexed_changes y.0) y.1 × Ascends ltb (λ p. p.index) IsPart before y.0) (ok_is made (p, rest) b.then)
-      (Takes-then bytes (number w32 a.value) a.rest (changes b.value) b.rest a.took b.took, ((a.fits.0, b.fits), a.fits.1))
+    (Takes-then bytes (number w32 a.value) a.rest (changes b.value) b.rest a.took b.took, ((a.fits.0, b.fits), a.fits.1))
 
 next_part_again : (before : Option ℕ) (p : IndexedChangesRecord) (rest : List ℕ) → Ascends ltb (λ p. p.index) IsPart before p → next_indexed_changes_at before (indexed_changes p ++ rest) ≡ Ok (p, rest)
 unfolding next_indexed_changes_at indexed_changes
@@ -165,9 +166,9 @@ elements_of_parts : (count : ℕ) → Agrees (elements_at next_indexed_changes_a
 unfolding is_after
 elements_of_parts count =
     Agrees-as _ (flat_map indexed_changes) (λ ps. (length ps ≡ count) × Follow ltb (λ p. p.index) IsPart None ps) (λ ps. (length ps ≡ count) × All IsPart ps × AllPairs (λ a b. a.index < b.index) ps)
-      (λ ps h. (h.0, All-from_follow ltb (λ p. p.index) IsPart None ps h.1, λ i j d lt within. ltb-true _ _ (AllPairs-from_follow ltb (λ p. p.index) IsPart lt-trans None ps h.1 i j d lt within)))
-      (λ ps h. (h.0, follow_from_pairs ltb (λ p. p.index) IsPart None ps h.1 (λ i j d lt within. lt-ltb _ _ (h.2 i j d lt within)) (λ k d within. refl)))
-      (elements_agree next_indexed_changes_at (λ _ p. Some p.index) indexed_changes (Ascends ltb (λ p. p.index) IsPart) next_part_agrees count None)
+    (λ ps h. (h.0, All-from_follow ltb (λ p. p.index) IsPart None ps h.1, λ i j d lt within. ltb-true _ _ (AllPairs-from_follow ltb (λ p. p.index) IsPart lt-trans None ps h.1 i j d lt within)))
+    (λ ps h. (h.0, follow_from_pairs ltb (λ p. p.index) IsPart None ps h.1 (λ i j d lt within. lt-ltb _ _ (h.2 i j d lt within)) (λ k d within. refl)))
+    (elements_agree next_indexed_changes_at (λ _ p. Some p.index) indexed_changes (Ascends ltb (λ p. p.index) IsPart) next_part_agrees count None)
 
 are_changes : (count : ℕ) (ps : List IndexedChangesRecord) → HasBits 32 count × (1 ≤ count) → length ps ≡ count → All IsPart ps → AllPairs (λ a b. a.index < b.index) ps → AreChanges ps
 are_changes count ps c long each ascending = record {
@@ -188,9 +189,10 @@ changes_by_index_take : (bytes : List ℕ) (ps : List IndexedChangesRecord) (res
 unfolding changes_by_index_at changes_by_index
 changes_by_index_take bytes ps rest fits e =
     let a = step count_at (number w32) (λ n. HasBits 32 n × (1 ≤ n)) count_agrees bytes (λ count. elements_at next_indexed_changes_at (λ _ p. Some p.index) count.0 None count.1) (ps, rest) fits e in
-    let b = (elements_of_parts a.value).takes a.rest ps rest a.took.rest_fits a.then in
-    (subst (λ (n : ℕ). Takes bytes (number w32 n ++ flat_map indexed_changes ps) rest) (sym b.1.0) (Takes-then bytes (number w32 a.value) a.rest (flat_map indexed_changes ps) rest a.took b.0),
-      are_changes a.value ps a.fits b.1.0 b.1.1 b.1.2)
+    let b = (elements_of_parts a.value).takes a.rest ps rest a.took.rest_fits a.then in (
+      subst (λ (n : ℕ). Takes bytes (number w32 n ++ flat_map indexed_changes ps) rest) (sym b.1.0) (Takes-then bytes (number w32 a.value) a.rest (flat_map indexed_changes ps) rest a.took b.0),
+      are_changes a.value ps a.fits b.1.0 b.1.1 b.1.2,
+    )
 
 changes_by_index_again : (ps : List IndexedChangesRecord) (rest : List ℕ) → AreChanges ps → changes_by_index_at (changes_by_index ps ++ rest) ≡ Ok (ps, rest)
 unfolding changes_by_index_at changes_by_index
@@ -208,6 +210,6 @@ pub values_agree : Agrees values_at (numbers w64) ArePageValues
 unfolding values_at numbers
 values_agree =
     Agrees-as _ (flat_map (number w64)) (λ vs. (length vs ≡ PAGE_WORDS) × Along (λ _ n. HasBits 64 n) (λ state _. state) (tt {0}) vs) ArePageValues
-      (λ vs h. record { all = h.0; bits = All-from_along (HasBits 64) (λ state _. state) (tt {0}) vs h.1 })
-      (λ vs h. (h.all, along_from_all (HasBits 64) (λ state _. state) (tt {0}) vs h.bits))
-      (elements_agree (λ _ rest. number_at w64 rest) (λ state _. state) (number w64) (λ _ n. HasBits 64 n) (λ _. number64_agrees) PAGE_WORDS (tt {0}))
+    (λ vs h. record { all = h.0; bits = All-from_along (HasBits 64) (λ state _. state) (tt {0}) vs h.1 })
+    (λ vs h. (h.all, along_from_all (HasBits 64) (λ state _. state) (tt {0}) vs h.bits))
+    (elements_agree (λ _ rest. number_at w64 rest) (λ state _. state) (number w64) (λ _ n. HasBits 64 n) (λ _. number64_agrees) PAGE_WORDS (tt {0}))

@@ -60,17 +60,47 @@ chosen false x y k e = inr e
 kind_numbered : (n : ℕ) (k : Kind) → kind_of n ≡ Some k → n ≡ numbered k
 unfolding numbered
 kind_numbered n k e0 =
-    elim (chosen (eqb n 1) kinds.LockRequest _ k e0) [ | inl p ↦ eqb-true n 1 p.0 ∙ ap numbered p.1 | inr e1 ↦
-    elim (chosen (eqb n 2) kinds.LockForward _ k e1) [ | inl p ↦ eqb-true n 2 p.0 ∙ ap numbered p.1 | inr e2 ↦
-    elim (chosen (eqb n 3) kinds.LockGrant _ k e2) [ | inl p ↦ eqb-true n 3 p.0 ∙ ap numbered p.1 | inr e3 ↦
-    elim (chosen (eqb n 4) kinds.Arrive _ k e3) [ | inl p ↦ eqb-true n 4 p.0 ∙ ap numbered p.1 | inr e4 ↦
-    elim (chosen (eqb n 5) kinds.Depart _ k e4) [ | inl p ↦ eqb-true n 5 p.0 ∙ ap numbered p.1 | inr e5 ↦
-    elim (chosen (eqb n 6) kinds.Clean _ k e5) [ | inl p ↦ eqb-true n 6 p.0 ∙ ap numbered p.1 | inr e6 ↦
-    elim (chosen (eqb n 7) kinds.Discard _ k e6) [ | inl p ↦ eqb-true n 7 p.0 ∙ ap numbered p.1 | inr e7 ↦
-    elim (chosen (eqb n 8) kinds.ChangesRequest _ k e7) [ | inl p ↦ eqb-true n 8 p.0 ∙ ap numbered p.1 | inr e8 ↦
-    elim (chosen (eqb n 9) kinds.ChangesReply _ k e8) [ | inl p ↦ eqb-true n 9 p.0 ∙ ap numbered p.1 | inr e9 ↦
-    elim (chosen (eqb n 10) kinds.PageRequest _ k e9) [ | inl p ↦ eqb-true n 10 p.0 ∙ ap numbered p.1 | inr e10 ↦
-    elim (chosen (eqb n 11) kinds.PageReply _ k e10) [ | inl p ↦ eqb-true n 11 p.0 ∙ ap numbered p.1 | inr e11 ↦ absurd cc ] ] ] ] ] ] ] ] ] ] ]
+    elim (chosen (eqb n 1) kinds.LockRequest _ k e0) [
+      | inl p ↦ eqb-true n 1 p.0 ∙ ap numbered p.1
+      | inr e1 ↦
+          elim (chosen (eqb n 2) kinds.LockForward _ k e1) [
+            | inl p ↦ eqb-true n 2 p.0 ∙ ap numbered p.1
+            | inr e2 ↦
+                elim (chosen (eqb n 3) kinds.LockGrant _ k e2) [
+                  | inl p ↦ eqb-true n 3 p.0 ∙ ap numbered p.1
+                  | inr e3 ↦
+                      elim (chosen (eqb n 4) kinds.Arrive _ k e3) [
+                        | inl p ↦ eqb-true n 4 p.0 ∙ ap numbered p.1
+                        | inr e4 ↦
+                            elim (chosen (eqb n 5) kinds.Depart _ k e4) [
+                              | inl p ↦ eqb-true n 5 p.0 ∙ ap numbered p.1
+                              | inr e5 ↦
+                                  elim (chosen (eqb n 6) kinds.Clean _ k e5) [
+                                    | inl p ↦ eqb-true n 6 p.0 ∙ ap numbered p.1
+                                    | inr e6 ↦
+                                        elim (chosen (eqb n 7) kinds.Discard _ k e6) [
+                                          | inl p ↦ eqb-true n 7 p.0 ∙ ap numbered p.1
+                                          | inr e7 ↦
+                                              elim (chosen (eqb n 8) kinds.ChangesRequest _ k e7) [
+                                                | inl p ↦ eqb-true n 8 p.0 ∙ ap numbered p.1
+                                                | inr e8 ↦
+                                                    elim (chosen (eqb n 9) kinds.ChangesReply _ k e8) [
+                                                      | inl p ↦ eqb-true n 9 p.0 ∙ ap numbered p.1
+                                                      | inr e9 ↦
+                                                          elim (chosen (eqb n 10) kinds.PageRequest _ k e9) [
+                                                            | inl p ↦ eqb-true n 10 p.0 ∙ ap numbered p.1
+                                                            | inr e10 ↦
+                                                                elim (chosen (eqb n 11) kinds.PageReply _ k e10) [ inl p ↦ eqb-true n 11 p.0 ∙ ap numbered p.1 | inr e11 ↦ absurd cc ]
+                                                          ]
+                                                    ]
+                                              ]
+                                        ]
+                                  ]
+                            ]
+                      ]
+                ]
+          ]
+    ]
 
 named : (o : Option Kind) (k : Kind) → ok_or o BadKind ≡ Ok k → o ≡ Some k
 named (Some x) k e = cc
@@ -106,12 +136,12 @@ kind_agrees = record { takes = kind_takes; again = kind_again }
 version_agrees : Agrees (λ bytes. tested (λ n. eqb n 1) BadVersion (byte_at bytes)) byte (λ n. n ≡ 1)
 version_agrees =
     Agrees-as _ byte (λ n. HasBits 8 n × (eqb n 1 ≡ true)) (λ n. n ≡ 1) (λ n h. eqb-true n 1 h.1) (λ n e. (omega arith, eq-eqb n 1 e))
-      (Agrees-tested byte_at byte (HasBits 8) (λ n. eqb n 1) BadVersion byte_agrees)
+    (Agrees-tested byte_at byte (HasBits 8) (λ n. eqb n 1) BadVersion byte_agrees)
 
 body_len_agrees : Agrees (λ bytes. tested (λ n. leb n MOST_BODY_BYTES) BadCount (number_at w32 bytes)) (number w32) (λ n. n ≤ MOST_BODY_BYTES)
 body_len_agrees =
     Agrees-as _ (number w32) (λ n. HasBits 32 n × (leb n MOST_BODY_BYTES ≡ true)) (λ n. n ≤ MOST_BODY_BYTES) (λ n h. leb-true n MOST_BODY_BYTES h.1) (λ n le. (omega arith, le-leb n MOST_BODY_BYTES le))
-      (Agrees-tested (number_at w32) (number w32) (HasBits 32) (λ n. leb n MOST_BODY_BYTES) BadCount number32_agrees)
+    (Agrees-tested (number_at w32) (number w32) (HasBits 32) (λ n. leb n MOST_BODY_BYTES) BadCount number32_agrees)
 
 abbrev spelled_header : Header → List ℕ
 spelled_header h = byte 1 ++ (byte (numbered h.kind) ++ (byte h.from ++ (byte h.to ++ (number w32 h.number ++ number w32 h.body_len))))
@@ -158,10 +188,10 @@ after_number_takes : (k : Kind) (f t n : ℕ) (bytes : List ℕ) (h : Header) (r
 unfolding after_number
 after_number_takes k f t n bytes h rest fits e =
     let a = step (λ bytes. tested (λ n. leb n MOST_BODY_BYTES) BadCount (number_at w32 bytes)) (number w32) (λ n. n ≤ MOST_BODY_BYTES) body_len_agrees bytes
-      (λ len. Ok (record { kind = k; from = f; to = t; number = n; body_len = len.0 }, len.1)) (h, rest) fits e in
+    (λ len. Ok (record { kind = k; from = f; to = t; number = n; body_len = len.0 }, len.1)) (h, rest) fits e in
     let made : Header × List ℕ = (record { kind = k; from = f; to = t; number = n; body_len = a.value }, a.rest) in
     subst (λ (y : Header × List ℕ). Takes bytes (number w32 y.0.body_len) y.1 × (y.0.body_len ≤ MOST_BODY_BYTES) × (k ≡ y.0.kind) × (f ≡ y.0.from) × (t ≡ y.0.to) × (n ≡ y.0.number))
-      (ok_is made (h, rest) a.then) (a.took, a.fits, refl, refl, refl, refl)
+    (ok_is made (h, rest) a.then) (a.took, a.fits, refl, refl, refl, refl)
 
 after_to_takes : (k : Kind) (f t : ℕ) (bytes : List ℕ) (h : Header) (rest : List ℕ) → IsBytes bytes → after_to k f t bytes ≡ Ok (h, rest)
     → Takes bytes (number w32 h.number ++ number w32 h.body_len) rest × (HasBits 32 h.number × (h.body_len ≤ MOST_BODY_BYTES)) × (k ≡ h.kind) × (f ≡ h.from) × (t ≡ h.to)
@@ -190,9 +220,11 @@ unfolding after_kind
 after_kind_takes k bytes h rest fits e =
     let a = step node_at byte (λ n. n < MOST_NODES) node_agrees bytes (λ f. after_from k f.0 f.1) (h, rest) fits e in
     let b = after_from_takes k a.value a.rest h rest a.took.rest_fits a.then in
-    let both = Takes-then bytes (byte a.value) a.rest (byte h.to ++ after_to_text h) rest a.took b.0 in
-    (subst (λ (n : ℕ). Takes bytes (byte n ++ (byte h.to ++ after_to_text h)) rest) b.3 both,
-      record { from = subst (λ (n : ℕ). n < MOST_NODES) b.3 a.fits; to = b.1.0; number = b.1.1; body_len = b.1.2 }, b.2)
+    let both = Takes-then bytes (byte a.value) a.rest (byte h.to ++ after_to_text h) rest a.took b.0 in (
+      subst (λ (n : ℕ). Takes bytes (byte n ++ (byte h.to ++ after_to_text h)) rest) b.3 both,
+      record { from = subst (λ (n : ℕ). n < MOST_NODES) b.3 a.fits; to = b.1.0; number = b.1.1; body_len = b.1.2 },
+      b.2,
+    )
 
 after_version_takes : (bytes : List ℕ) (h : Header) (rest : List ℕ) → IsBytes bytes → after_version bytes ≡ Ok (h, rest)
     → Takes bytes (byte (numbered h.kind) ++ (byte h.from ++ (byte h.to ++ after_to_text h))) rest × IsHeader h
@@ -300,7 +332,7 @@ envelope_again bytes e h =
 front_of : (a x : List ℕ) (m : EnvelopeRecord) → Spells m a → header_at (a ++ x) ≡ Ok (header_of m, body m.message ++ x)
 front_of a x m h =
     let all : a ++ x ≡ spelled_header (header_of m) ++ (body m.message ++ x) =
-      ap (λ (t : List ℕ). t ++ x) (h.spelled ∙ ap (λ (t : List ℕ). t ++ body m.message) (header_is m)) ∙ append_assoc (spelled_header (header_of m)) (body m.message) x in
+    ap (λ (t : List ℕ). t ++ x) (h.spelled ∙ ap (λ (t : List ℕ). t ++ body m.message) (header_is m)) ∙ append_assoc (spelled_header (header_of m)) (body m.message) x in
     ap header_at all ∙ header_again (header_of m) (body m.message ++ x) (is_header m h.fits h.short)
 
 pub one_spelling : (m n : EnvelopeRecord) (a b x y : List ℕ) → Spells m a → Spells n b → a ++ x ≡ b ++ y → (a ≡ b) × (m ≡ n)
@@ -310,7 +342,7 @@ one_spelling m n a b x y hm hn e =
     let rests : body m.message ++ x ≡ body n.message ++ y = ap (λ (p : Header × List ℕ). p.1) same in
     let len : length (body m.message) ≡ length (body n.message) = ap (λ (h : Header). h.body_len) heads in
     let bodies : body m.message ≡ body n.message =
-      sym (take_at (body m.message) x (length (body n.message)) len) ∙ ap (take (length (body n.message))) rests ∙ take_at (body n.message) y (length (body n.message)) refl in
+    sym (take_at (body m.message) x (length (body n.message)) len) ∙ ap (take (length (body n.message))) rests ∙ take_at (body n.message) y (length (body n.message)) refl in
     let headers : header m ≡ header n = header_is m ∙ ap spelled_header heads ∙ sym (header_is n) in
     let bytes : a ≡ b = hm.spelled ∙ ap (λ (t : List ℕ). t ++ body m.message) headers ∙ ap (λ (t : List ℕ). header n ++ t) bodies ∙ sym hn.spelled in
     (bytes, ok_is m n (sym (envelope_again a m hm) ∙ ap envelope_of bytes ∙ envelope_again b n hn))
@@ -331,14 +363,14 @@ cut_short e bytes n h lt =
     let len : length (take n bytes) ≡ n = length-take-le n bytes (omega arith) in
     elim (cases_lt n HEADER_BYTES) [
       | inl early ↦
-        let early' : ltb (length (take n bytes)) HEADER_BYTES ≡ true = lt-ltb (length (take n bytes)) HEADER_BYTES (omega (arith, len)) in
-        rw early' refl
+          let early' : ltb (length (take n bytes)) HEADER_BYTES ≡ true = lt-ltb (length (take n bytes)) HEADER_BYTES (omega (arith, len)) in
+          rw early' refl
       | inr late ↦
-        let rest : List ℕ = take (n - HEADER_BYTES) (body e.message) in
-        let late' : ltb (length (take n bytes)) HEADER_BYTES ≡ false = le-ltb (length (take n bytes)) HEADER_BYTES (omega (arith, len)) in
-        let read : header_at (take n bytes) ≡ Ok (header_of e, rest) = ap header_at (cut_after_header bytes e n h late) ∙ header_again (header_of e) rest (is_header e h.fits h.short) in
-        let few : ltb (length rest) (length (body e.message)) ≡ true = lt-ltb (length rest) (length (body e.message)) (omega (arith, length-take (n - HEADER_BYTES) (body e.message))) in
-        rw (late', read, few) refl
+          let rest : List ℕ = take (n - HEADER_BYTES) (body e.message) in
+          let late' : ltb (length (take n bytes)) HEADER_BYTES ≡ false = le-ltb (length (take n bytes)) HEADER_BYTES (omega (arith, len)) in
+          let read : header_at (take n bytes) ≡ Ok (header_of e, rest) = ap header_at (cut_after_header bytes e n h late) ∙ header_again (header_of e) rest (is_header e h.fits h.short) in
+          let few : ltb (length rest) (length (body e.message)) ≡ true = lt-ltb (length rest) (length (body e.message)) (omega (arith, length-take (n - HEADER_BYTES) (body e.message))) in
+          rw (late', read, few) refl
     ]
 
 pub longer_long : (e : EnvelopeRecord) (bytes more : List ℕ) → Spells e bytes → 1 ≤ length more → envelope_of (bytes ++ more) ≡ Err Long

@@ -30,25 +30,25 @@ pub lock_agrees : Agrees lock_at byte (λ n. n < MOST_LOCKS)
 unfolding lock_at
 lock_agrees =
     Agrees-as _ byte (λ n. HasBits 8 n × (ltb n MOST_LOCKS ≡ true)) (λ n. n < MOST_LOCKS) (λ n h. ltb-true n MOST_LOCKS h.1) (λ n lt. (omega arith, lt-ltb n MOST_LOCKS lt))
-      (Agrees-tested byte_at byte (HasBits 8) (λ n. ltb n MOST_LOCKS) BadCount byte_agrees)
+    (Agrees-tested byte_at byte (HasBits 8) (λ n. ltb n MOST_LOCKS) BadCount byte_agrees)
 
 pub node_agrees : Agrees node_at byte (λ n. n < MOST_NODES)
 unfolding node_at
 node_agrees =
     Agrees-as _ byte (λ n. HasBits 8 n × (ltb n MOST_NODES ≡ true)) (λ n. n < MOST_NODES) (λ n h. ltb-true n MOST_NODES h.1) (λ n lt. (omega arith, lt-ltb n MOST_NODES lt))
-      (Agrees-tested byte_at byte (HasBits 8) (λ n. ltb n MOST_NODES) BadNode byte_agrees)
+    (Agrees-tested byte_at byte (HasBits 8) (λ n. ltb n MOST_NODES) BadNode byte_agrees)
 
 pub episode_agrees : Agrees episode_at (number w32) IsEpisode
 unfolding episode_at
 episode_agrees =
     Agrees-as _ (number w32) (λ n. HasBits 32 n × (leb 1 n ≡ true)) IsEpisode (λ n h. record { begun = leb-true 1 n h.1; bits = h.0 }) (λ n h. (h.bits, le-leb 1 n h.begun))
-      (Agrees-tested (number_at w32) (number w32) (HasBits 32) (λ n. leb 1 n) BadCount number32_agrees)
+    (Agrees-tested (number_at w32) (number w32) (HasBits 32) (λ n. leb 1 n) BadCount number32_agrees)
 
 pub page_agrees : Agrees page_at (number w16) (λ n. n < MOST_PAGES)
 unfolding page_at
 page_agrees =
     Agrees-as _ (number w16) (λ n. HasBits 16 n × (ltb n MOST_PAGES ≡ true)) (λ n. n < MOST_PAGES) (λ n h. ltb-true n MOST_PAGES h.1) (λ n lt. (omega arith, lt-ltb n MOST_PAGES lt))
-      (Agrees-tested (number_at w16) (number w16) (HasBits 16) (λ n. ltb n MOST_PAGES) BadCount number16_agrees)
+    (Agrees-tested (number_at w16) (number w16) (HasBits 16) (λ n. ltb n MOST_PAGES) BadCount number16_agrees)
 
 flag_byte : (n : ℕ) → n < 2 → flag (eqb n 1) ≡ byte n
 unfolding flag
@@ -82,9 +82,9 @@ entries_agree : (nodes : ℕ) → Agrees (entries_at None nodes) (numbers w32) (
 unfolding entries_at numbers
 entries_agree nodes =
     Agrees-as _ (flat_map (number w32)) (λ time. (length time ≡ nodes) × Along (λ _ n. HasBits 32 n) (λ node _. node + 1) 0 time) (λ time. (length time ≡ nodes) × All (HasBits 32) time)
-      (λ time h. (h.0, All-from_along (HasBits 32) (λ node _. node + 1) 0 time h.1))
-      (λ time h. (h.0, along_from_all (HasBits 32) (λ node _. node + 1) 0 time h.1))
-      (elements_agree (entry_at None) (λ node _. node + 1) (number w32) (λ _ n. HasBits 32 n) entry_agrees nodes 0)
+    (λ time h. (h.0, All-from_along (HasBits 32) (λ node _. node + 1) 0 time h.1))
+    (λ time h. (h.0, along_from_all (HasBits 32) (λ node _. node + 1) 0 time h.1))
+    (elements_agree (entry_at None) (λ node _. node + 1) (number w32) (λ _ n. HasBits 32 n) entry_agrees nodes 0)
 
 -- a stamp's own entry is at least 1
 abbrev pub IsStamp : ℕ → ℕ → List ℕ → Type 0
@@ -114,9 +114,9 @@ stamp_entries_agree : (nodes own : ℕ) → own < nodes → Agrees (entries_at (
 unfolding entries_at numbers
 stamp_entries_agree nodes own within =
     Agrees-as _ (flat_map (number w32)) (λ stamp. (length stamp ≡ nodes) × Along (Counts own) (λ node _. node + 1) 0 stamp) (IsStamp nodes own)
-      (λ stamp h. (h.0, counts_bits own 0 stamp h.1, counted own own (get_or stamp own 0) refl (along_at (Counts own) 0 stamp 0 own own (omega arith) (omega (arith, h.0)) h.1).1))
-      (λ stamp h. (h.0, along_from (Counts own) 0 stamp (λ k place d e lt. ((h.1 k d lt), counts own place (get_or stamp k d) (λ same. own_begun stamp own k d (omega arith) lt h.2)))))
-      (elements_agree (entry_at (Some own)) (λ node _. node + 1) (number w32) (Counts own) (stamp_entry_agrees own) nodes 0)
+    (λ stamp h. (h.0, counts_bits own 0 stamp h.1, counted own own (get_or stamp own 0) refl (along_at (Counts own) 0 stamp 0 own own (omega arith) (omega (arith, h.0)) h.1).1))
+    (λ stamp h. (h.0, along_from (Counts own) 0 stamp (λ k place d e lt. ((h.1 k d lt), counts own place (get_or stamp k d) (λ same. own_begun stamp own k d (omega arith) lt h.2)))))
+    (elements_agree (entry_at (Some own)) (λ node _. node + 1) (number w32) (Counts own) (stamp_entry_agrees own) nodes 0)
 
 -- a time whose count was read
 pub is_time : (nodes : ℕ) (entries : List ℕ) → (leb 1 nodes && leb nodes MOST_NODES) ≡ true → length entries ≡ nodes → All (HasBits 32) entries → IsTime entries
@@ -143,7 +143,7 @@ time_again entries rest h =
     let passes : (leb 1 (length entries) && leb (length entries) MOST_NODES) ≡ true = and_from (leb 1 (length entries)) (leb (length entries) MOST_NODES) (le-leb 1 (length entries) h.some) (le-leb (length entries) MOST_NODES h.few) in
     let counted : byte_at (byte (length entries) ++ (numbers w32 entries ++ rest)) ≡ Ok (length entries, numbers w32 entries ++ rest) = byte_agrees.again (length entries) (numbers w32 entries ++ rest) (omega (arith, h.few)) in
     let first : tested (λ n. leb 1 n && leb n MOST_NODES) BadCount (byte_at (byte (length entries) ++ (numbers w32 entries ++ rest))) ≡ Ok (length entries, numbers w32 entries ++ rest) =
-      tested_again (λ n. leb 1 n && leb n MOST_NODES) BadCount (byte_at (byte (length entries) ++ (numbers w32 entries ++ rest))) (length entries, numbers w32 entries ++ rest) counted passes in
+    tested_again (λ n. leb 1 n && leb n MOST_NODES) BadCount (byte_at (byte (length entries) ++ (numbers w32 entries ++ rest))) (length entries, numbers w32 entries ++ rest) counted passes in
     rw (regrouped, first) ((entries_agree (length entries)).again entries rest (refl, h.bits))
 
 pub time_agrees : Agrees time_at time IsTime
@@ -164,7 +164,7 @@ module _ (nodes own : ℕ) (few : nodes ≤ MOST_NODES) (within : own < nodes) w
       let regrouped : (byte (length entries) ++ numbers w32 entries) ++ rest ≡ byte (length entries) ++ (numbers w32 entries ++ rest) = append_assoc (byte (length entries)) (numbers w32 entries) rest in
       let counted : byte_at (byte (length entries) ++ (numbers w32 entries ++ rest)) ≡ Ok (length entries, numbers w32 entries ++ rest) = byte_agrees.again (length entries) (numbers w32 entries ++ rest) (omega (arith, h.0)) in
       let first : tested (λ n. eqb n nodes) BadCount (byte_at (byte (length entries) ++ (numbers w32 entries ++ rest))) ≡ Ok (length entries, numbers w32 entries ++ rest) =
-        tested_again (λ n. eqb n nodes) BadCount (byte_at (byte (length entries) ++ (numbers w32 entries ++ rest))) (length entries, numbers w32 entries ++ rest) counted (eq-eqb (length entries) nodes h.0) in
+      tested_again (λ n. eqb n nodes) BadCount (byte_at (byte (length entries) ++ (numbers w32 entries ++ rest))) (length entries, numbers w32 entries ++ rest) counted (eq-eqb (length entries) nodes h.0) in
       rw (regrouped, first) ((stamp_entries_agree nodes own within).again entries rest h)
 
   pub stamp_agrees : Agrees (stamp_at nodes own) time (IsStamp nodes own)
@@ -186,9 +186,9 @@ elements_of_pages : (count : ℕ) → Agrees (elements_at next_page_at (λ _ pag
 unfolding numbers
 elements_of_pages count =
     Agrees-as _ (flat_map (number w16)) (λ ps. (length ps ≡ count) × Follow ltb (λ n. n) (λ n. n < MOST_PAGES) None ps) (λ ps. (length ps ≡ count) × ArePages ps)
-      (λ ps h. (h.0, (All-from_follow ltb (λ n. n) (λ n. n < MOST_PAGES) None ps h.1, increasing_from_follow (λ n. n < MOST_PAGES) None ps h.1)))
-      (λ ps h. (h.0, follow_from_increasing (λ n. n < MOST_PAGES) ps h.1.0 h.1.1))
-      (elements_agree next_page_at (λ _ page. Some page) (number w16) (Ascends ltb (λ n. n) (λ n. n < MOST_PAGES)) next_page_agrees count None)
+    (λ ps h. (h.0, (All-from_follow ltb (λ n. n) (λ n. n < MOST_PAGES) None ps h.1, increasing_from_follow (λ n. n < MOST_PAGES) None ps h.1)))
+    (λ ps h. (h.0, follow_from_increasing (λ n. n < MOST_PAGES) ps h.1.0 h.1.1))
+    (elements_agree next_page_at (λ _ page. Some page) (number w16) (Ascends ltb (λ n. n) (λ n. n < MOST_PAGES)) next_page_agrees count None)
 
 pages_take : (bytes ps rest : List ℕ) → IsBytes bytes → pages_at bytes ≡ Ok (ps, rest) → Takes bytes (pages ps) rest × ArePages ps
 unfolding pages_at pages

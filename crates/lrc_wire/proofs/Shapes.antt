@@ -113,7 +113,7 @@ next_interval_ascends nodes before bytes x rest e =
     let t = tested_ok (λ stamp. is_after is_below before (a.0.0, entry stamp a.0.0)) NotAscending (stamp_at nodes a.0.0 a.0.1) b.0 b.1 in
     let made : IntervalRecord × List ℕ = (record { node = a.0.0; stamp = b.0.0; pages = c.0.0 }, c.0.1) in
     subst (λ (y : IntervalRecord × List ℕ). Ascends is_below key_of (λ interval. length interval.stamp ≡ nodes) before y.0) (ok_is made (x, rest) c.2)
-      (stamp_long nodes a.0.0 a.0.1 b.0.0 b.0.1 t.0, t.1)
+    (stamp_long nodes a.0.0 a.0.1 b.0.0 b.0.1 t.0, t.1)
 
 pub intervals_go_with : (nodes count : ℕ) (bytes : List ℕ) (xs : List IntervalRecord) (rest : List ℕ) → elements_at (next_interval_at nodes) (λ _ interval. Some (key_of interval)) count None bytes ≡ Ok (xs, rest) → GoWith nodes xs
 intervals_go_with nodes count bytes xs rest e =
@@ -161,7 +161,7 @@ next_change_ascends before bytes change rest e =
     let b = bind_ok (number_at w64 a.0.1) (λ value. Ok (record { offset = a.0.0; value = value.0 }, value.1)) (change, rest) a.2 in
     let made : Change × List ℕ = (record { offset = a.0.0; value = b.0.0 }, b.0.1) in
     subst (λ (y : Change × List ℕ). Ascends ltb (λ c. c.offset) (λ c. c.offset < PAGE_WORDS) before y.0) (ok_is made (change, rest) b.2)
-      (next_offset_ascends before bytes a.0.0 a.0.1 a.1)
+    (next_offset_ascends before bytes a.0.0 a.0.1 a.1)
 
 changes_follow : (count : ℕ) (bytes : List ℕ) (changes : List Change) (rest : List ℕ) → elements_at next_change_at (λ _ change. Some change.offset) count None bytes ≡ Ok (changes, rest) → Follow ltb (λ c. c.offset) (λ c. c.offset < PAGE_WORDS) None changes
 changes_follow count bytes changes rest e =
@@ -184,7 +184,7 @@ next_part_ascends before bytes part rest e =
     let b = bind_ok (changes_at a.0.1) (λ changes. Ok (record { index = a.0.0; changes = changes.0 }, changes.1)) (part, rest) a.2 in
     let made : IndexedChangesRecord × List ℕ = (record { index = a.0.0; changes = b.0.0 }, b.0.1) in
     subst (λ (y : IndexedChangesRecord × List ℕ). Ascends ltb (λ p. p.index) (λ p. 1 ≤ p.index) before y.0) (ok_is made (part, rest) b.2)
-      (next_index_ascends before bytes a.0.0 a.0.1 a.1)
+    (next_index_ascends before bytes a.0.0 a.0.1 a.1)
 
 parts_follow : (count : ℕ) (bytes : List ℕ) (parts : List IndexedChangesRecord) (rest : List ℕ) → elements_at next_indexed_changes_at (λ _ part. Some part.index) count None bytes ≡ Ok (parts, rest) → (length parts ≡ count) × Follow ltb (λ p. p.index) (λ p. 1 ≤ p.index) None parts
 parts_follow count bytes parts rest e =

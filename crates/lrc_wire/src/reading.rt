@@ -24,12 +24,7 @@ mod times;
 
 /// A body of so many bytes, and no byte after it.
 #[tactic(auto, unfolding(crate::specs::Reading::whole_body_of))]
-fn whole_body(
-    alloc: Global,
-    kind: Kind,
-    len: u32,
-    mut bytes: &[u8],
-) -> Result<Message, WireFault>
+fn whole_body(alloc: Global, kind: Kind, len: u32, mut bytes: &[u8]) -> Result<Message, WireFault>
     ensures { Gives (λ message. message) result (whole_body_of kind len bytes.entry.now) }
 {
     let len = len as usize;

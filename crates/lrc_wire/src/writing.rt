@@ -55,11 +55,7 @@ fn put_header(out: &mut Vec<u8>, envelope: &Envelope, body_len: usize) -> Result
 }
 
 /// Header and body.
-fn put_envelope(
-    out: &mut Vec<u8>,
-    envelope: &Envelope,
-    body_len: usize,
-) -> Result<(), AllocError>
+fn put_envelope(out: &mut Vec<u8>, envelope: &Envelope, body_len: usize) -> Result<(), AllocError>
     requires exact { body_len ≡ length (body envelope.now.message) }
     requires short { body_len ≤ MOST_BODY_BYTES }
     requires empty { out.old.items ≡ [] }

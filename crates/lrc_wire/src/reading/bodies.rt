@@ -109,11 +109,7 @@ fn read_page_reply(bytes: &mut &[u8]) -> Result<PageReply, WireFault>
 
 /// The body of a message of this kind. Bytes may be left.
 #[tactic(auto, unfolding(crate::specs::Reading::body_at))]
-pub(super) fn read_body(
-    alloc: Global,
-    kind: Kind,
-    bytes: &mut &[u8],
-) -> Result<Message, WireFault>
+pub(super) fn read_body(alloc: Global, kind: Kind, bytes: &mut &[u8]) -> Result<Message, WireFault>
     ensures { Gives (λ message. (message, bytes.new.now)) result (body_at kind bytes.old.now) }
 {
     match kind {

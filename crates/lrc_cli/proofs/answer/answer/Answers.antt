@@ -51,6 +51,10 @@ returns-clause-ok c =
     let printed = c.in_ok-report_parts-in-Simulate.ensures ∙ ap₂ report_text c.deref.ensures.value c.deref-in-Simulate.ensures.value in
     let after = c.status_after.ensures ∙ ap status_of c.deref-in-Simulate-2.ensures.value in
     subst (λ (choice : Choice). Prints choice c.args.text.now (option_map (λ (e : Bor (List ℕ)). e.now) c.args.events) (whole_text c.in_ok-report_parts-in-Simulate.field-0.items) c.status_after.result)
-    (sym c.in-Simulate.is)
-    (c.in_ok-program.program, c.in_ok-program.ensures.program, run.0, run.1,
-    report_is c.in-Simulate.run'.nodes.count c.status_after.result (acts_of c.in_ok-program.program c.in-Simulate.run'.steps.count run.0) _ report printed after run.2 run.3)
+    (sym c.in-Simulate.is) (
+      c.in_ok-program.program,
+      c.in_ok-program.ensures.program,
+      run.0,
+      run.1,
+      report_is c.in-Simulate.run'.nodes.count c.status_after.result (acts_of c.in_ok-program.program c.in-Simulate.run'.steps.count run.0) _ report printed after run.2 run.3,
+    )

@@ -32,7 +32,7 @@ loop-offset-preserved c =
     record {
       long = rw c.set.ensures (length-set page offset c.in_ok-value.value ∙ c.loop-offset.invariant.long);
       read = rw (c.set.ensures, take_more_set page offset c.in_ok-value.value within)
-        (goes_on (λ _ rest. number_at w64 rest) (λ state _. state) (take offset page) PAGE_WORDS offset (tt {0}) c.loop-offset.bytes.now c.in_ok-value.value c.read_u64.new.bytes.now _ c.loop-offset-test.true c.in_ok-value.ensures c.loop-offset.invariant.read);
+          (goes_on (λ _ rest. number_at w64 rest) (λ state _. state) (take offset page) PAGE_WORDS offset (tt {0}) c.loop-offset.bytes.now c.in_ok-value.value c.read_u64.new.bytes.now _ c.loop-offset-test.true c.in_ok-value.ensures c.loop-offset.invariant.read);
     }
 
 pub returns : goal.returns

@@ -8,5 +8,5 @@ use Rattle.lrc_wire.proofs.reading.changes.read_values.Given as goal
 abbrev pub invariant-loop-offset : goal.invariant-loop-offset
 invariant-loop-offset l = record {
   long : length l.page ≡ PAGE_WORDS;
-  read : with_front (take l.offset l.page) (elements_at (λ _ rest. number_at w64 rest) (λ state _. state) (PAGE_WORDS - l.offset) (tt {0}) l.bytes.now) ≡ values_at l.fn.bytes.now
+  read : with_front (take l.offset l.page) (elements_at (λ _ rest. number_at w64 rest) (λ state _. state) (PAGE_WORDS - l.offset) (tt {0}) l.bytes.now) ≡ values_at l.fn.bytes.now;
 }

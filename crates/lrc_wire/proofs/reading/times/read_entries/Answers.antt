@@ -38,7 +38,7 @@ loop-node-preserved c =
       long = rw c.fill.ensures (length-set time node c.in_ok-entry.entry ∙ c.loop-node.invariant.long);
       zeros = λ k le. rw c.fill.ensures (get_or-set_other time node k c.in_ok-entry.entry 0 (λ same. omega arith) ∙ c.loop-node.invariant.zeros k (omega arith));
       read = rw (c.fill.ensures, take_more_set time node c.in_ok-entry.entry within)
-        (goes_on (entry_at c.args.own) (λ node _. node + 1) (take node time) c.args.nodes node node c.loop-node.bytes.now c.in_ok-entry.entry c.read_entry.new.bytes.now _ c.loop-node-test.true c.in_ok-entry.ensures c.loop-node.invariant.read);
+          (goes_on (entry_at c.args.own) (λ node _. node + 1) (take node time) c.args.nodes node node c.loop-node.bytes.now c.in_ok-entry.entry c.read_entry.new.bytes.now _ c.loop-node-test.true c.in_ok-entry.ensures c.loop-node.invariant.read);
     }
 
 pub returns : goal.returns

@@ -10,9 +10,12 @@ pub returns-clause-fits : goal.returns-clause-fits
 returns-clause-fits c =
     let few = rw (← c.m.view_is) at c.requires in
     let bits = rw c.deref.ensures.value at c.put_indices.ensures.bits in
-    rw (← c.m.view_is) (on_ok_from c.put_indices.result (c.m.invariant.page, record {
-      some = c.m.invariant.some;
-      count = few;
-      each = λ k d within. record { begun = c.m.invariant.begun k d within; bits = bits k d within };
-      ascending = c.m.invariant.ascending;
-    }))
+    rw (← c.m.view_is) (on_ok_from c.put_indices.result (
+      c.m.invariant.page,
+      record {
+        some = c.m.invariant.some;
+        count = few;
+        each = λ k d within. record { begun = c.m.invariant.begun k d within; bits = bits k d within };
+        ascending = c.m.invariant.ascending;
+      },
+    ))

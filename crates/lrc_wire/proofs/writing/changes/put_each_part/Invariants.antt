@@ -11,5 +11,5 @@ invariant-loop-part l = record {
   written : l.out.items ≡ l.fn.out.items ++ flat_map indexed_changes (take l.part-index l.list);
   each : All IsIndexedChanges (take l.part-index l.list);
   index_bits : All (λ p. HasBits 32 p.index) (take l.part-index l.list);
-  value_bits : All (λ p. All (λ c. HasBits 64 c.value) p.changes) (take l.part-index l.list)
+  value_bits : All (λ p. All (λ c. HasBits 64 c.value) p.changes) (take l.part-index l.list);
 }

@@ -10,5 +10,5 @@ abbrev pub invariant-loop-offset : goal.invariant-loop-offset
 invariant-loop-offset l = record {
   written : l.out.items ≡ l.fn.out.items ++ numbers w64 (take l.offset l.page);
   bits : All (HasBits 64) (take l.offset l.page);
-  long : 0 < l.offset → length l.page ≡ PAGE_WORDS
+  long : 0 < l.offset → length l.page ≡ PAGE_WORDS;
 }

@@ -10,5 +10,5 @@ abbrev pub invariant-loop-record : goal.invariant-loop-record
 invariant-loop-record l = record {
   written : l.out.items ≡ l.fn.out.items ++ flat_map interval (take l.record-index l.list);
   each : All IsInterval (take l.record-index l.list);
-  bits : All (λ i. All (HasBits 32) i.stamp) (take l.record-index l.list)
+  bits : All (λ i. All (HasBits 32) i.stamp) (take l.record-index l.list);
 }

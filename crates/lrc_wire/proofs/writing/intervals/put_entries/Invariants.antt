@@ -8,5 +8,5 @@ use Rattle.lrc_wire.proofs.writing.intervals.put_entries.Given as goal
 abbrev pub invariant-loop-node : goal.invariant-loop-node
 invariant-loop-node l = record {
   written : l.out.items ≡ l.fn.out.items ++ numbers w32 (take l.node l.entries);
-  bits : All (HasBits 32) (take l.node l.entries)
+  bits : All (HasBits 32) (take l.node l.entries);
 }

@@ -7,5 +7,5 @@ use Rattle.lrc_wire.proofs.writing.sizes.intervals_len.Given as goal
 abbrev pub invariant-loop-record : goal.invariant-loop-record
 invariant-loop-record l = record {
   exact : l.len ≡ 4 + length (flat_map interval (take l.record-index l.list));
-  small : l.len ≤ MOST_BODY_BYTES
+  small : l.len ≤ MOST_BODY_BYTES;
 }

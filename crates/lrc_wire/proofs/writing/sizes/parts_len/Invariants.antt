@@ -7,5 +7,5 @@ use Rattle.lrc_wire.proofs.writing.sizes.parts_len.Given as goal
 abbrev pub invariant-loop-part : goal.invariant-loop-part
 invariant-loop-part l = record {
   exact : l.len ≡ 4 + length (flat_map indexed_changes (take l.part-index l.list));
-  small : l.len ≤ MOST_BODY_BYTES
+  small : l.len ≤ MOST_BODY_BYTES;
 }
