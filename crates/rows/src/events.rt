@@ -1,6 +1,7 @@
 // Texts of events.
 
 use crate::shell::played;
+use std::test::Fail;
 
 const PROGRAM: &[u8] = b"words 1; locks 0; [0] = 7; x = [0]; print x + me;";
 
@@ -50,4 +51,18 @@ fn a_fault_of_the_text_comes_first(rt: HostRuntime) {
         b"treadmarks: line 1: over a limit\n".as_slice()
     );
     assert_eq!(rt; run.status, 1);
+}
+
+#[test]
+fn too_long_a_text_is_wrong_in_its_first_line(rt: HostRuntime) -> Result<(), Fail> {
+    let longest = vec![in rt.alloc(); b'\n'; 16_777_216]?;
+    let run = played(rt.alloc(), PROGRAM, &longest);
+    assert_eq!(rt; run.out.as_slice(), b"node 0 unfinished\n".as_slice());
+    let longer = vec![in rt.alloc(); b'\n'; 16_777_217]?;
+    let run = played(rt.alloc(), PROGRAM, &longer);
+    assert_eq!(rt;
+        run.err.as_slice(),
+        b"treadmarks: events line 1: bad event\n".as_slice()
+    );
+    Ok(())
 }

@@ -9,3 +9,5 @@ mod faults;
 mod one_node;
 #[cfg(test)]
 mod shell;
+#[cfg(test)]
+mod writers;

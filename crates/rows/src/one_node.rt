@@ -2,7 +2,8 @@
 
 use crate::shell::{Outcome, driven};
 use lrc_cli::choice::Steps;
-use std::alloc::Global;
+use std::alloc::{AllocError, Global};
+use std::test::Fail;
 
 fn any(alloc: Global, text: &[u8]) -> Outcome {
     driven(alloc, Steps { count: 1_000_000 }, text)
@@ -58,4 +59,35 @@ fn each_trap_has_its_number(rt: HostRuntime) {
         assert_eq!(rt; run.out.as_slice(), line);
         assert_eq!(rt; run.status, 4);
     }
+}
+
+// `{ .. }` in `{ .. }`, 32 deep, around one statement.
+fn nested(alloc: Global) -> Result<Vec<u8>, AllocError> {
+    let mut text = Vec::from_slice(alloc, b"words 1; locks 0;")?;
+    for _ in 0..32 {
+        text.extend_from_slice(b"if 1 {")?;
+    }
+    text.extend_from_slice(b"print 5;")?;
+    for _ in 0..32 {
+        text.extend_from_slice(b"}")?;
+    }
+    Ok(text)
+}
+
+#[test]
+fn large_programs_run_without_a_deep_stack(rt: HostRuntime) -> Result<(), Fail> {
+    let deep = any(rt.alloc(), &nested(rt.alloc())?);
+    assert_eq!(rt;
+        deep.out.as_slice(),
+        b"node 0 prints 5\nnode 0 ended\n".as_slice()
+    );
+    let mut text = Vec::from_slice(rt.alloc(), b"words 1; locks 0; if 1 {")?;
+    for _ in 0..16_370 {
+        text.extend_from_slice(b"a=1;")?;
+    }
+    text.extend_from_slice(b"}")?;
+    let long = any(rt.alloc(), &text);
+    assert_eq!(rt; long.out.as_slice(), b"node 0 ended\n".as_slice());
+    assert_eq!(rt; long.status, 0);
+    Ok(())
 }
