@@ -71,8 +71,7 @@ module _ (xs sorted unique : List Race) (permutation : IsPermutation xs sorted) 
   unique-ascending = subst (λ zs. IsStrictlySortedBy race_cmp zs) (sym is) (IsStrictlySortedBy-dedup race_total race_eq-cmp sorted in_order)
 
   pub unique-contains : (race : Race) → Contains unique race ↔ Contains xs race
-  unique-contains race =
-      (
-        λ h. Contains-permutation sorted xs race (IsPermutation-sym xs sorted permutation) (Contains-from_dedup race_eq sorted race (subst (λ zs. Contains zs race) is h)),
-        λ h. subst (λ zs. Contains zs race) (sym is) (Contains-dedup race_equivalence race_eq-exact sorted race (Contains-permutation xs sorted race permutation h)),
-      )
+  unique-contains race = (
+    λ h. Contains-permutation sorted xs race (IsPermutation-sym xs sorted permutation) (Contains-from_dedup race_eq sorted race (subst (λ zs. Contains zs race) is h)),
+    λ h. subst (λ zs. Contains zs race) (sym is) (Contains-dedup race_equivalence race_eq-exact sorted race (Contains-permutation xs sorted race permutation h)),
+  )

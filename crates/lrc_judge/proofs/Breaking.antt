@@ -93,24 +93,23 @@ module _ (nodes : ℕ) (run : List Act) (n node : ℕ) (deed : Deed) (here : Doe
 
 -- no position breaks it exactly where the run is well synchronized
 pub no_break : (nodes : ℕ) (run : List Act) → ((j : ℕ) → Breaks nodes run j → ⊥) ↔ IsWellSynchronized nodes run
-no_break nodes run =
-    (
-      λ none. record {
-        acquires = λ j node l d other h. none j (acquire d h);
-        releases = λ j node l d. elim (Holds-decided run j node l) [ inl h ↦ h | inr not ↦ absurd (none j (release d not)) ];
-        departs = λ j node d other lt.
-            elim (cases_lt (departs_before run node j) (arrives_before run other j)) [
-              | inl above ↦ above
-              | inr le ↦ absurd (none j (depart d lt le))
-            ];
-      },
-      λ well j b. unbroken well b,
-    )
-    where
-      unbroken : {j : ℕ} → IsWellSynchronized nodes run → Breaks nodes run j → ⊥
-      unbroken {j} well (acquire {node = p} {other = q} {l = l} d h) = well.acquires j p l d q h
-      unbroken {j} well (release {node = p} {l = l} d h) = h (well.releases j p l d)
-      unbroken {j} well (depart {node = p} {other = q} d lt le) = let above = well.departs j p d q lt in omega arith
+no_break nodes run = (
+  λ none. record {
+    acquires = λ j node l d other h. none j (acquire d h);
+    releases = λ j node l d. elim (Holds-decided run j node l) [ inl h ↦ h | inr not ↦ absurd (none j (release d not)) ];
+    departs = λ j node d other lt.
+        elim (cases_lt (departs_before run node j) (arrives_before run other j)) [
+          | inl above ↦ above
+          | inr le ↦ absurd (none j (depart d lt le))
+        ];
+  },
+  λ well j b. unbroken well b,
+)
+  where
+    unbroken : {j : ℕ} → IsWellSynchronized nodes run → Breaks nodes run j → ⊥
+    unbroken {j} well (acquire {node = p} {other = q} {l = l} d h) = well.acquires j p l d q h
+    unbroken {j} well (release {node = p} {l = l} d h) = h (well.releases j p l d)
+    unbroken {j} well (depart {node = p} {other = q} d lt le) = let above = well.departs j p d q lt in omega arith
 
 -- nothing breaks it past the end of the run
 pub Breaks-within : {nodes : ℕ} {run : List Act} {j : ℕ} → Breaks nodes run j → j < length run

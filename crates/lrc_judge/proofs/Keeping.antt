@@ -20,15 +20,14 @@ use Rattle.lrc_judge.specs.Segments.{AccessesBy, IsAccess, IsKept, AreSegments}
 
 -- a list with an element more
 pub Contains-pushed : {A : Type 0} (xs ys : List A) (x : A) → ys ≡ xs ++ x ∷ [] → (a : A) → Contains ys a ↔ (Contains xs a ⊎ (a ≡ x))
-Contains-pushed xs ys x e a =
-    (
-      λ h. elim (Contains-push_cases xs x a (subst (λ zs. Contains zs a) e h)) [ inl before ↦ inl before | inr same ↦ inr (sym same) ],
-      λ h.
+Contains-pushed xs ys x e a = (
+  λ h. elim (Contains-push_cases xs x a (subst (λ zs. Contains zs a) e h)) [ inl before ↦ inl before | inr same ↦ inr (sym same) ],
+  λ h.
       elim h [
         | inl before ↦ subst (λ zs. Contains zs a) (sym e) (Contains-append_left xs (x ∷ []) a before)
         | inr same ↦ subst (λ zs. Contains zs a) (sym e) (subst (λ b. Contains (xs ++ x ∷ []) b) (sym same) (Contains-push xs x))
       ],
-    )
+)
 
 -- no segment keeps nothing
 pub IsKept-none : {p : Place} {a : Access} → IsKept [] p a → ⊥
@@ -40,25 +39,23 @@ kept_in s there has at = record { segment = s; there = there; has = has; at = at
 
 -- a segment more
 pub IsKept-push : (segments : List Segment) (new : Segment) (p : Place) (a : Access) → IsKept (segments ++ new ∷ []) p a ↔ (IsKept segments p a ⊎ (Contains new.accesses.items a × (new.place ≡ p)))
-IsKept-push segments new p a =
-    (
-      λ h.
+IsKept-push segments new p a = (
+  λ h.
       elim (Contains-push_cases segments new h.segment h.there) [
         | inl old ↦ inl (kept_in h.segment old h.has h.at)
         | inr same ↦ inr (subst (λ (x : Segment). Contains x.accesses.items a) (sym same) h.has, ap (λ (x : Segment). x.place) same ∙ h.at)
       ],
-      λ h.
+  λ h.
       elim h [
         | inl old ↦ kept_in old.segment (Contains-append_left segments (new ∷ []) old.segment old.there) old.has old.at
         | inr (has, at) ↦ kept_in new (Contains-push segments new) has at
       ],
-    )
+)
 
 -- a segment more, for one access
 pub IsKept-new : (segments more : List Segment) (new : Segment) (place : Place) (access : Access) → new.place ≡ place → new.accesses.items ≡ [] ++ access ∷ [] → more ≡ segments ++ new ∷ [] → (p : Place) (a : Access) → IsKept more p a ↔ (IsKept segments p a ⊎ ((p ≡ place) × (a ≡ access)))
-IsKept-new segments more new place access at only e p a =
-    (
-      λ h.
+IsKept-new segments more new place access at only e p a = (
+  λ h.
       elim ((IsKept-push segments new p a).0 (subst (λ xs. IsKept xs p a) e h)) [
         | inl old ↦ inl old
         | inr (has, there) ↦
@@ -67,11 +64,11 @@ IsKept-new segments more new place access at only e p a =
               | inr same ↦ inr (sym there ∙ at, same)
             ]
       ],
-      λ h. subst (λ xs. IsKept xs p a) (sym e) ((IsKept-push segments new p a).1 (elim h [
-        | inl old ↦ inl old
-        | inr (there, same) ↦ inr ((Contains-pushed [] new.accesses.items access only a).1 (inr same), at ∙ sym there)
-      ])),
-    )
+  λ h. subst (λ xs. IsKept xs p a) (sym e) ((IsKept-push segments new p a).1 (elim h [
+    | inl old ↦ inl old
+    | inr (there, same) ↦ inr ((Contains-pushed [] new.accesses.items access only a).1 (inr same), at ∙ sym there)
+  ])),
+)
 
 -- an access more in the segment at i
 module _ (segments : List Segment) (i : ℕ) (old new : Segment) (access : Access) (place : Place) (within : i < length segments) (is : get_or segments i old ≡ old) (old_at : old.place ≡ place) (new_at : new.place ≡ place) (more : (a : Access) → Contains new.accesses.items a ↔ (Contains old.accesses.items a ⊎ (a ≡ access))) where
@@ -129,45 +126,47 @@ same_access a b positions kinds = let e : ◌≡◌ {A = Access} (record { posit
 module _ (run : List Act) (n node : ℕ) (deed : Deed) (here : Does run n node deed) where
   -- an act that accesses nothing
   pub AreSegments-same : (segments : List Segment) → ((w v : ℕ) → deed ≡ Read w v → ⊥) → ((w v : ℕ) → deed ≡ Write w v → ⊥) → AreSegments run n segments → AreSegments run (n + 1) segments
-  AreSegments-same segments not_read not_write old = record { exact = λ place access.
-      (
-        λ h. let (lt, is) = (old.exact place access).0 h in (omega arith, is),
-        λ (lt, is).
-        elim (cases_eq access.position n) [
-          | inr other ↦ (old.exact place access).1 (omega arith, is)
-          | inl there ↦ absurd (none access.is_write place.node place.word (subst (λ m. AccessesBy access.is_write run m place.node place.word) there is.stands))
-        ],
-      ) }
-      where
-        none : (w : Bool) (q word : ℕ) → AccessesBy w run n q word → ⊥
-        none true q word (v, d) = not_write word v (Does-one_deed here d)
-        none false q word (v, d) = not_read word v (Does-one_deed here d)
+  AreSegments-same segments not_read not_write old = record {
+    exact = λ place access. (
+      λ h. let (lt, is) = (old.exact place access).0 h in (omega arith, is),
+      λ (lt, is).
+          elim (cases_eq access.position n) [
+            | inr other ↦ (old.exact place access).1 (omega arith, is)
+            | inl there ↦ absurd (none access.is_write place.node place.word (subst (λ m. AccessesBy access.is_write run m place.node place.word) there is.stands))
+          ],
+    );
+  }
+    where
+      none : (w : Bool) (q word : ℕ) → AccessesBy w run n q word → ⊥
+      none true q word (v, d) = not_write word v (Does-one_deed here d)
+      none false q word (v, d) = not_read word v (Does-one_deed here d)
 
   -- an act that accesses a word
   pub AreSegments-more : (segments more : List Segment) (place : Place) (is_write : Bool) → place.node ≡ node → AccessesBy is_write run n node place.word → place.interval ≡ interval_at run node n → AreSegments run n segments → ((p : Place) (a : Access) → IsKept more p a ↔ (IsKept segments p a ⊎ ((p ≡ place) × (a ≡ record { position = n; is_write = is_write })))) → AreSegments run (n + 1) more
-  AreSegments-more segments more place is_write own stands interval old adds = record { exact = λ p a.
-      (
-        λ h.
-        elim ((adds p a).0 h) [
-          | inl before ↦ let (lt, is) = (old.exact p a).0 before in (omega arith, is)
-          | inr (at, is) ↦
-              let e : a.position ≡ n = ap (λ (x : Access). x.position) is in
-              let made : IsAccess run place (record { position = n; is_write = is_write }) = record {
-                stands = subst (λ q. AccessesBy is_write run n q place.word) (sym own) stands;
-                interval = interval ∙ ap (λ q. interval_at run q n) (sym own);
-              } in
-              (omega arith, subst (λ x. IsAccess run x a) (sym at) (subst (λ x. IsAccess run place x) (sym is) made))
-        ],
-        λ (lt, is).
-        elim (cases_eq a.position n) [
-          | inr other ↦ (adds p a).1 (inl ((old.exact p a).1 (omega arith, is)))
-          | inl there ↦
-              let stands' : AccessesBy a.is_write run n p.node p.word = subst (λ m. AccessesBy a.is_write run m p.node p.word) there is.stands in
-              let (kind, nodes, words) = one_access run n a.is_write is_write p.node node p.word place.word stands' stands in
-              let intervals : p.interval ≡ place.interval = is.interval ∙ ap (λ m. interval_at run p.node m) there ∙ ap (λ q. interval_at run q n) nodes ∙ sym interval in
-              (adds p a).1 (inr (same_place p place words (nodes ∙ sym own) intervals, same_access a (record { position = n; is_write = is_write }) there kind))
-        ],
-      ) }
+  AreSegments-more segments more place is_write own stands interval old adds = record {
+    exact = λ p a. (
+      λ h.
+          elim ((adds p a).0 h) [
+            | inl before ↦ let (lt, is) = (old.exact p a).0 before in (omega arith, is)
+            | inr (at, is) ↦
+                let e : a.position ≡ n = ap (λ (x : Access). x.position) is in
+                let made : IsAccess run place (record { position = n; is_write = is_write }) = record {
+                  stands = subst (λ q. AccessesBy is_write run n q place.word) (sym own) stands;
+                  interval = interval ∙ ap (λ q. interval_at run q n) (sym own);
+                } in
+                (omega arith, subst (λ x. IsAccess run x a) (sym at) (subst (λ x. IsAccess run place x) (sym is) made))
+          ],
+      λ (lt, is).
+          elim (cases_eq a.position n) [
+            | inr other ↦ (adds p a).1 (inl ((old.exact p a).1 (omega arith, is)))
+            | inl there ↦
+                let stands' : AccessesBy a.is_write run n p.node p.word = subst (λ m. AccessesBy a.is_write run m p.node p.word) there is.stands in
+                let (kind, nodes, words) = one_access run n a.is_write is_write p.node node p.word place.word stands' stands in
+                let intervals : p.interval ≡ place.interval = is.interval ∙ ap (λ m. interval_at run p.node m) there ∙ ap (λ q. interval_at run q n) nodes ∙ sym interval in
+                (adds p a).1 (inr (same_place p place words (nodes ∙ sym own) intervals, same_access a (record { position = n; is_write = is_write }) there kind))
+          ],
+    );
+  }
 
   -- the intervals that the nodes have reached
   pub intervals_same : (intervals : List ℕ) → closes deed ≡ false → ((q : ℕ) → q < length intervals → get_or intervals q 0 ≡ interval_at run q n) → (q : ℕ) → q < length intervals → get_or intervals q 0 ≡ interval_at run q (n + 1)

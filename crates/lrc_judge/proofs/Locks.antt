@@ -54,12 +54,15 @@ module _ (run : List Act) (n node : ℕ) (deed : Deed) (here : Does run n node d
             let acquired : Does run n q (Acquire l) = subst (λ m. Does run m q (Acquire l)) there h.acquired in
             inl (Does-one_node acquired here, Does-one_deed here acquired)
         | inr before ↦
-            inr (record {
-              since = h.since;
-              earlier = omega arith;
-              acquired = h.acquired;
-              kept = λ k after lt'. h.kept k after (omega arith);
-            }, λ e r. h.kept n (omega arith) (omega arith) (Does-node (sym e) (Does-deed r here)))
+            inr (
+              record {
+                since = h.since;
+                earlier = omega arith;
+                acquired = h.acquired;
+                kept = λ k after lt'. h.kept k after (omega arith);
+              },
+              λ e r. h.kept n (omega arith) (omega arith) (Does-node (sym e) (Does-deed r here)),
+            )
       ]
 
 -- whether a deed acquires or releases this lock
@@ -83,9 +86,8 @@ uses l d = neither (λ e. let never : ⊥ = cc in never) (λ e. let never : ⊥ 
 
 -- past the end of the run nothing changes
 Holds-past : (run : List Act) (n q l : ℕ) → length run ≤ n → Holds run n q l ↔ Holds run (n + 1) q l
-Holds-past run n q l past =
-    (
-      λ h.
+Holds-past run n q l past = (
+  λ h.
       let lt = h.earlier in
       record {
         since = h.since;
@@ -93,7 +95,7 @@ Holds-past run n q l past =
         acquired = h.acquired;
         kept = λ k after before r. let within = Does-within r in h.kept k after (omega arith) r;
       },
-      λ h.
+  λ h.
       let within = Does-within h.acquired in
       record {
         since = h.since;
@@ -101,40 +103,40 @@ Holds-past run n q l past =
         acquired = h.acquired;
         kept = λ k after before. h.kept k after (omega arith);
       },
-    )
+)
 
 -- whether a node holds a lock is decided
 pub Holds-decided : (run : List Act) (n q l : ℕ) → Holds run n q l ⊎ (Holds run n q l → ⊥)
 Holds-decided run zero q l = inr Holds-start
 Holds-decided run (suc n) q l = rw (← add-one n) (elim (cases_lt n (length run)) [
-    | inr past ↦
-        let same = Holds-past run n q l past in
-        elim (Holds-decided run n q l) [ inl h ↦ inl (same.0 h) | inr not ↦ inr (λ h. not (same.1 h)) ]
-    | inl within ↦
-        let (act, here) = act_at run n within in
-        elim (cases_eq q act.node) [
-          | inr other ↦
-              elim (Holds-decided run n q l) [
-                | inl h ↦ inl (Holds-kept run n act.node act.deed here q l (λ e _. other e) h)
-                | inr not ↦ inr (λ h. elim (Holds-cases run n act.node act.deed here q l h) [ inl (e, _) ↦ other e | inr (before, _) ↦ not before ])
-              ]
-          | inl same ↦
-              elim (uses l act.deed) [
-                | acquires a ↦ inl (subst (λ m. Holds run (n + 1) m l) (sym same) (Holds-acquired run n act.node act.deed here l a))
-                | releases r ↦
-                    inr (λ h.
-                    elim (Holds-cases run n act.node act.deed here q l h) [
-                      | inl (_, a) ↦ let never : ⊥ = cc in never
-                      | inr (_, other) ↦ other same r
-                    ])
-                | neither a r ↦
-                    elim (Holds-decided run n q l) [
-                      | inl h ↦ inl (Holds-kept run n act.node act.deed here q l (λ _. r) h)
-                      | inr not ↦ inr (λ h. elim (Holds-cases run n act.node act.deed here q l h) [ inl (_, e) ↦ a e | inr (before, _) ↦ not before ])
-                    ]
-              ]
-        ]
-  ])
+  | inr past ↦
+      let same = Holds-past run n q l past in
+      elim (Holds-decided run n q l) [ inl h ↦ inl (same.0 h) | inr not ↦ inr (λ h. not (same.1 h)) ]
+  | inl within ↦
+      let (act, here) = act_at run n within in
+      elim (cases_eq q act.node) [
+        | inr other ↦
+            elim (Holds-decided run n q l) [
+              | inl h ↦ inl (Holds-kept run n act.node act.deed here q l (λ e _. other e) h)
+              | inr not ↦ inr (λ h. elim (Holds-cases run n act.node act.deed here q l h) [ inl (e, _) ↦ other e | inr (before, _) ↦ not before ])
+            ]
+        | inl same ↦
+            elim (uses l act.deed) [
+              | acquires a ↦ inl (subst (λ m. Holds run (n + 1) m l) (sym same) (Holds-acquired run n act.node act.deed here l a))
+              | releases r ↦
+                  inr (λ h.
+                  elim (Holds-cases run n act.node act.deed here q l h) [
+                    | inl (_, a) ↦ let never : ⊥ = cc in never
+                    | inr (_, other) ↦ other same r
+                  ])
+              | neither a r ↦
+                  elim (Holds-decided run n q l) [
+                    | inl h ↦ inl (Holds-kept run n act.node act.deed here q l (λ _. r) h)
+                    | inr not ↦ inr (λ h. elim (Holds-cases run n act.node act.deed here q l h) [ inl (_, e) ↦ a e | inr (before, _) ↦ not before ])
+                  ]
+            ]
+      ]
+])
 
 -- the table has the one holder of each lock
 abbrev pub AreHolders : List Act → ℕ → List (Option ℕ) → Type 0
@@ -156,15 +158,14 @@ module _ (run : List Act) (n : ℕ) (table : List (Option ℕ)) (all : AreHolder
   module _ (node : ℕ) (deed : Deed) (here : Does run n node deed) where
     -- no entry changes but at an acquire or a release
     pub holders_same : ((l : ℕ) → deed ≡ Acquire l → ⊥) → ((l : ℕ) → deed ≡ Release l → ⊥) → AreHolders run (n + 1) table
-    holders_same not_acquire not_release l q within =
-        (
-          λ e. Holds-kept run n node deed here q l (λ _ r. not_release l r) ((all l q within).0 e),
-          λ h.
+    holders_same not_acquire not_release l q within = (
+      λ e. Holds-kept run n node deed here q l (λ _ r. not_release l r) ((all l q within).0 e),
+      λ h.
           elim (Holds-cases run n node deed here q l h) [
             | inl (_, a) ↦ absurd (not_acquire l a)
             | inr (before, _) ↦ (all l q within).1 before
           ],
-        )
+    )
 
     -- an acquire of a lock that nobody holds puts its node in
     pub holders_acquire : (m : ℕ) → deed ≡ Acquire m → ((q : ℕ) → Holds run n q m → ⊥) → AreHolders run (n + 1) (set table m (Some node))
@@ -176,19 +177,19 @@ module _ (run : List Act) (n : ℕ) (table : List (Option ℕ)) (all : AreHolder
               rw (same, get_or-set_same table m (Some node) None long) (
                 λ e. subst (λ x. Holds run (n + 1) x m) (same_Some node q e) (Holds-acquired run n node deed here m is),
                 λ h.
-                elim (Holds-cases run n node deed here q m h) [
-                  | inl (e, _) ↦ ap (λ x. Some x) (sym e)
-                  | inr (before, _) ↦ absurd (free q before)
-                ],
+                    elim (Holds-cases run n node deed here q m h) [
+                      | inl (e, _) ↦ ap (λ x. Some x) (sym e)
+                      | inr (before, _) ↦ absurd (free q before)
+                    ],
               )
           | inr other ↦
               rw (get_or-set_other table m l (Some node) None other) (
                 λ e. Holds-kept run n node deed here q l (λ _ r. let never : ⊥ = cc in never) ((all l q within).0 e),
                 λ h.
-                elim (Holds-cases run n node deed here q l h) [
-                  | inl (_, a) ↦ let same : l ≡ m = cc in absurd (other same)
-                  | inr (before, _) ↦ (all l q within).1 before
-                ],
+                    elim (Holds-cases run n node deed here q l h) [
+                      | inl (_, a) ↦ let same : l ≡ m = cc in absurd (other same)
+                      | inr (before, _) ↦ (all l q within).1 before
+                    ],
               )
         ]
 
@@ -202,21 +203,21 @@ module _ (run : List Act) (n : ℕ) (table : List (Option ℕ)) (all : AreHolder
               rw (same, get_or-set_same table m None None long) (
                 λ e. absurd (none-some q e),
                 λ h.
-                elim (Holds-cases run n node deed here q m h) [
-                  | inl (_, a) ↦ let never : ⊥ = cc in absurd never
-                  | inr (before, mine_still) ↦
-                      let his = (all m q long).1 before in
-                      let own = (all m node long).1 mine in
-                      absurd (mine_still (same_Some q node (sym his ∙ own)) is)
-                ],
+                    elim (Holds-cases run n node deed here q m h) [
+                      | inl (_, a) ↦ let never : ⊥ = cc in absurd never
+                      | inr (before, mine_still) ↦
+                          let his = (all m q long).1 before in
+                          let own = (all m node long).1 mine in
+                          absurd (mine_still (same_Some q node (sym his ∙ own)) is)
+                    ],
               )
           | inr other ↦
               rw (get_or-set_other table m l None None other) (
                 λ e. Holds-kept run n node deed here q l (λ _ r. let same : l ≡ m = cc in other same) ((all l q within).0 e),
                 λ h.
-                elim (Holds-cases run n node deed here q l h) [
-                  | inl (_, a) ↦ let never : ⊥ = cc in absurd never
-                  | inr (before, _) ↦ (all l q within).1 before
-                ],
+                    elim (Holds-cases run n node deed here q l h) [
+                      | inl (_, a) ↦ let never : ⊥ = cc in absurd never
+                      | inr (before, _) ↦ (all l q within).1 before
+                    ],
               )
         ]

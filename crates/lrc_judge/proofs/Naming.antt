@@ -46,47 +46,44 @@ module _ (order : Order) (a : Segment) (segments : List Segment) (before : List 
 
     -- the races with the segments so far are those with one segment more, or the race of that one
     IsRaceWith-more : (race : Race) → IsRaceWith order a (take (i + 1) segments) race ↔ (IsRaceWith order a (take i segments) race ⊎ (AreRacing order a b × (race ≡ name_of a b)))
-    IsRaceWith-more race =
-        (
-          λ (s, there, r, e).
+    IsRaceWith-more race = (
+      λ (s, there, r, e).
           elim (Contains-push_cases (take i segments) b s (subst (λ xs. Contains xs s) more there)) [
             | inl earlier ↦ inl (s, earlier, r, e)
             | inr same ↦ inr (subst (λ x. AreRacing order a x) (sym same) r, e ∙ ap (λ x. name_of a x) (sym same))
           ],
-          λ h.
+      λ h.
           elim h [
             | inl (s, there, r, e) ↦ (s, subst (λ xs. Contains xs s) (sym more) (Contains-append_left (take i segments) (b ∷ []) s there), r, e)
             | inr (r, e) ↦ (b, subst (λ xs. Contains xs b) (sym more) (Contains-push (take i segments) b), r, e)
           ],
-        )
+    )
 
     pub AddsRaces-same : (AreRacing order a b → ⊥) → AddsRaces order a (take (i + 1) segments) before after
     AddsRaces-same none = record {
-      exact = λ race.
-          (
-            λ h. elim ((old.exact race).0 h) [ inl x ↦ inl x | inr x ↦ inr ((IsRaceWith-more race).1 (inl x)) ],
-            λ h.
+      exact = λ race. (
+        λ h. elim ((old.exact race).0 h) [ inl x ↦ inl x | inr x ↦ inr ((IsRaceWith-more race).1 (inl x)) ],
+        λ h.
             elim h [
               | inl x ↦ (old.exact race).1 (inl x)
               | inr x ↦ elim ((IsRaceWith-more race).0 x) [ inl y ↦ (old.exact race).1 (inr y) | inr (r, _) ↦ absurd (none r) ]
             ],
-          );
+      );
     }
 
     pub AddsRaces-more : (found : Race) (longer : List Race) → AreRacing order a b → found ≡ name_of a b → longer ≡ after ++ found ∷ [] → AddsRaces order a (take (i + 1) segments) before longer
     AddsRaces-more found longer r named e = record {
-      exact = λ race.
-          (
-            λ h.
+      exact = λ race. (
+        λ h.
             elim ((Contains-pushed after longer found e race).0 h) [
               | inl x ↦ elim ((old.exact race).0 x) [ inl y ↦ inl y | inr y ↦ inr ((IsRaceWith-more race).1 (inl y)) ]
               | inr same ↦ inr ((IsRaceWith-more race).1 (inr (r, same ∙ named)))
             ],
-            λ h. (Contains-pushed after longer found e race).1 (elim h [
-              | inl x ↦ inl ((old.exact race).1 (inl x))
-              | inr x ↦ elim ((IsRaceWith-more race).0 x) [ inl y ↦ inl ((old.exact race).1 (inr y)) | inr (_, same) ↦ inr (same ∙ sym named) ]
-            ]),
-          );
+        λ h. (Contains-pushed after longer found e race).1 (elim h [
+          | inl x ↦ inl ((old.exact race).1 (inl x))
+          | inr x ↦ elim ((IsRaceWith-more race).0 x) [ inl y ↦ inl ((old.exact race).1 (inr y)) | inr (_, same) ↦ inr (same ∙ sym named) ]
+        ]),
+      );
     }
 
 -- the list has the races of the first segments with all of them
@@ -101,29 +98,30 @@ module _ (order : Order) (segments : List Segment) where
   HasRaces-more i a within is before after old adds =
       let more : take (i + 1) segments ≡ take i segments ++ a ∷ [] = take_more segments i a within ∙ ap (λ x. take i segments ++ x ∷ []) (sym is) in
       record {
-        exact = λ race.
-            (
-              λ h.
+        exact = λ race. (
+          λ h.
               elim ((adds.exact race).0 h) [
                 | inl earlier ↦ let (s, there, r) = (old.exact race).0 earlier in (s, subst (λ xs. Contains xs s) (sym more) (Contains-append_left (take i segments) (a ∷ []) s there), r)
                 | inr r ↦ (a, subst (λ xs. Contains xs a) (sym more) (Contains-push (take i segments) a), r)
               ],
-              λ (s, there, r). (adds.exact race).1 (elim (Contains-push_cases (take i segments) a s (subst (λ xs. Contains xs s) more there)) [
-                | inl earlier ↦ inl ((old.exact race).1 (s, earlier, r))
-                | inr same ↦ inr (subst (λ x. IsRaceWith order x segments race) (sym same) r)
-              ]),
-            );
+          λ (s, there, r). (adds.exact race).1 (elim (Contains-push_cases (take i segments) a s (subst (λ xs. Contains xs s) more there)) [
+            | inl earlier ↦ inl ((old.exact race).1 (s, earlier, r))
+            | inr same ↦ inr (subst (λ x. IsRaceWith order x segments race) (sym same) r)
+          ]),
+        );
       }
 
   pub HasRaces-all : (n : ℕ) (races : List Race) → length segments ≤ n → HasRaces order (take n segments) segments races → AreRacesAmong order segments races
   HasRaces-all n races long h =
       let all = take_all n segments long in
-      record { exact = λ race. (
-        λ there.
-        let (a, first, (b, second, r, e)) = (h.exact race).0 there in
-        record { a = a; b = b; first = subst (λ xs. Contains xs a) all first; second = second; racing = r; named = e },
-        λ r. (h.exact race).1 (r.a, subst (λ xs. Contains xs r.a) (sym all) r.first, (r.b, r.second, r.racing, r.named)),
-      ) }
+      record {
+        exact = λ race. (
+          λ there.
+              let (a, first, (b, second, r, e)) = (h.exact race).0 there in
+              record { a = a; b = b; first = subst (λ xs. Contains xs a) all first; second = second; racing = r; named = e },
+          λ r. (h.exact race).1 (r.a, subst (λ xs. Contains xs r.a) (sym all) r.first, (r.b, r.second, r.racing, r.named)),
+        );
+      }
 
 -- what access stands there, whether it writes or reads
 Accesses-kind : {run : List Act} {i p word : ℕ} → Accesses run i p word → (w : Bool) × AccessesBy w run i p word
@@ -186,8 +184,8 @@ module _ (run : List Act) (order : Order) (is : IsOrderOf run order) (segments :
         ];
       } in
       let other : x.position ≡ y.position → ⊥ = λ e.
-          let nodes = AccessesBy-node run y.position a.place.node b.place.node a.place.word a.place.word x.is_write y.is_write (subst (λ m. AccessesBy x.is_write run m a.place.node a.place.word) e ax.stands) stands in
-          omega arith in
+      let nodes = AccessesBy-node run y.position a.place.node b.place.node a.place.word a.place.word x.is_write y.is_write (subst (λ m. AccessesBy x.is_write run m a.place.node a.place.word) e ax.stands) stands in
+      omega arith in
       let names : Names run (name_of a b) x.position y.position = record {
         ascending = lower;
         conflict = conflict;

@@ -44,10 +44,13 @@ module _ (run : List Act) (j word value : ℕ) where
   -- a position without such a write
   pub IsTally-same : (n : ℕ) (is_written are_ordered : Bool) (last : Option Stored) → ((v : ℕ) → WrittenBefore run j word n v → ⊥) → IsTally run j word value n is_written are_ordered last → IsTally run j word value (n + 1) is_written are_ordered last
   IsTally-same n is_written are_ordered last none t = record {
-    written = (λ h. elim (t.written.0 h) [ inl nothing ↦ inl nothing | inr (i, lt, w) ↦ inr (i, omega arith, w) ], λ s. t.written.1 (elim s [
-      | inl nothing ↦ inl nothing
-      | inr (i, lt, w) ↦ inr (i, below i value lt w, w)
-    ]));
+    written = (
+      λ h. elim (t.written.0 h) [ inl nothing ↦ inl nothing | inr (i, lt, w) ↦ inr (i, omega arith, w) ],
+      λ s. t.written.1 (elim s [
+        | inl nothing ↦ inl nothing
+        | inr (i, lt, w) ↦ inr (i, below i value lt w, w)
+      ]),
+    );
     ordered = (λ h i k u v lt a b. t.ordered.0 h i k u v (below k v lt b) a b, λ o. t.ordered.1 (λ i k u v lt. o i k u v (omega arith)));
     latest = latest last t.latest;
   }
@@ -69,17 +72,20 @@ module _ (run : List Act) (j word value : ℕ) where
 
     more_here : (is_written are_ordered : Bool) (last : Option Stored) → IsTally run j word value n is_written are_ordered last → IsTally run j word value (n + 1) (is_written || (v == value)) (are_ordered && option_map_or (λ (w : Stored). before w.position n) last true) (Some write)
     more_here is_written are_ordered last t = record {
-      written = (λ h. elim (or_cases is_written (v == value) h) [
-        | inl old ↦ elim (t.written.0 old) [ inl nothing ↦ inl nothing | inr (i, lt, w) ↦ inr (i, omega arith, w) ]
-        | inr new ↦ inr (n, omega arith, subst (λ x. WrittenBefore run j word n x) (eqb-true v value new) here)
-      ], λ s. elim s [
-        | inl nothing ↦ or_left is_written (v == value) (t.written.1 (inl nothing))
-        | inr (i, lt, w) ↦
-            elim (cases_eq i n) [
-              | inl there ↦ or_right is_written (v == value) (eq-eqb v value (WrittenBefore-one here (subst (λ m. WrittenBefore run j word m value) there w)))
-              | inr other ↦ or_left is_written (v == value) (t.written.1 (inr (i, omega arith, w)))
-            ]
-      ]);
+      written = (
+        λ h. elim (or_cases is_written (v == value) h) [
+          | inl old ↦ elim (t.written.0 old) [ inl nothing ↦ inl nothing | inr (i, lt, w) ↦ inr (i, omega arith, w) ]
+          | inr new ↦ inr (n, omega arith, subst (λ x. WrittenBefore run j word n x) (eqb-true v value new) here)
+        ],
+        λ s. elim s [
+          | inl nothing ↦ or_left is_written (v == value) (t.written.1 (inl nothing))
+          | inr (i, lt, w) ↦
+              elim (cases_eq i n) [
+                | inl there ↦ or_right is_written (v == value) (eq-eqb v value (WrittenBefore-one here (subst (λ m. WrittenBefore run j word m value) there w)))
+                | inr other ↦ or_left is_written (v == value) (t.written.1 (inr (i, omega arith, w)))
+              ]
+        ],
+      );
       ordered = (λ h. let both = and_parts are_ordered _ h in ordered last t.latest both.1 (t.ordered.0 both.0), λ o. and_from are_ordered _ (t.ordered.1 (λ i k x y lt. o i k x y (omega arith))) (related last t.latest o));
       latest = (omega arith, here, λ k x lt b. omega arith);
     }
@@ -128,26 +134,24 @@ module _ (run : List Act) (j word value : ℕ) where
 
     -- the value of the last write, or 0
     latest_is : (last : Option Stored) → IsLast run j word j last → (value ≡ option_map_or (λ (w : Stored). w.value) last 0) ↔ IsLatest run j word value
-    latest_is None none =
-        (
-          λ e. record {
-            none = λ _. e;
-            last = λ i v l. absurd (none i v (forward l.written.before) l.written);
-          },
-          λ l. l.none (λ i v w. none i v (forward w.before) w),
-        )
-    latest_is (Some w) (within, written, max) =
-        (
-          λ e. record {
-            none = λ nothing. absurd (nothing w.position w.value written);
-            last = λ i v l.
-                let le = max i v (forward l.written.before) l.written in
-                let ge = l.last w.position w.value written in
-                let same : w.position ≡ i = omega arith in
-                e ∙ WrittenBefore-one (subst (λ m. WrittenBefore run j word m w.value) same written) l.written;
-          },
-          λ l. l.last w.position w.value (record { written = written; last = λ k v b. max k v (forward b.before) b }),
-        )
+    latest_is None none = (
+      λ e. record {
+        none = λ _. e;
+        last = λ i v l. absurd (none i v (forward l.written.before) l.written);
+      },
+      λ l. l.none (λ i v w. none i v (forward w.before) w),
+    )
+    latest_is (Some w) (within, written, max) = (
+      λ e. record {
+        none = λ nothing. absurd (nothing w.position w.value written);
+        last = λ i v l.
+            let le = max i v (forward l.written.before) l.written in
+            let ge = l.last w.position w.value written in
+            let same : w.position ≡ i = omega arith in
+            e ∙ WrittenBefore-one (subst (λ m. WrittenBefore run j word m w.value) same written) l.written;
+      },
+      λ l. l.last w.position w.value (record { written = written; last = λ k v b. max k v (forward b.before) b }),
+    )
 
     pub may_from : is_written ≡ true → (are_ordered ≡ true → value ≡ option_map_or (λ (w : Stored). w.value) last 0) → MayRead run j word value
     may_from h e = record {
@@ -159,22 +163,21 @@ module _ (run : List Act) (j word value : ℕ) where
     from_may m = (write_of_some m.weak, λ h. (latest_is last t.latest).1 (m.strong (ordered_all h)))
 
     pub decides : (r : Bool) → r ≡ (is_written && (not are_ordered || (value == option_map_or (λ (w : Stored). w.value) last 0))) → IsTrue r ↔ MayRead run j word value
-    decides r e =
-        (
-          λ yes'.
+    decides r e = (
+      λ yes'.
           let both = and_parts is_written _ (sym e ∙ yes') in
           may_from both.0 (λ ordered.
           elim (or_cases (not are_ordered) _ both.1) [
             | inl unordered ↦ absurd (false≢true (ap not (sym ordered) ∙ unordered))
             | inr same ↦ eqb-true value _ same
           ]),
-          λ m.
+      λ m.
           let (written, latest) = from_may m in
           e ∙ and_from is_written _ written (elim (cases_Bool are_ordered) [
             | inl ordered ↦ or_right (not are_ordered) _ (eq-eqb value _ (latest ordered))
             | inr unordered ↦ or_left (not are_ordered) _ (ap not unordered)
           ]),
-        )
+    )
 
 -- whether position i happens before position k
 before_of : (run : List Act) → ℕ → ℕ → Bool
@@ -232,9 +235,9 @@ module _ (run : List Act) (j word value : ℕ) where
   some_tally : (n : ℕ) → SomeTally run j word value n
   some_tally zero = record { is_written = value == 0; are_ordered = true; last = None; tally = IsTally-start run j word value (value == 0) refl }
   some_tally (suc n) = rw (← add-one n) (elim (written_at n) [
-      | inl (v, here) ↦ some_more n v here (some_tally n)
-      | inr none ↦ some_same n none (some_tally n)
-    ])
+    | inl (v, here) ↦ some_more n v here (some_tally n)
+    | inr none ↦ some_same n none (some_tally n)
+  ])
 
   -- whether the read may give the value is decided
   pub MayRead-decided : MayRead run j word value ⊎ (MayRead run j word value → ⊥)
@@ -249,12 +252,11 @@ module _ (run : List Act) (j word value : ℕ) where
 
 -- no position misreads exactly where all reads are lazy
 pub no_misread : (run : List Act) → ((j : ℕ) → Misreads run j → ⊥) ↔ ReadsLazily run
-no_misread run =
-    (
-      λ none j word value r.
+no_misread run = (
+  λ none j word value r.
       elim (MayRead-decided run j word value) [
         | inl may ↦ may
         | inr refused ↦ absurd (none j (record { word = word; value = value; read = r; refused = refused }))
       ],
-      λ lazy j m. m.refused (lazy j m.word m.value m.read),
-    )
+  λ lazy j m. m.refused (lazy j m.word m.value m.read),
+)

@@ -39,7 +39,10 @@ pub fn happens_before(alloc: Global, acts: &[Act]) -> Result<Order, AllocError>
     for (position, act) in acts.iter().enumerate() {
         let reach = past.reach_of(acts, position);
         past.note(acts, position, reach)?;
-        rows.push(Row { node: act.node, reach })?;
+        rows.push(Row {
+            node: act.node,
+            reach,
+        })?;
     }
     Ok(Order { rows })
 }

@@ -40,7 +40,12 @@ fn index_of(segments: &[Segment], place: Place) -> Option<usize>
 }
 
 /// Adds an access to the segment of this place.
-fn add(alloc: Global, segments: &mut Vec<Segment>, place: Place, access: Access) -> Result<(), AllocError>
+fn add(
+    alloc: Global,
+    segments: &mut Vec<Segment>,
+    place: Place,
+    access: Access,
+) -> Result<(), AllocError>
     ensures { OnOk result ((p : Place) (a : Access) → IsKept segments.new.items p a
         ↔ (IsKept segments.old.items p a ⊎ ((p ≡ place) × (a ≡ access)))) }
 {
@@ -88,14 +93,28 @@ impl Log {
         let interval = self.intervals[usize::from(node)];
         match acts[position].deed {
             Deed::Read(word, _) => {
-                let place = Place { word, node, interval };
-                let access = Access { position, is_write: false };
+                let place = Place {
+                    word,
+                    node,
+                    interval,
+                };
+                let access = Access {
+                    position,
+                    is_write: false,
+                };
                 add(alloc, &mut self.segments, place, access)?;
                 Ok(())
             }
             Deed::Write(word, _) => {
-                let place = Place { word, node, interval };
-                let access = Access { position, is_write: true };
+                let place = Place {
+                    word,
+                    node,
+                    interval,
+                };
+                let access = Access {
+                    position,
+                    is_write: true,
+                };
                 add(alloc, &mut self.segments, place, access)?;
                 Ok(())
             }
@@ -117,6 +136,9 @@ pub fn segments_of(alloc: Global, acts: &[Act]) -> Result<Vec<Segment>, AllocErr
     for position in 0..acts.len() {
         log.note(alloc, acts, position)?;
     }
-    let Log { segments, intervals: _ } = log;
+    let Log {
+        segments,
+        intervals: _,
+    } = log;
     Ok(segments)
 }

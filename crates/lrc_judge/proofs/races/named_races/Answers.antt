@@ -22,8 +22,7 @@ returns c =
     record {
       ascending = unique-ascending found sorted unique permutation in_order is;
       exact = λ race.
-          let same = unique-contains found sorted unique permutation in_order is race in
-          (
+          let same = unique-contains found sorted unique permutation in_order is race in (
             λ h. among-named run order c.in_ok-order.ensures segments c.in_ok-segments.ensures race ((races.exact race).0 (same.0 h)),
             λ n. same.1 ((races.exact race).1 (named-among run order c.in_ok-order.ensures segments c.in_ok-segments.ensures race n)),
           );
