@@ -60,7 +60,7 @@ pub enum Sign {
 }
 
 /// A token of a text. A name is the bytes of the text that spell it.
-#[derive(Clone, Copy, Debug)]
+#[derive(Clone, Copy, Debug, PartialEq, Eq)]
 pub enum Token<'t> {
     Number(u64),
     Name(&'t [u8]),
@@ -71,11 +71,18 @@ pub enum Token<'t> {
 }
 
 /// What stands next in a text: a token, or what is none.
-#[derive(Clone, Copy, Debug)]
+#[derive(Clone, Copy, Debug, PartialEq, Eq)]
 pub enum Lexeme<'t> {
     Token(Token<'t>),
     /// A byte that begins no token.
     BadByte,
     /// Digits whose value is over 2^64 - 1, or that a letter or `_` follows at once.
     BadNumber,
+}
+
+/// What stands next in a text, and the line of its first byte. Lines are counted from 1, by line feeds.
+#[derive(Clone, Copy, Debug, PartialEq, Eq)]
+pub struct Placed<'t> {
+    pub line: u32,
+    pub lexeme: Lexeme<'t>,
 }

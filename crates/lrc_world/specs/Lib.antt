@@ -1,0 +1,5 @@
+pub mod Alone
+pub mod Asked
+pub mod Ends
+pub mod Range
+pub mod Standing

@@ -1,4 +1,9 @@
 //! Runs of a program: which node goes on, and what comes of it.
 #![tactic(auto)]
 
+mod alone;
+pub mod ends;
 pub mod report;
+pub mod simulate;
+#[cfg(test)]
+mod tests;

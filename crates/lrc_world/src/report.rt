@@ -1,7 +1,16 @@
 // What a run is asked for, and what it answers.
 
+ghost use Rattle.std.specs.Prelude.{◌≡◌};
+
 use lrc_trace::act::{Act, Cause};
+use std::alloc::{AllocError, AllocFailed};
 use thiserror::Error;
+
+/// How many events a driven run has at most.
+pub const MOST_EVENTS: usize = 100_000_000;
+
+/// How many statements a node may begin at most.
+pub const MOST_STEPS: u32 = 1_000_000;
 
 /// What a run may do.
 #[derive(Clone, Copy, Debug, PartialEq, Eq)]
@@ -65,4 +74,24 @@ pub enum SimFault {
     /// Memory ran out.
     #[error("out of memory")]
     NoMemory,
+}
+
+impl From<AllocError> for SimFault {
+    ghost use Rattle.lrc_world.specs.declared.report.SimFault.TheVariants.{NoMemory};
+
+    ghost from_gives = { λ _ e. e ≡ NoMemory };
+
+    fn from(_: AllocError) -> Self {
+        SimFault::NoMemory
+    }
+}
+
+impl<T: Drop> From<AllocFailed<T>> for SimFault {
+    ghost use Rattle.lrc_world.specs.declared.report.SimFault.TheVariants.{NoMemory};
+
+    ghost from_gives = { λ _ e. e ≡ NoMemory };
+
+    fn from(_: AllocFailed<T>) -> Self {
+        SimFault::NoMemory
+    }
 }

@@ -1,0 +1,4 @@
+pub mod RowLemmas
+pub mod TakenLemmas
+pub mod TextLemmas
+pub mod WriteLemmas

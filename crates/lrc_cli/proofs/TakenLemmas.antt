@@ -1,0 +1,115 @@
+-- What clap's definitions say of words in which they find no fault: they name one of the commands, with a FILE, and
+-- the values of its number options are numbers.
+use Rattle.std.proofs.Common.{◌≡◌, ◌∙◌, Bool, cond, true, false, refl, ap, subst, codes, List, [], ◌∷◌, Option, Some, None, IfSome, inl, inr, is_some, lit<, option_map}
+use Rattle.std.specs.List.{AllByRecursion}
+use Rattle.std.specs.Option.{option_map_or}
+use Rattle.clap.specs.Words.{App, IsUnsignedIn, Row, Rule, Shape, Text, first_of, subcommand_of}
+use Rattle.clap.specs.Walk.{answers_to, arg_by_id, finished, nothing_held, rows_after, settled, stop_after, walk, walk_from}
+use Rattle.clap.specs.Simple.{built_leaf, entered, filled, inherited, label_of, names_of, rows_at}
+use Rattle.clap.specs.Facts.{parser_of_value}
+use Rattle.clap.specs.Kinds.{value_kinds}
+use Rattle.clap.specs.ValueTests.{accepts}
+use Rattle.clap.specs.Values.{read_as, reading_of}
+use Rattle.clap.specs.Faults.{check_fault, defaults_fault, entered_fault, fault_of, level_fault, settle_fault, walk_fault}
+use Rattle.clap.specs.declared.builder.value_parser.ValueParser.{ValueParser}
+use Rattle.clap.specs.declared.builder.value_parser.ValueParser.TheVariants.{Unsigned}
+use Rattle.clap.specs.declared.error.kind.ErrorKind.TheVariants.{ValueValidation}
+use Rattle.clap.proofs.ValueTestLemmas.{accepts-Accepts}
+use Rattle.lrc_cli.specs.CommandLine.{HasFile, IsNumberOption, IsSimTaken, IsTaken, check, number, sim, treadmarks, treadmarks_shape}
+use Rattle.lrc_cli.proofs.RowLemmas.{AreGood, IsKeyed, first_passes, given_some, level_good, neither, required_given}
+
+abbrev check_built : Shape
+check_built = built_leaf (inherited treadmarks_shape check.top)
+
+abbrev sim_built : Shape
+sim_built = built_leaf (inherited treadmarks_shape sim.top)
+
+check_keyed : AllByRecursion (IsKeyed check_built.rules) check_built.rules
+check_keyed = (
+  record { own = refl; acts = inl (refl, lit< tt); bare = refl },
+  (record { own = refl; acts = inr refl; bare = refl }, tt),
+)
+
+sim_keyed : AllByRecursion (IsKeyed sim_built.rules) sim_built.rules
+sim_keyed = (
+  record { own = refl; acts = inl (refl, lit< tt); bare = refl },
+  (
+    record { own = refl; acts = inl (refl, lit< tt); bare = refl },
+    (
+      record { own = refl; acts = inl (refl, lit< tt); bare = refl },
+      (
+        record { own = refl; acts = inl (refl, lit< tt); bare = refl },
+        (record { own = refl; acts = inr refl; bare = refl }, tt),
+      ),
+    ),
+  ),
+)
+
+check_taken : (words : List Text) → level_fault check_built [] nothing_held words false [] ≡ [] → HasFile (rows_after check_built.rules [] words)
+check_taken words none =
+    let rows = rows_after check_built.rules [] words in
+    let level = level_good check_built words check_keyed none in
+    given_some check_built.rules (codes "FILE") rows level.0 ((required_given check_built rows level.1).0 refl)
+
+-- a value that the parser of numbers let through
+number_passed : (text : Option Text) → IfSome text (λ t. value_kinds false (Unsigned 0 18446744073709551615) t ≡ [])
+    → IfSome text (IsUnsignedIn 0 18446744073709551615)
+number_passed None none = tt
+number_passed (Some t) none = accepts-Accepts false (Unsigned 0 18446744073709551615) t (go (accepts false (Unsigned 0 18446744073709551615) t) none)
+  where
+    go : (b : Bool) → cond b [] (ValueValidation ∷ []) ≡ [] → b ≡ true
+    go true e = refl
+    go false e = absurd cc
+
+same_text : (o : Option Text) → option_map (λ t. t) o ≡ o
+same_text None = refl
+same_text (Some t) = refl
+
+number_taken : (rows : List Row) (a : Rule) → AreGood sim_built.rules rows → arg_by_id sim_built.rules a.id ≡ Some a → a.ignore_case ≡ false
+    → a.parser ≡ Some (Unsigned 0 18446744073709551615) → IsNumberOption a.id rows
+number_taken rows a good own exact parser =
+    let first = first_passes sim_built.rules a rows good own in
+    let pass : IfSome (first_of a.id rows) (λ t. value_kinds false (Unsigned 0 18446744073709551615) t ≡ []) =
+    subst (λ (p : Bool × Option ValueParser). IfSome (first_of a.id rows) (λ t. value_kinds p.0 (parser_of_value p.1) t ≡ [])) (λ i. (exact i, parser i)) first.0 in
+    let written = first.1 ∙ ap (λ (p : Option ValueParser). option_map (read_as (reading_of (parser_of_value p))) (first_of a.id rows)) parser in
+    record { number = number_passed (first_of a.id rows) pass; as_written = written ∙ same_text (first_of a.id rows) }
+
+sim_taken : (words : List Text) → level_fault sim_built [] nothing_held words false [] ≡ [] → IsSimTaken (rows_after sim_built.rules [] words)
+sim_taken words none =
+    let rows = rows_after sim_built.rules [] words in
+    let level = level_good sim_built words sim_keyed none in
+    record {
+      file = given_some sim_built.rules (codes "FILE") rows level.0 ((required_given sim_built rows level.1).0 refl);
+      nodes = number_taken rows (filled (number (codes "nodes"))) level.0 refl refl refl;
+      steps = number_taken rows (filled (number (codes "steps"))) level.0 refl refl refl;
+    }
+
+-- the top of the command line, as clap builds it
+abbrev top_built : App
+top_built = record { top = built_leaf (record treadmarks_shape { is_leaf = false }); subs = check_built ∷ sim_built ∷ [] }
+
+one_named : (rows : List Row) (stop : Option (Text × List Text)) → entered_fault top_built stop ≡ [] → check_fault top_built.top rows (is_some (entered top_built stop)) ≡ []
+    → IsTaken (entered top_built stop)
+one_named rows None none checked = absurd cc
+one_named rows (Some p) none checked = go (answers_to p.0 (label_of check_built)) (answers_to p.0 (label_of sim_built)) none checked
+  where
+    shape : Bool → Bool → Option Shape
+    shape b d = cond b (Some check_built) (cond d (Some sim_built) None)
+
+    go : (b d : Bool) → option_map_or (λ s. level_fault s [] nothing_held p.1 false []) (shape b d) [] ≡ []
+        → check_fault top_built.top rows (is_some (option_map (λ s. rows_at s p.1) (shape b d))) ≡ []
+        → IsTaken (option_map (λ s. rows_at s p.1) (shape b d))
+    go true d e checked = inl (refl, check_taken p.1 e)
+    go false true e checked = inr (refl, sim_taken p.1 e)
+    go false false e checked = absurd cc
+
+pub taken : (words : List Text) → fault_of treadmarks words ≡ [] → IsTaken (subcommand_of treadmarks words)
+unfolding treadmarks
+taken words none =
+    let stop = stop_after top_built.top.rules (names_of top_built) words in
+    let end = (walk top_built.top.rules (names_of top_built) nothing_held words).held in
+    let first = neither (walk_fault top_built.top (names_of top_built) (walk_from nothing_held) words) _ none in
+    let second = neither (entered_fault top_built stop) _ first.1 in
+    let third = neither (settle_fault top_built.top.rules false end) _ second.1 in
+    let fourth = neither (defaults_fault (settled top_built.top.rules end).rows top_built.top.rules) _ third.1 in
+    one_named (finished top_built.top.rules end) stop second.0 fourth.1

@@ -1,0 +1,98 @@
+-- What a writer has in the middle of a text.
+use Rattle.std.proofs.Common.{◌≡◌, ◌∙◌, ◌<◌, ◌+◌, ℕ, refl, sym, ap, subst, arith, List, [], ◌∷◌, ◌++◌, length, take, drop, Option, Some, None, Result, Ok, Err, OnOk, OnErr, ◌==◌, true, append-nil, get_or, Vec, rules, tests}
+use Rattle.std.specs.Io.KnownBytes.{Appends, Keeps, WriteAppends}
+use Rattle.std.proofs.lemmas.List.{append_assoc, drop_more, take_at, take-append-drop}
+use Rattle.lrc_cli.specs.Output.{AppendsFront}
+use Rattle.lrc_cli.specs.ReportText.{whole_text}
+use Rattle.std.specs.declared.alloc.Global.{Global}
+
+-- of the text, so much is written, and the rest is to come
+pub record IsUnderWay (old new : Option (List ℕ)) (text rest : List ℕ) : Type 0 where
+  pub front : List ℕ
+  pub whole : text ≡ front ++ rest
+  pub written : Appends old new front
+
+Appends-nil : (old : Option (List ℕ)) → Appends old old []
+Appends-nil None = tt
+Appends-nil (Some xs) = sym (append-nil xs)
+
+pub Appends-more : (old mid new : Option (List ℕ)) (first second : List ℕ) → Appends old mid first → Appends mid new second → Appends old new (first ++ second)
+Appends-more None mid new first second h k = tt
+Appends-more (Some xs) None new first second h k = absurd h
+Appends-more (Some xs) (Some ys) None first second h k = absurd k
+Appends-more (Some xs) (Some ys) (Some zs) first second h k = k ∙ ap (λ l. l ++ second) h ∙ append_assoc xs first second
+
+Appends-kept : (old mid new : Option (List ℕ)) (text : List ℕ) → Appends old mid text → Keeps mid new → Appends old new text
+Appends-kept None mid new text h k = tt
+Appends-kept (Some xs) None new text h k = absurd h
+Appends-kept (Some xs) (Some ys) None text h k = absurd k
+Appends-kept (Some xs) (Some ys) (Some zs) text h k = k ∙ h
+
+pub way_begins : (old : Option (List ℕ)) (text : List ℕ) → IsUnderWay old old text text
+way_begins old text = record { front = []; whole = refl; written = Appends-nil old }
+
+-- the writer took some bytes more
+pub way_more : (old mid new : Option (List ℕ)) (text rest : List ℕ) (count : ℕ) → IsUnderWay old mid text rest → Appends mid new (take count rest)
+    → IsUnderWay old new text (drop count rest)
+way_more old mid new text rest count way h = record {
+  front = way.front ++ take count rest;
+  whole = way.whole ∙ ap (λ l. way.front ++ l) (sym (take-append-drop count rest)) ∙ sym (append_assoc way.front (take count rest) (drop count rest));
+  written = Appends-more old mid new way.front (take count rest) way.written h;
+}
+
+-- the writer failed, and took nothing
+pub way_kept : (old mid new : Option (List ℕ)) (text rest : List ℕ) → IsUnderWay old mid text rest → Keeps mid new → IsUnderWay old new text rest
+way_kept old mid new text rest way h = record { front = way.front; whole = way.whole; written = Appends-kept old mid new way.front way.written h }
+
+pub way_ends : (old new : Option (List ℕ)) (text rest : List ℕ) → rest ≡ [] → IsUnderWay old new text rest → Appends old new text
+way_ends old new text rest none way =
+    subst (Appends old new) (sym (way.whole ∙ ap (λ l. way.front ++ l) none ∙ append-nil way.front)) way.written
+
+pub way_front : (old new : Option (List ℕ)) (text rest : List ℕ) → IsUnderWay old new text rest → AppendsFront old new text
+way_front old new text rest way =
+    (length way.front, subst (Appends old new) (sym (ap (take (length way.front)) way.whole ∙ take_at way.front rest (length way.front) refl)) way.written)
+
+pub way_written : {E : Type 0} (old mid new : Option (List ℕ)) (text rest : List ℕ) (r : Result ℕ E) (count : ℕ) → r ≡ Ok count → IsUnderWay old mid text rest
+    → WriteAppends mid new r rest → IsUnderWay old new text (drop count rest)
+way_written old mid new text rest (Ok n) count is way h =
+    let same : n ≡ count = cc in
+    way_more old mid new text rest count way (subst (λ (m : ℕ). Appends mid new (take m rest)) same h)
+way_written old mid new text rest (Err e) count is way h = absurd cc
+
+pub way_refused : {E : Type 0} (old mid new : Option (List ℕ)) (text rest : List ℕ) (r : Result ℕ E) (error : E) → r ≡ Err error → IsUnderWay old mid text rest
+    → WriteAppends mid new r rest → IsUnderWay old new text rest
+way_refused old mid new text rest (Ok n) error is way h = absurd cc
+way_refused old mid new text rest (Err e) error is way h = way_kept old mid new text rest way h
+
+pub nil_of : (text : List ℕ) → true ≡ (length text == 0) → text ≡ []
+nil_of [] e = refl
+nil_of (b ∷ text) e = let zero : length (b ∷ text) ≡ 0 = search (rules, tests) in absurd (omega arith)
+
+-- the next part of the text is written, or a front of it
+pub way_part : (old mid new : Option (List ℕ)) (text first rest : List ℕ) → IsUnderWay old mid text (first ++ rest) → Appends mid new first → IsUnderWay old new text rest
+way_part old mid new text first rest way h = record {
+  front = way.front ++ first;
+  whole = way.whole ∙ sym (append_assoc way.front first rest);
+  written = Appends-more old mid new way.front first way.written h;
+}
+
+pub way_stops : (old mid new : Option (List ℕ)) (text first rest : List ℕ) → IsUnderWay old mid text (first ++ rest) → AppendsFront mid new first → AppendsFront old new text
+way_stops old mid new text first rest way h =
+    let count = h.0 in
+    let split : first ++ rest ≡ take count first ++ (drop count first ++ rest) =
+    ap (λ l. l ++ rest) (sym (take-append-drop count first)) ∙ append_assoc (take count first) (drop count first) rest in
+    way_front old new text (drop count first ++ rest)
+    (way_part old mid new text (take count first) (drop count first ++ rest) (subst (IsUnderWay old mid text) split way) h.1)
+
+-- the parts from the i-th on
+pub parts_at : (parts : List (Vec ℕ Global)) (i : ℕ) (d : Vec ℕ Global) → i < length parts
+    → whole_text (drop i parts) ≡ (get_or parts i d).items ++ whole_text (drop (i + 1) parts)
+parts_at parts i d lt = ap whole_text (drop_more parts i d lt)
+
+pub on_ok : {T E : Type 0} (r : Result T E) (P : Type 0) → P → OnOk r P
+on_ok (Ok x) P h = h
+on_ok (Err e) P h = tt
+
+pub on_err : {T E : Type 0} (r : Result T E) (P : Type 0) → P → OnErr r P
+on_err (Ok x) P h = tt
+on_err (Err e) P h = h

@@ -1,0 +1,47 @@
+-- The line that is written where nothing is printed.
+use Rattle.std.specs.Prelude.{◌++◌, ℕ, List, codes, decimal}
+use Rattle.lrc_lang.specs.declared.fault.FaultKind.{FaultKind}
+use Rattle.lrc_lang.specs.declared.fault.FaultKind.TheVariants.{TooLong, BadByte, BadNumber, Unexpected, TooDeep, TooManyNames, OverLimit, NoMemory}
+use Rattle.lrc_lang.specs.declared.fault.ParseFault.{ParseFault}
+use Rattle.lrc_world.specs.declared.report.SimFault.{SimFault}
+use Rattle.lrc_world.specs.declared.report.SimFault.TheVariants.{Worn}
+use Rattle.lrc_cli.specs.declared.events.EventsFault.{EventsFault}
+use Rattle.lrc_cli.specs.declared.events.EventsFault.TheVariants.{BadEvent}
+use Rattle.lrc_cli.specs.declared.events.EventsFault.TheVariants as events_faults
+use Rattle.lrc_cli.specs.declared.fault.Fault.{Fault}
+use Rattle.lrc_cli.specs.declared.fault.Fault.TheVariants as faults
+
+-- the fault of a text, of the text of events and of a run
+abbrev pub fault_of_kind : ℕ → FaultKind → Fault
+fault_of_kind line NoMemory = faults.NoMemory
+fault_of_kind line kind = faults.Text line kind
+
+abbrev pub fault_of_text : ParseFault → Fault
+fault_of_text fault = fault_of_kind fault.line fault.kind
+
+abbrev pub fault_of_events : EventsFault → Fault
+fault_of_events (BadEvent line) = faults.Events line
+fault_of_events events_faults.NoMemory = faults.NoMemory
+
+abbrev pub fault_of_run : SimFault → Fault
+fault_of_run Worn = faults.Worn
+fault_of_run _ = faults.NoMemory
+
+abbrev pub kind_words : FaultKind → List ℕ
+kind_words TooLong = codes "text too long"
+kind_words BadByte = codes "bad byte"
+kind_words BadNumber = codes "bad number"
+kind_words Unexpected = codes "unexpected token"
+kind_words TooDeep = codes "nested too deep"
+kind_words TooManyNames = codes "too many names"
+kind_words OverLimit = codes "over a limit"
+kind_words NoMemory = codes "out of memory"
+
+abbrev pub fault_words : Fault → List ℕ
+fault_words (faults.Text line kind) = codes "line " ++ decimal line ++ codes ": " ++ kind_words kind
+fault_words (faults.Events line) = codes "events line " ++ decimal line ++ codes ": bad event"
+fault_words faults.Worn = codes "message numbers used up"
+fault_words faults.NoMemory = codes "out of memory"
+
+abbrev pub fault_line : Fault → List ℕ
+fault_line fault = codes "treadmarks: " ++ fault_words fault ++ codes "\n"

@@ -1,0 +1,7 @@
+-- What a writer has after a text was written to it, or a front of the text, where a write failed.
+use Rattle.std.specs.Prelude.{ℕ, List, Option, take}
+use Rattle.std.specs.Io.KnownBytes.{Appends}
+
+-- known bytes grow by the first bytes of the text
+abbrev pub AppendsFront : Option (List ℕ) → Option (List ℕ) → List ℕ → Type 0
+AppendsFront old new text = (count : ℕ) × Appends old new (take count text)

@@ -1,0 +1,65 @@
+-- What a run prints, and the status with which the program ends after it.
+use Rattle.std.specs.Prelude.{◌+◌, ◌==◌, ℕ, Bool, true, false, List, [], ◌∷◌, ◌++◌, codes, decimal, if◌then◌else◌, map, Vec}
+use Rattle.std.specs.declared.alloc.Global.{Global}
+use Rattle.std.specs.List.{flat_map, list_all}
+use Rattle.lrc_trace.specs.declared.act.Act.{Act}
+use Rattle.lrc_trace.specs.declared.act.Cause.{Cause}
+use Rattle.lrc_trace.specs.declared.act.Cause.TheVariants.{DivisionByZero, WordOutOfRange, LockOutOfRange, LockHeld, LockNotHeld}
+use Rattle.lrc_trace.specs.declared.act.Deed.{Deed}
+use Rattle.lrc_trace.specs.declared.act.Deed.TheVariants.{Print}
+use Rattle.lrc_world.specs.declared.report.End.{End}
+use Rattle.lrc_world.specs.declared.report.End.TheVariants.{Ended, Trapped, Unfinished}
+
+-- the bytes of each part of a text, and of the whole
+abbrev pub texts_of : List (Vec ℕ Global) → List (List ℕ)
+texts_of parts = map (λ part. part.items) parts
+
+abbrev pub whole_text : List (Vec ℕ Global) → List ℕ
+whole_text parts = flat_map (λ part. part.items) parts
+
+-- a line on a node
+abbrev pub line_on : ℕ → List ℕ → List ℕ
+line_on node words = codes "node " ++ decimal node ++ words ++ codes "\n"
+
+-- a print is a line, and any other deed none
+abbrev pub deed_line : ℕ → Deed → List ℕ
+deed_line node (Print value) = line_on node (codes " prints " ++ decimal value)
+deed_line node _ = []
+
+-- what an act prints on the lines of this node
+abbrev pub line_of_act : ℕ → Act → List ℕ
+line_of_act node act = if act.node == node then deed_line node act.deed else []
+
+abbrev pub cause_number : Cause → ℕ
+cause_number DivisionByZero = 1
+cause_number WordOutOfRange = 2
+cause_number LockOutOfRange = 3
+cause_number LockHeld = 4
+cause_number LockNotHeld = 5
+
+-- how a node ended
+abbrev pub end_words : End → List ℕ
+end_words Ended = codes " ended"
+end_words (Trapped cause) = codes " trapped " ++ decimal (cause_number cause)
+end_words Unfinished = codes " unfinished"
+
+-- the lines of a node: its prints in order, then how it ended
+abbrev pub node_text : List Act → ℕ → End → List ℕ
+node_text acts node end = flat_map (line_of_act node) acts ++ line_on node (end_words end)
+
+-- the lines of the nodes from this one on
+abbrev pub nodes_text : List Act → ℕ → List End → List ℕ
+nodes_text acts node [] = []
+nodes_text acts node (end ∷ ends) = node_text acts node end ++ nodes_text acts (node + 1) ends
+
+-- the text of a run: the lines of its nodes, from node 0 on
+abbrev pub report_text : List Act → List End → List ℕ
+report_text acts ends = nodes_text acts 0 ends
+
+abbrev pub is_ended : End → Bool
+is_ended Ended = true
+is_ended _ = false
+
+-- the status after a run: 0 where every node came to the end of the text, and else 4
+abbrev pub status_of : List End → ℕ
+status_of ends = if list_all is_ended ends then 0 else 4

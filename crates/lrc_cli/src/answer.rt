@@ -1,0 +1,109 @@
+// What the program answers to a choice, before anything is written.
+
+ghost use Rattle.std.specs.Prelude.{◌≡◌, IfErr, IfOk, None, Some, is_some, option_map};
+ghost use Rattle.lrc_cli.specs.Answer.{IsFault, IsRunFault, IsRunOf, Prints, names_events};
+ghost use Rattle.lrc_cli.specs.ReportText.{whole_text};
+
+use crate::choice::{Choice, Simulation};
+use crate::events::events_of;
+use crate::fault::{Fault, fault_of_run};
+use crate::report::{report_parts, status_after};
+use lrc_lang::parse;
+use lrc_lang::program::Program;
+use lrc_world::report::{Options, Picker, Report};
+use lrc_world::simulate::{drive, simulate};
+use std::alloc::Global;
+
+/// What is printed, and the status with which the program ends after it.
+#[derive(Debug, Drop)]
+pub struct Printout {
+    /// The parts of the text.
+    pub parts: Vec<Vec<u8>>,
+    pub status: u8,
+}
+
+/// Answers a choice, with the text of its FILE, and that of its events where it names them.
+pub fn answer(
+    alloc: Global,
+    choice: &Choice<'_>,
+    text: &[u8],
+    events: Option<&[u8]>,
+) -> Result<Printout, Fault>
+    requires { is_some events ≡ names_events choice.now }
+    ensures ok { IfOk result (λ printout. Prints choice.now text.now (option_map (λ e. e.now) events.entry)
+        (whole_text printout.parts.items) printout.status) }
+    ensures err { IfErr result (λ fault. IsFault text.now (option_map (λ e. e.now) events.entry) fault) }
+{
+    let program = parse(alloc, text)?;
+    match choice {
+        Choice::Check(_) => {
+            let mut parts = Vec::new(alloc);
+            parts.push(Vec::from_slice(alloc, b"ok\n")?)?;
+            Ok(Printout { parts, status: 0 })
+        }
+        Choice::Simulate(run) => {
+            let report = simulated(alloc, run, &program, events)?;
+            Ok(Printout {
+                parts: report_parts(alloc, &report.acts, &report.ends)?,
+                status: status_after(&report.ends),
+            })
+        }
+    }
+}
+
+fn simulated(
+    alloc: Global,
+    run: &Simulation<'_>,
+    program: &Program,
+    events: Option<&[u8]>,
+) -> Result<Report, Fault>
+    ensures ok { IfOk result (IsRunOf program.now run.now.nodes.count run.now.steps.count
+        (option_map (λ e. e.now) events.entry)) }
+    ensures err { IfErr result (IsRunFault (option_map (λ e. e.now) events.entry)) }
+{
+    match events {
+        Some(text) => played(alloc, run, program, text),
+        None => driven(alloc, run, program),
+    }
+}
+
+// The run of the events that a text names.
+fn played(
+    alloc: Global,
+    run: &Simulation<'_>,
+    program: &Program,
+    text: &[u8],
+) -> Result<Report, Fault>
+    ensures ok { IfOk result (IsRunOf program.now run.now.nodes.count run.now.steps.count (Some text.now)) }
+    ensures err { IfErr result (IsRunFault (Some text.now)) }
+{
+    let events = events_of(alloc, text)?;
+    let report = simulate(alloc, program, run.nodes.count, &options_of(run), &events);
+    report.map_err(fault_of_run)
+}
+
+// The run in which each node goes on in turn.
+fn driven(alloc: Global, run: &Simulation<'_>, program: &Program) -> Result<Report, Fault>
+    ensures ok { IfOk result (IsRunOf program.now run.now.nodes.count run.now.steps.count None) }
+    ensures err { IfErr result (IsRunFault None) }
+{
+    let played = drive(
+        alloc,
+        program,
+        run.nodes.count,
+        &options_of(run),
+        Picker::Oldest,
+    );
+    let (_events, report) = played.map_err(fault_of_run)?;
+    Ok(report)
+}
+
+fn options_of(run: &Simulation<'_>) -> Options
+    ensures { result.steps ≡ run.now.steps.count }
+{
+    Options {
+        steps: run.steps.count,
+        collect: 0,
+        first: 0,
+    }
+}

@@ -1,0 +1,57 @@
+// What the words of the command line ask for.
+
+ghost use Rattle.std.specs.Prelude.{◌≡◌, ◌≤◌};
+
+use thiserror::Error;
+
+/// How many nodes a run has, 1 to 16.
+#[derive(Clone, Copy, Debug)]
+pub struct Nodes {
+    pub count: u32,
+    pub ghost some: { 1 ≤ count },
+    pub ghost few: { count ≤ 16 },
+}
+
+/// How many statements each node may begin, 1 to 1,000,000.
+#[derive(Clone, Copy, Debug)]
+pub struct Steps {
+    pub count: u32,
+    pub ghost some: { 1 ≤ count },
+    pub ghost few: { count ≤ 1000000 },
+}
+
+/// The options of `sim`.
+#[derive(Clone, Copy, Debug)]
+pub struct Simulation<'w> {
+    /// The file of the program's text; `-` is standard input.
+    pub file: &'w str,
+    pub nodes: Nodes,
+    pub steps: Steps,
+    /// The file of the events, if one is named.
+    pub events: Option<&'w str>,
+    /// For now a run has one node.
+    pub ghost alone: { nodes.count ≡ 1 },
+}
+
+/// What the words ask for.
+#[derive(Clone, Copy, Debug)]
+pub enum Choice<'w> {
+    /// Whether the text in this file is a program; `-` is standard input.
+    Check(&'w str),
+    /// A run in which one event happens after the other.
+    Simulate(Simulation<'w>),
+}
+
+/// Why there is no choice.
+#[derive(Debug, Drop, Error)]
+pub enum ChooseFault {
+    /// The words are no command, or ask for help. The error is the text to show.
+    #[error("{0}")]
+    Usage(clap::Error),
+    /// A number of 64 bits is not in its option's range.
+    #[error("number out of range")]
+    BadNumber,
+    /// Memory ran out.
+    #[error("out of memory")]
+    NoMemory,
+}

@@ -1,0 +1,65 @@
+// Doing what the words ask for, over any two writers.
+
+ghost use Rattle.std.specs.Prelude.{◌≡◌, ◌⊎◌, is_some, option_map};
+ghost use Rattle.lrc_cli.specs.Answer.{names_events};
+ghost use Rattle.lrc_cli.specs.FaultLine.{fault_line};
+ghost use Rattle.lrc_cli.specs.Performance.{IsWritten, Performs};
+ghost use Rattle.lrc_cli.specs.ReportText.{whole_text};
+ghost use Rattle.lrc_cli.specs.declared.fault.Fault.TheVariants.{NoMemory};
+
+use crate::answer::{Printout, answer};
+use crate::choice::Choice;
+use crate::fault::{Fault, NO_MEMORY_LINE, line_of};
+use crate::output::{put, put_parts};
+use std::alloc::Global;
+use std::io::Write;
+
+/// Does what a choice asks for, with the text of its FILE, and that of its events where it names them. What it prints
+/// goes to `out`; where there is a fault, its line goes to `err`, and nothing to `out`. The answer is the status with
+/// which the program ends: 1 after a fault. After a failed write nothing more is written, and the answer is 1.
+pub fn perform<W: Write, E: Write>(
+    alloc: Global,
+    choice: &Choice<'_>,
+    text: &[u8],
+    events: Option<&[u8]>,
+    out: &mut W,
+    err: &mut E,
+) -> u8
+    requires { is_some events ≡ names_events choice.now }
+    ensures { Performs choice.now text.now (option_map (λ e. e.now) events.entry)
+        (W.contents out.old) (W.contents out.new) (E.contents err.old) (E.contents err.new) result }
+{
+    match answer(alloc, choice, text, events) {
+        Ok(printout) => print(&printout, out),
+        Err(fault) => complain(alloc, fault, err),
+    }
+}
+
+fn print<W: Write>(printout: &Printout, out: &mut W) -> u8
+    ensures { IsWritten (W.contents out.old) (W.contents out.new) (whole_text printout.now.parts.items)
+        printout.now.status result }
+{
+    match put_parts(out, &printout.parts) {
+        Ok(()) => printout.status,
+        Err(_) => 1,
+    }
+}
+
+// Writes the line of the fault, or, where there is no memory for it, the line that says so.
+fn complain<E: Write>(alloc: Global, fault: Fault, err: &mut E) -> u8
+    ensures { IsWritten (E.contents err.old) (E.contents err.new) (fault_line fault) 1 result
+        ⊎ IsWritten (E.contents err.old) (E.contents err.new) (fault_line NoMemory) 1 result }
+{
+    match line_of(alloc, fault) {
+        Ok(line) => put_line(&line, err),
+        Err(_) => put_line(NO_MEMORY_LINE, err),
+    }
+}
+
+// Writes a line, whether or not that fails, after which the program ends with 1.
+fn put_line<E: Write>(line: &[u8], err: &mut E) -> u8
+    ensures { IsWritten (E.contents err.old) (E.contents err.new) line.now 1 result }
+{
+    let _written = put(err, line);
+    1
+}

@@ -1,0 +1,79 @@
+// What a run prints.
+
+ghost use Rattle.std.specs.Prelude.{◌≡◌, ◌++◌, [], IfOk, OnOk, replicate};
+ghost use Rattle.lrc_trace.specs.declared.act.Deed.TheVariants.{Print};
+ghost use Rattle.lrc_cli.specs.ReportText.{deed_line, end_words, line_on, report_text, status_of, texts_of, whole_text};
+
+use itoa::Buffer;
+use lrc_trace::act::{Act, Deed};
+use lrc_world::report::End;
+use std::alloc::{AllocError, Global};
+
+/// What a run prints: for each node a line for each value that it printed, in order, and one on how it ended. The text
+/// comes in parts, one for each node.
+pub fn report_parts(alloc: Global, acts: &[Act], ends: &[End]) -> Result<Vec<Vec<u8>>, AllocError>
+    ensures { IfOk result (λ parts. whole_text parts.items ≡ report_text acts.now ends.now) }
+{
+    let mut parts = empty_parts(alloc, ends.len())?;
+    for act in acts {
+        if let Deed::Print(value) = act.deed {
+            let node = usize::from(act.node);
+            if node < ends.len() {
+                push_print(&mut parts[node], node, value)?;
+            }
+        }
+    }
+    for (node, end) in ends.iter().enumerate() {
+        push_end(&mut parts[node], node, *end)?;
+    }
+    Ok(parts)
+}
+
+fn empty_parts(alloc: Global, count: usize) -> Result<Vec<Vec<u8>>, AllocError>
+    ensures { IfOk result (λ parts. texts_of parts.items ≡ replicate count []) }
+{
+    let mut parts = Vec::new(alloc);
+    for _node in 0..count {
+        parts.push(Vec::new(alloc))?;
+    }
+    Ok(parts)
+}
+
+/// The status with which the program ends after a run: 0 where every node came to the end of the text, else 4.
+pub fn status_after(ends: &[End]) -> u8
+    ensures { result ≡ status_of ends.now }
+{
+    if ends.iter().all(|end| matches!(end, End::Ended)) {
+        0
+    } else {
+        4
+    }
+}
+
+fn push_print(text: &mut Vec<u8>, node: usize, value: u64) -> Result<(), AllocError>
+    ensures { OnOk result (text.new.items ≡ text.old.items ++ deed_line node (Print value)) }
+{
+    let mut digits = Buffer::new();
+    text.extend_from_slice(b"node ")?;
+    text.extend_from_slice(digits.format(node).as_bytes())?;
+    text.extend_from_slice(b" prints ")?;
+    text.extend_from_slice(digits.format(value).as_bytes())?;
+    text.extend_from_slice(b"\n")
+}
+
+fn push_end(text: &mut Vec<u8>, node: usize, end: End) -> Result<(), AllocError>
+    ensures { OnOk result (text.new.items ≡ text.old.items ++ line_on node (end_words end)) }
+{
+    let mut digits = Buffer::new();
+    text.extend_from_slice(b"node ")?;
+    text.extend_from_slice(digits.format(node).as_bytes())?;
+    match end {
+        End::Ended => text.extend_from_slice(b" ended")?,
+        End::Trapped(cause) => {
+            text.extend_from_slice(b" trapped ")?;
+            text.extend_from_slice(digits.format(cause as u8).as_bytes())?;
+        }
+        End::Unfinished => text.extend_from_slice(b" unfinished")?,
+    }
+    text.extend_from_slice(b"\n")
+}

@@ -1,0 +1,91 @@
+-- Each statement's instructions are sound, and lead on to those behind them.
+use Rattle.std.proofs.Common.{rules, ◌≡◌, ◌+◌, ◌≤◌, ◌-◌, ◌<◌, [], ◌∷◌, ◌++◌, List, length, drop, get_or, refl, sym, ap, ◌∙◌, subst, suc, set, ℕ, arith, append_assoc, length-append}
+use Rattle.std.specs.Prelude.{IfOk, Result, Ok, Err}
+use Rattle.std.proofs.Math.Seq.{drop-cons, drop-length, get_or-append_seam}
+use Rattle.lrc_lang.specs.declared.program.Statement.{Statement}
+use Rattle.lrc_exec.specs.declared.code.Instruction.{Instruction}
+use Rattle.lrc_exec.specs.Flat.{IsGrown}
+use Rattle.lrc_exec.proofs.Flat.{leading, grown_none, grown_on, grown_straight, grown_choice, grown_loop}
+use Rattle.lrc_exec.proofs.emit.+emit.Goals as goal
+
+pub put_block-loop-i-init : goal.put_block-loop-i-init
+put_block-loop-i-init t c =
+    let nothing = drop-length c.args.statements.now in
+    subst (λ l. IsGrown c.args.code.now.items c.args.code.now.items l c.args.next c.args.next) (sym nothing) (grown_none c.args.code.now.items c.args.next c.requires)
+
+pub put_block-loop-i-preserved : goal.put_block-loop-i-preserved
+put_block-loop-i-preserved t c =
+    let statements = c.args.statements.now in
+    let here = c.index-statements-i.result in
+    let i = c.loop-i.i in
+    let back : suc (i - 1) ≡ i = omega (arith, c.loop-i-test.true) in
+    let within : i - 1 < length statements = omega (arith, c.loop-i-test.true) in
+    let next : drop (i - 1) statements ≡ here ∷ drop i statements =
+    drop-cons statements (i - 1) here within
+    ∙ ap (λ n. get_or statements (i - 1) here ∷ drop n statements) back
+    ∙ ap (λ x. x ∷ drop i statements) (sym c.index-statements-i.is)
+    in
+    subst (λ l. IsGrown c.args.code.now.items c.put_statement.new.code.items l c.args.next c.in_ok-place.place) (sym next)
+    (grown_on c.args.code.now.items c.loop-i.code.items c.put_statement.new.code.items (here ∷ []) (drop i statements) c.args.next c.loop-i.place c.in_ok-place.place c.requires c.loop-i.invariant c.in_ok-place.ensures)
+
+-- where one instruction was put, the code has grown by it
+grown_put : {E : Type 0} (r : Result ℕ E) (base old new : List Instruction) (i : Instruction) (statements : List Statement) (next : ℕ) → IfOk r (λ place. place ≡ length new) → IfOk r (λ place. new ≡ old ++ i ∷ []) → IsGrown base (old ++ i ∷ []) statements next (length (old ++ i ∷ [])) → IfOk r (λ place. IsGrown base new statements next place)
+grown_put (Err e) base old new i statements next place items grown = tt
+grown_put (Ok p) base old new i statements next place items grown =
+    rw place (subst (λ c. IsGrown base c statements next (length c)) (sym items) grown)
+
+pub put_statement-returns-in_ok-otherwise-in-If : goal.put_statement-returns-in_ok-otherwise-in-If
+put_statement-returns-in_ok-otherwise-in-If t c =
+    let old = c.args.code.now.items in
+    let c1 = c.put_block.new.code.items in
+    let c2 = c.put_block-in-If.new.code.items in
+    let next = c.args.next in
+    let then = c.in_ok-then-in-If.then in
+    let otherwise = c.in_ok-otherwise-in-If.otherwise in
+    let i : Instruction = record { statement = c.args.statement; next = next; then = then; otherwise = otherwise } in
+    let first = subst (λ l. IsGrown old c1 l next then) c.deref.ensures.value c.in_ok-then-in-If.ensures in
+    let second = subst (λ l. IsGrown c1 c2 l next otherwise) c.deref-in-If.ensures.value c.in_ok-otherwise-in-If.ensures in
+    let grown = grown_choice old c1 c2 i c.in-If.field-0 c.in-If.first c.in-If.second next then otherwise c.in-If.is refl refl refl c.requires first second in
+    let named = subst (λ x. IsGrown old (c2 ++ i ∷ []) (x ∷ []) next (length (c2 ++ i ∷ []))) (sym c.in-If.is) grown in
+    grown_put c.put.result old c2 c.put.new.code.items i (c.args.statement.now ∷ []) next c.put.ensures.place c.put.ensures.items named
+
+-- the instruction of a loop stands where it was put
+read_loop : (old c2 more : List Instruction) (i d : Instruction) → c2 ≡ (old ++ i ∷ []) ++ more → get_or c2 (length (old ++ i ∷ []) - 1) d ≡ i
+read_loop old c2 more i d grown =
+    let here : length (old ++ i ∷ []) - 1 ≡ length old = omega (arith, length-append old (i ∷ [])) in
+    ap (λ c. get_or c (length (old ++ i ∷ []) - 1) d) (grown ∙ append_assoc old (i ∷ []) more)
+    ∙ ap (λ n. get_or (old ++ i ∷ more) n d) here
+    ∙ get_or-append_seam old i more d
+
+pub put_statement-returns-in_ok-then-in-While : goal.put_statement-returns-in_ok-then-in-While
+put_statement-returns-in_ok-then-in-While t c =
+    let old = c.args.code.now.items in
+    let c1 = c.put-in-While.new.code.items in
+    let c2 = c.put_block-in-While.new.code.items in
+    let next = c.args.next in
+    let then = c.in_ok-then-in-While.then in
+    let place = c.in_ok-place-in-While.place in
+    let before = leading c.args.statement next next next in
+    let one : c1 ≡ old ++ before ∷ [] = rw c.straight.ensures at c.in_ok-place-in-While.ensures.items in
+    let place_is : place ≡ length (old ++ before ∷ []) = c.in_ok-place-in-While.ensures.place ∙ ap length one in
+    let body : IsGrown (old ++ before ∷ []) c2 c.in-While.body.items (length (old ++ before ∷ [])) then =
+    subst (λ n. IsGrown (old ++ before ∷ []) c2 c.in-While.body.items n then) place_is
+    (subst (λ k. IsGrown k c2 c.in-While.body.items place then) one
+    (subst (λ l. IsGrown c1 c2 l place then) c.deref-in-While.ensures.value c.in_ok-then-in-While.ensures)) in
+    let read = c.index_mut.result.now in
+    let read_is : read ≡ before = c.index_mut.ensures.value ∙ ap (λ n. get_or c2 (n - 1) read) place_is ∙ read_loop old c2 body.more before read body.grown in
+    let grown = grown_loop old c2 c.args.statement c.in-While.field-0 c.in-While.body next then c.in-While.is c.requires body in
+    let written : record { statement = read.statement; next = read.next; then = then; otherwise = read.otherwise } ≡ leading c.args.statement next then next =
+    ap (λ (x : Instruction). leading x.statement x.next then x.otherwise) read_is in
+    let named = subst (λ x. IsGrown old (set c2 (length (old ++ before ∷ []) - 1) (leading c.args.statement next then next)) (x ∷ []) next (length (old ++ before ∷ []))) (sym c.in-While.is) grown in
+    let placed = subst (λ n. IsGrown old (set c2 (n - 1) (leading c.args.statement next then next)) (c.args.statement.now ∷ []) next n) (sym place_is) named in
+    subst (λ x. IsGrown old (set c2 (place - 1) x) (c.args.statement.now ∷ []) next place) (sym written) placed
+
+pub put_statement-returns-in_default : goal.put_statement-returns-in_default
+put_statement-returns-in_default t c =
+    let code = c.args.code.now.items in
+    let next = c.args.next in
+    let i = leading c.args.statement next next next in
+    let items = rw c.straight-in_default.ensures at c.put-in_default.ensures.items in
+    grown_put c.put-in_default.result code code c.put-in_default.new.code.items i (c.args.statement.now ∷ []) next c.put-in_default.ensures.place items
+    (grown_straight code i c.args.statement.now next refl refl refl refl c.requires c.in_default.not-If c.in_default.not-While)

@@ -1,0 +1,58 @@
+-- What the code of a thread asks for, and where an answer leads.
+use Rattle.std.specs.Prelude.{ℕ, false, Result, Ok, Err}
+use Rattle.lrc_trace.specs.declared.act.Cause.{Cause}
+use Rattle.lrc_exec.specs.declared.machine.Ask.{Ask}
+use Rattle.lrc_exec.specs.declared.machine.Ask.TheVariants.{Quiet, Print, Read, Write, Acquire, Release, Barrier, Trap, End}
+use Rattle.lrc_exec.specs.Meaning.{Thread, Next, quiet, prints, reads, writes, acquires, releases, arrives, departs, traps, ends, next_of}
+
+-- what is asked for, where a thread does this next
+abbrev pub ask_of : Next → Ask
+ask_of (quiet after) = Quiet
+ask_of (prints value after) = Print value
+ask_of (reads word after) = Read word
+ask_of (writes word value after) = Write word value
+ask_of (acquires lock after) = Acquire lock
+ask_of (releases lock after) = Release lock
+ask_of (arrives after) = Barrier
+ask_of (departs after) = Barrier
+ask_of (traps cause) = Trap cause
+ask_of ends = End
+
+-- an answer is due to all but a trap and the end
+abbrev pub TakesAnswer : Ask → Type 0
+TakesAnswer Quiet = Unit {0}
+TakesAnswer (Print value) = Unit {0}
+TakesAnswer (Read word) = Unit {0}
+TakesAnswer (Write word value) = Unit {0}
+TakesAnswer (Acquire lock) = Unit {0}
+TakesAnswer (Release lock) = Unit {0}
+TakesAnswer Barrier = Unit {0}
+TakesAnswer (Trap cause) = ⊥
+TakesAnswer End = ⊥
+
+-- a thread goes on where what it does next takes an answer
+abbrev pub GoesOn : Next → Type 0
+GoesOn next = TakesAnswer (ask_of next)
+
+-- the thread once this is done, where a read gets the value; from a barrier it goes on once it has departed, and from a
+-- trap or the end it does not go on
+abbrev pub done : ℕ → Thread → Next → Thread
+done value thread (quiet after) = after
+done value thread (prints printed after) = after
+done value thread (reads word after) = after value
+done value thread (writes word written after) = after
+done value thread (acquires lock after) = after
+done value thread (releases lock after) = after
+done value thread (arrives after) = record after { arrived = false }
+done value thread (departs after) = after
+done value thread (traps cause) = thread
+done value thread ends = thread
+
+-- the thread once what it asks for was answered with this value
+abbrev pub answered : ℕ → Thread → Thread
+answered value thread = done value thread (next_of thread)
+
+-- what is asked for, or the trap in its place
+abbrev pub ask_or_trap : Result Ask Cause → Ask
+ask_or_trap (Ok ask) = ask
+ask_or_trap (Err cause) = Trap cause

@@ -1,0 +1,54 @@
+-- Flat code: which statements are still to do at each place, and what makes an instruction sound.
+use Rattle.std.specs.Prelude.{◌≡◌, ℕ, suc, ◌+◌, ◌<◌, ◌≤◌, Option, Some, List, [], ◌∷◌, ◌++◌, length, slice_get, slice_index_or}
+use Rattle.lrc_lang.specs.declared.program.Statement.{Statement}
+use Rattle.lrc_lang.specs.declared.program.Statement.TheVariants.{If', While'}
+use Rattle.lrc_exec.specs.declared.code.Instruction.{Instruction}
+use Rattle.lrc_exec.specs.Meaning.{block}
+
+-- the statements still to do at the places so far and, after them, at those of further instructions
+unfoldable pub rests_from : List (List Statement) → List Instruction → List (List Statement)
+rests_from rests [] = rests
+rests_from rests (instruction ∷ more) =
+    rests_from (rests ++ (instruction.statement.now ∷ slice_index_or rests instruction.next []) ∷ []) more
+
+-- the statements still to do at a place: none at place 0, the end of the text; at the place of an instruction its own
+-- and those at its next place
+unfoldable pub rest_at : List Instruction → ℕ → List Statement
+rest_at code place = slice_index_or (rests_from ([] ∷ []) code) place []
+
+-- what is still to do where the condition of a statement holds, and `rest` comes after it
+abbrev pub where_it_holds : Statement → List Statement → List Statement
+where_it_holds (If' condition p first q second) rest = block first ++ rest
+where_it_holds (While' condition p body) rest = block body ++ While' condition p body ∷ rest
+where_it_holds statement rest = rest
+
+-- what is still to do where it does not hold
+abbrev pub where_it_fails : Statement → List Statement → List Statement
+where_it_fails (If' condition p first q second) rest = block second ++ rest
+where_it_fails statement rest = rest
+
+-- the k-th instruction, from 0, leads where its statement does
+pub record IsSound (code : List Instruction) (k : ℕ) (instruction : Instruction) : Type 0 where
+  pub next_below : instruction.next ≤ k
+  pub then_within : instruction.then ≤ length code
+  pub otherwise_within : instruction.otherwise ≤ length code
+  pub then_leads : rest_at code instruction.then ≡ where_it_holds instruction.statement.now (rest_at code instruction.next)
+  pub otherwise_leads : rest_at code instruction.otherwise ≡ where_it_fails instruction.statement.now (rest_at code instruction.next)
+
+-- each instruction from the k-th on is sound
+abbrev pub IsSoundFrom : ℕ → List Instruction → Type 0
+IsSoundFrom from code = (k : ℕ) (instruction : Instruction) → from ≤ k → slice_get code k ≡ Some instruction → IsSound code k instruction
+
+-- the code has grown by sound instructions that at `place` begin these statements, after which comes `next`
+pub record IsGrown (old new : List Instruction) (statements : List Statement) (next place : ℕ) : Type 0 where
+  pub more : List Instruction
+  pub grown : new ≡ old ++ more
+  pub within : place ≤ length new
+  pub leads : rest_at new place ≡ statements ++ rest_at new next
+  pub sound : IsSoundFrom (length old) new
+
+-- the code of these statements, which begin at `start`
+pub record IsCodeOf (code : List Instruction) (start : ℕ) (statements : List Statement) : Type 0 where
+  pub within : start ≤ length code
+  pub leads : rest_at code start ≡ statements
+  pub sound : IsSoundFrom 0 code

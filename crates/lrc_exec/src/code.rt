@@ -1,0 +1,98 @@
+// Flat code: instructions that name their successors.
+
+ghost use Rattle.std.specs.Prelude.{◌≡◌, ◌+◌, ◌≤◌, [], ◌∷◌, ◌++◌, length, IfOk};
+ghost use Rattle.lrc_exec.specs.Meaning.{chosen};
+
+use crate::emit::put_block;
+use lrc_lang::program::{Program, Statement};
+use std::alloc::{AllocError, Global};
+use std::marker::Model;
+
+/// One instruction: a statement of the program, and the places where a thread goes on. A place is the number of an
+/// instruction, counted from 1 in the order in which they stand; place 0 is the end of the text.
+#[derive(Clone, Copy)]
+pub(crate) struct Instruction<'p> {
+    /// The statement that begins here.
+    pub statement: &'p Statement,
+    /// The place after the statement.
+    pub next: usize,
+    /// Where a condition leads that holds; for a statement without one, the place after it.
+    pub then: usize,
+    /// Where a condition leads that does not hold.
+    pub otherwise: usize,
+}
+
+impl Instruction<'_> {
+    // Where a condition of this value leads.
+    pub(crate) fn chosen(&self, value: u64) -> usize
+        ensures { result ≡ chosen value self.now.then self.now.otherwise }
+    {
+        if value == 0 {
+            self.otherwise
+        } else {
+            self.then
+        }
+    }
+}
+
+/// The flat code of a program, which it borrows. In a contract it is that program.
+#[derive(Drop)]
+pub struct Code<'p> {
+    program: &'p Program,
+    instructions: Vec<Instruction<'p>>,
+    start: usize,
+}
+
+impl<'p> Model for Code<'p> {
+    ghost use Rattle.lrc_lang.specs.declared.program.Program.{Program};
+    ghost use Rattle.lrc_lang.specs.contracts.program.Statement as statement;
+    ghost use Rattle.std.specs.Coded.{codes};
+
+    ghost Value = { Program };
+
+    ghost coded = { Prim.hlevel (codes, statement.the_row.coded) };
+
+    ghost use Rattle.lrc_exec.specs.Flat.{IsCodeOf};
+
+    ghost view = { λ c. c.program.now };
+
+    ghost invariant = { λ c. IsCodeOf c.instructions.items c.start c.program.now.statements.items };
+}
+
+impl<'p> Code<'p> {
+    ghost use Rattle.lrc_exec.specs.Flat.{IsCodeOf};
+
+    /// The code of a program.
+    pub fn new(alloc: Global, program: &'p Program) -> Result<Code<'p>, AllocError>
+        ensures { IfOk result (λ code. code ≡ program.now) }
+    {
+        let mut instructions = Vec::new(alloc);
+        let start = put_block(&mut instructions, &program.statements, 0)?;
+        Ok(Code {
+            program,
+            instructions,
+            start,
+        })
+    }
+
+    /// How many words the shared memory has, 1 to 4096.
+    pub fn words(&self) -> u32
+        ensures { result ≡ self.now.words }
+    {
+        self.program.words()
+    }
+
+    /// How many locks there are, 0 to 64.
+    pub fn locks(&self) -> u8
+        ensures { result ≡ self.now.locks }
+    {
+        self.program.locks()
+    }
+
+    // The instructions, and the place where the text begins.
+    pub(crate) fn parts(&self) -> (&[Instruction<'p>], usize)
+        ensures { IsCodeOf result.0.now result.1 self.now.statements.items }
+    {
+        (&self.instructions, self.start)
+    }
+}

@@ -1,0 +1,242 @@
+// What a thread asks for, and the machine that runs its code.
+
+ghost use Rattle.std.specs.Prelude.{◌≡◌, ◌≤◌, false, List, if◌then◌else◌, nat_lt, ok_or, slice_set, unwrap_or};
+ghost use Rattle.lrc_lang.specs.declared.program.Statement.{Statement};
+ghost use Rattle.lrc_exec.specs.Meaning.{act_of, next_of, value_in};
+ghost use Rattle.lrc_exec.specs.Plain.{start_of};
+ghost use Rattle.lrc_exec.specs.Ask.{ask_of, answered, ask_or_trap, TakesAnswer};
+
+use crate::code::{Code, Instruction};
+use crate::value::evaluate;
+use lrc_lang::program::{Expression, Statement};
+use lrc_trace::act::Cause;
+use std::marker::Model;
+
+/// What a thread asks for next.
+#[derive(Clone, Copy, Debug, PartialEq, Eq)]
+pub enum Ask {
+    /// Nothing: a step that only this thread sees, an assignment or a condition.
+    Quiet,
+    /// That this value be printed.
+    Print(u64),
+    /// The value of a word of the shared memory.
+    Read(u32),
+    /// That this value be written to a word of the shared memory.
+    Write(u32, u64),
+    /// A lock that it does not hold.
+    Acquire(u8),
+    /// That a lock that it holds be given back.
+    Release(u8),
+    /// That every node come to the barrier.
+    Barrier,
+    /// Nothing more: it has trapped.
+    Trap(Cause),
+    /// Nothing more: it is at the end of the text.
+    End,
+}
+
+/// A thread that runs the code of a program on one node. In a contract it is the thread of the meaning, which has not
+/// arrived at a barrier: one answer to [`Ask::Barrier`] takes it through the arrive and the depart.
+#[derive(Drop)]
+pub struct Machine<'c> {
+    code: &'c [Instruction<'c>],
+    words: u32,
+    locks: u8,
+    me: u8,
+    nodes: u8,
+    place: usize,
+    privates: [u64; 32],
+    held: [bool; 64],
+}
+
+impl<'c> Model for Machine<'c> {
+    ghost use Rattle.std.specs.Prelude.{◌≤◌, false, length};
+    ghost use Rattle.std.specs.Coded.{codes};
+    ghost use Rattle.lrc_lang.specs.contracts.program.Statement as statement;
+    ghost use Rattle.lrc_exec.specs.Meaning.{Thread};
+    ghost use Rattle.lrc_exec.specs.Flat.{rest_at, IsSoundFrom};
+
+    ghost Value = { Thread };
+
+    ghost coded = { Prim.hlevel (codes, statement.the_row.coded) };
+
+    ghost use Rattle.lrc_exec.specs.Running.{thread_of, IsRunning};
+
+    ghost view = { thread_of };
+
+    ghost invariant = { IsRunning };
+}
+
+impl<'c> Machine<'c> {
+    /// Node `me` of `nodes` at the beginning of a program.
+    pub fn new(code: &'c Code<'_>, me: u8, nodes: u8) -> Machine<'c>
+        ensures { result ≡ start_of code.now nodes me }
+    {
+        let (instructions, place) = code.parts();
+        Machine {
+            code: instructions,
+            words: code.words(),
+            locks: code.locks(),
+            me,
+            nodes,
+            place,
+            privates: [0; 32],
+            held: [false; 64],
+        }
+    }
+
+    /// What the thread asks for next.
+    pub fn ask(&self) -> Ask
+        ensures asked { result ≡ ask_of (next_of self.now) }
+        ensures not_arrived { self.now.arrived ≡ false }
+    {
+        let Some(index) = self.place.checked_sub(1) else {
+            return Ask::End;
+        };
+        match self.wish(self.code[index].statement) {
+            Ok(ask) => ask,
+            Err(cause) => Ask::Trap(cause),
+        }
+    }
+
+    /// Completes what the thread asked for. For [`Ask::Read`] the value is the one that was read; otherwise it is not
+    /// used.
+    pub fn answer(&mut self, value: u64)
+        requires { TakesAnswer (ask_of (next_of self.old)) }
+        ensures answered { self.new ≡ answered value self.old }
+        ensures not_arrived { self.new.arrived ≡ false }
+    {
+        let Some(index) = self.place.checked_sub(1) else {
+            return;
+        };
+        let instruction = self.code[index];
+        match instruction.statement {
+            Statement::Assign(name, expression) => {
+                let number = self.number(expression);
+                set_name(&mut self.privates, *name, number);
+                self.place = instruction.next;
+            }
+            Statement::Read(name, _) => {
+                set_name(&mut self.privates, *name, value);
+                self.place = instruction.next;
+            }
+            Statement::Acquire(lock) => {
+                let number = self.number(lock);
+                set_held(&mut self.held, number, true);
+                self.place = instruction.next;
+            }
+            Statement::Release(lock) => {
+                let number = self.number(lock);
+                set_held(&mut self.held, number, false);
+                self.place = instruction.next;
+            }
+            Statement::If(condition, ..) => {
+                let number = self.number(condition);
+                self.place = instruction.chosen(number);
+            }
+            Statement::While(condition, _) => {
+                let number = self.number(condition);
+                self.place = instruction.chosen(number);
+            }
+            _ => self.place = instruction.next,
+        }
+    }
+
+    // What a statement asks for.
+    fn wish(&self, statement: &Statement) -> Result<Ask, Cause>
+        ensures { (rest : List Statement) → ask_of (act_of self.now statement.now rest) ≡ ask_or_trap result }
+    {
+        match statement {
+            Statement::Assign(_, value) => {
+                self.value(value)?;
+                Ok(Ask::Quiet)
+            }
+            Statement::Read(_, word) => {
+                let word = self.value(word)?;
+                Ok(Ask::Read(self.word(word)?))
+            }
+            Statement::Write(word, value) => {
+                let word = self.value(word)?;
+                let value = self.value(value)?;
+                Ok(Ask::Write(self.word(word)?, value))
+            }
+            Statement::Acquire(lock) => {
+                let number = self.value(lock)?;
+                let lock = self.lock(number)?;
+                if self.held[lock as usize] {
+                    return Err(Cause::LockHeld);
+                }
+                Ok(Ask::Acquire(lock))
+            }
+            Statement::Release(lock) => {
+                let number = self.value(lock)?;
+                let lock = self.lock(number)?;
+                if !self.held[lock as usize] {
+                    return Err(Cause::LockNotHeld);
+                }
+                Ok(Ask::Release(lock))
+            }
+            Statement::Barrier => Ok(Ask::Barrier),
+            Statement::Print(value) => Ok(Ask::Print(self.value(value)?)),
+            Statement::If(condition, ..) | Statement::While(condition, _) => {
+                self.value(condition)?;
+                Ok(Ask::Quiet)
+            }
+        }
+    }
+
+    // The value of an expression.
+    fn value(&self, expression: &Expression) -> Result<u64, Cause>
+        ensures { result ≡ ok_or (value_in self.now expression.now) Cause.DivisionByZero }
+    {
+        evaluate(expression, &self.privates, self.me, self.nodes)
+    }
+
+    // The value of an expression that has one.
+    fn number(&self, expression: &Expression) -> u64
+        ensures { result ≡ unwrap_or (value_in self.now expression.now) 0 }
+    {
+        self.value(expression).unwrap_or(0)
+    }
+
+    // A word's number, where there is such a word.
+    fn word(&self, number: u64) -> Result<u32, Cause>
+        ensures { result ≡ (if nat_lt number self.now.setting.words then Ok number else Err Cause.WordOutOfRange) }
+    {
+        if number < u64::from(self.words) {
+            Ok(number as u32)
+        } else {
+            Err(Cause::WordOutOfRange)
+        }
+    }
+
+    // A lock's number, where there is such a lock.
+    fn lock(&self, number: u64) -> Result<u8, Cause>
+        ensures { result ≡ (if nat_lt number self.now.setting.locks then Ok number else Err Cause.LockOutOfRange) }
+    {
+        if number < u64::from(self.locks) {
+            Ok(number as u8)
+        } else {
+            Err(Cause::LockOutOfRange)
+        }
+    }
+}
+
+// Sets a private name.
+fn set_name(privates: &mut [u64; 32], name: u8, value: u64)
+    ensures { privates.new ≡ slice_set privates.old name value }
+{
+    let name = name as usize;
+    if name < privates.len() {
+        privates[name] = value;
+    }
+}
+
+// Holds a lock from now on, or no longer.
+fn set_held(locks: &mut [bool; 64], lock: u64, held: bool)
+    ensures { locks.new ≡ slice_set locks.old lock held }
+{
+    if lock < 64 {
+        locks[lock as usize] = held;
+    }
+}

@@ -1,0 +1,48 @@
+// The values of expressions.
+
+ghost use Rattle.std.specs.Prelude.{◌≡◌, ok_or};
+ghost use Rattle.lrc_exec.specs.Meaning.{applied, value_of};
+
+use lrc_lang::program::{Expression, Operator};
+use lrc_trace::act::Cause;
+
+// What an operator gives.
+fn apply(operator: Operator, x: u64, y: u64) -> Result<u64, Cause>
+    ensures { result ≡ ok_or (applied operator x y) Cause.DivisionByZero }
+{
+    match operator {
+        Operator::Add => Ok(x.wrapping_add(y)),
+        Operator::Subtract => Ok(x.wrapping_sub(y)),
+        Operator::Multiply => Ok(x.wrapping_mul(y)),
+        Operator::Divide => x.checked_div(y).ok_or(Cause::DivisionByZero),
+        Operator::Remainder => x.checked_rem(y).ok_or(Cause::DivisionByZero),
+        Operator::Equal => Ok(u64::from(x == y)),
+        Operator::NotEqual => Ok(u64::from(x != y)),
+        Operator::Less => Ok(u64::from(x < y)),
+        Operator::LessOrEqual => Ok(u64::from(x <= y)),
+        Operator::Greater => Ok(u64::from(x > y)),
+        Operator::GreaterOrEqual => Ok(u64::from(x >= y)),
+    }
+}
+
+// The value of an expression on node `me` of `nodes`, with these private values.
+pub(crate) fn evaluate(
+    expression: &Expression,
+    privates: &[u64],
+    me: u8,
+    nodes: u8,
+) -> Result<u64, Cause>
+    ensures { result ≡ ok_or (value_of me nodes privates.now expression.now) Cause.DivisionByZero }
+{
+    match expression {
+        Expression::Number(n) => Ok(*n),
+        Expression::Private(name) => Ok(privates.get(*name as usize).copied().unwrap_or(0)),
+        Expression::Me => Ok(u64::from(me)),
+        Expression::Nodes => Ok(u64::from(nodes)),
+        Expression::Binary(left, operator, right) => {
+            let x = evaluate(left, privates, me, nodes)?;
+            let y = evaluate(right, privates, me, nodes)?;
+            apply(*operator, x, y)
+        }
+    }
+}

@@ -1,0 +1,226 @@
+-- The parser behind some tokens: what it keeps says which token may come next, and which limits that would pass.
+use Rattle.std.proofs.Common.{◌≡◌, ◌⊎◌, List, [], ◌∷◌, ◌++◌, Option, Some, None, Ok, Err, refl, sym, ap, subst, ◌∙◌, inl, inr, ⊎_elim, arith}
+use Rattle.lrc_lang.specs.declared.fault.FaultKind.{FaultKind}
+use Rattle.lrc_lang.specs.declared.fault.FaultKind.TheVariants.{TooLong, BadByte, BadNumber, Unexpected, TooDeep, TooManyNames, OverLimit, NoMemory}
+use Rattle.lrc_lang.specs.declared.limits.Limits as code_limits
+use Rattle.lrc_lang.specs.declared.state.State as code_state
+use Rattle.lrc_lang.specs.declared.token.Keyword.TheVariants as keywords
+use Rattle.lrc_lang.specs.declared.token.Sign.{Sign}
+use Rattle.lrc_lang.specs.declared.token.Sign.TheVariants as signs
+use Rattle.lrc_lang.specs.Token.{Token, Lexeme, token, bad_byte, bad_number}
+use Rattle.lrc_lang.specs.Symbol.{Names, names_with, symbol_of, symbol_of_sign}
+use Rattle.lrc_lang.specs.Counts.{names_of, open_with, open_of, operators_with, operators_of, last_of, IsOpening, IsTooDeep, IsNameTooMany, IsOperator, IsOperatorTooMany}
+use Rattle.lrc_lang.specs.Faults.{IsUnexpected, IsNumberTooLarge, IsOverLimit, IsFaultOf, IsFaultless}
+use Rattle.lrc_lang.specs.State as state
+use Rattle.lrc_lang.specs.State.{State, state_with}
+use Rattle.lrc_lang.specs.SeenState.{state_seen, TakesSymbol}
+use Rattle.lrc_lang.specs.SeenLimits.{names_seen, TakesToken}
+use Rattle.lrc_lang.specs.SeenParser.{TakesLexeme}
+use Rattle.lrc_lang.proofs.Reaching.{Reaches, Reaches-start, Reaches-push, refused-IsUnexpected, taken-IsUnexpected, fold-append}
+use Rattle.lrc_lang.proofs.Stages.{Says, next_says, over_number, number_too_large, over_taken}
+
+-- Behind these tokens the parser is in this state and has counted so much.
+pub record IsBehind (before : List Token) (s : code_state.State) (l : code_limits.Limits) : Type 0 where
+  pub reaches : Reaches before (state_seen s)
+  pub says : Says (state_seen s).stage (last_of before)
+  pub names : names_seen l ≡ names_of before
+  pub nested : l.nested ≡ open_of before
+  pub operators : l.operators ≡ operators_of before
+
+pub IsBehind-start : (s : code_state.State) (l : code_limits.Limits) →
+    state_seen s ≡ state.start → names_seen l ≡ [] → l.nested ≡ 0 → l.operators ≡ 0 → IsBehind [] s l
+IsBehind-start s l is names nested operators = record {
+  reaches = subst (λ t. Reaches [] t) (sym is) Reaches-start;
+  says = subst (λ t. Says t.stage None) (sym is) tt;
+  names = names;
+  nested = nested;
+  operators = operators;
+}
+
+-- ---- a token that is taken
+
+module _ (before : List Token) (s s' : code_state.State) (l l' : code_limits.Limits) (t : Token) (b : IsBehind before s l) (taken : TakesLexeme (Ok tt) s l (token t) s' l') where
+  step : state_with (state_seen s) (symbol_of (names_of before) t) ≡ Some (state_seen s')
+  step = subst (λ names. state_with (state_seen s) (symbol_of names t) ≡ Some (state_seen s')) b.names taken.0.0
+
+  pub IsBehind-push : IsBehind (before ++ t ∷ []) s' l'
+  IsBehind-push = record {
+    reaches = Reaches-push before (state_seen s) t b.reaches step;
+    says = subst (λ last. Says (state_seen s').stage last) (sym (fold-append (λ _ u. Some u) None before (t ∷ []))) (next_says (names_of before) (state_seen s) t step);
+    names = taken.1.0 ∙ ap (λ names. names_with names t) b.names ∙ sym (fold-append names_with [] before (t ∷ []));
+    nested = taken.1.1 ∙ ap (λ n. open_with n t) b.nested ∙ sym (fold-append open_with 0 before (t ∷ []));
+    operators = taken.1.2 ∙ ap (λ n. operators_with n (symbol_of [] t)) b.operators ∙ sym (fold-append (λ n u. operators_with n (symbol_of [] u)) 0 before (t ∷ []));
+  }
+
+  no_limit : IsOverLimit before t → ⊥
+  no_limit =
+      ⊎_elim
+      (λ large. taken.0.1 (over_number (names_seen l) (state_seen s).stage (last_of before) t b.says large))
+      (λ many. taken.1.5 (subst (λ n. IsOperatorTooMany n t) (sym b.operators) many))
+
+  pub IsFaultless-taken : IsFaultless before (token t)
+  IsFaultless-taken = elim [
+    | TooLong ↦ λ h. h
+    | BadByte ↦ λ h. h
+    | BadNumber ↦ λ h. h
+    | Unexpected ↦ λ h. taken-IsUnexpected before (state_seen s) t b.reaches step h
+    | TooDeep ↦ λ h. taken.1.3 (subst (λ n. IsTooDeep n t) (sym b.nested) h)
+    | TooManyNames ↦ λ h. taken.1.4 (subst (λ names. IsNameTooMany names t) (sym b.names) h)
+    | OverLimit ↦ λ h. no_limit h
+    | NoMemory ↦ λ h. h
+  ]
+
+-- ---- what is not taken
+
+-- a number is neither an opening nor a name, a name is no opening, and an operator is neither
+abbrev IsNumber : Token → Type 0
+IsNumber (Token.number n) = Unit {0}
+IsNumber _ = ⊥
+
+large_is_number : (last : Option Token) (t : Token) → IsNumberTooLarge last t → IsNumber t
+large_is_number last (Token.number n) large = tt
+large_is_number (Some (Token.keyword keywords.Words)) _ large = large
+large_is_number (Some (Token.keyword keywords.Locks)) _ large = large
+large_is_number _ _ large = absurd large
+
+number_not_opening : (t : Token) → IsNumber t → IsOpening t → ⊥
+number_not_opening (Token.number n) is opening = opening
+number_not_opening _ is opening = is
+
+number_no_name : (names : Names) (t : Token) → IsNumber t → IsNameTooMany names t → ⊥
+number_no_name names (Token.number n) is many = many
+number_no_name names _ is many = is
+
+name_not_opening : (names : Names) (t : Token) → IsNameTooMany names t → IsOpening t → ⊥
+name_not_opening names (Token.name bytes) many opening = opening
+name_not_opening names _ many opening = many
+
+operator_sign_not_opening : (mark : Sign) → IsOperator (symbol_of_sign mark) → IsOpening (Token.sign mark) → ⊥
+operator_sign_not_opening signs.OpenBrace is opening = is
+operator_sign_not_opening signs.OpenParenthesis is opening = is
+operator_sign_not_opening _ is opening = opening
+
+operator_not_opening : (t : Token) → IsOperator (symbol_of [] t) → IsOpening t → ⊥
+operator_not_opening (Token.sign mark) is opening = operator_sign_not_opening mark is opening
+operator_not_opening _ is opening = is
+
+operator_no_name : (names : Names) (t : Token) → IsOperator (symbol_of [] t) → IsNameTooMany names t → ⊥
+operator_no_name names (Token.name bytes) is many = is
+operator_no_name names _ is many = many
+
+bad_byte_fault : (before : List Token) → IsFaultOf before bad_byte BadByte
+bad_byte_fault before = record {
+  has = tt;
+  first = elim [
+    | TooLong ↦ λ r h. h
+    | BadByte ↦ λ r h. omega arith
+    | BadNumber ↦ λ r h. h
+    | Unexpected ↦ λ r h. h
+    | TooDeep ↦ λ r h. h
+    | TooManyNames ↦ λ r h. h
+    | OverLimit ↦ λ r h. h
+    | NoMemory ↦ λ r h. h
+  ];
+}
+
+bad_number_fault : (before : List Token) → IsFaultOf before bad_number BadNumber
+bad_number_fault before = record {
+  has = tt;
+  first = elim [
+    | TooLong ↦ λ r h. h
+    | BadByte ↦ λ r h. h
+    | BadNumber ↦ λ r h. omega arith
+    | Unexpected ↦ λ r h. h
+    | TooDeep ↦ λ r h. h
+    | TooManyNames ↦ λ r h. h
+    | OverLimit ↦ λ r h. h
+    | NoMemory ↦ λ r h. h
+  ];
+}
+
+unexpected_fault : (before : List Token) (t : Token) → IsUnexpected before t → IsFaultOf before (token t) Unexpected
+unexpected_fault before t has = record {
+  has = has;
+  first = elim [
+    | TooLong ↦ λ r h. h
+    | BadByte ↦ λ r h. h
+    | BadNumber ↦ λ r h. h
+    | Unexpected ↦ λ r h. omega arith
+    | TooDeep ↦ λ r h. omega arith
+    | TooManyNames ↦ λ r h. omega arith
+    | OverLimit ↦ λ r h. omega arith
+    | NoMemory ↦ λ r h. h
+  ];
+}
+
+deep_fault : (before : List Token) (t : Token) → ¬ IsUnexpected before t → IsTooDeep (open_of before) t → IsFaultOf before (token t) TooDeep
+deep_fault before t expected has = record {
+  has = has;
+  first = elim [
+    | TooLong ↦ λ r h. h
+    | BadByte ↦ λ r h. h
+    | BadNumber ↦ λ r h. h
+    | Unexpected ↦ λ r h. expected h
+    | TooDeep ↦ λ r h. omega arith
+    | TooManyNames ↦ λ r h. omega arith
+    | OverLimit ↦ λ r h. omega arith
+    | NoMemory ↦ λ r h. h
+  ];
+}
+
+names_fault : (before : List Token) (t : Token) → ¬ IsUnexpected before t → IsNameTooMany (names_of before) t → IsFaultOf before (token t) TooManyNames
+names_fault before t expected has = record {
+  has = has;
+  first = elim [
+    | TooLong ↦ λ r h. h
+    | BadByte ↦ λ r h. h
+    | BadNumber ↦ λ r h. h
+    | Unexpected ↦ λ r h. expected h
+    | TooDeep ↦ λ r h. name_not_opening (names_of before) t has h.0
+    | TooManyNames ↦ λ r h. omega arith
+    | OverLimit ↦ λ r h. omega arith
+    | NoMemory ↦ λ r h. h
+  ];
+}
+
+over_fault : (before : List Token) (t : Token) → ¬ IsUnexpected before t → (¬ IsOpening t) → (¬ IsNameTooMany (names_of before) t) → IsOverLimit before t → IsFaultOf before (token t) OverLimit
+over_fault before t expected shut few has = record {
+  has = has;
+  first = elim [
+    | TooLong ↦ λ r h. h
+    | BadByte ↦ λ r h. h
+    | BadNumber ↦ λ r h. h
+    | Unexpected ↦ λ r h. expected h
+    | TooDeep ↦ λ r h. shut h.0
+    | TooManyNames ↦ λ r h. few h
+    | OverLimit ↦ λ r h. omega arith
+    | NoMemory ↦ λ r h. h
+  ];
+}
+
+module _ (before : List Token) (s s' : code_state.State) (l l' : code_limits.Limits) (b : IsBehind before s l) where
+  expected : (t : Token) {next : State} → state_with (state_seen s) (symbol_of (names_seen l) t) ≡ Some next → ¬ IsUnexpected before t
+  expected t {next} q = taken-IsUnexpected before (state_seen s) t b.reaches (subst (λ names. state_with (state_seen s) (symbol_of names t) ≡ Some next) b.names q)
+
+  symbol_fault : (t : Token) (kind : FaultKind) → TakesSymbol (Err kind) (state_seen s) (symbol_of (names_seen l) t) (state_seen s') → (kind ≡ NoMemory) ⊎ IsFaultOf before (token t) kind
+  symbol_fault t Unexpected q = inr (unexpected_fault before t (refused-IsUnexpected before (state_seen s) t b.reaches (subst (λ names. state_with (state_seen s) (symbol_of names t) ≡ None) b.names q)))
+  symbol_fault t OverLimit over =
+      let large : IsNumberTooLarge (last_of before) t = number_too_large (names_seen l) (state_seen s).stage (last_of before) t b.says over in
+      let is : IsNumber t = large_is_number (last_of before) t large in
+      inr (over_fault before t (expected t (over_taken (names_seen l) (state_seen s) t over).1) (number_not_opening t is) (number_no_name (names_of before) t is) (inl large))
+  symbol_fault t NoMemory q = inl refl
+  symbol_fault t _ q = absurd q
+
+  token_fault : (t : Token) (kind : FaultKind) {next : State} → state_with (state_seen s) (symbol_of (names_seen l) t) ≡ Some next → TakesToken (Err kind) l t l' → (kind ≡ NoMemory) ⊎ IsFaultOf before (token t) kind
+  token_fault t TooDeep q deep = inr (deep_fault before t (expected t q) (subst (λ n. IsTooDeep n t) b.nested deep))
+  token_fault t TooManyNames q many = inr (names_fault before t (expected t q) (subst (λ names. IsNameTooMany names t) b.names many))
+  token_fault t OverLimit q many =
+      inr (over_fault before t (expected t q) (operator_not_opening t many.0) (operator_no_name (names_of before) t many.0) (inr (subst (λ n. IsOperatorTooMany n t) b.operators many)))
+  token_fault t NoMemory q many = inl refl
+  token_fault t _ q many = absurd many
+
+  -- what is not taken has this fault, unless memory ran out
+  pub fault_of : (next : Lexeme) (kind : FaultKind) → TakesLexeme (Err kind) s l next s' l' → (kind ≡ NoMemory) ⊎ IsFaultOf before next kind
+  fault_of (token t) kind taken = ⊎_elim (λ h. symbol_fault t kind h) (λ h. token_fault t kind h.1 h.2) taken
+  fault_of bad_byte kind is = inr (subst (λ k. IsFaultOf before bad_byte k) (sym is) (bad_byte_fault before))
+  fault_of bad_number kind is = inr (subst (λ k. IsFaultOf before bad_number k) (sym is) (bad_number_fault before))

@@ -1,0 +1,5 @@
+use Rattle.lrc_lang.proofs.Trees.{block_of-push}
+use Rattle.lrc_lang.proofs.body.Body.done.Goals as goal
+
+pub returns-clause-step : goal.returns-clause-step
+returns-clause-step c = rw (c.in_ok-push.ensures.items, block_of-push)

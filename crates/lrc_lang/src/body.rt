@@ -1,0 +1,358 @@
+// Statements of which some symbols have come.
+
+ghost use Rattle.std.specs.Prelude.{◌≡◌, option_map};
+ghost use Rattle.lrc_lang.specs.Body.{start, holding, in_expression, body_with, whole_of};
+ghost use Rattle.lrc_lang.specs.Body.{is_ending, ending_of, ended, done, opened, close, close_for};
+ghost use Rattle.lrc_lang.specs.Body.{begin, go_on, behind_equals, behind_then};
+ghost use Rattle.lrc_lang.specs.Partial.{nothing};
+ghost use Rattle.lrc_lang.specs.Seen.{symbol_seen, partial_seen, Gives, GivesNew};
+ghost use Rattle.lrc_lang.specs.SeenBody.{IsExpected, Steps, purpose_seen, owner_seen, body_seen};
+ghost use Rattle.lrc_lang.specs.Tree.{if_else, empty, expression_of, statement_of, block_of};
+
+use crate::fault::FaultKind;
+use crate::partial::Partial;
+use crate::program::{Expression, Statement};
+use crate::symbol::Symbol;
+use crate::token::{Keyword, Sign};
+use std::alloc::Global;
+use std::mem;
+
+/// What an expression stands in a statement for.
+#[derive(Debug, Drop)]
+enum Purpose {
+    /// The value of a private name.
+    Assigned(u8),
+    /// The word that is read to a private name.
+    WordRead(u8),
+    /// The word that is written.
+    WordWritten,
+    /// The value that is written to this word.
+    Written(Expression),
+    /// A lock.
+    Acquired,
+    /// A lock.
+    Released,
+    /// The value that is printed.
+    Printed,
+    IfCondition,
+    WhileCondition,
+}
+
+/// Where the last symbol has led to.
+#[derive(Debug, Drop)]
+enum Place {
+    /// A statement may begin, and a block may end.
+    AtStatement,
+    /// Behind the name at the beginning of a statement.
+    AfterName(u8),
+    /// Behind that name and `=`.
+    AfterEquals(u8),
+    /// In an expression.
+    InExpression(Purpose),
+    /// Behind the `[word]` at the beginning of a statement.
+    AfterWord(Expression),
+    /// In front of the `;` that ends this statement.
+    BeforeEnd(Statement),
+    /// Behind the condition and the first block of an `if`: `else` may come, and what may come at a statement.
+    AfterThen(Expression, Vec<Statement>),
+    /// Behind that `else`.
+    AfterElse(Expression, Vec<Statement>),
+}
+
+/// What an open block belongs to.
+#[derive(Debug, Drop)]
+enum Owner {
+    /// The first block of an `if` with this condition.
+    Then(Expression),
+    /// The second block of an `if` with this condition and this first block.
+    Else(Expression, Vec<Statement>),
+    /// The block of a `while` with this condition.
+    Inside(Expression),
+}
+
+/// What stands around an open block: the statements in front of the one that the block belongs to, and its owner.
+#[derive(Debug, Drop)]
+struct Around {
+    before: Vec<Statement>,
+    owner: Owner,
+}
+
+/// Statements of which some symbols have come.
+#[derive(Debug, Drop)]
+pub struct Body {
+    alloc: Global,
+    /// What stands around each open block, outermost first.
+    outer: Vec<Around>,
+    /// The statements of the innermost open block, or of the text where none is open.
+    before: Vec<Statement>,
+    place: Place,
+    /// The expression, in the place of one.
+    expression: Partial,
+}
+
+fn expect(symbol: Symbol, wanted: Sign) -> Result<(), FaultKind>
+    ensures { IsExpected result (symbol_seen symbol) wanted }
+{
+    match symbol {
+        Symbol::Sign(sign) if sign == wanted => Ok(()),
+        _ => Err(FaultKind::Unexpected),
+    }
+}
+
+impl Purpose {
+    /// Whether a symbol ends an expression that stands for this.
+    fn is_ended_by(&self, symbol: Symbol) -> bool
+        ensures { result ≡ is_ending (ending_of (purpose_seen self.now)) (symbol_seen symbol) }
+    {
+        match symbol {
+            Symbol::Sign(Sign::Semicolon) => matches!(
+                self,
+                Purpose::Assigned(_)
+                    | Purpose::Written(_)
+                    | Purpose::Acquired
+                    | Purpose::Released
+                    | Purpose::Printed
+            ),
+            Symbol::Sign(Sign::CloseBracket) => {
+                matches!(self, Purpose::WordRead(_) | Purpose::WordWritten)
+            }
+            Symbol::Sign(Sign::OpenBrace) => {
+                matches!(self, Purpose::IfCondition | Purpose::WhileCondition)
+            }
+            _ => false,
+        }
+    }
+}
+
+impl Body {
+    /// Statements of which nothing has come.
+    pub fn start(alloc: Global) -> Body
+        ensures { body_seen result ≡ start }
+    {
+        Body {
+            alloc,
+            outer: Vec::new(alloc),
+            before: Vec::new(alloc),
+            place: Place::AtStatement,
+            expression: Partial::nothing(alloc),
+        }
+    }
+
+    /// Takes one more symbol, if it can stand here.
+    pub fn take(&mut self, symbol: Symbol) -> Result<(), FaultKind>
+        ensures { GivesNew result (body_seen self.new)
+            (body_with (body_seen self.old) (symbol_seen symbol)) }
+    {
+        match mem::replace(&mut self.place, Place::AtStatement) {
+            Place::AtStatement => self.begin(symbol),
+            Place::AfterName(name) => {
+                expect(symbol, Sign::Assign)?;
+                self.place = Place::AfterEquals(name);
+                Ok(())
+            }
+            Place::AfterEquals(name) => self.behind_equals(name, symbol),
+            Place::InExpression(purpose) => self.go_on(purpose, symbol),
+            Place::AfterWord(word) => {
+                expect(symbol, Sign::Assign)?;
+                self.express(Purpose::Written(word));
+                Ok(())
+            }
+            Place::BeforeEnd(statement) => {
+                expect(symbol, Sign::Semicolon)?;
+                self.done(statement)
+            }
+            Place::AfterThen(condition, first) => self.behind_then(condition, first, symbol),
+            Place::AfterElse(condition, first) => {
+                expect(symbol, Sign::OpenBrace)?;
+                self.open(Owner::Else(condition, first))
+            }
+        }
+    }
+
+    /// Ends the statements, if they may end here.
+    pub fn finish(&mut self) -> Result<(), FaultKind>
+        ensures { GivesNew result (body_seen self.new)
+            (option_map holding (whole_of (body_seen self.old))) }
+    {
+        if !self.outer.is_empty() {
+            return Err(FaultKind::Unexpected);
+        }
+        match mem::replace(&mut self.place, Place::AtStatement) {
+            Place::AtStatement => Ok(()),
+            Place::AfterThen(condition, first) => self.done_if(condition, first),
+            _ => Err(FaultKind::Unexpected),
+        }
+    }
+
+    /// The statements that have come, where no block is open.
+    pub fn into_statements(self) -> Vec<Statement>
+        ensures { block_of result.items ≡ (body_seen self).before }
+    {
+        self.before
+    }
+
+    /// Where a statement may begin and a block may end.
+    fn begin(&mut self, symbol: Symbol) -> Result<(), FaultKind>
+        ensures { Steps result self.old self.new
+            (λ outer before. begin outer before (symbol_seen symbol)) }
+    {
+        match symbol {
+            Symbol::Name(name) => self.place = Place::AfterName(name),
+            Symbol::Sign(Sign::OpenBracket) => self.express(Purpose::WordWritten),
+            Symbol::Keyword(Keyword::Acquire) => self.express(Purpose::Acquired),
+            Symbol::Keyword(Keyword::Release) => self.express(Purpose::Released),
+            Symbol::Keyword(Keyword::Barrier) => self.place = Place::BeforeEnd(Statement::Barrier),
+            Symbol::Keyword(Keyword::Print) => self.express(Purpose::Printed),
+            Symbol::Keyword(Keyword::If) => self.express(Purpose::IfCondition),
+            Symbol::Keyword(Keyword::While) => self.express(Purpose::WhileCondition),
+            Symbol::Sign(Sign::CloseBrace) => self.close()?,
+            _ => return Err(FaultKind::Unexpected),
+        }
+        Ok(())
+    }
+
+    /// An expression begins.
+    fn express(&mut self, purpose: Purpose)
+        ensures outer { self.new.outer ≡ self.old.outer }
+        ensures before { self.new.before ≡ self.old.before }
+        ensures place { (body_seen self.new).place ≡ in_expression (purpose_seen purpose) nothing }
+    {
+        self.expression = Partial::nothing(self.alloc);
+        self.place = Place::InExpression(purpose);
+    }
+
+    /// Behind a name and `=`.
+    fn behind_equals(&mut self, name: u8, symbol: Symbol) -> Result<(), FaultKind>
+        ensures { Steps result self.old self.new
+            (λ outer before. behind_equals outer before name (symbol_seen symbol)) }
+    {
+        self.expression = Partial::nothing(self.alloc);
+        match symbol {
+            Symbol::Sign(Sign::OpenBracket) => {
+                self.place = Place::InExpression(Purpose::WordRead(name));
+                Ok(())
+            }
+            _ => self.go_on(Purpose::Assigned(name), symbol),
+        }
+    }
+
+    /// In an expression.
+    fn go_on(&mut self, purpose: Purpose, symbol: Symbol) -> Result<(), FaultKind>
+        ensures { Steps result self.old self.new
+            (λ outer before. go_on outer before (purpose_seen purpose)
+            (partial_seen self.old.expression) (symbol_seen symbol)) }
+    {
+        if purpose.is_ended_by(symbol) {
+            let value = self.expression.finish(self.alloc)?;
+            return self.end(purpose, value);
+        }
+        self.expression.take(self.alloc, symbol)?;
+        self.place = Place::InExpression(purpose);
+        Ok(())
+    }
+
+    /// Behind the end of an expression.
+    fn end(&mut self, purpose: Purpose, value: Expression) -> Result<(), FaultKind>
+        ensures { Steps result self.old self.new
+            (λ outer before. ended outer before (purpose_seen purpose) (expression_of value)) }
+    {
+        match purpose {
+            Purpose::Assigned(name) => self.done(Statement::Assign(name, value)),
+            Purpose::WordRead(name) => {
+                self.place = Place::BeforeEnd(Statement::Read(name, value));
+                Ok(())
+            }
+            Purpose::WordWritten => {
+                self.place = Place::AfterWord(value);
+                Ok(())
+            }
+            Purpose::Written(word) => self.done(Statement::Write(word, value)),
+            Purpose::Acquired => self.done(Statement::Acquire(value)),
+            Purpose::Released => self.done(Statement::Release(value)),
+            Purpose::Printed => self.done(Statement::Print(value)),
+            Purpose::IfCondition => self.open(Owner::Then(value)),
+            Purpose::WhileCondition => self.open(Owner::Inside(value)),
+        }
+    }
+
+    /// A statement is complete.
+    fn done(&mut self, statement: Statement) -> Result<(), FaultKind>
+        ensures step { Steps result self.old self.new
+            (λ outer before. done outer before (statement_of statement)) }
+        ensures outer { self.new.outer ≡ self.old.outer }
+    {
+        self.before.push(statement)?;
+        self.place = Place::AtStatement;
+        Ok(())
+    }
+
+    /// A block begins.
+    fn open(&mut self, owner: Owner) -> Result<(), FaultKind>
+        ensures { Steps result self.old self.new
+            (λ outer before. opened outer before (owner_seen owner)) }
+    {
+        let before = mem::replace(&mut self.before, Vec::new(self.alloc));
+        self.outer.push(Around { before, owner })?;
+        self.place = Place::AtStatement;
+        Ok(())
+    }
+
+    /// The innermost block ends.
+    fn close(&mut self) -> Result<(), FaultKind>
+        ensures { Steps result self.old self.new close }
+    {
+        let Some(Around { before, owner }) = self.outer.pop() else {
+            return Err(FaultKind::Unexpected);
+        };
+        let inside = mem::replace(&mut self.before, before);
+        self.leave(owner, inside)
+    }
+
+    /// Behind the end of a block.
+    fn leave(&mut self, owner: Owner, inside: Vec<Statement>) -> Result<(), FaultKind>
+        ensures { Steps result self.old self.new
+            (λ outer before. close_for outer before (owner_seen owner) (block_of inside.items)) }
+    {
+        match owner {
+            Owner::Then(condition) => {
+                self.place = Place::AfterThen(condition, inside);
+                Ok(())
+            }
+            Owner::Else(condition, first) => self.done(Statement::If(condition, first, inside)),
+            Owner::Inside(condition) => self.done(Statement::While(condition, inside)),
+        }
+    }
+
+    /// Behind the first block of an `if`.
+    fn behind_then(
+        &mut self,
+        condition: Expression,
+        first: Vec<Statement>,
+        symbol: Symbol,
+    ) -> Result<(), FaultKind>
+        ensures { Steps result self.old self.new
+            (λ outer before. behind_then outer before (expression_of condition)
+            (block_of first.items) (symbol_seen symbol)) }
+    {
+        match symbol {
+            Symbol::Keyword(Keyword::Else) => {
+                self.place = Place::AfterElse(condition, first);
+                Ok(())
+            }
+            _ => {
+                self.done_if(condition, first)?;
+                self.begin(symbol)
+            }
+        }
+    }
+
+    /// An `if` without `else` is complete.
+    fn done_if(&mut self, condition: Expression, first: Vec<Statement>) -> Result<(), FaultKind>
+        ensures step { Steps result self.old self.new
+            (λ outer before. done outer before
+            (if_else (expression_of condition) (block_of first.items) empty)) }
+        ensures outer { self.new.outer ≡ self.old.outer }
+    {
+        self.done(Statement::If(condition, first, Vec::new(self.alloc)))
+    }
+}

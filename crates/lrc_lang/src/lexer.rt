@@ -1,0 +1,307 @@
+// The lexer: it cuts a text into tokens from the left, in one pass and without copying it.
+
+ghost use Rattle.std.specs.Prelude.{◌≡◌, ◌≢◌, ◌<◌, ◌≤◌, ◌↔◌, ℕ, ◌+◌, ◌^◌, [], ◌∷◌, length, All, IsTrue, MatchOption};
+ghost use Rattle.std.specs.Option.{SomeIff};
+ghost use Rattle.lrc_lang.specs.declared.token.Sign.{Sign};
+ghost use Rattle.lrc_lang.specs.Lexemes.{IsDigit, IsLetter, BeginsWith, IsSpan, value_of, keyword_text, IsKeyword, sign_text, NextIs, IsShorter};
+ghost use Rattle.lrc_lang.specs.Lexer.{Has, IsReady, Passes, Takes};
+ghost use Rattle.lrc_lang.specs.View.{lexeme_of, placed_of};
+
+use crate::token::{Keyword, Lexeme, Placed, Sign, Token};
+
+/// A text that is read from the left.
+#[derive(Debug, Drop)]
+pub struct Lexer<'t> {
+    /// What is left of the text.
+    pub rest: &'t [u8],
+    /// The line on which that begins, counted from 1.
+    pub line: u32,
+    /// The line stays in range, however many line feeds are left.
+    ghost line_fits: { line + length rest.now < 2 ^ 32 },
+}
+
+/// Bytes that stand together.
+#[derive(Clone, Copy, Debug)]
+enum Class {
+    Digit,
+    /// Letters, digits and `_`.
+    Word,
+    /// Any bytes but line feeds.
+    Comment,
+}
+
+impl<'t> Lexer<'t> {
+    /// A lexer at the beginning of a text.
+    pub fn new(text: &'t [u8]) -> Self
+        requires { 1 + length text.now < 2 ^ 32 }
+        ensures rest { result.rest.now ≡ text.now }
+        ensures line { result.line ≡ 1 }
+    {
+        Lexer {
+            rest: text,
+            line: 1,
+        }
+    }
+
+    /// Passes over blanks, line feeds and comments, and takes what stands next. Once that was the end of the text or
+    /// a fault, nothing is promised of what a further call finds.
+    pub fn next_lexeme(&mut self) -> Placed<'t>
+        ensures next { NextIs self.old.line self.old.rest.now (placed_of result) self.new.line self.new.rest.now }
+        ensures shorter { IsShorter (lexeme_of result.lexeme) self.old.rest.now self.new.rest.now }
+    {
+        self.skip();
+        let line = self.line;
+        let (lexeme, rest) = lexeme_at(self.rest);
+        self.rest = rest;
+        Placed { line, lexeme }
+    }
+
+    /// Passes over blanks, line feeds and comments.
+    fn skip(&mut self)
+        ensures passed { Passes self.old.line self.old.rest.now self.new.line self.new.rest.now }
+        ensures ready { IsReady self.new.rest.now }
+        ensures shorter { length self.new.rest.now ≤ length self.old.rest.now }
+    {
+        while let [byte, rest @ ..] = self.rest {
+            match *byte {
+                b' ' | b'\t' | b'\r' => self.rest = rest,
+                b'\n' => {
+                    self.rest = rest;
+                    self.line += 1;
+                }
+                b'#' => self.rest = split_front(Class::Comment, rest).1,
+                _ => return,
+            }
+        }
+    }
+}
+
+/// What stands at the front of a text, and the rest behind it.
+fn lexeme_at(text: &[u8]) -> (Lexeme<'_>, &[u8])
+    requires { IsReady text.now }
+    ensures taken { Takes text.now (lexeme_of result.0) result.1.now }
+    ensures shorter { IsShorter (lexeme_of result.0) text.now result.1.now }
+{
+    match text {
+        [] => (Lexeme::Token(Token::End), text),
+        [first, _rest @ ..] if is_in(Class::Digit, *first) => number_at(text),
+        [first, _rest @ ..] if is_letter(*first) => word_at(text),
+        [first, rest @ ..] => sign_at(*first, rest),
+    }
+}
+
+/// The number at the front of a text, or the fault where its digits are none, and the rest behind the digits.
+fn number_at(text: &[u8]) -> (Lexeme<'_>, &[u8])
+    requires { BeginsWith IsDigit text.now }
+    ensures taken { Takes text.now (lexeme_of result.0) result.1.now }
+    ensures shorter { IsShorter (lexeme_of result.0) text.now result.1.now }
+{
+    let (digits, rest) = split_front(Class::Digit, text);
+    if begins_with_letter(rest) {
+        return (Lexeme::BadNumber, rest);
+    }
+    match number_of(digits) {
+        Some(value) => (Lexeme::Token(Token::Number(value)), rest),
+        None => (Lexeme::BadNumber, rest),
+    }
+}
+
+/// The keyword or the name at the front of a text, and the rest behind it.
+fn word_at(text: &[u8]) -> (Lexeme<'_>, &[u8])
+    requires { BeginsWith IsLetter text.now }
+    ensures taken { Takes text.now (lexeme_of result.0) result.1.now }
+    ensures shorter { IsShorter (lexeme_of result.0) text.now result.1.now }
+{
+    let (word, rest) = split_front(Class::Word, text);
+    match keyword_of(word) {
+        Some(keyword) => (Lexeme::Token(Token::Keyword(keyword)), rest),
+        None => (Lexeme::Token(Token::Name(word)), rest),
+    }
+}
+
+/// The sign at the front of a text of a first byte and the bytes behind it, or the fault where that byte begins none.
+fn sign_at(first: u8, behind: &[u8]) -> (Lexeme<'_>, &[u8])
+    requires ready { IsReady (first ∷ behind.now) }
+    requires no_digit { ¬ IsDigit first }
+    requires no_letter { ¬ IsLetter first }
+    ensures taken { Takes (first ∷ behind.now) (lexeme_of result.0) result.1.now }
+    ensures shorter { IsShorter (lexeme_of result.0) (first ∷ behind.now) result.1.now }
+{
+    if let Some((sign, rest)) = long_sign_at(first, behind) {
+        return (Lexeme::Token(Token::Sign(sign)), rest);
+    }
+    match short_sign(first) {
+        Some(sign) => (Lexeme::Token(Token::Sign(sign)), behind),
+        None => (Lexeme::BadByte, behind),
+    }
+}
+
+/// The sign of two bytes, this one and a `=` behind it, and the rest behind that.
+fn long_sign_at(first: u8, behind: &[u8]) -> Option<(Sign, &[u8])>
+    ensures { MatchOption result
+        (BeginsWith (λ byte. byte ≡ 61) behind.now → (sign : Sign) → sign_text sign ≢ first ∷ 61 ∷ [])
+        (λ found. (sign_text found.0 ≡ first ∷ 61 ∷ []) × (behind.now ≡ 61 ∷ found.1.now)) }
+{
+    match behind {
+        [b'=', rest @ ..] => Some((long_sign(first)?, rest)),
+        _ => None,
+    }
+}
+
+/// The sign of this byte and `=`.
+fn long_sign(first: u8) -> Option<Sign>
+    ensures { MatchOption result ((sign : Sign) → sign_text sign ≢ first ∷ 61 ∷ []) (λ sign. sign_text sign ≡ first ∷ 61 ∷ []) }
+{
+    match first {
+        b'=' => Some(Sign::Equal),
+        b'!' => Some(Sign::NotEqual),
+        b'<' => Some(Sign::LessOrEqual),
+        b'>' => Some(Sign::GreaterOrEqual),
+        _ => None,
+    }
+}
+
+/// The sign of this byte alone.
+fn short_sign(first: u8) -> Option<Sign>
+    ensures { MatchOption result ((sign : Sign) → sign_text sign ≢ first ∷ []) (λ sign. sign_text sign ≡ first ∷ []) }
+{
+    match first {
+        b';' => Some(Sign::Semicolon),
+        b'=' => Some(Sign::Assign),
+        b'[' => Some(Sign::OpenBracket),
+        b']' => Some(Sign::CloseBracket),
+        b'{' => Some(Sign::OpenBrace),
+        b'}' => Some(Sign::CloseBrace),
+        b'(' => Some(Sign::OpenParenthesis),
+        b')' => Some(Sign::CloseParenthesis),
+        b'+' => Some(Sign::Plus),
+        b'-' => Some(Sign::Minus),
+        b'*' => Some(Sign::Star),
+        b'/' => Some(Sign::Slash),
+        b'%' => Some(Sign::Percent),
+        b'<' => Some(Sign::Less),
+        b'>' => Some(Sign::Greater),
+        _ => None,
+    }
+}
+
+/// The keyword that is spelled so.
+fn keyword_of(word: &[u8]) -> Option<Keyword>
+    ensures { MatchOption result (¬ IsKeyword word.now) (λ keyword. word.now ≡ keyword_text keyword) }
+{
+    match word {
+        b"words" => Some(Keyword::Words),
+        b"locks" => Some(Keyword::Locks),
+        b"acquire" => Some(Keyword::Acquire),
+        b"release" => Some(Keyword::Release),
+        b"barrier" => Some(Keyword::Barrier),
+        b"print" => Some(Keyword::Print),
+        b"if" => Some(Keyword::If),
+        b"else" => Some(Keyword::Else),
+        b"while" => Some(Keyword::While),
+        b"me" => Some(Keyword::Me),
+        b"nodes" => Some(Keyword::Nodes),
+        _ => None,
+    }
+}
+
+/// The number that decimal digits write, unless it is over 2^64 - 1.
+fn number_of(digits: &[u8]) -> Option<u64>
+    requires { All IsDigit digits.now }
+    ensures { SomeIff result (value_of digits.now < 2 ^ 64) (value_of digits.now) }
+{
+    let mut value: u64 = 0;
+    for digit in digits {
+        value = value
+            .checked_mul(10)?
+            .checked_add(u64::from(*digit - b'0'))?;
+    }
+    Some(value)
+}
+
+/// The bytes of a class at the front of a text, as many as stand there, and the rest behind them.
+fn split_front(class: Class, text: &[u8]) -> (&[u8], &[u8])
+    ensures { IsSpan (Has class) text.now result.0.now result.1.now }
+{
+    for (place, byte) in text.iter().enumerate() {
+        if !is_in(class, *byte) {
+            return text.split_at(place);
+        }
+    }
+    text.split_at(text.len())
+}
+
+fn is_in(class: Class, byte: u8) -> bool
+    ensures { IsTrue result ↔ Has class byte }
+{
+    match class {
+        Class::Digit => byte.is_ascii_digit(),
+        Class::Word => is_letter(byte) || byte.is_ascii_digit(),
+        Class::Comment => byte != b'\n',
+    }
+}
+
+fn is_letter(byte: u8) -> bool
+    ensures { IsTrue result ↔ IsLetter byte }
+{
+    byte.is_ascii_alphabetic() || byte == b'_'
+}
+
+fn begins_with_letter(text: &[u8]) -> bool
+    ensures { IsTrue result ↔ BeginsWith IsLetter text.now }
+{
+    match text {
+        [byte, ..] => is_letter(*byte),
+        [] => false,
+    }
+}
+
+#[cfg(test)]
+mod tests {
+    use super::*;
+
+    fn token(line: u32, token: Token<'_>) -> Placed<'_> {
+        Placed {
+            line,
+            lexeme: Lexeme::Token(token),
+        }
+    }
+
+    #[test]
+    fn reads_a_text(rt: HostRuntime) {
+        let text = b"words 007;\t# a comment\r\xff # \n\r\nwhile Me<=_x1!= 18446744073709551615\n";
+        let mut lexer = Lexer::new(text);
+        let expected = [
+            token(1, Token::Keyword(Keyword::Words)),
+            token(1, Token::Number(7)),
+            token(1, Token::Sign(Sign::Semicolon)),
+            token(3, Token::Keyword(Keyword::While)),
+            token(3, Token::Name(b"Me")),
+            token(3, Token::Sign(Sign::LessOrEqual)),
+            token(3, Token::Name(b"_x1")),
+            token(3, Token::Sign(Sign::NotEqual)),
+            token(3, Token::Number(18446744073709551615)),
+            token(4, Token::End),
+        ];
+        for placed in expected {
+            assert_eq!(rt; lexer.next_lexeme(), placed);
+        }
+    }
+
+    #[test]
+    fn finds_faults(rt: HostRuntime) {
+        let table: [(&[u8], Lexeme<'_>); 6] = [
+            (b"\n# !\n 18446744073709551616", Lexeme::BadNumber),
+            (b"\n\n1a", Lexeme::BadNumber),
+            (b"\r\n\n0_", Lexeme::BadNumber),
+            (b"\n\n! =", Lexeme::BadByte),
+            (b"\n#\n\xc3\xa9", Lexeme::BadByte),
+            (b"\n\n\x0b", Lexeme::BadByte),
+        ];
+        for (text, lexeme) in table {
+            assert!(rt; text.len() < 100);
+            let found = Lexer::new(text).next_lexeme();
+            assert_eq!(rt; found, Placed { line: 3, lexeme });
+        }
+    }
+}

@@ -1,0 +1,250 @@
+// An expression of which some symbols have come.
+
+ghost use Rattle.std.specs.Prelude.{◌≡◌, Some, None, option_map, IfOk, IsOk};
+ghost use Rattle.lrc_lang.specs.Grammar.{joins};
+ghost use Rattle.lrc_lang.specs.Partial.{joined, no_pending, level_with, whole_of};
+ghost use Rattle.lrc_lang.specs.Partial.{nothing, go_on, partial_with, value_of};
+ghost use Rattle.lrc_lang.specs.Seen.{joins_seen, pending_seen, level_seen, partial_seen};
+ghost use Rattle.lrc_lang.specs.Seen.{symbol_seen, Gives, GivesNew};
+ghost use Rattle.lrc_lang.specs.Tree.{expression_of};
+
+use crate::fault::FaultKind;
+use crate::program::{Expression, Operator};
+use crate::symbol::Symbol;
+use crate::token::{Keyword, Sign};
+use std::alloc::{AllocError, Global};
+use std::mem;
+
+/// What an operator joins.
+#[derive(Clone, Copy, Debug)]
+enum Joins {
+    /// Two factors, to a term.
+    Factors,
+    /// Two terms, to a sum.
+    Terms,
+    /// Two sums, which it compares.
+    Sums,
+}
+
+/// A left side, and the operator behind it.
+#[derive(Debug, Drop)]
+pub struct Pending {
+    left: Expression,
+    operator: Operator,
+}
+
+/// What waits for its right side, outside of all parentheses or inside of one.
+#[derive(Debug, Drop)]
+pub struct Level {
+    /// A sum that is compared.
+    compared: Option<Pending>,
+    /// A sum of which some terms have come.
+    added: Option<Pending>,
+    /// A term of which some factors have come.
+    multiplied: Option<Pending>,
+}
+
+/// An expression of which some symbols have come.
+#[derive(Debug, Drop)]
+pub struct Partial {
+    /// What waits around each open parenthesis, outermost first.
+    outer: Vec<Level>,
+    level: Level,
+    /// The operand that the last symbol ended, if it ended one.
+    operand: Option<Expression>,
+}
+
+fn joined_by(operator: Operator) -> Joins
+    ensures { joins_seen result ≡ joins operator }
+{
+    match operator {
+        Operator::Multiply | Operator::Divide | Operator::Remainder => Joins::Factors,
+        Operator::Add | Operator::Subtract => Joins::Terms,
+        Operator::Equal
+        | Operator::NotEqual
+        | Operator::Less
+        | Operator::LessOrEqual
+        | Operator::Greater
+        | Operator::GreaterOrEqual => Joins::Sums,
+    }
+}
+
+/// An operand, behind what waits for it.
+fn joined(
+    alloc: Global,
+    pending: Option<Pending>,
+    right: Expression,
+) -> Result<Expression, AllocError>
+    ensures { IfOk result (λ e. expression_of e
+        ≡ joined (option_map pending_seen pending) (expression_of right)) }
+{
+    match pending {
+        None => Ok(right),
+        Some(Pending { left, operator }) => {
+            let left = Box::new(alloc, left)?;
+            let right = Box::new(alloc, right)?;
+            Ok(Expression::Binary(left, operator, right))
+        }
+    }
+}
+
+impl Level {
+    fn nothing() -> Level
+        ensures { level_seen result ≡ no_pending }
+    {
+        Level {
+            compared: None,
+            added: None,
+            multiplied: None,
+        }
+    }
+
+    /// The expression that an operand ends.
+    fn whole(self, alloc: Global, operand: Expression) -> Result<Expression, AllocError>
+        ensures { IfOk result (λ e. expression_of e
+            ≡ whole_of (level_seen self) (expression_of operand)) }
+    {
+        let Level {
+            compared,
+            added,
+            multiplied,
+        } = self;
+        let term = joined(alloc, multiplied, operand)?;
+        let sum = joined(alloc, added, term)?;
+        joined(alloc, compared, sum)
+    }
+
+    /// What waits behind an operand and an operator.
+    fn with(
+        self,
+        alloc: Global,
+        operand: Expression,
+        operator: Operator,
+    ) -> Result<Level, FaultKind>
+        ensures { Gives level_seen result
+            (level_with (joins operator) (level_seen self) (expression_of operand) operator) }
+    {
+        let Level {
+            compared,
+            added,
+            multiplied,
+        } = self;
+        let term = joined(alloc, multiplied, operand)?;
+        match joined_by(operator) {
+            Joins::Factors => Ok(Level {
+                compared,
+                added,
+                multiplied: Some(Pending {
+                    left: term,
+                    operator,
+                }),
+            }),
+            Joins::Terms => {
+                let sum = joined(alloc, added, term)?;
+                Ok(Level {
+                    compared,
+                    added: Some(Pending {
+                        left: sum,
+                        operator,
+                    }),
+                    multiplied: None,
+                })
+            }
+            Joins::Sums => {
+                if compared.is_some() {
+                    return Err(FaultKind::Unexpected);
+                }
+                let sum = joined(alloc, added, term)?;
+                Ok(Level {
+                    compared: Some(Pending {
+                        left: sum,
+                        operator,
+                    }),
+                    added: None,
+                    multiplied: None,
+                })
+            }
+        }
+    }
+}
+
+impl Partial {
+    /// An expression of which nothing has come.
+    pub fn nothing(alloc: Global) -> Partial
+        ensures { partial_seen result ≡ nothing }
+    {
+        Partial {
+            outer: Vec::new(alloc),
+            level: Level::nothing(),
+            operand: None,
+        }
+    }
+
+    /// Takes one more symbol, if it can stand here.
+    pub fn take(&mut self, alloc: Global, symbol: Symbol) -> Result<(), FaultKind>
+        ensures { GivesNew result (partial_seen self.new)
+            (partial_with (partial_seen self.old) (symbol_seen symbol)) }
+    {
+        match self.operand.take() {
+            None => self.begin(symbol),
+            Some(operand) => self.go_on(alloc, operand, symbol),
+        }
+    }
+
+    /// Where an operand has to begin.
+    fn begin(&mut self, symbol: Symbol) -> Result<(), FaultKind>
+        requires { self.old.operand ≡ None }
+        ensures { GivesNew result (partial_seen self.new)
+            (partial_with (partial_seen self.old) (symbol_seen symbol)) }
+    {
+        match symbol {
+            Symbol::Number(value) => self.operand = Some(Expression::Number(value)),
+            Symbol::Name(number) => self.operand = Some(Expression::Private(number)),
+            Symbol::Keyword(Keyword::Me) => self.operand = Some(Expression::Me),
+            Symbol::Keyword(Keyword::Nodes) => self.operand = Some(Expression::Nodes),
+            Symbol::Sign(Sign::OpenParenthesis) => {
+                let around = mem::replace(&mut self.level, Level::nothing());
+                self.outer.push(around)?;
+            }
+            _ => return Err(FaultKind::Unexpected),
+        }
+        Ok(())
+    }
+
+    /// Behind an operand.
+    fn go_on(&mut self, alloc: Global, operand: Expression, symbol: Symbol) -> Result<(), FaultKind>
+        requires { self.old.operand ≡ None }
+        ensures { GivesNew result (partial_seen self.new)
+            (go_on (partial_seen self.old).outer (level_seen self.old.level)
+            (expression_of operand) (symbol_seen symbol)) }
+    {
+        let level = mem::replace(&mut self.level, Level::nothing());
+        match symbol {
+            Symbol::Operator(operator) => self.level = level.with(alloc, operand, operator)?,
+            Symbol::Sign(Sign::CloseParenthesis) => {
+                let Some(around) = self.outer.pop() else {
+                    return Err(FaultKind::Unexpected);
+                };
+                self.level = around;
+                self.operand = Some(level.whole(alloc, operand)?);
+            }
+            _ => return Err(FaultKind::Unexpected),
+        }
+        Ok(())
+    }
+
+    /// The whole expression, if it may end here. Nothing is left of it then.
+    pub fn finish(&mut self, alloc: Global) -> Result<Expression, FaultKind>
+        ensures value { Gives expression_of result (value_of (partial_seen self.old)) }
+        ensures empty { IsOk result → partial_seen self.new ≡ nothing }
+    {
+        if !self.outer.is_empty() {
+            return Err(FaultKind::Unexpected);
+        }
+        let Some(operand) = self.operand.take() else {
+            return Err(FaultKind::Unexpected);
+        };
+        let level = mem::replace(&mut self.level, Level::nothing());
+        Ok(level.whole(alloc, operand)?)
+    }
+}

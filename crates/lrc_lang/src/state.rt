@@ -1,0 +1,99 @@
+// A text of which some symbols have come.
+
+ghost use Rattle.std.specs.Prelude.{◌≡◌, ◌≤◌};
+
+use crate::body::Body;
+use crate::fault::FaultKind;
+use crate::program::Program;
+use crate::symbol::Symbol;
+use crate::token::{Keyword, Sign};
+use std::alloc::Global;
+
+/// What has to come next.
+#[derive(Clone, Copy, Debug)]
+enum Stage {
+    Words,
+    WordsNumber,
+    WordsEnd,
+    Locks,
+    LocksNumber,
+    LocksEnd,
+    Statements,
+    /// Nothing: the text has ended.
+    Nothing,
+}
+
+/// A text of which some symbols have come.
+#[derive(Debug, Drop)]
+pub struct State {
+    stage: Stage,
+    words: u32,
+    locks: u8,
+    body: Body,
+    ghost some_words: { 1 ≤ words },
+    ghost few_words: { words ≤ 4096 },
+    ghost few_locks: { locks ≤ 64 },
+}
+
+impl State {
+    ghost use Rattle.lrc_lang.specs.Seen.{symbol_seen};
+    ghost use Rattle.lrc_lang.specs.SeenState.{state_seen, TakesSymbol};
+    ghost use Rattle.lrc_lang.specs.State.{start, program_in};
+    ghost use Rattle.lrc_lang.specs.Tree.{program_of};
+
+    /// A text of which nothing has come.
+    pub fn start(alloc: Global) -> State
+        ensures { state_seen result ≡ start }
+    {
+        State {
+            stage: Stage::Words,
+            words: 1,
+            locks: 0,
+            body: Body::start(alloc),
+        }
+    }
+
+    /// Takes one more symbol, if it can stand here.
+    pub fn take(&mut self, symbol: Symbol) -> Result<(), FaultKind>
+        ensures { TakesSymbol result (state_seen self.old) (symbol_seen symbol) (state_seen self.new) }
+    {
+        match (self.stage, symbol) {
+            (Stage::Words, Symbol::Keyword(Keyword::Words)) => self.stage = Stage::WordsNumber,
+            (Stage::WordsNumber, Symbol::Number(words)) => {
+                if words < 1 || words > 4096 {
+                    return Err(FaultKind::OverLimit);
+                }
+                self.words = words as u32;
+                self.stage = Stage::WordsEnd;
+            }
+            (Stage::WordsEnd, Symbol::Sign(Sign::Semicolon)) => self.stage = Stage::Locks,
+            (Stage::Locks, Symbol::Keyword(Keyword::Locks)) => self.stage = Stage::LocksNumber,
+            (Stage::LocksNumber, Symbol::Number(locks)) => {
+                if locks > 64 {
+                    return Err(FaultKind::OverLimit);
+                }
+                self.locks = locks as u8;
+                self.stage = Stage::LocksEnd;
+            }
+            (Stage::LocksEnd, Symbol::Sign(Sign::Semicolon)) => self.stage = Stage::Statements,
+            (Stage::Statements, Symbol::End) => {
+                self.body.finish()?;
+                self.stage = Stage::Nothing;
+            }
+            (Stage::Statements, _) => self.body.take(symbol)?,
+            _ => return Err(FaultKind::Unexpected),
+        }
+        Ok(())
+    }
+
+    /// The program, once the text has ended.
+    pub fn into_program(self) -> Program
+        ensures { program_of result ≡ program_in (state_seen self) }
+    {
+        Program {
+            words: self.words,
+            locks: self.locks,
+            statements: self.body.into_statements(),
+        }
+    }
+}

@@ -1,0 +1,3 @@
+pub mod ChangeLists
+pub mod Masks
+pub mod Pages

@@ -1,0 +1,4 @@
+pub mod Page
+pub mod Place
+pub mod Changes
+pub mod Mask

@@ -1,0 +1,131 @@
+ghost use Rattle.std.specs.Prelude.{◌≡◌, ◌<◌, ◌↔◌, IsTrue, IfOk, OnOk, OnErr, [], ◌∷◌, ◌++◌, length, slice_get};
+ghost use Rattle.std.specs.Option.{ForSome};
+ghost use Rattle.std.specs.Cmp.{partial_equiv_from_equiv};
+ghost use Rattle.std.specs.Cmp.Lexicographic.{pointwise};
+ghost use Rattle.lrc_page.specs.Changes.{same_change, same_changes_equiv, last_change, applied, changes_between};
+
+use crate::{PAGE_WORDS, Page};
+use std::alloc::{AllocError, Global};
+use std::marker::Model;
+
+/// A new value of the word at an offset of a page.
+#[derive(Clone, Copy, Debug, PartialEq, Eq)]
+pub struct Change {
+    pub offset: u8,
+    pub value: u64,
+}
+
+/// Changes of one page, at most one for each offset, the offsets ascending.
+#[derive(Debug, Drop)]
+pub struct Changes {
+    list: Vec<Change>,
+}
+
+impl Model for Changes {
+    ghost use Rattle.std.specs.Prelude.{List, ◌<◌, All};
+    ghost use Rattle.lrc_page.specs.declared.TheConstants.{PAGE_WORDS};
+    ghost use Rattle.lrc_page.specs.declared.changes.Change.{Change};
+    ghost use Rattle.lrc_page.specs.Changes.{IsAscending};
+
+    ghost Value = { List Change };
+
+    ghost view = { λ changes. changes.list.items };
+
+    ghost invariant = { λ changes. (IsAscending changes.list.items)
+        × (All (λ c. c.offset < PAGE_WORDS) changes.list.items) };
+}
+
+impl PartialEq for Changes {
+    ghost eq = { pointwise same_change };
+
+    ghost laws = { partial_equiv_from_equiv same_changes_equiv };
+
+    fn eq(&self, other: &Changes) -> bool
+        ensures eq { result ≡ pointwise same_change self.now other.now }
+        ensures same { IsTrue result ↔ (self.now ≡ other.now) }
+    {
+        self.list.as_slice() == other.list.as_slice()
+    }
+}
+
+impl Eq for Changes {
+    ghost laws = { same_changes_equiv };
+}
+
+impl Changes {
+    /// No changes.
+    pub fn empty(alloc: Global) -> Self
+        ensures { result ≡ [] }
+    {
+        Changes {
+            list: Vec::new(alloc),
+        }
+    }
+
+    /// Adds a change at an offset above all others. An error leaves the changes as they were.
+    pub fn push(&mut self, offset: u8, value: u64) -> Result<(), AllocError>
+        requires in_range { offset < PAGE_WORDS }
+        requires above { ForSome (last_change self.old) (λ c. c.offset < offset) }
+        ensures ok { OnOk result (self.new ≡ self.old ++ record { offset = offset; value = value } ∷ []) }
+        ensures err { OnErr result (self.new ≡ self.old) }
+    {
+        self.list.push(Change { offset, value })?;
+        Ok(())
+    }
+
+    /// The changes that turn the twin into the page: the page's values where the two differ.
+    pub fn between(alloc: Global, twin: &Page, page: &Page) -> Result<Self, AllocError>
+        ensures exact { IfOk result (λ changes. changes ≡ changes_between twin.now page.now) }
+        ensures turns { IfOk result (λ changes. applied twin.now changes ≡ page.now) }
+    {
+        let old = twin.words();
+        let new = page.words();
+        let mut changes = Changes::empty(alloc);
+        for (offset, value) in new.iter().enumerate() {
+            if old[offset] != *value {
+                changes.push(offset as u8, *value)?;
+            }
+        }
+        Ok(changes)
+    }
+
+    /// Writes each value to its offset of the page, and leaves the others.
+    pub fn apply(&self, page: &mut Page)
+        ensures { page.new ≡ applied page.old self.now }
+    {
+        for change in &self.list {
+            page.set(change.offset, change.value);
+        }
+    }
+
+    /// How many changes there are.
+    pub fn len(&self) -> usize
+        ensures { result ≡ length self.now }
+    {
+        self.list.len()
+    }
+
+    /// Whether there is no change.
+    pub fn is_empty(&self) -> bool
+        ensures { IsTrue result ↔ (self.now ≡ []) }
+    {
+        self.list.is_empty()
+    }
+
+    /// The change at a place, counted from 0 in the order of the offsets.
+    pub fn at(&self, place: usize) -> Change
+        requires { place < length self.now }
+        ensures { slice_get self.now place ≡ Some result }
+    {
+        self.list[place]
+    }
+
+    /// A second list of the same changes.
+    pub fn duplicate(&self) -> Result<Self, AllocError>
+        ensures { IfOk result (λ changes. changes ≡ self.now) }
+    {
+        Ok(Changes {
+            list: self.list.clone()?,
+        })
+    }
+}

@@ -1,0 +1,6 @@
+pub mod Lookups
+pub mod Orders
+pub mod Places
+pub mod Ranks
+pub mod Records
+pub mod Stores

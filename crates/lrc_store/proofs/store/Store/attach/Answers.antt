@@ -1,0 +1,44 @@
+use Rattle.std.proofs.Common.{◌≡◌, List, set, map, sym, ap, ◌∙◌, subst, Option, None, Some}
+use Rattle.std.specs.List.{position}
+use Rattle.std.specs.Option.{option_and_then}
+use Rattle.lrc_store.specs.Store.{StoredRecord, StoreRecord, IsStore, attached, is_at, notice_of, stored_with}
+use Rattle.lrc_store.proofs.Places.{find-position_none}
+use Rattle.lrc_store.proofs.Stores.{IsStore-attached, map-stored_with}
+use Rattle.lrc_store.proofs.store.Store.attach.Goals as goal
+use Rattle.lrc_store.proofs.store.Store.attach.Goals.{After-attach}
+
+-- the entries with the changes kept
+entries_after : (c : After-attach) → set c.self.inside.entries.items c.in-Some.place c.attach.new.self
+    ≡ map (stored_with c.args.key c.args.changes) c.self.inside.entries.items
+entries_after c =
+    let items = c.self.inside.entries.items in
+    let key = c.args.key in
+    let found : position (is_at key.node key.index) items ≡ Some c.in-Some.place =
+    ap (position (is_at key.node key.index)) (sym c.deref.ensures.value) ∙ sym c.place_of.ensures ∙ c.in-Some.is in
+    ap (set items c.in-Some.place) c.attach.ensures
+    ∙ sym (map-stored_with items key c.args.changes c.in-Some.place c.self.invariant.ascending found
+    c.index_mut.result.now c.index_mut.ensures.value)
+
+pub invariant_of-self : goal.invariant_of-self
+invariant_of-self c =
+    let a = (goal.at.invariant_of-self c).After-attach in
+    let store : StoreRecord = record { pages = a.self.inside.pages; last = a.self.inside.last; entries = a.self.inside.entries.items } in
+    subst (λ (entries : List StoredRecord). IsStore (record store { entries = entries })) (sym (entries_after a))
+    (IsStore-attached store a.args.key a.args.changes a.self.invariant)
+
+pub returns-in-Some : goal.returns-in-Some
+returns-in-Some c =
+    let a = (goal.at.returns-in-Some c).After-attach in
+    ap (λ (entries : List StoredRecord). record { pages = a.self.inside.pages; last = a.self.inside.last; entries = entries }) (entries_after a)
+    ∙ ap (λ (s : StoreRecord). attached s a.args.key a.args.changes) a.self.view_is
+
+pub returns-in_default : goal.returns-in_default
+returns-in_default c =
+    let test = is_at c.args.key.node c.args.key.index in
+    let here : c.deref.result.now ≡ c.args.self.now.entries =
+    c.deref.ensures.value ∙ ap (λ (s : StoreRecord). s.entries) c.self.view_is in
+    let none : position test c.args.self.now.entries ≡ None =
+    ap (position test) (sym here) ∙ sym c.place_of.ensures ∙ c.in_default.is in
+    let missed = ap (λ (found : Option StoredRecord). option_and_then (notice_of c.args.key.page) found) (find-position_none test _ none) in
+    let wanted = c.requires in
+    absurd (cc)

@@ -1,0 +1,33 @@
+use Rattle.std.proofs.Common.{◌≡◌, ℕ, List, sym, ap, ◌∙◌, Option, None, Some}
+use Rattle.std.specs.List.{position, find}
+use Rattle.std.specs.Option.{option_copied, option_and_then}
+use Rattle.lrc_page.specs.declared.changes.Change.{Change}
+use Rattle.lrc_store.specs.Store.{StoredRecord, StoreRecord, is_at, notice_of}
+use Rattle.lrc_store.proofs.Places.{find-position, find-position_none}
+use Rattle.lrc_store.proofs.store.Store.changes.Goals as goal
+
+-- the changes that a look-up gives
+abbrev looked_up : ℕ → Option StoredRecord → Option (List Change)
+looked_up page found = option_and_then (λ notice. notice.changes) (option_and_then (notice_of page) found)
+
+pub returns-in_err-place : goal.returns-in_err-place
+returns-in_err-place c =
+    let test = is_at c.args.key.node c.args.key.index in
+    let here : c.deref.result.now ≡ c.args.self.now.entries =
+    c.deref.ensures.value ∙ ap (λ (s : StoreRecord). s.entries) c.self.view_is in
+    let none : position test c.args.self.now.entries ≡ None =
+    ap (position test) (sym here) ∙ sym c.place_of.ensures ∙ c.in_err-place.was in
+    ap option_copied c.from_residual.ensures
+    ∙ sym (ap (looked_up c.args.key.page) (find-position_none test _ none))
+
+pub returns : goal.returns
+returns c =
+    let test = is_at c.args.key.node c.args.key.index in
+    let items = c.self.inside.entries.items in
+    let place : position test items ≡ Some c.in_ok-place.place =
+    ap (position test) (sym c.deref.ensures.value) ∙ sym c.place_of.ensures ∙ c.in_ok-place.was in
+    let found : find test items ≡ Some c.index-stored.result.now =
+    find-position test items c.in_ok-place.place c.index-stored.result.now place ∙ ap Some (sym c.index-stored.ensures) in
+    c.changes.ensures
+    ∙ sym (ap (looked_up c.args.key.page) found)
+    ∙ ap (λ (s : StoreRecord). looked_up c.args.key.page (find test s.entries)) c.self.view_is

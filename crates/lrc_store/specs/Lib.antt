@@ -1,0 +1,3 @@
+pub mod Interval
+pub mod Order
+pub mod Store

@@ -1,0 +1,94 @@
+// Interval records.
+
+ghost use Rattle.std.specs.Prelude.{◌≡◌, ◌<◌, ◌≤◌, All, IfOk, length};
+ghost use Rattle.std.specs.List.Sorted.{IsStrictlyIncreasing};
+ghost use Rattle.lrc_time.specs.Time.{entry};
+
+use lrc_time::Time;
+use std::alloc::AllocError;
+use std::marker::Model;
+
+/// The largest number of pages.
+pub const MOST_PAGES: u16 = 64;
+
+/// One interval of a node, as other nodes learn of it: the node (below the number of the stamp's entries), its time
+/// just after it closed the interval (its own entry is the interval's index, at least 1), and the pages that it wrote
+/// in it, strictly ascending, each below `MOST_PAGES`.
+#[derive(Debug, Drop)]
+pub struct Interval {
+    pub node: u8,
+    pub stamp: Time,
+    pub pages: Vec<u16>,
+}
+
+impl Model for Interval {
+    ghost use Rattle.lrc_store.specs.Interval.{IntervalRecord, IsInterval};
+
+    ghost Value = { IntervalRecord };
+
+    ghost view = { λ i. record { node = i.node; stamp = i.stamp; pages = i.pages.items } };
+
+    ghost invariant = { λ i.
+        IsInterval (record { node = i.node; stamp = i.stamp; pages = i.pages.items }) };
+}
+
+impl PartialEq for Interval {
+    ghost use Rattle.std.specs.Prelude.{◌≡◌, ◌↔◌, IsTrue};
+    ghost use Rattle.std.specs.Cmp.Rules.{comparing};
+    ghost use Rattle.std.proofs.Common.{rules};
+    ghost use Rattle.lrc_store.specs.Interval.{same_interval};
+
+    ghost eq = { same_interval };
+
+    ghost laws = { Prim.search (comparing, rules) };
+
+    fn eq(&self, other: &Interval) -> bool
+        ensures eq { result ≡ same_interval self.now other.now }
+        ensures same { IsTrue result ↔ (self.now ≡ other.now) }
+    {
+        self.node == other.node
+            && self.stamp == other.stamp
+            && self.pages.as_slice() == other.pages.as_slice()
+    }
+}
+
+impl Eq for Interval {
+    ghost use Rattle.std.specs.Cmp.Rules.{comparing};
+    ghost use Rattle.std.proofs.Common.{rules};
+
+    ghost laws = { Prim.search (comparing, rules) };
+}
+
+impl Interval {
+    ghost use Rattle.lrc_store.specs.Interval.{IsInterval, index_of};
+
+    /// The interval with this node, stamp and pages.
+    pub fn new(node: u8, stamp: Time, pages: Vec<u16>) -> Self
+        requires counted { node < length stamp }
+        requires begun { 1 ≤ entry stamp node }
+        requires ascending { IsStrictlyIncreasing pages.items }
+        requires in_range { All (λ page. page < MOST_PAGES) pages.items }
+        ensures { result ≡ record { node = node; stamp = stamp; pages = pages.items } }
+    {
+        Interval { node, stamp, pages }
+    }
+
+    /// The interval's number among those of its node, from 1.
+    pub fn index(&self) -> u32
+        ensures index { result ≡ index_of self.now }
+        ensures interval { IsInterval self.now }
+    {
+        self.stamp.at(self.node)
+    }
+
+    /// An equal interval of its own.
+    pub fn duplicate(&self) -> Result<Interval, AllocError>
+        ensures { IfOk result (λ interval. interval ≡ self.now) }
+    {
+        Ok(Interval {
+            node: self.node,
+            stamp: self.stamp.copy(),
+            pages: self.pages.clone()?,
+        })
+    }
+}

@@ -1,0 +1,58 @@
+// What always holds of stores. Each function is a law: its clauses are the statement, and there is nothing to do.
+
+ghost use Rattle.std.specs.Prelude.{◌≡◌, ◌≢◌, ◌+◌, ◌++◌, ◌∷◌, ℕ, Contains, IsTrue, List, None, Some, length, []};
+ghost use Rattle.lrc_time.specs.Time.{Covers, entry};
+ghost use Rattle.lrc_page.specs.declared.changes.Change.{Change};
+ghost use Rattle.lrc_store.specs.declared.key.Key.{Key};
+ghost use Rattle.lrc_store.specs.Interval.{IntervalRecord, by_weight, index_of};
+ghost use Rattle.lrc_store.specs.Store.{StoreRecord, IsMissing, IsNewer, IsStore, added, attached, intervals_of, key_of, missing_of, newer_of, notice_at, stored_at, unread, without_changes};
+
+/// An interval that follows the last one of its node gets an entry of its own, with notices without changes. All others
+/// stay.
+pub fn adding_makes_one_entry()
+    ensures here { (store : StoreRecord) (interval : IntervalRecord) → IsStore store
+        → index_of interval ≡ entry store.last interval.node + 1
+        → stored_at (added store interval).entries interval.node (index_of interval)
+        ≡ Some (without_changes interval) }
+    ensures notices { (store : StoreRecord) (interval : IntervalRecord) (page : ℕ) → IsStore store
+        → index_of interval ≡ entry store.last interval.node + 1 → Contains interval.pages page
+        → notice_at (added store interval) (key_of page interval) ≡ Some (unread page) }
+    ensures others { (store : StoreRecord) (interval : IntervalRecord) (node index : ℕ)
+        → ¬ ((node ≡ interval.node) × (index ≡ index_of interval))
+        → stored_at (added store interval).entries node index ≡ stored_at store.entries node index }
+    ensures intervals { (store : StoreRecord) (interval : IntervalRecord)
+        → intervals_of (added store interval) ≡ intervals_of store ++ interval ∷ [] }
+{}
+
+/// Changes that come for a notice are found by its key. All other notices, and all intervals, stay.
+pub fn attaching_changes_one_notice()
+    ensures here { (store : StoreRecord) (key : Key) (changes : List Change)
+        → notice_at store key ≡ Some (record { page = key.page; changes = None })
+        → notice_at (attached store key changes) key ≡ Some (record { page = key.page; changes = Some changes }) }
+    ensures others { (store : StoreRecord) (key other : Key) (changes : List Change) → other ≢ key
+        → notice_at (attached store key changes) other ≡ notice_at store other }
+    ensures intervals { (store : StoreRecord) (key : Key) (changes : List Change)
+        → intervals_of (attached store key changes) ≡ intervals_of store }
+{}
+
+/// There is just one list of what is newer, and the function gives it.
+pub fn one_list_is_newer()
+    ensures exact { (store : StoreRecord) (since upto : List ℕ) → IsStore store
+        → IsNewer store since upto (newer_of store since upto) }
+    ensures only { (store : StoreRecord) (since upto : List ℕ) (first second : List IntervalRecord)
+        → IsNewer store since upto first → IsNewer store since upto second → first ≡ second }
+{}
+
+/// There is just one list of what is missing, and the function gives it.
+pub fn one_list_is_missing()
+    ensures exact { (store : StoreRecord) (page : ℕ) (since : List ℕ) → IsStore store
+        → IsMissing store page since (missing_of store page since) }
+    ensures only { (store : StoreRecord) (page : ℕ) (since : List ℕ) (first second : List Key)
+        → IsMissing store page since first → IsMissing store page since second → first ≡ second }
+{}
+
+/// An interval whose stamp another's covers comes before it in the order in which changes are applied.
+pub fn weight_order_extends_cover()
+    ensures { (earlier later : IntervalRecord) → length earlier.stamp ≡ length later.stamp
+        → Covers later.stamp earlier.stamp → earlier.stamp ≢ later.stamp → IsTrue (by_weight earlier later) }
+{}

@@ -1,0 +1,15 @@
+//! What a node knows of the intervals of all nodes: write notices, and the changes that came with them (Keleher, Cox
+//! and Zwaenepoel 1992; Amza et al. 1996).
+#![tactic(auto)]
+
+pub mod interval;
+pub mod key;
+pub mod laws;
+pub mod store;
+mod stored;
+#[cfg(test)]
+mod tests;
+
+pub use interval::Interval;
+pub use key::Key;
+pub use store::Store;

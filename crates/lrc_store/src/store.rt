@@ -1,0 +1,161 @@
+// The intervals that a node knows.
+
+ghost use Rattle.std.specs.Prelude.{◌≡◌, ◌+◌, ◌<◌, ◌≤◌, ◌↔◌, All, IfOk, IsTrue, OnErr, OnOk, length, map, position, []};
+ghost use Rattle.std.specs.Option.{option_copied};
+ghost use Rattle.lrc_time.specs.Time.{entry};
+ghost use Rattle.lrc_store.specs.Store.{is_at};
+
+use crate::interval::{Interval, MOST_PAGES};
+use crate::key::Key;
+use crate::stored::Stored;
+use lrc_page::Changes;
+use lrc_time::Time;
+use std::alloc::{AllocError, Global};
+use std::marker::Model;
+
+/// The intervals that a node knows, each with its write notices, and the changes that came for some of these.
+///
+/// The intervals stand in one list in the order of adding, so a look-up takes time linear in their number.
+#[derive(Debug, Drop)]
+pub struct Store {
+    pages: u16,
+    last: Time,
+    entries: Vec<Stored>,
+}
+
+impl Model for Store {
+    ghost use Rattle.lrc_store.specs.Store.{StoreRecord, IsStore};
+
+    ghost Value = { StoreRecord };
+
+    ghost view = { λ s. record { pages = s.pages; last = s.last; entries = s.entries.items } };
+
+    ghost invariant = { λ s.
+        IsStore (record { pages = s.pages; last = s.last; entries = s.entries.items }) };
+}
+
+impl Store {
+    ghost use Rattle.lrc_store.specs.Interval.{index_of};
+    ghost use Rattle.lrc_store.specs.Store.{IsStore, empty_store, added, attached, notice_at, changes_at};
+    ghost use Rattle.lrc_store.specs.Store.{IsMissing, IsNewer, missing_of, newer_of};
+
+    /// A store that knows no interval, for this many nodes, 1 to 16, and pages, at most `MOST_PAGES`.
+    pub fn new(alloc: Global, nodes: u8, pages: u16) -> Result<Self, AllocError>
+        requires some { 1 ≤ nodes }
+        requires few { nodes ≤ 16 }
+        requires pages_in_range { pages ≤ MOST_PAGES }
+        ensures { IfOk result (λ store. store ≡ empty_store nodes pages) }
+    {
+        Ok(Store {
+            pages,
+            last: Time::new(nodes),
+            entries: Vec::new(alloc),
+        })
+    }
+
+    /// Adds the interval that follows the last one added of its node. An error leaves the store as it was.
+    pub fn add(&mut self, interval: &Interval) -> Result<(), AllocError>
+        requires stamp { length interval.now.stamp ≡ length self.old.last }
+        requires pages { All (λ page. page < self.old.pages) interval.now.pages }
+        requires next { index_of interval.now ≡ entry self.old.last interval.now.node + 1 }
+        ensures ok { OnOk result (self.new ≡ added self.old interval.now) }
+        ensures err { OnErr result (self.new ≡ self.old) }
+        ensures sound { IsStore self.new }
+    {
+        let stored = Stored::new(*self.entries.allocator(), interval)?;
+        self.entries.push(stored)?;
+        self.last.raise(interval.node, interval.index());
+        Ok(())
+    }
+
+    /// The greatest index ever added of this node, 0 before any.
+    pub fn last(&self, node: u8) -> u32
+        requires { node < length self.now.last }
+        ensures index { result ≡ entry self.now.last node }
+        ensures sound { IsStore self.now }
+    {
+        self.last.at(node)
+    }
+
+    /// How many intervals there are.
+    pub fn len(&self) -> usize
+        ensures { result ≡ length self.now.entries }
+    {
+        self.entries.len()
+    }
+
+    /// Whether there is no interval.
+    pub fn is_empty(&self) -> bool
+        ensures { IsTrue result ↔ (self.now.entries ≡ []) }
+    {
+        self.entries.is_empty()
+    }
+
+    /// The changes of a key, if they are known.
+    pub fn changes(&self, key: Key) -> Option<&Changes>
+        ensures { option_copied result ≡ changes_at self.now key }
+    {
+        let place = place_of(&self.entries, key.node, key.index)?;
+        let stored = &self.entries[place];
+        stored.changes(key.page)
+    }
+
+    /// Keeps the changes of a key that is in the store and has none yet.
+    pub fn attach(&mut self, key: Key, changes: Changes)
+        requires { notice_at self.old key ≡ Some (record { page = key.page; changes = None }) }
+        ensures { self.new ≡ attached self.old key changes }
+    {
+        if let Some(place) = place_of(&self.entries, key.node, key.index) {
+            self.entries[place].attach(key.page, changes);
+        }
+    }
+
+    /// The intervals that `upto` knows and `since` does not, ascending by node and index.
+    pub fn newer_than(&self, since: &Time, upto: &Time) -> Result<Vec<Interval>, AllocError>
+        requires since { length since.now ≡ length self.now.last }
+        requires upto { length upto.now ≡ length self.now.last }
+        ensures newer { IfOk result (λ found. IsNewer self.now since.now upto.now found.items) }
+        ensures value { IfOk result (λ found. found.items ≡ newer_of self.now since.now upto.now) }
+    {
+        let mut found = Vec::new(*self.entries.allocator());
+        for stored in &self.entries {
+            if !stored.is_known(since) && stored.is_known(upto) {
+                found.push(stored.interval()?)?;
+            }
+        }
+        found.sort_unstable_by_key(|interval| (interval.node, interval.index()));
+        Ok(found)
+    }
+
+    /// The notices of a page that `since` does not know, ascending by the weight of their interval's stamp, then by
+    /// node and index: the order in which their changes are to be applied.
+    pub fn missing(&self, page: u16, since: &Time) -> Result<Vec<Key>, AllocError>
+        requires { length since.now ≡ length self.now.last }
+        ensures missing { IfOk result (λ found. IsMissing self.now page since.now found.items) }
+        ensures value { IfOk result (λ found. found.items ≡ missing_of self.now page since.now) }
+    {
+        let alloc = *self.entries.allocator();
+        let mut found = Vec::new(alloc);
+        for stored in &self.entries {
+            if stored.names(page) && !stored.is_known(since) {
+                found.push((stored.weight(), stored.key(page)))?;
+            }
+        }
+        found.sort_unstable();
+        keys_of(alloc, &found)
+    }
+}
+
+/// Where the interval of this node and index stands.
+fn place_of(entries: &[Stored], node: u8, index: u32) -> Option<usize>
+    ensures { result ≡ position (is_at node index) entries.now }
+{
+    entries.iter().position(|stored| stored.is_at(node, index))
+}
+
+/// The key of each pair.
+fn keys_of(alloc: Global, found: &[(u64, Key)]) -> Result<Vec<Key>, AllocError>
+    ensures { IfOk result (λ keys. keys.items ≡ map (λ pair. pair.1) found.now) }
+{
+    found.iter().map(|(_, key)| *key).collect(alloc)
+}

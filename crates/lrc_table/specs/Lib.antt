@@ -1,0 +1,3 @@
+pub mod PageCopy
+pub mod Table
+pub mod Inside

@@ -1,0 +1,11 @@
+pub mod Ahead
+pub mod Holding
+pub mod LastValue
+pub mod Threads
+pub mod Matching
+pub mod Step
+pub mod Lazy
+pub mod Runs
+pub mod Plainly
+pub mod UpToRace
+pub mod OneNode

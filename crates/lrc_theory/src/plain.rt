@@ -1,0 +1,44 @@
+// From lazy reading to the plain machine. Each function is a theorem: its body is empty, and its clause is the law.
+
+ghost use Rattle.std.specs.Prelude.{◌≡◌, ℕ, ◌+◌, ◌<◌, ◌≤◌, List, Some, map, take, length};
+ghost use Rattle.lrc_lang.specs.declared.program.Program.{Program};
+ghost use Rattle.lrc_trace.specs.declared.act.Act.{Act};
+ghost use Rattle.lrc_trace.specs.declared.act.Deed.{Deed};
+ghost use Rattle.lrc_trace.specs.Run.{Does};
+ghost use Rattle.lrc_trace.specs.Conflict.{Races, IsRaceFree};
+ghost use Rattle.lrc_trace.specs.Reading.{ReadsLazily};
+ghost use Rattle.lrc_trace.specs.Synchronization.{IsWellSynchronized};
+ghost use Rattle.lrc_exec.specs.Plain.{plain};
+ghost use Rattle.lrc_theory.specs.Follows.{FollowsText, nodes_of};
+ghost use Rattle.lrc_theory.specs.Kinds.{PlainUpTo};
+ghost use Rattle.lrc_theory.specs.InOrder.{ReadsInOrder};
+
+/// The sequential-consistency theorem's last step. Where each node's acts are those of the text, the run is well
+/// synchronized and reads lazily, and no two conflicting accesses are unordered, the plain machine, led by the order of
+/// the acts, makes the same acts.
+pub fn lazy_run_without_a_race_is_plain()
+    ensures { (program : Program) (nodes : ℕ) (run : List Act) → FollowsText program nodes run
+        → IsWellSynchronized nodes run → ReadsLazily run → IsRaceFree run
+        → plain program nodes (nodes_of run) ≡ Some run }
+{}
+
+/// The same up to the first race: before a position that no race comes to earlier, the plain machine makes the same
+/// acts, and then one of the same kind on the same word or lock. What may differ is the value that is read there.
+pub fn lazy_run_is_plain_up_to_its_first_race()
+    ensures { (program : Program) (nodes : ℕ) (run : List Act) (position : ℕ) → FollowsText program nodes run
+        → IsWellSynchronized nodes run → ReadsLazily run
+        → ((i j : ℕ) → Races run i j → position ≤ j)
+        → PlainUpTo program nodes run position }
+{}
+
+/// What the plain machine makes follows the text, is well synchronized, and reads what was written last.
+pub fn plain_run_is_well_synchronized()
+    ensures { (program : Program) (nodes : ℕ) (order : List ℕ) (run : List Act) → plain program nodes order ≡ Some run
+        → FollowsText program nodes run × IsWellSynchronized nodes run × ReadsInOrder run }
+{}
+
+/// In a run of one node that reads what was written last, every read is lazy.
+pub fn one_node_that_reads_in_order_reads_lazily()
+    ensures { (run : List Act) → ((k node : ℕ) (deed : Deed) → Does run k node deed → node ≡ 0) → ReadsInOrder run
+        → ReadsLazily run }
+{}

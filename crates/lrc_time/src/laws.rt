@@ -1,0 +1,24 @@
+// What always holds of vector times. Each function is a law: its clauses are the statement, and there is nothing to do.
+
+ghost use Rattle.std.specs.Prelude.{◌≡◌, ◌≢◌, ℕ, ◌<◌, List, length};
+ghost use Rattle.lrc_time.specs.Time.{Covers, joined, weight_of};
+
+/// Of two different times of equally many nodes where one covers the other, the one that covers weighs more.
+pub fn weight_rises_with_cover()
+    ensures { (a b : List ℕ) → length a ≡ length b → Covers a b → a ≢ b → weight_of b < weight_of a }
+{}
+
+/// Covering is a partial order of the times of equally many nodes.
+pub fn covering_is_a_partial_order()
+    ensures reflexive { (a : List ℕ) → Covers a a }
+    ensures transitive { (a b c : List ℕ) → Covers a b → Covers b c → Covers a c }
+    ensures antisymmetric { (a b : List ℕ) → length a ≡ length b → Covers a b → Covers b a → a ≡ b }
+{}
+
+/// The join of two times of equally many nodes covers both, and every time that covers both covers it.
+pub fn join_is_the_least_cover()
+    ensures entries { (a b : List ℕ) → length a ≡ length b → length (joined a b) ≡ length a }
+    ensures covers_first { (a b : List ℕ) → Covers (joined a b) a }
+    ensures covers_second { (a b : List ℕ) → Covers (joined a b) b }
+    ensures least { (a b c : List ℕ) → Covers c a → Covers c b → Covers c (joined a b) }
+{}

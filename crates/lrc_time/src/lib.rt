@@ -1,0 +1,114 @@
+//! Vector times: for each node how many of its intervals are known (Keleher, Cox and Zwaenepoel 1992). No call
+//! here allocates.
+#![tactic(auto)]
+
+ghost use Rattle.std.specs.Prelude.{◌≡◌, ◌<◌, ◌≤◌, ◌↔◌, IsTrue, length, slice_index, slice_set};
+ghost use Rattle.lrc_time.specs.Time.{zeros, entry, Covers, joined, weight_of};
+
+pub mod laws;
+#[cfg(test)]
+mod tests;
+
+use arrayvec::ArrayVec;
+use std::marker::Model;
+
+/// The largest number of nodes.
+pub const MOST_NODES: usize = 16;
+
+/// A vector time: entry q counts the intervals of node q that are known. It has 1 to 16 entries, one for each node.
+#[derive(Debug, PartialEq, Eq, Drop)]
+pub struct Time {
+    entries: ArrayVec<u32, MOST_NODES>,
+}
+
+impl Model for Time {
+    ghost use Rattle.std.specs.Prelude.{ℕ, ◌≤◌, List, length};
+
+    ghost Value = { List ℕ };
+
+    ghost view = { λ t. t.entries.items };
+
+    ghost invariant = { λ t. (1 ≤ length t.entries.items) × (length t.entries.items ≤ 16) };
+
+    ghost inverse = { λ xs. record { entries = record { items = xs } } };
+}
+
+impl Time {
+    /// The time of a node that knows no interval: `nodes` entries, 1 to 16, each 0.
+    pub fn new(nodes: u8) -> Self
+        requires some { 1 ≤ nodes }
+        requires few { nodes ≤ 16 }
+        ensures { result ≡ zeros nodes }
+    {
+        let mut entries = ArrayVec::new();
+        for _ in 0..nodes {
+            entries.push(0);
+        }
+        Time { entries }
+    }
+
+    /// How many entries there are, 1 to 16.
+    pub fn nodes(&self) -> u8
+        ensures all { result ≡ length self.now }
+        ensures some { 1 ≤ result }
+        ensures few { result ≤ 16 }
+    {
+        self.entries.len() as u8
+    }
+
+    /// How many intervals of this node are known.
+    pub fn at(&self, node: u8) -> u32
+        requires { node < length self.now }
+        ensures { result ≡ entry self.now node }
+    {
+        self.entries[usize::from(node)]
+    }
+
+    /// Sets the entry of this node to `index`, which is greater than what stood there.
+    pub fn raise(&mut self, node: u8, index: u32)
+        requires in_range { node < length self.old }
+        requires greater { entry self.old node < index }
+        ensures { self.new ≡ slice_set self.old node index }
+    {
+        let place = usize::from(node);
+        self.entries[place] = index;
+    }
+
+    /// Takes the greater of each two entries. Both times have equally many.
+    pub fn join(&mut self, other: &Time)
+        requires { length self.old ≡ length other.now }
+        ensures { self.new ≡ joined self.old other.now }
+    {
+        let entries = self.entries.as_mut_slice();
+        for (node, entry) in entries.iter_mut().enumerate() {
+            *entry = (*entry).max(other.entries[node]);
+        }
+    }
+
+    /// Whether every entry is at least as large as that of `other`. Both times have equally many.
+    pub fn covers(&self, other: &Time) -> bool
+        requires { length self.now ≡ length other.now }
+        ensures { IsTrue result ↔ Covers self.now other.now }
+    {
+        self.entries
+            .iter()
+            .zip(other.entries.iter())
+            .all(|(mine, theirs)| *theirs <= *mine)
+    }
+
+    /// The sum of the entries, by which intervals that precede one another can be put in order.
+    pub fn weight(&self) -> u64
+        ensures { result ≡ weight_of self.now }
+    {
+        self.entries.iter().map(|entry| u64::from(*entry)).sum()
+    }
+
+    /// A time with the same entries.
+    pub fn copy(&self) -> Self
+        ensures { result ≡ self.now }
+    {
+        Time {
+            entries: ArrayVec::try_from(self.entries.as_slice()).unwrap(),
+        }
+    }
+}

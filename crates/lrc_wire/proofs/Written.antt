@@ -1,0 +1,18 @@
+-- Writing elements one after the other, as a loop does.
+use Rattle.std.proofs.Common.{◌≡◌, ◌∙◌, ℕ, ◌+◌, ◌<◌, List, [], ◌∷◌, ◌++◌, length, get_or, take, sym, ap, arith}
+use Rattle.std.specs.Prelude.{All}
+use Rattle.std.specs.Int.{Width}
+use Rattle.std.specs.List.{flat_map}
+use Rattle.std.proofs.lemmas.List.{flat_map_more, take_more}
+use Rattle.lrc_wire.specs.Spelling.{number, numbers}
+
+-- one more element
+pub flat_map-take_more : {X : Type 0} (f : X → List ℕ) (before : List ℕ) (xs : List X) (i : ℕ) (d : X) → i < length xs
+    → (before ++ flat_map f (take i xs)) ++ f (get_or xs i d) ≡ before ++ flat_map f (take (i + 1) xs)
+flat_map-take_more {X} f before xs i d within =
+    flat_map_more f before (take i xs) (get_or xs i d) ∙ ap (λ (ys : List X). before ++ flat_map f ys) (sym (take_more xs i d within))
+
+pub numbers-take_more : (w : Width) (before xs : List ℕ) (i : ℕ) → i < length xs
+    → (before ++ numbers w (take i xs)) ++ number w (get_or xs i 0) ≡ before ++ numbers w (take (i + 1) xs)
+unfolding numbers
+numbers-take_more w before xs i within = flat_map-take_more (number w) before xs i 0 within

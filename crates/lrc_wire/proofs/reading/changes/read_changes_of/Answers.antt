@@ -1,0 +1,42 @@
+use Rattle.std.proofs.Common.{◌≡◌, ◌∙◌, ◌-◌, ◌<◌, List, [], ◌∷◌, ◌++◌, length, get_or, Some, None, sym, ap, subst, arith, length-append}
+use Rattle.std.specs.Prelude.{IfSome}
+use Rattle.std.proofs.Math.Seq.{get_or-append_seam}
+use Rattle.std.proofs.lemmas.Option.{get_or_from_slice_get}
+use Rattle.std.proofs.lemmas.Result.{err_from_is_err_and}
+use Rattle.lrc_page.specs.declared.changes.Change.{Change}
+use Rattle.lrc_page.specs.Changes.{last_change}
+use Rattle.lrc_wire.specs.Reading.{elements_at, next_change_at}
+use Rattle.lrc_wire.proofs.Elements.{with_nothing, goes_on, ends, is_done}
+use Rattle.lrc_wire.proofs.reading.changes.read_changes_of.Goals as goal
+
+-- the last change is the one that was pushed
+last_pushed : (changes : List Change) (x y : Change) → last_change (changes ++ x ∷ []) ≡ Some y → x ≡ y
+last_pushed changes x y e =
+    let place : length (changes ++ x ∷ []) - 1 ≡ length changes = omega (arith, length-append changes (x ∷ [])) in
+    sym (get_or-append_seam changes x [] x) ∙ get_or_from_slice_get (changes ++ x ∷ []) (length changes) y x (rw place at e)
+
+pub loop-init : goal.loop-init
+loop-init c =
+    let none : c.args.count - 0 ≡ c.args.count = omega arith in
+    record {
+      last = λ change e. let empty = rw c.empty-changes.ensures at e in absurd cc;
+      read = rw (c.empty-changes.ensures, none) (with_nothing (elements_at next_change_at (λ _ change. Some change.offset) c.args.count None c.args.bytes.now.now));
+    }
+
+pub returns-in_err-change : goal.returns-in_err-change
+returns-in_err-change c =
+    let p = err_from_is_err_and c.from_residual.result c.from_residual.ensures.1 in
+    rw (p.1, p.2) (ends next_change_at (λ _ change. Some change.offset) c.in_err-change.field-0.0 c.loop.changes c.args.count c.loop.counter c.loop.before c.loop.bytes.now _ c.loop-test.true c.in_err-change.ensures.exact c.loop.invariant.read)
+
+pub push-requires-clause-above : goal.push-requires-clause-above
+push-requires-clause-above c =
+    λ change e. rw (c.loop.invariant.last change e) at c.in_ok-change.ensures.above
+
+pub loop-preserved : goal.loop-preserved
+loop-preserved c = record {
+  last = λ change e. ap (λ (x : Change). Some x.offset) (last_pushed c.loop.changes c.in_ok-change.change change (rw c.in_ok-push.ensures.ok at e));
+  read = rw c.in_ok-push.ensures.ok (goes_on next_change_at (λ _ change. Some change.offset) c.loop.changes c.args.count c.loop.counter c.loop.before c.loop.bytes.now c.in_ok-change.change c.read_next_change.new.bytes.now _ c.loop-test.true c.in_ok-change.ensures.exact c.loop.invariant.read);
+}
+
+pub returns : goal.returns
+returns c = is_done next_change_at (λ _ change. Some change.offset) c.loop.changes c.args.count c.loop.counter c.loop.before c.loop.bytes.now _ c.loop-test.false c.loop.invariant.read

@@ -1,0 +1,12 @@
+use Rattle.std.proofs.Common.{◌≡◌, ◌++◌, take}
+use Rattle.std.specs.Prelude.{All}
+use Rattle.std.specs.Int.{w32}
+use Rattle.lrc_wire.specs.Ranges.{HasBits}
+use Rattle.lrc_wire.specs.Spelling.{numbers}
+use Rattle.lrc_wire.proofs.writing.intervals.put_entries.Given as goal
+
+abbrev pub invariant-loop-node : goal.invariant-loop-node
+invariant-loop-node l = record {
+  written : l.out.items ≡ l.fn.out.items ++ numbers w32 (take l.node l.entries);
+  bits : All (HasBits 32) (take l.node l.entries);
+}

@@ -1,0 +1,5 @@
+pub mod Records
+pub mod Envelope
+pub mod Ranges
+pub mod Spelling
+pub mod Reading

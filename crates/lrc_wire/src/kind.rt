@@ -1,0 +1,40 @@
+//! The kinds of messages by number.
+
+ghost use Rattle.std.specs.Prelude.{◌≡◌};
+ghost use Rattle.lrc_wire.specs.Reading.{kind_of};
+
+/// What kind of message a body is.
+#[derive(Clone, Copy, Debug, PartialEq, Eq)]
+pub(crate) enum Kind {
+    LockRequest,
+    LockForward,
+    LockGrant,
+    Arrive,
+    Depart,
+    Clean,
+    Discard,
+    ChangesRequest,
+    ChangesReply,
+    PageRequest,
+    PageReply,
+}
+
+/// The kind of this number.
+pub(crate) fn numbered(number: u8) -> Option<Kind>
+    ensures { result ≡ kind_of number }
+{
+    match number {
+        1 => Some(Kind::LockRequest),
+        2 => Some(Kind::LockForward),
+        3 => Some(Kind::LockGrant),
+        4 => Some(Kind::Arrive),
+        5 => Some(Kind::Depart),
+        6 => Some(Kind::Clean),
+        7 => Some(Kind::Discard),
+        8 => Some(Kind::ChangesRequest),
+        9 => Some(Kind::ChangesReply),
+        10 => Some(Kind::PageRequest),
+        11 => Some(Kind::PageReply),
+        _ => None,
+    }
+}

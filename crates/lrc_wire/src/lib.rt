@@ -1,0 +1,30 @@
+//! What nodes tell each other: messages in envelopes, and the bytes of an envelope. The kinds are those of the lazy
+//! release consistency protocol with locks, barriers and collection (Keleher, Cox and Zwaenepoel 1992; Amza et al.
+//! 1996); the bytes are this project's own and stand in `docs/messages.md`.
+//!
+//! The grammar is a relation between envelopes and lists of bytes, `Spells`, apart from both directions. `encode` gives
+//! bytes of it, `decode` accepts exactly these, and says of others the first thing that is wrong.
+#![tactic(auto)]
+
+mod envelope;
+mod fault;
+mod kind;
+pub mod laws;
+mod limits;
+mod message;
+mod picker;
+mod reading;
+#[cfg(test)]
+mod tests;
+mod writing;
+
+pub use envelope::Envelope;
+pub use fault::{EncodeFault, WireFault};
+pub use limits::{HEADER_BYTES, MOST_BODY_BYTES, MOST_LOCKS, MOST_NODES};
+pub use message::{
+    Arrive, ChangesReply, ChangesRequest, Clean, Depart, Discard, IndexedChanges, LockForward,
+    LockGrant, LockRequest, Message, PageReply, PageRequest,
+};
+pub use picker::Picker;
+pub use reading::decode;
+pub use writing::encode;

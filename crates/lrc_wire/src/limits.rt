@@ -1,0 +1,13 @@
+//! How large the numbers of a message may be.
+
+/// The largest number of locks.
+pub const MOST_LOCKS: u8 = 64;
+
+/// The largest number of nodes.
+pub const MOST_NODES: u8 = 16;
+
+/// The largest number of bytes of a message's body.
+pub const MOST_BODY_BYTES: usize = 16_777_216;
+
+/// The number of bytes before a message's body.
+pub const HEADER_BYTES: usize = 12;

@@ -1,0 +1,73 @@
+//! Reading envelopes.
+
+ghost use Rattle.std.specs.Prelude.{◌≡◌, IfOk, Ok};
+ghost use Rattle.lrc_wire.specs.Envelope.{EnvelopeRecord};
+ghost use Rattle.lrc_wire.specs.Spelling.{Spells};
+ghost use Rattle.lrc_wire.specs.Reading.{Gives, whole_body_of, envelope_of};
+
+use crate::envelope::Envelope;
+use crate::fault::WireFault;
+use crate::kind::Kind;
+use crate::limits::HEADER_BYTES;
+use crate::message::Message;
+use bodies::read_body;
+use header::read_header;
+use std::alloc::Global;
+
+mod bodies;
+mod changes;
+mod fields;
+pub(crate) mod header;
+mod intervals;
+mod numbers;
+mod times;
+
+/// A body of so many bytes, and no byte after it.
+#[tactic(auto, unfolding(crate::specs::Reading::whole_body_of))]
+fn whole_body(alloc: Global, kind: Kind, len: u32, mut bytes: &[u8]) -> Result<Message, WireFault>
+    ensures { Gives (λ message. message) result (whole_body_of kind len bytes.entry.now) }
+{
+    let len = len as usize;
+    if bytes.len() < len {
+        return Err(WireFault::Short);
+    }
+    if bytes.len() > len {
+        return Err(WireFault::Long);
+    }
+    let message = read_body(alloc, kind, &mut bytes)?;
+    if !bytes.is_empty() {
+        return Err(WireFault::Long);
+    }
+    Ok(message)
+}
+
+/// The envelope that all of the bytes spell.
+#[tactic(auto, unfolding(crate::specs::Reading::envelope_of))]
+fn read_envelope(alloc: Global, mut bytes: &[u8]) -> Result<Envelope, WireFault>
+    ensures { Gives (λ envelope. envelope) result (envelope_of bytes.entry.now) }
+{
+    if bytes.len() < HEADER_BYTES {
+        return Err(WireFault::Short);
+    }
+    let header = read_header(&mut bytes)?;
+    let message = whole_body(alloc, header.kind, header.body_len, bytes)?;
+    Ok(Envelope {
+        from: header.from,
+        to: header.to,
+        number: header.number,
+        message,
+    })
+}
+
+/// The envelope that the bytes spell, all of them. Otherwise the first fault from the left; `NoMemory` may come in
+/// place of either. No memory is taken for what a count promises and the bytes do not have.
+pub fn decode(alloc: Global, bytes: &[u8]) -> Result<Envelope, WireFault>
+    // What is read is spelled so.
+    ensures found { IfOk result (λ envelope. Spells envelope bytes.now) }
+    // What is spelled so is read.
+    ensures only { (envelope : EnvelopeRecord) → Spells envelope bytes.now → Gives (λ read. read) result (Ok envelope) }
+    // Which fault it is.
+    ensures exact { Gives (λ read. read) result (envelope_of bytes.now) }
+{
+    read_envelope(alloc, bytes)
+}

@@ -1,0 +1,80 @@
+//! Writing envelopes.
+
+ghost use Rattle.std.specs.Prelude.{◌≡◌, ◌++◌, ◌<◌, ◌≤◌, ◌↔◌, [], length, IfOk, OnOk, IsErrOf};
+ghost use Rattle.lrc_wire.specs.declared.limits.TheConstants.{MOST_BODY_BYTES};
+ghost use Rattle.lrc_wire.specs.Ranges.{HasBits};
+ghost use Rattle.lrc_wire.specs.Spelling.{Spells, header, body};
+
+use crate::envelope::Envelope;
+use crate::fault::EncodeFault;
+use crate::limits::HEADER_BYTES;
+use crate::message::Message;
+use bodies::put_body;
+use bytes::{BufMut, Bytes};
+use sizes::body_len;
+use std::alloc::{AllocError, Global};
+
+mod bodies;
+mod changes;
+mod intervals;
+mod sizes;
+
+/// The number of each kind.
+fn kind(message: &Message) -> u8
+    ensures { result ≡ Rattle.lrc_wire.specs.Spelling.kind message.now }
+{
+    match message {
+        Message::LockRequest(_) => 1,
+        Message::LockForward(_) => 2,
+        Message::LockGrant(_) => 3,
+        Message::Arrive(_) => 4,
+        Message::Depart(_) => 5,
+        Message::Clean(_) => 6,
+        Message::Discard(_) => 7,
+        Message::ChangesRequest(_) => 8,
+        Message::ChangesReply(_) => 9,
+        Message::PageRequest(_) => 10,
+        Message::PageReply(_) => 11,
+    }
+}
+
+/// Version, kind, sender, receiver, number, and how many bytes the body has.
+#[tactic(auto, unfolding(crate::specs::Spelling::header, crate::specs::Spelling::byte, crate::specs::Spelling::number))]
+fn put_header(out: &mut Vec<u8>, envelope: &Envelope, body_len: usize) -> Result<(), AllocError>
+    requires exact { body_len ≡ length (body envelope.now.message) }
+    requires short { body_len ≤ MOST_BODY_BYTES }
+    ensures written { OnOk result (out.new.items ≡ out.old.items ++ header envelope.now) }
+    ensures number_bits { OnOk result (HasBits 32 envelope.now.number) }
+{
+    out.put_u8(1)?;
+    out.put_u8(kind(&envelope.message))?;
+    out.put_u8(envelope.from)?;
+    out.put_u8(envelope.to)?;
+    out.put_u32(envelope.number)?;
+    out.put_u32(body_len as u32)
+}
+
+/// Header and body.
+fn put_envelope(out: &mut Vec<u8>, envelope: &Envelope, body_len: usize) -> Result<(), AllocError>
+    requires exact { body_len ≡ length (body envelope.now.message) }
+    requires short { body_len ≤ MOST_BODY_BYTES }
+    requires empty { out.old.items ≡ [] }
+    ensures { OnOk result (Spells envelope.now out.new.items) }
+{
+    put_header(out, envelope, body_len)?;
+    put_body(out, &envelope.message)?;
+    Ok(())
+}
+
+/// The bytes of an envelope. `TooLong` exactly where the body would have more than `MOST_BODY_BYTES` bytes.
+pub fn encode(alloc: Global, envelope: &Envelope) -> Result<Bytes, EncodeFault>
+    ensures written { IfOk result (λ bytes. Spells envelope.now bytes) }
+    ensures too_long { IsErrOf result EncodeFault.TooLong ↔ (MOST_BODY_BYTES < length (body envelope.now.message)) }
+{
+    let Some(body_len) = body_len(&envelope.message) else {
+        return Err(EncodeFault::TooLong);
+    };
+    let mut out = Vec::with_capacity(alloc, HEADER_BYTES + body_len)?;
+    put_envelope(&mut out, envelope, body_len)?;
+    Ok(Bytes::from_vec(out)?)
+}

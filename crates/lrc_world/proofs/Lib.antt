@@ -1,0 +1,3 @@
+pub mod AloneIsPlain
+pub mod EndsLemmas
+pub mod Turns

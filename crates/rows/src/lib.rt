@@ -1,0 +1,11 @@
+//! Tests alone: worked programs and texts, from the words of the command line to what is printed.
+#![tactic(auto)]
+
+#[cfg(test)]
+mod events;
+#[cfg(test)]
+mod faults;
+#[cfg(test)]
+mod one_node;
+#[cfg(test)]
+mod shell;

@@ -1,0 +1,159 @@
+//! The program `treadmarks`: reads its words and the files that they name, and hands both to the library `lrc_cli`.
+#![tactic(auto)]
+
+ghost use Rattle.std.specs.Prelude.{◌≡◌, IfOk, IfSome, is_some, take};
+ghost use Rattle.lrc_cli.specs.Answer.{names_events};
+
+use lrc_cli::choice::{Choice, ChooseFault};
+use lrc_cli::{choose, perform};
+use std::alloc::Global;
+use std::fs::Files;
+use std::io::{BufWriter, ErrorKind, Read};
+use std::process::ExitCode;
+use std::rt::Env;
+use std::{env, fs, io};
+use thiserror::Error;
+
+/// One byte more than the longest text of a program has.
+const TEXT_READ: u64 = 65_536 + 1;
+
+/// One byte more than the longest text of events has.
+const EVENTS_READ: u64 = 16_777_216 + 1;
+
+/// The status after a fault of a file or of memory.
+const FAULT: u8 = 1;
+
+/// The status after words that ask for nothing that can be done.
+const USAGE: u8 = 2;
+
+/// Why there is nothing to work on.
+#[derive(Clone, Copy, Debug, PartialEq, Eq, Error)]
+enum ReadFault {
+    /// A file cannot be read.
+    #[error("cannot read file")]
+    CannotRead,
+    /// Memory ran out.
+    #[error("out of memory")]
+    NoMemory,
+}
+
+impl From<io::Error> for ReadFault {
+    fn from(error: io::Error) -> ReadFault {
+        match error.kind() {
+            ErrorKind::OutOfMemory => ReadFault::NoMemory,
+            _ => ReadFault::CannotRead,
+        }
+    }
+}
+
+fn main(rt: HostRuntime) -> ExitCode {
+    ExitCode::from(answer(&rt))
+}
+
+/// Does what the words ask for, and gives the exit status.
+fn answer(rt: &HostRuntime) -> u8 {
+    let words = match words(rt) {
+        Ok(words) => words,
+        Err(error) => return refuse_words(rt, &error),
+    };
+    match choose(rt.alloc(), words.as_slice()) {
+        Ok(choice) => match play(rt, &choice) {
+            Ok(status) => status,
+            Err(fault) => {
+                let _ = eprintln!(rt; "treadmarks: {fault}");
+                FAULT
+            }
+        },
+        Err(fault) => refuse(rt, &fault),
+    }
+}
+
+/// The words that follow the program's name.
+fn words(rt: &(impl Env + AllocGlobal)) -> io::Result<Vec<String>> {
+    let words = env::args(rt)?;
+    Ok(words.skip(1).collect(rt.alloc())?)
+}
+
+/// Says why there are no words: memory ran out, or one of them is not UTF-8.
+fn refuse_words(rt: &impl Eprint, error: &io::Error) -> u8 {
+    if error.kind() == ErrorKind::OutOfMemory {
+        return refuse(rt, &ChooseFault::NoMemory);
+    }
+    let _ = eprintln!(rt; "error: invalid UTF-8 was detected in one or more arguments");
+    USAGE
+}
+
+/// Says why the words are no choice, and gives the exit status.
+fn refuse(rt: &impl Eprint, fault: &ChooseFault) -> u8 {
+    match fault {
+        ChooseFault::Usage(error) => {
+            let _ = eprint!(rt; "{error}");
+            USAGE
+        }
+        ChooseFault::BadNumber => {
+            let _ = eprintln!(rt; "treadmarks: {fault}");
+            USAGE
+        }
+        ChooseFault::NoMemory => {
+            let _ = eprintln!(rt; "treadmarks: {fault}");
+            FAULT
+        }
+    }
+}
+
+/// Reads what a choice names and performs it. What a failed write leaves in the buffer is never written.
+fn play(rt: &HostRuntime, choice: &Choice<'_>) -> Result<u8, ReadFault> {
+    let text = read_text(rt, file_of(choice))?;
+    let events = read_events(rt, choice)?;
+    let mut out = BufWriter::new(rt.alloc(), rt.stdout())?;
+    let mut err = rt.stderr();
+    let status = perform(
+        rt.alloc(),
+        choice,
+        &text,
+        events.as_deref(),
+        &mut out,
+        &mut err,
+    );
+    let (_stdout, _unwritten) = out.into_parts();
+    Ok(status)
+}
+
+/// The file of the program's text.
+fn file_of<'w>(choice: &Choice<'w>) -> &'w str {
+    match choice {
+        Choice::Check(file) => file,
+        Choice::Simulate(run) => run.file,
+    }
+}
+
+/// Reads the program's text. The path `-` is standard input.
+fn read_text(rt: &(impl Files + Input + AllocGlobal), path: &str) -> io::Result<Vec<u8>> {
+    if path == "-" {
+        read_up_to(rt.alloc(), rt.reader(), TEXT_READ)
+    } else {
+        read_up_to(rt.alloc(), fs::open(rt, path)?, TEXT_READ)
+    }
+}
+
+/// Reads the text of the events, where a choice names one.
+fn read_events(rt: &(impl Files + AllocGlobal), choice: &Choice<'_>) -> io::Result<Option<Vec<u8>>>
+    ensures { IfOk result (λ events. is_some events ≡ names_events choice.now) }
+{
+    match choice {
+        Choice::Simulate(run) => match run.events {
+            Some(path) => Ok(Some(read_up_to(rt.alloc(), fs::open(rt, path)?, EVENTS_READ)?)),
+            None => Ok(None),
+        },
+        Choice::Check(_) => Ok(None),
+    }
+}
+
+/// The bytes that a reader has left, up to `most` of them.
+fn read_up_to<R: Read + Drop>(alloc: Global, reader: R, most: u64) -> io::Result<Vec<u8>>
+    ensures { IfOk result (λ bytes. IfSome (R.remaining reader) (λ left. bytes.items ≡ take most left)) }
+{
+    let mut bytes = Vec::new(alloc);
+    reader.take(most).read_to_end(&mut bytes)?;
+    Ok(bytes)
+}
