@@ -4,6 +4,10 @@
 //! detectors and memory systems, who can judge their own traces.
 #![tactic(auto)]
 
+ghost use Rattle.std.specs.Prelude.{◌<◌, ◌↔◌, All, IsTrue};
+
+use lrc_trace::act::Act;
+
 pub mod laws;
 pub mod order;
 mod past;
@@ -17,3 +21,10 @@ mod tests;
 
 /// How many nodes a run has at most.
 pub const NODES: usize = 16;
+
+/// Whether every act is of a node from 0 to 15, as the judge asks.
+pub fn are_in_range(acts: &[Act]) -> bool
+    ensures { IsTrue result ↔ All (λ act. act.node < NODES) acts.now }
+{
+    acts.iter().all(|act| usize::from(act.node) < NODES)
+}
