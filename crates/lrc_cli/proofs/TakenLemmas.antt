@@ -15,11 +15,14 @@ use Rattle.clap.specs.declared.builder.value_parser.ValueParser.{ValueParser}
 use Rattle.clap.specs.declared.builder.value_parser.ValueParser.TheVariants.{Unsigned}
 use Rattle.clap.specs.declared.error.kind.ErrorKind.TheVariants.{ValueValidation}
 use Rattle.clap.proofs.ValueTestLemmas.{accepts-Accepts}
-use Rattle.lrc_cli.specs.CommandLine.{HasFile, IsNumberOption, IsSimTaken, IsTaken, check, number, sim, treadmarks, treadmarks_shape}
+use Rattle.lrc_cli.specs.CommandLine.{HasFile, IsNumberOption, IsRunTaken, IsTaken, check, number, plain, sim, treadmarks, treadmarks_shape}
 use Rattle.lrc_cli.proofs.RowLemmas.{AreGood, IsKeyed, first_passes, given_some, level_good, neither, required_given}
 
 abbrev check_built : Shape
 check_built = built_leaf (inherited treadmarks_shape check.top)
+
+abbrev plain_built : Shape
+plain_built = built_leaf (inherited treadmarks_shape plain.top)
 
 abbrev sim_built : Shape
 sim_built = built_leaf (inherited treadmarks_shape sim.top)
@@ -28,6 +31,18 @@ check_keyed : AllByRecursion (IsKeyed check_built.rules) check_built.rules
 check_keyed = (
   record { own = refl; acts = inl (refl, lit< tt); bare = refl },
   (record { own = refl; acts = inr refl; bare = refl }, tt),
+)
+
+plain_keyed : AllByRecursion (IsKeyed plain_built.rules) plain_built.rules
+plain_keyed = (
+  record { own = refl; acts = inl (refl, lit< tt); bare = refl },
+  (
+    record { own = refl; acts = inl (refl, lit< tt); bare = refl },
+    (
+      record { own = refl; acts = inl (refl, lit< tt); bare = refl },
+      (record { own = refl; acts = inr refl; bare = refl }, tt),
+    ),
+  ),
 )
 
 sim_keyed : AllByRecursion (IsKeyed sim_built.rules) sim_built.rules
@@ -65,43 +80,55 @@ same_text : (o : Option Text) → option_map (λ t. t) o ≡ o
 same_text None = refl
 same_text (Some t) = refl
 
-number_taken : (rows : List Row) (a : Rule) → AreGood sim_built.rules rows → arg_by_id sim_built.rules a.id ≡ Some a → a.ignore_case ≡ false
+number_taken : (rules : List Rule) (rows : List Row) (a : Rule) → AreGood rules rows → arg_by_id rules a.id ≡ Some a → a.ignore_case ≡ false
     → a.parser ≡ Some (Unsigned 0 18446744073709551615) → IsNumberOption a.id rows
-number_taken rows a good own exact parser =
-    let first = first_passes sim_built.rules a rows good own in
+number_taken rules rows a good own exact parser =
+    let first = first_passes rules a rows good own in
     let pass : IfSome (first_of a.id rows) (λ t. value_kinds false (Unsigned 0 18446744073709551615) t ≡ []) =
     subst (λ (p : Bool × Option ValueParser). IfSome (first_of a.id rows) (λ t. value_kinds p.0 (parser_of_value p.1) t ≡ [])) (λ i. (exact i, parser i)) first.0 in
     let written = first.1 ∙ ap (λ (p : Option ValueParser). option_map (read_as (reading_of (parser_of_value p))) (first_of a.id rows)) parser in
     record { number = number_passed (first_of a.id rows) pass; as_written = written ∙ same_text (first_of a.id rows) }
 
-sim_taken : (words : List Text) → level_fault sim_built [] nothing_held words false [] ≡ [] → IsSimTaken (rows_after sim_built.rules [] words)
+-- a command with a FILE and the two numbers of a run
+run_taken : (rules : List Rule) (rows : List Row) → AreGood rules rows → HasFile rows → arg_by_id rules (codes "nodes") ≡ Some (filled (number (codes "nodes")))
+    → arg_by_id rules (codes "steps") ≡ Some (filled (number (codes "steps"))) → IsRunTaken rows
+run_taken rules rows good file nodes_own steps_own = record {
+  file = file;
+  nodes = number_taken rules rows (filled (number (codes "nodes"))) good nodes_own refl refl;
+  steps = number_taken rules rows (filled (number (codes "steps"))) good steps_own refl refl;
+}
+
+plain_taken : (words : List Text) → level_fault plain_built [] nothing_held words false [] ≡ [] → IsRunTaken (rows_after plain_built.rules [] words)
+plain_taken words none =
+    let rows = rows_after plain_built.rules [] words in
+    let level = level_good plain_built words plain_keyed none in
+    run_taken plain_built.rules rows level.0 (given_some plain_built.rules (codes "FILE") rows level.0 ((required_given plain_built rows level.1).0 refl)) refl refl
+
+sim_taken : (words : List Text) → level_fault sim_built [] nothing_held words false [] ≡ [] → IsRunTaken (rows_after sim_built.rules [] words)
 sim_taken words none =
     let rows = rows_after sim_built.rules [] words in
     let level = level_good sim_built words sim_keyed none in
-    record {
-      file = given_some sim_built.rules (codes "FILE") rows level.0 ((required_given sim_built rows level.1).0 refl);
-      nodes = number_taken rows (filled (number (codes "nodes"))) level.0 refl refl refl;
-      steps = number_taken rows (filled (number (codes "steps"))) level.0 refl refl refl;
-    }
+    run_taken sim_built.rules rows level.0 (given_some sim_built.rules (codes "FILE") rows level.0 ((required_given sim_built rows level.1).0 refl)) refl refl
 
 -- the top of the command line, as clap builds it
 abbrev top_built : App
-top_built = record { top = built_leaf (record treadmarks_shape { is_leaf = false }); subs = check_built ∷ sim_built ∷ [] }
+top_built = record { top = built_leaf (record treadmarks_shape { is_leaf = false }); subs = check_built ∷ plain_built ∷ sim_built ∷ [] }
 
 one_named : (rows : List Row) (stop : Option (Text × List Text)) → entered_fault top_built stop ≡ [] → check_fault top_built.top rows (is_some (entered top_built stop)) ≡ []
     → IsTaken (entered top_built stop)
 one_named rows None none checked = absurd cc
-one_named rows (Some p) none checked = go (answers_to p.0 (label_of check_built)) (answers_to p.0 (label_of sim_built)) none checked
+one_named rows (Some p) none checked = go (answers_to p.0 (label_of check_built)) (answers_to p.0 (label_of plain_built)) (answers_to p.0 (label_of sim_built)) none checked
   where
-    shape : Bool → Bool → Option Shape
-    shape b d = cond b (Some check_built) (cond d (Some sim_built) None)
+    shape : Bool → Bool → Bool → Option Shape
+    shape b d f = cond b (Some check_built) (cond d (Some plain_built) (cond f (Some sim_built) None))
 
-    go : (b d : Bool) → option_map_or (λ s. level_fault s [] nothing_held p.1 false []) (shape b d) [] ≡ []
-        → check_fault top_built.top rows (is_some (option_map (λ s. rows_at s p.1) (shape b d))) ≡ []
-        → IsTaken (option_map (λ s. rows_at s p.1) (shape b d))
-    go true d e checked = inl (refl, check_taken p.1 e)
-    go false true e checked = inr (refl, sim_taken p.1 e)
-    go false false e checked = absurd cc
+    go : (b d f : Bool) → option_map_or (λ s. level_fault s [] nothing_held p.1 false []) (shape b d f) [] ≡ []
+        → check_fault top_built.top rows (is_some (option_map (λ s. rows_at s p.1) (shape b d f))) ≡ []
+        → IsTaken (option_map (λ s. rows_at s p.1) (shape b d f))
+    go true d f e checked = inl (refl, check_taken p.1 e)
+    go false true f e checked = inr (inl (refl, plain_taken p.1 e))
+    go false false true e checked = inr (inr (refl, sim_taken p.1 e))
+    go false false false e checked = absurd cc
 
 pub taken : (words : List Text) → fault_of treadmarks words ≡ [] → IsTaken (subcommand_of treadmarks words)
 unfolding treadmarks

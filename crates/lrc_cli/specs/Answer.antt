@@ -1,5 +1,6 @@
 -- What the program answers to a choice: a text that it prints and its status, or the first fault.
-use Rattle.std.specs.Prelude.{◌≡◌, ◌<◌, ◌≤◌, ◌⊎◌, ℕ, Bool, true, false, List, length, Option, None, Some, Ok, Err, codes, is_some}
+use Rattle.std.specs.Prelude.{◌≡◌, ◌<◌, ◌≤◌, ℕ, Bool, false, List, length, Option, None, Some, Ok, Err, codes, is_some}
+use Rattle.lrc_exec.specs.Rounds.{AreActsOfRounds}
 use Rattle.lrc_lang.specs.Faults.{HasFirstFault, IsText}
 use Rattle.lrc_lang.specs.Tree.{program_of}
 use Rattle.lrc_lang.specs.declared.program.Program.{Program}
@@ -8,13 +9,11 @@ use Rattle.lrc_world.specs.Alone.{is_ready, run_of}
 use Rattle.lrc_world.specs.Ends.{ends_of}
 use Rattle.lrc_world.specs.declared.report.Event.{Event}
 use Rattle.lrc_world.specs.declared.report.Report.{Report}
-use Rattle.lrc_world.specs.declared.report.SimFault.{SimFault}
-use Rattle.lrc_world.specs.declared.report.SimFault.TheVariants as sim_faults
 use Rattle.lrc_world.specs.declared.report.TheConstants.{MOST_EVENTS}
 use Rattle.lrc_cli.specs.EventsText.{Reads}
 use Rattle.lrc_cli.specs.ReportText.{report_text, status_of}
 use Rattle.lrc_cli.specs.declared.choice.Choice.{Choice}
-use Rattle.lrc_cli.specs.declared.choice.Choice.TheVariants.{Check, Simulate}
+use Rattle.lrc_cli.specs.declared.choice.Choice.TheVariants.{Check, Plain, Simulate}
 use Rattle.lrc_cli.specs.declared.events.EventsFault.TheVariants.{BadEvent}
 use Rattle.lrc_cli.specs.declared.fault.Fault.{Fault}
 use Rattle.lrc_cli.specs.declared.fault.Fault.TheVariants.{Text, Events, Worn, NoMemory}
@@ -22,6 +21,7 @@ use Rattle.lrc_cli.specs.declared.fault.Fault.TheVariants.{Text, Events, Worn, N
 -- the choice names a file of events
 abbrev pub names_events : Choice → Bool
 names_events (Check file) = false
+names_events (Plain run) = false
 names_events (Simulate run) = is_some run.events
 
 -- the text is this program's
@@ -47,10 +47,19 @@ abbrev pub ArePlayed : Program → ℕ → Option (List ℕ) → List Event → 
 ArePlayed program steps (Some events_text) events = Reads events_text (Ok events)
 ArePlayed program steps None events = AreAll program steps events
 
--- What is printed, with the status: `ok` where the text is a program's, and the report of its run.
+-- the text and the status are those of the program's acts in rounds on the plain machine
+abbrev pub IsPrintoutOfRounds : Program → ℕ → ℕ → List ℕ → ℕ → Type 0
+IsPrintoutOfRounds program nodes steps out status =
+    (acts : List Act) × AreActsOfRounds program nodes steps acts × IsReportOf nodes acts out status
+
+-- What is printed, with the status: `ok` where the text is a program's, the report of what the program does in rounds on
+-- the plain machine, and that of its run.
 abbrev pub Prints : Choice → List ℕ → Option (List ℕ) → List ℕ → ℕ → Type 0
 Prints (Check file) text events out status =
     (program : Program) × IsTextOf text program × (out ≡ codes "ok\n") × (status ≡ 0)
+Prints (Plain run) text events_text out status =
+    (program : Program) × IsTextOf text program
+    × IsPrintoutOfRounds program run.nodes.count run.steps.count out status
 Prints (Simulate run) text events_text out status =
     (program : Program) × IsTextOf text program × (events : List Event)
     × ArePlayed program run.steps.count events_text events

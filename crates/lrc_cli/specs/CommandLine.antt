@@ -9,9 +9,10 @@ use Rattle.clap.specs.declared.error.Error.{Error}
 use Rattle.clap.specs.declared.error.kind.ErrorKind.{ErrorKind}
 use Rattle.clap.specs.declared.error.kind.ErrorKind.TheVariants.{OutOfMemory}
 use Rattle.lrc_cli.specs.declared.choice.Choice.{Choice}
-use Rattle.lrc_cli.specs.declared.choice.Choice.TheVariants.{Check, Simulate}
+use Rattle.lrc_cli.specs.declared.choice.Choice.TheVariants.{Check, Plain, Simulate}
 use Rattle.lrc_cli.specs.declared.choice.ChooseFault.{ChooseFault}
 use Rattle.lrc_cli.specs.declared.choice.ChooseFault.TheVariants.{Usage, BadNumber, NoMemory}
+use Rattle.lrc_cli.specs.declared.choice.PlainRun.{PlainRun}
 use Rattle.lrc_cli.specs.declared.choice.Simulation.{Simulation}
 
 -- FILE, which each command has to have
@@ -29,6 +30,9 @@ number name = record (option name) { parser = Some (Unsigned 0 18446744073709551
 abbrev pub check : App
 check = with_rule (new_app (codes "check")) file
 
+abbrev pub plain : App
+plain = with_rule (with_rule (with_rule (new_app (codes "plain")) file) (number (codes "nodes"))) (number (codes "steps"))
+
 abbrev pub sim : App
 sim = with_rule (with_rule (with_rule (with_rule (new_app (codes "sim")) file)
     (number (codes "nodes"))) (number (codes "steps"))) (option (codes "events"))
@@ -42,8 +46,8 @@ treadmarks_shape = record (new_app (codes "treadmarks")).top {
 }
 
 unfoldable pub treadmarks : App
-treadmarks = with_subcommand
-    (with_subcommand (record { top = treadmarks_shape; subs = [] }) check.top) sim.top
+treadmarks = with_subcommand (with_subcommand
+    (with_subcommand (record { top = treadmarks_shape; subs = [] }) check.top) plain.top) sim.top
 
 -- no words at all stand for `sim -`
 abbrev pub words_meant : List Text → List Text
@@ -70,8 +74,8 @@ pub record IsNumberOption (name : Text) (rows : List Row) : Type 0 where
   pub number : IfSome (first_of name rows) (IsUnsignedIn 0 18446744073709551615)
   pub as_written : one_of name rows ≡ first_of name rows
 
--- what clap makes sure of in the matches of `sim`
-pub record IsSimTaken (rows : List Row) : Type 0 where
+-- what clap makes sure of in the matches of `plain` and of `sim`
+pub record IsRunTaken (rows : List Row) : Type 0 where
   pub file : HasFile rows
   pub nodes : IsNumberOption (codes "nodes") rows
   pub steps : IsNumberOption (codes "steps") rows
@@ -80,25 +84,39 @@ pub record IsSimTaken (rows : List Row) : Type 0 where
 abbrev pub IsTaken : Option (Text × List Row) → Type 0
 IsTaken None = ⊥
 IsTaken (Some found) = ((found.0 ≡ codes "check") × HasFile found.1)
-    ⊎ ((found.0 ≡ codes "sim") × IsSimTaken found.1)
+    ⊎ ((found.0 ≡ codes "plain") × IsRunTaken found.1)
+    ⊎ ((found.0 ≡ codes "sim") × IsRunTaken found.1)
+
+-- the file and the numbers of a run stand in these matches
+pub record AreOptions (path : Text) (node_count step_count : ℕ) (rows : List Row) : Type 0 where
+  pub file : first_of (codes "FILE") rows ≡ Some path
+  pub nodes : nodes_in rows ≡ node_count
+  pub steps : steps_in rows ≡ step_count
+
+-- a run on the plain machine is chosen by these matches
+abbrev pub IsPlainRun : PlainRun → List Row → Type 0
+IsPlainRun run rows = AreOptions run.file.now run.nodes.count run.steps.count rows
 
 -- a run is chosen by these matches
 pub record IsSimulation (run : Simulation) (rows : List Row) : Type 0 where
-  pub file : first_of (codes "FILE") rows ≡ Some run.file.now
-  pub nodes : nodes_in rows ≡ run.nodes.count
-  pub steps : steps_in rows ≡ run.steps.count
+  pub options : AreOptions run.file.now run.nodes.count run.steps.count rows
   pub events : first_of (codes "events") rows ≡ option_map (λ events. events.now) run.events
 
 -- the choice is the command that clap found, with its matches
 abbrev pub IsFound : Choice → Text × List Row → Type 0
 IsFound (Check text) found =
     (found.0 ≡ codes "check") × (first_of (codes "FILE") found.1 ≡ Some text.now)
+IsFound (Plain run) found = (found.0 ≡ codes "plain") × IsPlainRun run found.1
 IsFound (Simulate run) found = (found.0 ≡ codes "sim") × IsSimulation run found.1
 
--- one of the numbers that clap found is out of its range: a run has one node
+-- the number of nodes is not 1 to `most`, or that of steps not 1 to 1,000,000
+abbrev pub HasBadCount : ℕ → List Row → Type 0
+HasBadCount most rows = IsOutOfRange 1 most (nodes_in rows) ⊎ IsOutOfRange 1 1000000 (steps_in rows)
+
+-- One of the numbers that clap found is out of its range: the plain machine has up to 16 nodes, and `sim` one.
 abbrev pub HasBadNumber : Text × List Row → Type 0
-HasBadNumber found = (found.0 ≡ codes "sim")
-    × (IsOutOfRange 1 1 (nodes_in found.1) ⊎ IsOutOfRange 1 1000000 (steps_in found.1))
+HasBadNumber found = ((found.0 ≡ codes "plain") × HasBadCount 16 found.1)
+    ⊎ ((found.0 ≡ codes "sim") × HasBadCount 1 found.1)
 
 -- The fault that clap's error stands for: want of memory, or one of the words.
 abbrev pub fault_of_kind : ErrorKind → Error → ChooseFault

@@ -1,18 +1,22 @@
 // What the program answers to a choice, before anything is written.
 
 ghost use Rattle.std.specs.Prelude.{◌≡◌, IfErr, IfOk, None, Some, is_some, option_map};
-ghost use Rattle.lrc_cli.specs.Answer.{IsFault, IsRunFault, IsRunOf, Prints, names_events};
-ghost use Rattle.lrc_cli.specs.ReportText.{whole_text};
+ghost use Rattle.lrc_cli.specs.Answer.{IsFault, IsPrintoutOfRounds, IsRunFault, IsRunOf, Prints, names_events};
+ghost use Rattle.lrc_cli.specs.ReportText.{report_text, status_of, whole_text};
+ghost use Rattle.lrc_cli.specs.declared.fault.Fault.TheVariants.{NoMemory};
 
-use crate::choice::{Choice, Simulation};
+use crate::choice::{Choice, PlainRun, Simulation};
 use crate::events::events_of;
 use crate::fault::{Fault, fault_of_run};
 use crate::report::{report_parts, status_after};
+use lrc_exec::rounds::plain_rounds;
 use lrc_lang::parse;
 use lrc_lang::program::Program;
-use lrc_world::report::{Options, Picker, Report};
+use lrc_trace::act::Act;
+use lrc_world::ends::ends;
+use lrc_world::report::{End, Options, Picker, Report};
 use lrc_world::simulate::{drive, simulate};
-use std::alloc::Global;
+use std::alloc::{AllocError, Global};
 
 /// What is printed, and the status with which the program ends after it.
 #[derive(Debug, Drop)]
@@ -41,14 +45,35 @@ pub fn answer(
             parts.push(Vec::from_slice(alloc, b"ok\n")?)?;
             Ok(Printout { parts, status: 0 })
         }
+        Choice::Plain(run) => in_rounds(alloc, run, &program),
         Choice::Simulate(run) => {
             let report = simulated(alloc, run, &program, events)?;
-            Ok(Printout {
-                parts: report_parts(alloc, &report.acts, &report.ends)?,
-                status: status_after(&report.ends),
-            })
+            Ok(printout_of(alloc, &report.acts, &report.ends)?)
         }
     }
+}
+
+// What the nodes print on the plain machine, and how they end there.
+fn in_rounds(alloc: Global, run: &PlainRun<'_>, program: &Program) -> Result<Printout, Fault>
+    ensures ok { IfOk result (λ printout. IsPrintoutOfRounds program.now run.now.nodes.count run.now.steps.count
+        (whole_text printout.parts.items) printout.status) }
+    ensures err { IfErr result (λ fault. fault ≡ NoMemory) }
+{
+    let nodes = run.nodes.count as u8;
+    let acts = plain_rounds(alloc, program, nodes, run.steps.count)?;
+    let ends = ends(alloc, nodes, &acts)?;
+    Ok(printout_of(alloc, &acts, &ends)?)
+}
+
+// The report of a run with these acts and ends.
+fn printout_of(alloc: Global, acts: &[Act], ends: &[End]) -> Result<Printout, AllocError>
+    ensures text { IfOk result (λ printout. whole_text printout.parts.items ≡ report_text acts.now ends.now) }
+    ensures status { IfOk result (λ printout. printout.status ≡ status_of ends.now) }
+{
+    Ok(Printout {
+        parts: report_parts(alloc, acts, ends)?,
+        status: status_after(ends),
+    })
 }
 
 fn simulated(

@@ -20,6 +20,15 @@ pub struct Steps {
     pub ghost few: { count ≤ 1000000 },
 }
 
+/// The options of `plain`.
+#[derive(Clone, Copy, Debug)]
+pub struct PlainRun<'w> {
+    /// The file of the program's text; `-` is standard input.
+    pub file: &'w str,
+    pub nodes: Nodes,
+    pub steps: Steps,
+}
+
 /// The options of `sim`.
 #[derive(Clone, Copy, Debug)]
 pub struct Simulation<'w> {
@@ -38,6 +47,8 @@ pub struct Simulation<'w> {
 pub enum Choice<'w> {
     /// Whether the text in this file is a program; `-` is standard input.
     Check(&'w str),
+    /// A run on the plain machine, in rounds.
+    Plain(PlainRun<'w>),
     /// A run in which one event happens after the other.
     Simulate(Simulation<'w>),
 }

@@ -5,12 +5,12 @@ ghost use Rattle.std.specs.Int.{IsOutOfRange};
 ghost use Rattle.clap.specs.Words.{app_of, fault_of, first_of, found_of, rows_of, rule_of, subcommand_of};
 ghost use Rattle.clap.specs.Words.{subcommand_rows_of};
 ghost use Rattle.clap.specs.declared.builder.command.Command.TheViews.{out-Command as fields_of};
-ghost use Rattle.lrc_cli.specs.CommandLine.{Chooses, HasBadNumber, HasFile, IsFound, IsFoundFault, IsNumberOption};
-ghost use Rattle.lrc_cli.specs.CommandLine.{IsSimTaken, IsSimulation, IsTaken, check, fault_from, file, number, number_in, sim};
-ghost use Rattle.lrc_cli.specs.CommandLine.{treadmarks, words_meant};
+ghost use Rattle.lrc_cli.specs.CommandLine.{Chooses, HasBadCount, HasBadNumber, HasFile, IsFound, IsFoundFault};
+ghost use Rattle.lrc_cli.specs.CommandLine.{IsNumberOption, IsPlainRun, IsRunTaken, IsSimulation, IsTaken, check, fault_from};
+ghost use Rattle.lrc_cli.specs.CommandLine.{file, number, nodes_in, number_in, plain, sim, steps_in, treadmarks, words_meant};
 ghost use Rattle.lrc_cli.specs.declared.choice.ChooseFault.TheVariants.{BadNumber, NoMemory};
 
-use crate::choice::{Choice, ChooseFault, Nodes, Simulation, Steps};
+use crate::choice::{Choice, ChooseFault, Nodes, PlainRun, Simulation, Steps};
 use clap::error::ErrorKind;
 use clap::{Arg, ArgMatches, Command, value_parser};
 use std::alloc::{AllocError, Global};
@@ -18,6 +18,8 @@ use std::convert::AsStr;
 
 // What the program does where it gets no words.
 static NO_WORDS: [&str; 2] = ["sim", "-"];
+
+const STEPS_HELP: &str = "How many statements each node may begin: 1 to 1000000 [default: 1000000]";
 
 /// Reads the words that follow the program's name. No words at all ask for `sim -`.
 pub fn choose<'w, S: AsStr>(alloc: Global, words: &'w [S]) -> Result<Choice<'w>, ChooseFault>
@@ -56,22 +58,36 @@ fn choice_from<'w>(matches: &ArgMatches<'w>) -> Result<Choice<'w>, ChooseFault>
     if let Some(options) = matches.subcommand_matches("check") {
         return Ok(Choice::Check(file_of(options)));
     }
+    if let Some(options) = matches.subcommand_matches("plain") {
+        return Ok(Choice::Plain(plain_run(options)?));
+    }
     let options = matches.subcommand_matches("sim").unwrap();
     Ok(Choice::Simulate(simulation(options)?))
 }
 
+fn plain_run<'w>(options: &ArgMatches<'w>) -> Result<PlainRun<'w>, ChooseFault>
+    requires { IsRunTaken (rows_of (found_of options.now)) }
+    ensures ok { IfOk result (λ run. IsPlainRun run (rows_of (found_of options.now))) }
+    ensures err { IfErr result (λ fault. (fault ≡ BadNumber)
+        × HasBadCount 16 (rows_of (found_of options.now))) }
+{
+    Ok(PlainRun {
+        file: file_of(options),
+        nodes: nodes_of(options, 16)?,
+        steps: steps_of(options)?,
+    })
+}
+
 fn simulation<'w>(options: &ArgMatches<'w>) -> Result<Simulation<'w>, ChooseFault>
-    requires { IsSimTaken (rows_of (found_of options.now)) }
+    requires { IsRunTaken (rows_of (found_of options.now)) }
     ensures ok { IfOk result (λ run. IsSimulation run (rows_of (found_of options.now))) }
     ensures err { IfErr result (λ fault. (fault ≡ BadNumber)
-        × HasBadNumber (codes "sim", rows_of (found_of options.now))) }
+        × HasBadCount 1 (rows_of (found_of options.now))) }
 {
-    let nodes = number_of(options, "nodes", 1);
-    let steps = number_of(options, "steps", 1_000_000);
     Ok(Simulation {
         file: file_of(options),
-        nodes: nodes_up_to(1, nodes)?,
-        steps: steps_in_range(steps)?,
+        nodes: nodes_of(options, 1)?,
+        steps: steps_of(options)?,
         events: options.get_str("events"),
     })
 }
@@ -83,33 +99,39 @@ fn file_of<'w>(options: &ArgMatches<'w>) -> &'w str
     options.get_str("FILE").unwrap()
 }
 
-fn number_of(options: &ArgMatches<'_>, name: &str, default: u64) -> u64
-    requires { IsNumberOption name.now (rows_of (found_of options.now)) }
-    ensures { result ≡ number_in name.now default (rows_of (found_of options.now)) }
-{
-    options.get_one::<u64>(name).unwrap_or(default)
-}
-
-fn nodes_up_to(most: u32, count: u64) -> Result<Nodes, ChooseFault>
-    requires { most ≤ 16 }
-    ensures ok { IfOk result (λ nodes. nodes.count ≡ count) }
+fn nodes_of(options: &ArgMatches<'_>, most: u32) -> Result<Nodes, ChooseFault>
+    requires few { most ≤ 16 }
+    requires number { IsNumberOption (codes "nodes") (rows_of (found_of options.now)) }
+    ensures ok { IfOk result (λ nodes. nodes_in (rows_of (found_of options.now)) ≡ nodes.count) }
     ensures few { IfOk result (λ nodes. nodes.count ≤ most) }
-    ensures err { IfErr result (λ fault. (fault ≡ BadNumber) × IsOutOfRange 1 most count) }
+    ensures err { IfErr result (λ fault. (fault ≡ BadNumber)
+        × IsOutOfRange 1 most (nodes_in (rows_of (found_of options.now)))) }
 {
+    let count = number_of(options, "nodes", 1);
     match u32::try_from(count) {
         Ok(count) if 1 <= count && count <= most => Ok(Nodes { count }),
         _ => Err(ChooseFault::BadNumber),
     }
 }
 
-fn steps_in_range(count: u64) -> Result<Steps, ChooseFault>
-    ensures ok { IfOk result (λ steps. steps.count ≡ count) }
-    ensures err { IfErr result (λ fault. (fault ≡ BadNumber) × IsOutOfRange 1 1000000 count) }
+fn steps_of(options: &ArgMatches<'_>) -> Result<Steps, ChooseFault>
+    requires { IsNumberOption (codes "steps") (rows_of (found_of options.now)) }
+    ensures ok { IfOk result (λ steps. steps_in (rows_of (found_of options.now)) ≡ steps.count) }
+    ensures err { IfErr result (λ fault. (fault ≡ BadNumber)
+        × IsOutOfRange 1 1000000 (steps_in (rows_of (found_of options.now)))) }
 {
+    let count = number_of(options, "steps", 1_000_000);
     match u32::try_from(count) {
         Ok(count) if 1 <= count && count <= 1_000_000 => Ok(Steps { count }),
         _ => Err(ChooseFault::BadNumber),
     }
+}
+
+fn number_of(options: &ArgMatches<'_>, name: &str, default: u64) -> u64
+    requires { IsNumberOption name.now (rows_of (found_of options.now)) }
+    ensures { result ≡ number_in name.now default (rows_of (found_of options.now)) }
+{
+    options.get_one::<u64>(name).unwrap_or(default)
 }
 
 impl From<AllocError> for ChooseFault {
@@ -135,11 +157,13 @@ fn command_line<'w>(alloc: Global) -> Result<Command<'w>, AllocError>
     ensures { IfOk result (λ command. app_of command ≡ treadmarks) }
 {
     Command::new(alloc, "treadmarks")
+        .bin_name("treadmarks")?
         .about("Runs programs on lazy-release-consistent shared memory. With no words: `sim -`")
         .no_binary_name(true)
         .subcommand_required(true)
         .disable_help_subcommand(true)
         .subcommand(check_command(alloc)?)?
+        .subcommand(plain_command(alloc)?)?
         .subcommand(sim_command(alloc)?)
 }
 
@@ -152,6 +176,24 @@ fn check_command<'w>(alloc: Global) -> Result<Command<'w>, AllocError>
         .arg(file(alloc))
 }
 
+fn plain_command<'w>(alloc: Global) -> Result<Command<'w>, AllocError>
+    ensures app { IfOk result (λ command. app_of command ≡ plain) }
+    ensures local { IfOk result (λ command. (fields_of command).has_globals ≡ false) }
+{
+    let nodes = number(
+        alloc,
+        "nodes",
+        "How many nodes run the program: 1 to 16 [default: 1]",
+    );
+    Command::new(alloc, "plain")
+        .about(
+            "Runs the program of FILE over one flat memory, each node in turn, and looks for no race",
+        )
+        .arg(file(alloc))?
+        .arg(nodes)?
+        .arg(number(alloc, "steps", STEPS_HELP))
+}
+
 fn sim_command<'w>(alloc: Global) -> Result<Command<'w>, AllocError>
     ensures app { IfOk result (λ command. app_of command ≡ sim) }
     ensures local { IfOk result (λ command. (fields_of command).has_globals ≡ false) }
@@ -161,11 +203,7 @@ fn sim_command<'w>(alloc: Global) -> Result<Command<'w>, AllocError>
         "nodes",
         "How many nodes run the program: 1 [default: 1]",
     );
-    let steps = number(
-        alloc,
-        "steps",
-        "How many statements each node may begin: 1 to 1000000 [default: 1000000]",
-    );
+    let steps = number(alloc, "steps", STEPS_HELP);
     let events = Arg::new(alloc, "events")
         .long("events")
         .value_name("EVENTS")

@@ -8,6 +8,10 @@ mod faults;
 #[cfg(test)]
 mod one_node;
 #[cfg(test)]
+mod plain;
+#[cfg(test)]
 mod shell;
+#[cfg(test)]
+mod words;
 #[cfg(test)]
 mod writers;

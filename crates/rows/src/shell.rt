@@ -1,6 +1,9 @@
 // A command with its texts, and what comes of it.
 
-use lrc_cli::choice::{Choice, Nodes, Simulation, Steps};
+ghost use Rattle.std.specs.Prelude.{◌≡◌, is_some};
+ghost use Rattle.lrc_cli.specs.Answer.{names_events};
+
+use lrc_cli::choice::{Choice, Nodes, PlainRun, Simulation, Steps};
 use lrc_cli::perform;
 use std::alloc::Global;
 
@@ -12,39 +15,49 @@ pub struct Outcome {
     pub status: u8,
 }
 
-/// What `check` says of a text.
-pub fn checked(alloc: Global, text: &[u8]) -> Outcome {
+// What a command makes of a text, and of that of its events where it names them.
+fn performed(alloc: Global, choice: &Choice<'_>, text: &[u8], events: Option<&[u8]>) -> Outcome
+    requires { is_some events ≡ names_events choice.now }
+{
     let mut out = Vec::new(alloc);
     let mut err = Vec::new(alloc);
-    let choice = Choice::Check("-");
-    let status = perform(alloc, &choice, text, None, &mut out, &mut err);
+    let status = perform(alloc, choice, text, events, &mut out, &mut err);
     Outcome { out, err, status }
+}
+
+/// What `check` says of a text.
+pub fn checked(alloc: Global, text: &[u8]) -> Outcome {
+    performed(alloc, &Choice::Check("-"), text, None)
+}
+
+/// What `plain` on these nodes makes of a text.
+pub fn in_rounds(alloc: Global, nodes: Nodes, steps: Steps, text: &[u8]) -> Outcome {
+    let choice = Choice::Plain(PlainRun {
+        file: "-",
+        nodes,
+        steps,
+    });
+    performed(alloc, &choice, text, None)
 }
 
 /// What `sim` on one node with this many steps makes of a text.
 pub fn driven(alloc: Global, steps: Steps, text: &[u8]) -> Outcome {
-    let mut out = Vec::new(alloc);
-    let mut err = Vec::new(alloc);
     let choice = Choice::Simulate(Simulation {
         file: "-",
         nodes: Nodes { count: 1 },
         steps,
         events: None,
     });
-    let status = perform(alloc, &choice, text, None, &mut out, &mut err);
-    Outcome { out, err, status }
+    performed(alloc, &choice, text, None)
 }
 
 /// What `sim` on one node makes of a text with these events.
 pub fn played(alloc: Global, text: &[u8], events: &[u8]) -> Outcome {
-    let mut out = Vec::new(alloc);
-    let mut err = Vec::new(alloc);
     let choice = Choice::Simulate(Simulation {
         file: "-",
         nodes: Nodes { count: 1 },
         steps: Steps { count: 1_000_000 },
         events: Some("events"),
     });
-    let status = perform(alloc, &choice, text, Some(events), &mut out, &mut err);
-    Outcome { out, err, status }
+    performed(alloc, &choice, text, Some(events))
 }

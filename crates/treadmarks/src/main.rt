@@ -123,6 +123,7 @@ fn play(rt: &HostRuntime, choice: &Choice<'_>) -> Result<u8, ReadFault> {
 fn file_of<'w>(choice: &Choice<'w>) -> &'w str {
     match choice {
         Choice::Check(file) => file,
+        Choice::Plain(run) => run.file,
         Choice::Simulate(run) => run.file,
     }
 }
@@ -145,7 +146,7 @@ fn read_events(rt: &(impl Files + AllocGlobal), choice: &Choice<'_>) -> io::Resu
             Some(path) => Ok(Some(read_up_to(rt.alloc(), fs::open(rt, path)?, EVENTS_READ)?)),
             None => Ok(None),
         },
-        Choice::Check(_) => Ok(None),
+        Choice::Check(_) | Choice::Plain(_) => Ok(None),
     }
 }
 

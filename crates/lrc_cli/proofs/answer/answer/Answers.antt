@@ -1,13 +1,16 @@
-use Rattle.std.proofs.Common.{◌≡◌, ◌∙◌, ◌∷◌, ◌++◌, [], ℕ, List, Option, Result, Ok, Err, Vec, IfErr, IsErrAnd, refl, sym, ap, ap₂, subst, append-nil, option_map}
+use Rattle.std.proofs.Common.{◌≡◌, ◌∙◌, ◌∷◌, ◌++◌, [], ℕ, List, Option, Result, Ok, Err, Vec, IfErr, IfOk, IsErrAnd, refl, sym, ap, ap₂, subst, append-nil, option_map}
 use Rattle.std.specs.Borrow.{Bor}
 use Rattle.std.specs.declared.alloc.Global.{Global}
 use Rattle.lrc_lang.specs.declared.program.Program.{Program}
 use Rattle.lrc_trace.specs.declared.act.Act.{Act}
 use Rattle.lrc_world.specs.Ends.{ends_of}
 use Rattle.lrc_world.specs.declared.report.Report.{Report}
-use Rattle.lrc_cli.specs.Answer.{IsFault, IsReportOf, IsRunFault, IsRunOf, IsTextOf, Prints, acts_of}
+use Rattle.lrc_cli.specs.Answer.{IsFault, IsPrintoutOfRounds, IsReportOf, IsRunFault, IsTextOf, Prints, acts_of}
 use Rattle.lrc_cli.specs.ReportText.{report_text, status_of, whole_text}
+use Rattle.lrc_cli.specs.declared.answer.Printout.{Printout}
 use Rattle.lrc_cli.specs.declared.choice.Choice.{Choice}
+use Rattle.lrc_cli.specs.declared.choice.Choice.TheVariants.{Plain}
+use Rattle.lrc_cli.specs.declared.choice.PlainRun.{PlainRun}
 use Rattle.lrc_cli.specs.declared.fault.Fault.{Fault}
 use Rattle.lrc_cli.specs.declared.fault.Fault.TheVariants.{Text, Events, Worn, NoMemory}
 use Rattle.lrc_cli.proofs.answer.answer.Goals as goal
@@ -31,6 +34,15 @@ report_is nodes status acts out report printed after acts_are ends_are =
     let ends : report.ends.items ≡ ends_of nodes acts = ends_are ∙ ap (ends_of nodes) acts_are in
     (printed ∙ ap₂ report_text acts_are ends, after ∙ ap status_of ends)
 
+-- what is printed of the acts in rounds is what the choice of them prints
+printed_in_rounds : (result : Result Printout Fault) (text : List ℕ) (events_text : Option (List ℕ)) (choice : Choice) (run : PlainRun) (program : Program) → choice ≡ Plain run
+    → IsTextOf text program
+    → IfOk result (λ printout. IsPrintoutOfRounds program run.nodes.count run.steps.count (whole_text printout.parts.items) printout.status)
+    → IfOk result (λ printout. Prints choice text events_text (whole_text printout.parts.items) printout.status)
+printed_in_rounds (Err fault) text events_text choice run program is text_is h = tt
+printed_in_rounds (Ok printout) text events_text choice run program is text_is h =
+    subst (λ (c : Choice). Prints c text events_text (whole_text printout.parts.items) printout.status) (sym is) (program, text_is, h)
+
 pub returns-in-Check-clause-ok : goal.returns-in-Check-clause-ok
 returns-in-Check-clause-ok c =
     let part = c.in_ok-from_slice-in-Check.field-0 in
@@ -44,17 +56,22 @@ returns-in_err-report-in-Simulate-clause-err c =
     fault_up c.from_residual-in_err-report-in-Simulate.result _ _ c.from_residual-in_err-report-in-Simulate.ensures.1
     (run_fault c.args.text.now _ c.in_err-report-in-Simulate.field-0.0 c.in_ok-program.program c.in_ok-program.ensures.program c.in_err-report-in-Simulate.ensures.err)
 
+pub returns-in-Plain-clause-ok : goal.returns-in-Plain-clause-ok
+returns-in-Plain-clause-ok c =
+    printed_in_rounds c.in_rounds.result c.args.text.now _ c.args.choice.now c.in-Plain.run' c.in_ok-program.program c.in-Plain.is c.in_ok-program.ensures.program c.in_rounds.ensures.ok
+
 pub returns-clause-ok : goal.returns-clause-ok
 returns-clause-ok c =
     let run = c.in_ok-report-in-Simulate.ensures.ok in
     let report = c.in_ok-report-in-Simulate.report in
-    let printed = c.in_ok-report_parts-in-Simulate.ensures ∙ ap₂ report_text c.deref.ensures.value c.deref-in-Simulate.ensures.value in
-    let after = c.status_after.ensures ∙ ap status_of c.deref-in-Simulate-2.ensures.value in
-    subst (λ (choice : Choice). Prints choice c.args.text.now (option_map (λ (e : Bor (List ℕ)). e.now) c.args.events) (whole_text c.in_ok-report_parts-in-Simulate.field-0.items) c.status_after.result)
+    let printout = c.in_ok-printout_of-in-Simulate.field-0 in
+    let printed = c.in_ok-printout_of-in-Simulate.ensures.text ∙ ap₂ report_text c.deref.ensures.value c.deref-in-Simulate.ensures.value in
+    let after = c.in_ok-printout_of-in-Simulate.ensures.status ∙ ap status_of c.deref-in-Simulate.ensures.value in
+    subst (λ (choice : Choice). Prints choice c.args.text.now (option_map (λ (e : Bor (List ℕ)). e.now) c.args.events) (whole_text printout.parts.items) printout.status)
     (sym c.in-Simulate.is) (
       c.in_ok-program.program,
       c.in_ok-program.ensures.program,
       run.0,
       run.1,
-      report_is c.in-Simulate.run'.nodes.count c.status_after.result (acts_of c.in_ok-program.program c.in-Simulate.run'.steps.count run.0) _ report printed after run.2 run.3,
+      report_is c.in-Simulate.run'.nodes.count printout.status (acts_of c.in_ok-program.program c.in-Simulate.run'.steps.count run.0) _ report printed after run.2 run.3,
     )

@@ -8,11 +8,14 @@ use Rattle.lrc_cli.proofs.command_line.command_line.Goals as goal
 pub returns : goal.returns
 unfolding treadmarks
 returns c =
-    let about_is = ap app_of_fields c.about.ensures ∙ c.new.ensures.app in
+    let named_is = ap app_of_fields c.in_ok-bin_name.ensures.0 ∙ c.new.ensures.app in
+    let about_is = ap app_of_fields c.about.ensures ∙ named_is in
     let bare_is = ap app_of_fields c.no_binary_name.ensures ∙ ap (λ (a : App). record a { top = record a.top { no_binary_name = true } }) about_is in
     let asked_is = ap app_of_fields c.subcommand_required.ensures ∙ ap (λ (a : App). record a { top = record a.top { subcommand_required = true } }) bare_is in
     let top_is = ap app_of_fields c.disable_help_subcommand.ensures ∙ ap (λ (a : App). record a { top = record a.top { disable_help_subcommand = true } }) asked_is in
     let check_is = ap (λ (a : App). a.top) c.in_ok-check_command.ensures.app in
+    let plain_is = ap (λ (a : App). a.top) c.in_ok-plain_command.ensures.app in
     let sim_is = ap (λ (a : App). a.top) c.in_ok-sim_command.ensures.app in
     let one = c.in_ok-subcommand.ensures.shape c.in_ok-check_command.ensures.local ∙ ap₂ with_subcommand top_is check_is in
-    IfOk-weaker c.subcommand-2.result _ _ (λ r h. h.shape c.in_ok-sim_command.ensures.local ∙ ap₂ with_subcommand one sim_is) c.subcommand-2.ensures
+    let two = c.in_ok-subcommand-2.ensures.shape c.in_ok-plain_command.ensures.local ∙ ap₂ with_subcommand one plain_is in
+    IfOk-weaker c.subcommand-3.result _ _ (λ r h. h.shape c.in_ok-sim_command.ensures.local ∙ ap₂ with_subcommand two sim_is) c.subcommand-3.ensures

@@ -5,8 +5,6 @@ use Rattle.lrc_cli.proofs.command_line.simulation.Goals as goal
 
 pub returns-clause-ok : goal.returns-clause-ok
 returns-clause-ok c = record {
-  file = c.file_of.ensures;
-  nodes = sym (c.in_ok-nodes_up_to.ensures.ok ∙ c.number_of-nodes.ensures);
-  steps = sym (c.in_ok-steps_in_range.ensures.ok ∙ c.number_of-steps.ensures);
+  options = record { file = c.file_of.ensures; nodes = c.in_ok-nodes_of.ensures.ok; steps = c.in_ok-steps_of.ensures.ok };
   events = sym (c.get_str.ensures ∙ first_value-rows (found_of c.args.options.now) (codes "events"));
 }

@@ -1,4 +1,4 @@
-use Rattle.std.proofs.Common.{◌≡◌, ◌∙◌, ◌+◌, ◌++◌, ℕ, List, Result, Ok, Err, OnErr, drop, sym, ap, subst}
+use Rattle.std.proofs.Common.{◌≡◌, ◌∙◌, ◌+◌, ◌++◌, ℕ, List, drop, sym, ap, subst}
 use Rattle.lrc_cli.specs.ReportText.{whole_text}
 use Rattle.lrc_cli.proofs.WriteLemmas.{IsUnderWay, on_err, parts_at, way_part, way_stops}
 use Rattle.lrc_cli.proofs.output.put_parts.Goals as goal
