@@ -128,10 +128,10 @@ fn sixteen_nodes_read_the_last_word(rt: HostRuntime) {
     let text =
         b"words 4096; locks 64; if me == 0 { acquire 63; [4095] = 18446744073709551615; release 63; } barrier; acquire 63; x = [4095]; release 63; print x;";
     let run = on(rt.alloc(), Nodes { count: 16 }, text);
-    let mut lines = 0;
+    let mut lines: u32 = 0;
     for line in run.out.split(|byte| *byte == b'\n') {
         if line.ends_with(b" prints 18446744073709551615") {
-            lines += 1;
+            lines = lines.saturating_add(1);
         }
     }
     assert_eq!(rt; lines, 16);
