@@ -3,6 +3,7 @@
 ghost use Rattle.std.specs.Prelude.{◌≡◌};
 
 use lrc_trace::act::{Act, Cause};
+pub use lrc_wire::Picker;
 use std::alloc::{AllocError, AllocFailed};
 use thiserror::Error;
 
@@ -21,13 +22,6 @@ pub struct Options {
     pub collect: u32,
     /// The number of the first message from each node to each.
     pub first: u32,
-}
-
-/// Which message in flight is delivered.
-#[derive(Clone, Copy, Debug, PartialEq, Eq)]
-pub enum Picker {
-    Oldest,
-    Newest,
 }
 
 /// What may happen next in a run.
