@@ -1,4 +1,4 @@
-use Rattle.std.proofs.Common.{◌≡◌, ◌<◌, ◌≤◌, length, arith}
+use Rattle.std.proofs.Common.{arith}
 use Rattle.lrc_wire.proofs.Parts.{pages_few}
 use Rattle.lrc_wire.proofs.Lengths.{length_interval}
 use Rattle.lrc_wire.proofs.writing.sizes.interval_len.Goals as goal
