@@ -1,22 +1,22 @@
 -- The readers of bodies agree with how bodies are spelled.
-use Rattle.std.proofs.Common.{◌≡◌, ◌∙◌, ℕ, ◌<◌, ◌≤◌, Bool, List, [], ◌∷◌, ◌++◌, length, Option, Some, None, Ok, refl, sym, ap, subst, append_assoc, arith}
-use Rattle.std.specs.Prelude.{All, AllPairs}
+use Rattle.std.proofs.Common.{◌≡◌, ◌∙◌, ℕ, ◌<◌, List, ◌++◌, length, Some, Ok, refl, ap, subst, append_assoc}
+use Rattle.std.specs.Prelude.{All}
 use Rattle.std.specs.Int.{w16, w32, w64}
 use Rattle.std.proofs.lemmas.List.Elements.{All-weaker}
 use Rattle.lrc_store.specs.declared.interval.TheConstants.{MOST_PAGES}
-use Rattle.lrc_store.specs.Interval.{IntervalRecord, IsInterval, by_node}
+use Rattle.lrc_store.specs.Interval.{IntervalRecord, IsInterval}
 use Rattle.lrc_wire.specs.declared.limits.TheConstants.{MOST_LOCKS, MOST_NODES}
 use Rattle.lrc_wire.specs.declared.kind.Kind.{Kind}
 use Rattle.lrc_wire.specs.declared.kind.Kind.TheVariants as kinds
 use Rattle.lrc_wire.specs.declared.message.Message.{Message}
 use Rattle.lrc_wire.specs.declared.message.Message.TheVariants.{LockRequest, LockForward, LockGrant, Arrive, Depart, Clean, Discard, ChangesRequest, ChangesReply, PageRequest, PageReply}
-use Rattle.lrc_wire.specs.Records.{GoWith, LockRequestRecord, LockForwardRecord, LockGrantRecord, ArriveRecord, DepartRecord, ChangesRequestRecord, ChangesReplyRecord, PageReplyRecord, IndexedChangesRecord}
+use Rattle.lrc_wire.specs.Records.{LockRequestRecord, LockForwardRecord, LockGrantRecord, ArriveRecord, DepartRecord, ChangesRequestRecord, ChangesReplyRecord, PageReplyRecord}
 use Rattle.lrc_wire.specs.Ranges.{HasBits, IsTime, IsNews, IsEpisode, AreIndices, AreChanges, ArePageValues, IsMessage}
 use Rattle.lrc_wire.specs.Spelling.{byte, number, numbers, flag, time, intervals, indices, changes_by_index, kind, body}
 use Rattle.lrc_wire.specs.Reading.{◌>>=◌, lock_at, node_at, episode_at, page_at, flag_at, time_at, intervals_at, indices_at, changes_by_index_at, values_at, lock_request_at, lock_forward_at, lock_grant_at, arrive_at, depart_at, changes_request_at, changes_reply_at, page_reply_at, kind_of, body_at}
 use Rattle.lrc_wire.proofs.Bytes.{IsBytes, Takes, Takes-then}
 use Rattle.lrc_wire.proofs.Steps.{ok_is}
-use Rattle.lrc_wire.proofs.Agrees.{Agrees, Step, step}
+use Rattle.lrc_wire.proofs.Agrees.{Agrees, step}
 use Rattle.lrc_wire.proofs.Parts.{lock_agrees, node_agrees, episode_agrees, page_agrees, flag_agrees, time_agrees}
 use Rattle.lrc_wire.proofs.Intervals.{IsBeside, AreBeside, intervals_agree}
 use Rattle.lrc_wire.proofs.ChangeParts.{indices_agree, changes_by_index_agree, values_agree}

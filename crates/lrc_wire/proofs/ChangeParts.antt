@@ -1,7 +1,7 @@
 -- The readers of indices, changes and values agree with how these are spelled.
-use Rattle.std.proofs.Common.{◌≡◌, ◌∙◌, ℕ, ◌+◌, ◌<◌, ◌≤◌, Bool, true, ltb, leb, List, [], ◌∷◌, ◌++◌, length, get_or, Option, Some, None, Ok, refl, sym, ap, subst, append_assoc, arith}
+use Rattle.std.proofs.Common.{◌≡◌, ℕ, ◌<◌, ◌≤◌, true, ltb, leb, List, ◌++◌, length, Option, Some, None, Ok, refl, sym, subst, append_assoc, arith}
 use Rattle.std.specs.Prelude.{All, AllPairs}
-use Rattle.std.specs.Int.{w16, w32, w64}
+use Rattle.std.specs.Int.{w32, w64}
 use Rattle.std.specs.List.{flat_map}
 use Rattle.std.specs.List.Sorted.{IsStrictlyIncreasing}
 use Rattle.std.proofs.lemmas.Bool.{ltb-true, lt-ltb, leb-true, le-leb}
@@ -15,9 +15,9 @@ use Rattle.lrc_wire.specs.Ranges.{HasBits, IsIndex, AreIndices, AreChanges, AreP
 use Rattle.lrc_wire.specs.Spelling.{byte, number, numbers, indices, change, changes, indexed_changes, changes_by_index}
 use Rattle.lrc_wire.specs.Reading.{◌>>=◌, byte_at, number_at, tested, is_after, elements_at, count_at, next_index_at, indices_at, next_offset_at, next_change_at, changes_at, next_indexed_changes_at, changes_by_index_at, values_at}
 use Rattle.lrc_wire.proofs.Bytes.{IsBytes, Takes, Takes-then}
-use Rattle.lrc_wire.proofs.Steps.{ok_is, tested_again}
+use Rattle.lrc_wire.proofs.Steps.{ok_is}
 use Rattle.lrc_wire.proofs.Along.{Along, Ascends, Follow, All-from_along, along_from_all, All-from_follow, AllPairs-from_follow, follow_from_pairs, increasing_from_follow, follow_from_increasing, few_below, lt-trans}
-use Rattle.lrc_wire.proofs.Agrees.{Agrees, Agrees-as, Agrees-tested, Step, step, byte_agrees, number32_agrees, number64_agrees, elements_agree}
+use Rattle.lrc_wire.proofs.Agrees.{Agrees, Agrees-as, Agrees-tested, step, byte_agrees, number32_agrees, number64_agrees, elements_agree}
 
 -- ---- indices
 

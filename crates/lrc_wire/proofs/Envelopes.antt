@@ -1,5 +1,5 @@
 -- Reading all of the bytes agrees with how envelopes are spelled.
-use Rattle.std.proofs.Common.{◌≡◌, ◌∙◌, ℕ, ◌+◌, ◌-◌, ◌<◌, ◌≤◌, ◌⊎◌, Bool, true, false, cond, eqb, ltb, leb, List, [], ◌∷◌, ◌++◌, length, take, Option, Some, None, Ok, Err, refl, sym, ap, subst, append_assoc, arith, inl, inr}
+use Rattle.std.proofs.Common.{◌≡◌, ◌∙◌, ℕ, ◌+◌, ◌-◌, ◌<◌, ◌≤◌, ◌⊎◌, Bool, true, false, cond, eqb, ltb, leb, List, [], ◌++◌, length, take, Option, Some, None, Ok, Err, refl, sym, ap, subst, append_assoc, arith, inl, inr}
 use Rattle.std.specs.Prelude.{ok_or}
 use Rattle.std.specs.Int.{w32}
 use Rattle.std.proofs.lemmas.Bool.{eqb-true, eq-eqb, ltb-false, lt-ltb, le-ltb, cases_lt, leb-true, le-leb}
@@ -9,7 +9,6 @@ use Rattle.lrc_wire.specs.declared.limits.TheConstants.{MOST_NODES, MOST_BODY_BY
 use Rattle.lrc_wire.specs.declared.kind.Kind.{Kind}
 use Rattle.lrc_wire.specs.declared.kind.Kind.TheVariants as kinds
 use Rattle.lrc_wire.specs.declared.reading.header.Header.{Header}
-use Rattle.lrc_wire.specs.declared.fault.WireFault.{WireFault}
 use Rattle.lrc_wire.specs.declared.fault.WireFault.TheVariants.{Short, Long, BadVersion, BadKind, BadCount}
 use Rattle.lrc_wire.specs.declared.message.Message.{Message}
 use Rattle.lrc_wire.specs.declared.message.Message.TheVariants.{LockRequest, LockForward, LockGrant, Arrive, Depart, Clean, Discard, ChangesRequest, ChangesReply, PageRequest, PageReply}
@@ -18,10 +17,10 @@ use Rattle.lrc_wire.specs.Ranges.{HasBits, IsMessage, IsFit}
 use Rattle.lrc_wire.specs.Spelling.{byte, number, kind, body, header, Spells}
 use Rattle.lrc_wire.specs.Reading.{◌>>=◌, Field, byte_at, number_at, tested, node_at, kind_of, kind_at, header_at, body_at, whole_body_of, envelope_of}
 use Rattle.lrc_wire.proofs.Bytes.{IsBytes, Takes, Takes-then}
-use Rattle.lrc_wire.proofs.Steps.{bind_ok, guard_ok, unless_ok, ok_is, tested_again}
-use Rattle.lrc_wire.proofs.Agrees.{Agrees, Agrees-as, Agrees-tested, Step, step, byte_agrees, number32_agrees}
+use Rattle.lrc_wire.proofs.Steps.{bind_ok, guard_ok, unless_ok, ok_is}
+use Rattle.lrc_wire.proofs.Agrees.{Agrees, Agrees-as, Agrees-tested, step, byte_agrees, number32_agrees}
 use Rattle.lrc_wire.proofs.Parts.{node_agrees}
-use Rattle.lrc_wire.proofs.Bodies.{kind_named, kind_of-kind, body_agrees}
+use Rattle.lrc_wire.proofs.Bodies.{kind_named, body_agrees}
 
 -- ---- kinds
 

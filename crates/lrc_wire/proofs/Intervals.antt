@@ -1,21 +1,20 @@
 -- The readers of intervals agree with how intervals are spelled.
-use Rattle.std.proofs.Common.{◌≡◌, ◌∙◌, ℕ, ◌<◌, ◌≤◌, Bool, true, eqb, ltb, List, [], ◌∷◌, ◌++◌, length, Option, Some, None, Ok, refl, sym, ap, subst, append_assoc, arith}
+use Rattle.std.proofs.Common.{◌≡◌, ◌∙◌, ℕ, ◌<◌, ◌≤◌, true, ltb, List, ◌++◌, length, Option, Some, None, Ok, refl, sym, ap, subst, append_assoc, arith}
 use Rattle.std.specs.Prelude.{All, AllPairs}
-use Rattle.std.specs.Int.{w16, w32}
+use Rattle.std.specs.Int.{w32}
 use Rattle.std.specs.List.{flat_map}
 use Rattle.std.proofs.lemmas.Bool.{ltb-true, lt-ltb}
 use Rattle.lrc_time.specs.Time.{entry}
-use Rattle.lrc_store.specs.Interval.{IntervalRecord, IsInterval, index_of, by_node}
+use Rattle.lrc_store.specs.Interval.{IntervalRecord, IsInterval, by_node}
 use Rattle.lrc_wire.specs.declared.limits.TheConstants.{MOST_NODES}
 use Rattle.lrc_wire.specs.declared.fault.WireFault.TheVariants.{BadNode, NotAscending}
-use Rattle.lrc_wire.specs.Records.{GoWith}
-use Rattle.lrc_wire.specs.Ranges.{HasBits, IsTime, IsNews}
+use Rattle.lrc_wire.specs.Ranges.{HasBits}
 use Rattle.lrc_wire.specs.Spelling.{byte, number, time, pages, interval, intervals}
 use Rattle.lrc_wire.specs.Reading.{◌>>=◌, byte_at, number_at, tested, is_after, elements_at, stamp_at, pages_at, is_below, key_of, next_interval_at, intervals_at}
 use Rattle.lrc_wire.proofs.Bytes.{IsBytes, Takes, Takes-then}
 use Rattle.lrc_wire.proofs.Steps.{ok_is, tested_again}
 use Rattle.lrc_wire.proofs.Along.{Ascends, Follow, All-from_follow, AllPairs-from_follow, follow_from_pairs}
-use Rattle.lrc_wire.proofs.Agrees.{Agrees, Agrees-as, Agrees-tested, Step, step, byte_agrees, number32_agrees, elements_agree}
+use Rattle.lrc_wire.proofs.Agrees.{Agrees, Agrees-as, Agrees-tested, step, byte_agrees, number32_agrees, elements_agree}
 use Rattle.lrc_wire.proofs.Parts.{IsStamp, stamp_agrees, ArePages, pages_agree}
 use Rattle.lrc_wire.proofs.Shapes.{below-trans}
 

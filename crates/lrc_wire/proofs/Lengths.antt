@@ -1,6 +1,6 @@
 -- How many bytes the parts have.
 use Rattle.std.proofs.Common.{◌≡◌, ◌∙◌, ℕ, ◌+◌, ◌*◌, ◌<◌, ◌≤◌, Bool, true, false, List, [], ◌∷◌, ◌++◌, length, get_or, take, refl, sym, ap, arith}
-use Rattle.std.specs.Int.{Width, w16, w32, w64, byte_len, to_be_bytes}
+use Rattle.std.specs.Int.{w16, w32, w64}
 use Rattle.std.specs.List.{flat_map}
 use Rattle.std.proofs.lemmas.List.{length-append}
 use Rattle.std.proofs.lemmas.List.Concat.{flat_map-cons}

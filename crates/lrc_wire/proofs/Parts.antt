@@ -1,28 +1,25 @@
 -- The readers of the parts of several kinds agree with how the parts are spelled.
-use Rattle.std.proofs.Common.{◌≡◌, ◌∙◌, ℕ, zero, suc, ◌+◌, ◌<◌, ◌≤◌, ◌^◌, Bool, true, false, not, ◌&&◌, ◌||◌, eqb, ltb, leb, List, [], ◌∷◌, ◌++◌, length, get_or, Option, Some, None, Ok, refl, sym, ap, subst, append_assoc, arith, inl, inr}
-use Rattle.std.specs.Prelude.{All, AllPairs}
-use Rattle.std.specs.Int.{w16, w32, w64}
+use Rattle.std.proofs.Common.{◌≡◌, ◌∙◌, ℕ, zero, suc, ◌+◌, ◌<◌, ◌≤◌, Bool, true, false, not, ◌&&◌, ◌||◌, eqb, ltb, leb, List, ◌++◌, length, get_or, Option, Some, None, Ok, refl, sym, subst, append_assoc, arith}
+use Rattle.std.specs.Prelude.{All}
+use Rattle.std.specs.Int.{w16, w32}
 use Rattle.std.specs.List.{flat_map}
 use Rattle.std.specs.List.Sorted.{IsStrictlyIncreasing}
-use Rattle.std.proofs.lemmas.Bool.{eqb-true, eq-eqb, ne_eqb, ltb-true, lt-ltb, leb-true, le-leb, and_parts, and_from, or_left, or_right}
+use Rattle.std.proofs.lemmas.Bool.{eqb-true, eq-eqb, ltb-true, lt-ltb, leb-true, le-leb, and_parts, and_from}
 use Rattle.std.proofs.lemmas.List.{get_or_default}
-use Rattle.std.proofs.lemmas.List.Elements.{All-weaker, All-from_get_or}
+use Rattle.std.proofs.lemmas.List.Elements.{All-from_get_or}
 use Rattle.std.proofs.lemmas.Bool.Decides.{nat_tests}
 use Rattle.std.proofs.lemmas.List.Kept.{AllPairs-from_increasing}
 use Rattle.lrc_time.specs.Time.{entry}
 use Rattle.lrc_store.specs.declared.interval.TheConstants.{MOST_PAGES}
-use Rattle.lrc_store.specs.Interval.{IntervalRecord, IsInterval, index_of, by_node}
 use Rattle.lrc_wire.specs.declared.limits.TheConstants.{MOST_LOCKS, MOST_NODES}
 use Rattle.lrc_wire.specs.declared.fault.WireFault.TheVariants.{BadNode, BadCount, NotAscending}
-use Rattle.lrc_wire.specs.Records.{GoWith}
-use Rattle.lrc_wire.specs.Ranges.{HasBits, IsTime, IsNews, IsEpisode, IsIndex}
-use Rattle.lrc_wire.specs.Spelling.{◌·◌, byte, number, numbers, flag, time, pages, interval, intervals}
-use Rattle.lrc_wire.specs.Reading.{◌>>=◌, Field, byte_at, number_at, tested, is_after, elements_at, lock_at, node_at, episode_at, page_at, flag_at, entry_at, entries_at, time_at, stamp_at, next_page_at, pages_at, is_below, key_of, next_interval_at, intervals_at}
+use Rattle.lrc_wire.specs.Ranges.{HasBits, IsTime, IsEpisode}
+use Rattle.lrc_wire.specs.Spelling.{byte, number, numbers, flag, time, pages}
+use Rattle.lrc_wire.specs.Reading.{byte_at, number_at, tested, is_after, elements_at, lock_at, node_at, episode_at, page_at, flag_at, entry_at, entries_at, time_at, stamp_at, next_page_at, pages_at}
 use Rattle.lrc_wire.proofs.Bytes.{IsBytes, Takes, Takes-then}
-use Rattle.lrc_wire.proofs.Steps.{bind_ok, ok_is, tested_ok, tested_again}
-use Rattle.lrc_wire.proofs.Along.{Along, Ascends, Follow, along_at, along_from, All-from_along, along_from_all, All-from_follow, AllPairs-from_follow, follow_from_pairs, increasing_from_follow, follow_from_increasing, few_below, lt-trans}
-use Rattle.lrc_wire.proofs.Agrees.{Agrees, Agrees-as, Agrees-tested, Step, step, byte_agrees, number16_agrees, number32_agrees, number64_agrees, elements_agree}
-use Rattle.lrc_wire.proofs.Shapes.{below-trans}
+use Rattle.lrc_wire.proofs.Steps.{ok_is, tested_again}
+use Rattle.lrc_wire.proofs.Along.{Along, Ascends, Follow, along_at, along_from, All-from_along, along_from_all, All-from_follow, increasing_from_follow, follow_from_increasing, few_below}
+use Rattle.lrc_wire.proofs.Agrees.{Agrees, Agrees-as, Agrees-tested, step, byte_agrees, number16_agrees, number32_agrees, elements_agree}
 
 -- ---- fields of one number
 

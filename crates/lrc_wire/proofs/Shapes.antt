@@ -1,5 +1,5 @@
 -- What lists that were read are like, whatever the bytes.
-use Rattle.std.proofs.Common.{◌≡◌, ◌≢◌, ◌∙◌, ℕ, ◌+◌, ◌<◌, ◌≤◌, ◌⊎◌, Bool, true, false, not, ◌&&◌, ◌||◌, cond, eqb, ltb, leb, List, [], length, get_or, Option, Some, None, Result, Ok, Err, refl, ap, subst, arith, inl, inr}
+use Rattle.std.proofs.Common.{◌≡◌, ◌∙◌, ℕ, ◌+◌, ◌<◌, ◌≤◌, ◌⊎◌, true, not, ◌&&◌, ◌||◌, eqb, ltb, leb, List, length, get_or, Option, Some, None, Result, Ok, Err, subst, arith, inl, inr}
 use Rattle.std.specs.Prelude.{All, AllPairs, IfOk}
 use Rattle.std.specs.List.Sorted.{IsStrictlyIncreasing}
 use Rattle.std.proofs.lemmas.Bool.{ltb-true, leb-true, lt-ltb, eqb-true, eq-eqb, or_cases, or_left, or_right, and_parts, and_from}
@@ -7,14 +7,14 @@ use Rattle.std.proofs.lemmas.Bool.Decides.{nat_tests}
 use Rattle.std.specs.Int.{w16, w32, w64}
 use Rattle.lrc_time.specs.Time.{entry}
 use Rattle.lrc_store.specs.declared.interval.TheConstants.{MOST_PAGES}
-use Rattle.lrc_store.specs.Interval.{IntervalRecord, by_node}
+use Rattle.lrc_store.specs.Interval.{IntervalRecord}
 use Rattle.lrc_page.specs.declared.TheConstants.{PAGE_WORDS}
 use Rattle.lrc_page.specs.declared.changes.Change.{Change}
 use Rattle.lrc_page.specs.Changes.{IsAscending}
 use Rattle.lrc_wire.specs.declared.fault.WireFault.{WireFault}
 use Rattle.lrc_wire.specs.declared.fault.WireFault.TheVariants.{BadNode, BadCount, NotAscending}
 use Rattle.lrc_wire.specs.Records.{GoWith, IndexedChangesRecord}
-use Rattle.lrc_wire.specs.Reading.{◌>>=◌, Field, Gives, elements_at, is_after, tested, byte_at, number_at, page_at, next_page_at, is_below, key_of, stamp_at, entries_at, entry_at, pages_at, next_interval_at, next_index_at, next_offset_at, next_change_at, changes_at, next_indexed_changes_at}
+use Rattle.lrc_wire.specs.Reading.{◌>>=◌, Gives, elements_at, is_after, tested, byte_at, number_at, page_at, next_page_at, is_below, key_of, stamp_at, entries_at, entry_at, pages_at, next_interval_at, next_index_at, next_offset_at, next_change_at, changes_at, next_indexed_changes_at}
 use Rattle.lrc_wire.proofs.Steps.{bind_ok, ok_is, tested_ok}
 use Rattle.lrc_wire.proofs.Along.{Along, elements_along, along_at, Ascends, Follow, All-from_follow, AllPairs-from_follow, increasing_from_follow, lt-trans}
 

@@ -1,5 +1,5 @@
 -- Which numbers and lists a message may have: the ranges and orders of its fields.
-use Rattle.std.specs.Prelude.{◌≡◌, ℕ, ◌+◌, ◌^◌, ◌<◌, ◌≤◌, List, length, All, AllPairs}
+use Rattle.std.specs.Prelude.{◌≡◌, ℕ, ◌^◌, ◌<◌, ◌≤◌, List, length, All, AllPairs}
 use Rattle.std.specs.List.Sorted.{IsStrictlyIncreasing}
 use Rattle.lrc_page.specs.declared.TheConstants.{PAGE_WORDS}
 use Rattle.lrc_store.specs.declared.interval.TheConstants.{MOST_PAGES}

@@ -1,9 +1,23 @@
-use super::*;
+// Messages written out byte by byte, and what is made of them.
+
+ghost use Rattle.std.specs.Prelude.{◌≡◌, ◌+◌, ◌<◌, ◌≤◌, All, OnOk, length};
+ghost use Rattle.std.specs.List.Sorted.{IsStrictlyIncreasing};
+ghost use Rattle.lrc_time.specs.Time.{entry};
+ghost use Rattle.lrc_store.specs.declared.interval.TheConstants.{MOST_PAGES};
+ghost use Rattle.lrc_store.specs.Interval.{index_of};
+ghost use Rattle.lrc_wire.specs.Records.{GoWith};
+
+use crate::*;
+use bytes::Bytes;
+use lrc_page::Changes;
 use lrc_store::Interval;
 use lrc_time::Time;
 use std::alloc::{AllocError, Global};
-use std::process::Abort;
-use std::test::*;
+
+mod faults;
+mod kinds;
+mod large;
+mod worked;
 
 // Node 1 asks node 0 for lock 0, at time 0,1.
 const REQUEST: [u8; 22] = [
@@ -21,65 +35,69 @@ const REPLY: [u8; 23] = [
     1, 9, 0, 1, 0, 0, 0, 1, 0, 0, 0, 11, 0, 0, 0, 0, 0, 1, 0, 0, 0, 1, 0,
 ];
 
-fn request() -> Envelope {
-    let mut time = Time::new(2);
-    time.raise(1, 1);
-    Envelope {
-        from: 1,
-        to: 0,
-        number: 0,
-        message: Message::LockRequest(LockRequest { lock: 0, time }),
+// Node 1 has arrived and asks for a collection, at time 0,1: its interval 1 wrote pages 3 and 63.
+const ARRIVE: [u8; 46] = [
+    1, 4, 1, 0, 0, 0, 0, 0, 0, 0, 0, 34, 0, 0, 0, 1, 1, 2, 0, 0, 0, 0, 0, 0, 0, 1, 0, 0, 0, 1, 1,
+    2, 0, 0, 0, 0, 0, 0, 0, 1, 0, 2, 0, 3, 0, 63,
+];
+
+// Node 1 asks node 0 for what its intervals 1 and 256 changed in page 5.
+const CHANGES_REQUEST: [u8; 26] = [
+    1, 8, 1, 0, 0, 0, 0, 3, 0, 0, 0, 14, 0, 5, 0, 0, 0, 2, 0, 0, 0, 1, 0, 0, 1, 0,
+];
+
+// Node 0 tells node 1 that its interval 1 left page 5 as it was, and its interval 2 changed words 0 and 63.
+const CHANGES: [u8; 46] = [
+    1, 9, 0, 1, 0, 0, 0, 1, 0, 0, 0, 34, 0, 5, 0, 0, 0, 2, 0, 0, 0, 1, 0, 0, 0, 0, 2, 2, 0, 0, 0,
+    0, 0, 0, 0, 0, 1, 63, 1, 2, 3, 4, 5, 6, 7, 8,
+];
+
+/// Reads the bytes, a second time where memory was refused.
+fn read(alloc: Global, bytes: &[u8]) -> Result<Envelope, WireFault> {
+    match decode(alloc, bytes) {
+        Err(WireFault::NoMemory) => decode(alloc, bytes),
+        answer => answer,
     }
 }
 
-fn is_time(time: &Time, entries: &[u32]) -> bool {
-    usize::from(time.nodes()) == entries.len()
-        && (0..time.nodes()).all(|node| time.at(node) == entries[usize::from(node)])
+/// Writes the envelope, a second time where memory was refused.
+fn write(alloc: Global, envelope: &Envelope) -> Result<Bytes, EncodeFault> {
+    match encode(alloc, envelope) {
+        Err(EncodeFault::NoMemory) => encode(alloc, envelope),
+        answer => answer,
+    }
 }
 
-#[test]
-fn writes_the_worked_request(rt: HostRuntime) -> Result<(), Fail> {
-    let bytes = encode(rt.alloc(), &request())?;
-    assert_eq!(rt; bytes.as_slice(), REQUEST.as_slice());
-    Ok(())
+/// The time of so many nodes at which this many intervals of node 0 are known, and none of another.
+fn time_of(nodes: u8, index: u32) -> Time
+    requires some { 1 ≤ nodes }
+    requires few { nodes ≤ 16 }
+    requires begun { 1 ≤ index }
+    ensures all { length result ≡ nodes }
+    ensures begun { entry result 0 ≡ index }
+{
+    let mut time = Time::new(nodes);
+    time.raise(0, index);
+    time
 }
 
-#[test]
-fn reads_the_worked_messages(rt: HostRuntime) -> Result<(), Fail> {
-    let envelope = decode(rt.alloc(), &REQUEST)?;
-    assert_eq!(rt; (envelope.from, envelope.to, envelope.number), (1, 0, 0));
-    let Message::LockRequest(request) = &envelope.message else {
-        return Err("no lock request".into());
-    };
-    assert_eq!(rt; request.lock, 0);
-    assert!(rt; is_time(&request.time, &[0, 1]));
-
-    let envelope = decode(rt.alloc(), &GRANT)?;
-    assert_eq!(rt; (envelope.from, envelope.to, envelope.number), (0, 1, 0));
-    let Message::LockGrant(grant) = &envelope.message else {
-        return Err("no lock grant".into());
-    };
-    assert_eq!(rt; grant.lock, 0);
-    assert!(rt; is_time(&grant.time, &[2, 0]));
-    assert_eq!(rt; grant.intervals.len(), 2);
-    let first = &grant.intervals[0];
-    assert_eq!(rt; first.node, 0);
-    assert!(rt; is_time(&first.stamp, &[1, 0]));
-    assert!(rt; first.pages.is_empty());
-    let second = &grant.intervals[1];
-    assert_eq!(rt; second.node, 0);
-    assert!(rt; is_time(&second.stamp, &[2, 0]));
-    assert_eq!(rt; second.pages.as_slice(), [0].as_slice());
-
-    let envelope = decode(rt.alloc(), &REPLY)?;
-    assert_eq!(rt; (envelope.from, envelope.to, envelope.number), (0, 1, 1));
-    let Message::ChangesReply(reply) = &envelope.message else {
-        return Err("no changes".into());
-    };
-    assert_eq!(rt; reply.page, 0);
-    assert_eq!(rt; reply.parts.len(), 1);
-    let part = &reply.parts[0];
-    assert_eq!(rt; part.index, 1);
-    assert!(rt; part.changes.is_empty());
+/// Adds node 0's next interval behind those that it made before.
+fn add(
+    intervals: &mut Vec<Interval>,
+    nodes: u8,
+    index: u32,
+    pages: Vec<u16>,
+) -> Result<(), AllocError>
+    requires some { 1 ≤ nodes }
+    requires few { nodes ≤ 16 }
+    requires begun { 1 ≤ index }
+    requires ascending { IsStrictlyIncreasing pages.items }
+    requires in_range { All (λ page. page < MOST_PAGES) pages.items }
+    requires together { GoWith nodes intervals.old.items }
+    requires before { All (λ i. (i.node ≡ 0) × (index_of i < index)) intervals.old.items }
+    ensures together { OnOk result (GoWith nodes intervals.new.items) }
+    ensures before { OnOk result (All (λ i. (i.node ≡ 0) × (index_of i < index + 1)) intervals.new.items) }
+{
+    intervals.push(Interval::new(0, time_of(nodes, index), pages))?;
     Ok(())
 }

@@ -59,14 +59,14 @@ fn put_pages(out: &mut Vec<u8>, list: &[u16]) -> Result<(), AllocError>
 }
 
 #[tactic(auto, unfolding(crate::specs::Spelling::interval, crate::specs::Spelling::byte))]
-fn put_interval(out: &mut Vec<u8>, record: &Interval) -> Result<(), AllocError>
-    ensures written { OnOk result (out.new.items ≡ out.old.items ++ interval record.now) }
-    ensures is_interval { OnOk result (IsInterval record.now) }
-    ensures bits { OnOk result (All (HasBits 32) record.now.stamp) }
+fn put_interval(out: &mut Vec<u8>, item: &Interval) -> Result<(), AllocError>
+    ensures written { OnOk result (out.new.items ≡ out.old.items ++ interval item.now) }
+    ensures is_interval { OnOk result (IsInterval item.now) }
+    ensures bits { OnOk result (All (HasBits 32) item.now.stamp) }
 {
-    out.put_u8(record.node)?;
-    put_time(out, &record.stamp)?;
-    put_pages(out, &record.pages)
+    out.put_u8(item.node)?;
+    put_time(out, &item.stamp)?;
+    put_pages(out, &item.pages)
 }
 
 fn put_each_interval(out: &mut Vec<u8>, list: &[Interval]) -> Result<(), AllocError>

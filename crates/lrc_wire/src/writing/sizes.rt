@@ -18,11 +18,11 @@ fn time_len(entries: &Time) -> usize
     1 + 4 * usize::from(entries.nodes())
 }
 
-fn interval_len(record: &Interval) -> usize
-    ensures exact { result ≡ length (interval record.now) }
+fn interval_len(item: &Interval) -> usize
+    ensures exact { result ≡ length (interval item.now) }
     ensures small { result ≤ 196 }
 {
-    3 + time_len(&record.stamp) + 2 * record.pages.len()
+    3 + time_len(&item.stamp) + 2 * item.pages.len()
 }
 
 /// None where it is more than a body may have.

@@ -1,4 +1,4 @@
-use Rattle.std.proofs.Common.{Ok, subst, arith}
+use Rattle.std.proofs.Common.{subst, arith}
 use Rattle.lrc_wire.specs.Spelling.{Spells}
 use Rattle.lrc_wire.specs.Reading.{Gives, envelope_of}
 use Rattle.lrc_wire.proofs.Shapes.{if_gives}

@@ -1,4 +1,4 @@
-use Rattle.std.proofs.Common.{◌≡◌, refl, arith}
+use Rattle.std.proofs.Common.{refl, arith}
 use Rattle.lrc_wire.proofs.writing.put_envelope.Goals as goal
 
 pub returns : goal.returns

@@ -1,6 +1,6 @@
-use Rattle.std.proofs.Common.{Some, None}
+use Rattle.std.proofs.Common.{Some}
 use Rattle.std.proofs.lemmas.Result.{err_from_is_err_and}
-use Rattle.lrc_wire.specs.Reading.{elements_at, next_interval_at, key_of}
+use Rattle.lrc_wire.specs.Reading.{next_interval_at, key_of}
 use Rattle.lrc_wire.proofs.Elements.{goes_on, ends, is_done}
 use Rattle.lrc_wire.proofs.reading.intervals.read_intervals_of.Goals as goal
 

@@ -1,8 +1,7 @@
-use Rattle.std.proofs.Common.{◌≤◌, ◌++◌, length, arith}
+use Rattle.std.proofs.Common.{◌++◌, arith}
 use Rattle.std.specs.Int.{w16, w32}
 use Rattle.std.proofs.lemmas.List.{length-append}
-use Rattle.lrc_wire.specs.declared.limits.TheConstants.{MOST_BODY_BYTES}
-use Rattle.lrc_wire.specs.Spelling.{byte, number, flag, time, intervals, indices, changes_by_index, body}
+use Rattle.lrc_wire.specs.Spelling.{byte, number, flag, time, intervals, indices, changes_by_index}
 use Rattle.lrc_wire.proofs.Lengths.{few_intervals, few_indices, few_parts}
 use Rattle.lrc_wire.proofs.writing.bodies.put_body.Goals as goal
 

@@ -1,7 +1,6 @@
-use Rattle.std.proofs.Common.{◌≡◌, ◌<◌, length, arith}
 use Rattle.std.specs.Prelude.{All}
 use Rattle.std.proofs.lemmas.List.Elements.{All-more}
-use Rattle.lrc_store.specs.Interval.{IntervalRecord, IsInterval}
+use Rattle.lrc_store.specs.Interval.{IsInterval}
 use Rattle.lrc_wire.specs.Ranges.{HasBits}
 use Rattle.lrc_wire.specs.Spelling.{interval}
 use Rattle.lrc_wire.proofs.Written.{flat_map-take_more}

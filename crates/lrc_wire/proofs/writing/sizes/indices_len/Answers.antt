@@ -1,4 +1,4 @@
-use Rattle.std.proofs.Common.{◌≡◌, sym, arith}
+use Rattle.std.proofs.Common.{sym, arith}
 use Rattle.lrc_wire.proofs.Lengths.{length_indices}
 use Rattle.lrc_wire.proofs.writing.sizes.indices_len.Goals as goal
 
