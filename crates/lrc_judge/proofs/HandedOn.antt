@@ -1,17 +1,17 @@
 -- What is handed on to an act, and the tables that keep it, from one act to the next.
-use Rattle.std.proofs.Common.{◌≡◌, ◌≢◌, ℕ, ◌+◌, ◌<◌, ◌≤◌, ◌⊎◌, List, [], ◌∷◌, ◌++◌, length, get_or, set, max, inl, inr, refl, sym, subst, ◌∙◌, ap, arith, length-set}
-use Rattle.std.proofs.lemmas.Bool.{cases_eq, cases_lt}
+use Rattle.std.proofs.Common.{◌≡◌, ℕ, ◌+◌, ◌<◌, ◌≤◌, ◌⊎◌, List, [], ◌∷◌, ◌++◌, length, get_or, set, max, inl, inr, refl, sym, subst, ◌∙◌, ap, arith, length-set}
+use Rattle.std.proofs.lemmas.Bool.{cases_eq}
 use Rattle.std.proofs.lemmas.List.{get_or-set_same, get_or-set_other, get_or_push, get_or_append_left, length_push}
 use Rattle.std.proofs.lemmas.Option.{slice_get-get_or}
 use Rattle.lrc_trace.specs.declared.act.Act.{Act}
 use Rattle.lrc_trace.specs.declared.act.Deed.{Deed}
-use Rattle.lrc_trace.specs.declared.act.Deed.TheVariants.{Acquire, Release, Arrive, Depart}
-use Rattle.lrc_trace.specs.Run.{Does, IsDone, is_arrive, is_depart, arrives_before, departs_before}
-use Rattle.lrc_trace.specs.Order.{Precedes, program, lock, barrier, HappensBefore, base, further}
-use Rattle.lrc_trace.proofs.Positions.{Does-one_node, Does-one_deed, Does-within}
-use Rattle.lrc_trace.proofs.Intervals.{count_of-rises, count_of-more, count_of-same}
+use Rattle.lrc_trace.specs.declared.act.Deed.TheVariants.{Acquire, Arrive, Depart}
+use Rattle.lrc_trace.specs.Run.{Does, is_arrive, arrives_before, departs_before}
+use Rattle.lrc_trace.specs.Order.{Precedes, program, lock, barrier, HappensBefore}
+use Rattle.lrc_trace.proofs.Positions.{Does-one_node, Does-one_deed}
+use Rattle.lrc_trace.proofs.Intervals.{count_of-rises, count_of-more}
 use Rattle.lrc_judge.specs.declared.reach.Reach.{Reach}
-use Rattle.lrc_judge.specs.Past.{Reaches, Gathers, EachGathers, Acted, Released, Arrived}
+use Rattle.lrc_judge.specs.Past.{Gathers, EachGathers, Acted, Released, Arrived}
 use Rattle.lrc_judge.proofs.Gathering.{Reaches-extends, Gathers-same, Gathers-joined}
 
 -- the act that a program reads at a position is done there

@@ -1,17 +1,16 @@
 -- Who holds a lock, from one position to the next, and what a table of holders says.
-use Rattle.std.proofs.Common.{◌≡◌, ◌≢◌, ℕ, zero, suc, add-one, ◌+◌, ◌<◌, ◌≤◌, ◌⊎◌, List, length, get_or, set, inl, inr, refl, sym, subst, ◌∙◌, ap, arith, length-set}
-use Rattle.std.specs.Prelude.{◌↔◌, Option, Some, None, Bool, true, false, is_none, MatchBool}
-use Rattle.std.proofs.lemmas.Bool.{cases_eq, cases_lt, false≢true}
+use Rattle.std.proofs.Common.{◌≡◌, ℕ, zero, suc, add-one, ◌+◌, ◌<◌, ◌≤◌, ◌⊎◌, List, length, get_or, set, inl, inr, refl, sym, subst, ◌∙◌, ap, arith, length-set}
+use Rattle.std.specs.Prelude.{◌↔◌, Option, Some, None}
+use Rattle.std.proofs.lemmas.Bool.{cases_eq, cases_lt}
 use Rattle.std.proofs.lemmas.List.{get_or-set_same, get_or-set_other}
 use Rattle.std.proofs.lemmas.Option.{same_Some, none-some}
 use Rattle.lrc_trace.specs.declared.act.Act.{Act}
 use Rattle.lrc_trace.specs.declared.act.Deed.{Deed}
-use Rattle.lrc_trace.specs.declared.act.Deed.TheVariants.{Acquire, Release, Depart}
-use Rattle.lrc_trace.specs.Run.{Does, arrives_before, departs_before}
+use Rattle.lrc_trace.specs.declared.act.Deed.TheVariants.{Acquire, Release}
+use Rattle.lrc_trace.specs.Run.{Does}
 use Rattle.lrc_trace.specs.Synchronization.{Holds}
 use Rattle.lrc_trace.proofs.Positions.{Does-one_node, Does-one_deed, Does-within}
 use Rattle.lrc_trace.proofs.Intervals.{act_at}
-use Rattle.lrc_judge.specs.Synchronization.{Breaks, acquire, release, depart}
 use Rattle.lrc_judge.proofs.HandedOn.{Does-node, Does-deed}
 
 -- nobody holds a lock before the first act

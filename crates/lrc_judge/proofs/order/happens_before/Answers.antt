@@ -1,5 +1,5 @@
 -- Each act's row is pushed, and at the end the rows say the order.
-use Rattle.std.proofs.Common.{◌≡◌, ℕ, length, get_or, sym, subst, arith}
+use Rattle.std.proofs.Common.{◌≡◌, length, subst, arith}
 use Rattle.lrc_trace.specs.declared.act.Act.{Act}
 use Rattle.lrc_trace.specs.declared.act.Deed.TheVariants.{Quiet}
 use Rattle.lrc_trace.proofs.Positions.{Does-one_node}
