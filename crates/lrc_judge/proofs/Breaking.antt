@@ -10,10 +10,10 @@ use Rattle.lrc_trace.specs.declared.act.Deed.{Deed}
 use Rattle.lrc_trace.specs.declared.act.Deed.TheVariants.{Acquire, Release, Depart}
 use Rattle.lrc_trace.specs.Run.{Does, arrives_before, departs_before}
 use Rattle.lrc_trace.specs.Synchronization.{Holds, IsWellSynchronized}
-use Rattle.lrc_trace.proofs.Positions.{Does-one_node, Does-one_deed, Does-within}
+use Rattle.lrc_trace.proofs.Positions.{Does-deed, Does-one_node, Does-one_deed, Does-within}
+use Rattle.lrc_trace.proofs.Holding.{Holds-decided}
 use Rattle.lrc_judge.specs.Synchronization.{Breaks, acquire, release, depart}
-use Rattle.lrc_judge.proofs.HandedOn.{Does-deed}
-use Rattle.lrc_judge.proofs.Locks.{AreHolders, Holds-decided}
+use Rattle.lrc_judge.proofs.Locks.{AreHolders}
 
 -- each count is above the bound, or one isn't
 above_or_one : (bound : ℕ) (counts : List ℕ) → All (λ c. bound < c) counts ⊎ ((q : ℕ) × (q < length counts) × (get_or counts q 0 ≤ bound))

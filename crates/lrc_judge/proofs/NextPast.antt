@@ -8,11 +8,11 @@ use Rattle.lrc_trace.specs.declared.act.Deed.{Deed}
 use Rattle.lrc_trace.specs.declared.act.Deed.TheVariants.{Release, Arrive, Depart}
 use Rattle.lrc_trace.specs.Run.{Does, IsDone, is_arrive, is_depart, count_of, arrives_before}
 use Rattle.lrc_trace.specs.Order.{program, base}
-use Rattle.lrc_trace.proofs.Positions.{Does-one_node, Does-one_deed}
+use Rattle.lrc_trace.proofs.Positions.{Does-deed, Does-one_node, Does-one_deed}
 use Rattle.lrc_trace.proofs.Intervals.{count_of-rises, count_of-more, count_of-same}
 use Rattle.lrc_judge.specs.declared.reach.Reach.{Reach}
 use Rattle.lrc_judge.specs.Past.{Gathers, EachGathers, Acted, Released, Arrived}
-use Rattle.lrc_judge.proofs.HandedOn.{Does-deed, next-joined, next-only, each-same, each-set, each-push}
+use Rattle.lrc_judge.proofs.HandedOn.{next-joined, next-only, each-same, each-set, each-push}
 
 -- a deed that is neither
 pub no_arrive : (d : Deed) → (d ≡ Arrive → ⊥) → is_arrive d ≡ false

@@ -13,7 +13,7 @@ use Rattle.lrc_trace.proofs.Positions.{Does-one_deed, Does-within}
 use Rattle.lrc_trace.proofs.Intervals.{act_at}
 use Rattle.lrc_trace.proofs.HappensBefore.{forward, transitive}
 use Rattle.lrc_judge.specs.Reading.{Misreads}
-use Rattle.lrc_judge.proofs.Decided.{HappensBefore-decided}
+use Rattle.lrc_trace.proofs.Decided.{HappensBefore-decided}
 use Rattle.lrc_judge.specs.declared.reading.Stored.{Stored}
 
 -- the last write before position n, if there is one
