@@ -15,11 +15,10 @@ use Rattle.lrc_trace.specs.Run.{Does, arrives_before, departs_before}
 use Rattle.lrc_trace.specs.Synchronization.{Holds}
 use Rattle.lrc_exec.specs.Meaning.{Thread, Next, next_of}
 use Rattle.lrc_exec.specs.Plain.{Plain, is_free, all_arrived, deed_of, thread_in, plain_step, plain_from, plain_start, start_of, with_thread}
-use Rattle.lrc_exec.proofs.NextLaws.{IsFine}
 use Rattle.lrc_theory.specs.Follows.{Goes, quietly, printing, reading, writing, acquiring, releasing, arriving, departing, trapping, ending, Makes, and_then, deeds_of, nodes_of, FollowsText}
 use Rattle.lrc_theory.specs.InOrder.{last_value}
 use Rattle.lrc_theory.proofs.Ahead.{does_ahead, drop_ahead}
-use Rattle.lrc_theory.proofs.Threads.{fine}
+use Rattle.lrc_theory.proofs.Threads.{IsFine, fine}
 use Rattle.lrc_theory.proofs.Matching.{IsPaired, ThreadFits, Matches, thread_within}
 use Rattle.lrc_theory.proofs.Step.{none_since, holder_cases, step}
 
@@ -157,7 +156,7 @@ stepped : (run : List Act) (nodes j : ℕ) (machine : Plain) (a : Act) (more : L
 stepped run nodes j machine a more r in_range sound =
     let first = makes_first (subst (λ ds. Makes (thread_in machine a.node) ds) (deeds_of-own a more) (r.makes a.node in_range)) in
     let f = fine first.thread in
-    let can = can_do run nodes j a.node machine first.thread first.is r.matches r.size first.goes f.is sound in
+    let can = can_do run nodes j a.node machine first.thread first.is r.matches r.size first.goes f sound in
     let result = done machine a.node first.goes can in
     let after = result.0 in
     let within = thread_within machine a.node first.thread first.is in

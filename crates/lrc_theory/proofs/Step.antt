@@ -16,7 +16,7 @@ use Rattle.lrc_exec.specs.Meaning.{Thread, Next, quiet, prints, reads, writes, a
 use Rattle.lrc_exec.specs.Plain.{Plain, is_free, all_arrived, deed_of, with_thread, thread_in}
 use Rattle.lrc_theory.specs.InOrder.{value_after, last_value}
 use Rattle.lrc_theory.proofs.LastValue.{last_value-more, value_after-same, value_after-other}
-use Rattle.lrc_theory.proofs.Threads.{Leads, Stays, Fine, leads, stays}
+use Rattle.lrc_theory.proofs.Threads.{Leads, Stays, IsFine}
 use Rattle.lrc_theory.proofs.Matching.{IsPaired, ThreadFits, Matches, thread_within, arrives-same, departs-same, threads_after}
 
 -- what a test says of an option
@@ -302,16 +302,16 @@ module _ (run : List Act) (j node : ℕ) (machine : Plain) (t : Thread) (at : th
   lockless_quiet = record { acquires_not = λ l e. cc; releases_not = λ l e. cc }
 
   -- whatever the thread does next
-  pub step : (n : Next) → Fine t n → (d : Deed) (after : Plain) → deed_of machine node n ≡ Some (d, after) → Does run j node d → Matches run (j + 1) after
-  step (quiet t') f d after e here = settle _ _ d after e here (λ h. passes_on Quiet h (record { acquires_not = λ l x. cc; releases_not = λ l x. cc }) (λ w x. refl) (λ x. cc) (λ x. cc) t' (stays f.is f.locks))
-  step (prints v t') f d after e here = settle _ _ d after e here (λ h. passes_on (Print v) h (record { acquires_not = λ l x. cc; releases_not = λ l x. cc }) (λ w x. refl) (λ x. cc) (λ x. cc) t' (stays f.is f.locks))
+  pub step : (n : Next) → IsFine t n → (d : Deed) (after : Plain) → deed_of machine node n ≡ Some (d, after) → Does run j node d → Matches run (j + 1) after
+  step (quiet t') f d after e here = settle _ _ d after e here (λ h. passes_on Quiet h (record { acquires_not = λ l x. cc; releases_not = λ l x. cc }) (λ w x. refl) (λ x. cc) (λ x. cc) t' f)
+  step (prints v t') f d after e here = settle _ _ d after e here (λ h. passes_on (Print v) h (record { acquires_not = λ l x. cc; releases_not = λ l x. cc }) (λ w x. refl) (λ x. cc) (λ x. cc) t' f)
   step (reads w t') f d after e here =
       let v = slice_index machine.memory w in
-      settle _ _ d after e here (λ h. passes_on (Read w v) h (record { acquires_not = λ l x. cc; releases_not = λ l x. cc }) (λ k x. refl) (λ x. cc) (λ x. cc) (t' v) (stays (f.is.1 v) (f.locks v)))
-  step (writes w v t') f d after e here = settle _ _ d after e here (λ h. written w v t' f.is.0 (stays f.is.1 f.locks) h)
-  step (acquires l t') f d after e here = settle_if (is_free machine l) _ _ d after e here (λ b h. acquired l t' f.is.0 f.is.2.not_before (leads f.is.2 f.locks) (none_since (slice_index_or machine.holders l None) b) h)
-  step (releases l t') f d after e here = settle _ _ d after e here (λ h. released l t' f.is.0 f.is.1 f.is.2.not_before (leads f.is.2 f.locks) h)
-  step (arrives t') f d after e here = settle _ _ d after e here (λ h. arrived_at t' f.is.1 (record { setting = f.is.0; held = f.locks; arrived = f.is.2 }) h)
-  step (departs t') f d after e here = settle_if (all_arrived machine node) _ _ d after e here (λ b h. departed_from t' f.is.0 (record { setting = ap (λ x. x.setting) f.is.1; held = f.locks; arrived = ap (λ x. x.arrived) f.is.1 }) h)
+      settle _ _ d after e here (λ h. passes_on (Read w v) h (record { acquires_not = λ l x. cc; releases_not = λ l x. cc }) (λ k x. refl) (λ x. cc) (λ x. cc) (t' v) (f.1 v))
+  step (writes w v t') f d after e here = settle _ _ d after e here (λ h. written w v t' f.0 f.1 h)
+  step (acquires l t') f d after e here = settle_if (is_free machine l) _ _ d after e here (λ b h. acquired l t' f.0 f.2 f.3 (none_since (slice_index_or machine.holders l None) b) h)
+  step (releases l t') f d after e here = settle _ _ d after e here (λ h. released l t' f.0 f.1 f.2 f.3 h)
+  step (arrives t') f d after e here = settle _ _ d after e here (λ h. arrived_at t' f.0 f.1 h)
+  step (departs t') f d after e here = settle_if (all_arrived machine node) _ _ d after e here (λ b h. departed_from t' f.0 f.1 h)
   step (traps c) f d after e here = settle _ _ d after e here (λ h. passes_away (Trap c) h (record { acquires_not = λ l x. cc; releases_not = λ l x. cc }) (λ w x. refl) (λ x. cc))
   step ends f d after e here = settle _ _ d after e here (λ h. passes_away End h (record { acquires_not = λ l x. cc; releases_not = λ l x. cc }) (λ w x. refl) (λ x. cc))
