@@ -1,8 +1,8 @@
 -- Whether an act breaks well-synchronization, from what the tables say.
-use Rattle.std.proofs.Common.{◌≡◌, ◌≢◌, ℕ, zero, suc, ◌+◌, ◌<◌, ◌≤◌, ◌⊎◌, List, [], ◌∷◌, length, get_or, inl, inr, refl, sym, subst, ◌∙◌, ap, arith}
-use Rattle.std.specs.Prelude.{◌↔◌, ◌==◌, Option, Some, None, Bool, true, false, not, is_some, IsTrue, MatchBool, All, nat_eq}
+use Rattle.std.proofs.Common.{◌≡◌, ℕ, zero, suc, ◌<◌, ◌≤◌, ◌⊎◌, List, [], ◌∷◌, length, get_or, inl, inr, refl, sym, subst, ◌∙◌, ap, arith}
+use Rattle.std.specs.Prelude.{◌↔◌, Option, Some, None, Bool, true, false, not, is_some, IsTrue, MatchBool, All, nat_eq}
 use Rattle.std.specs.Option.{option_eq}
-use Rattle.std.proofs.lemmas.Bool.{cases_eq, cases_lt, false≢true, true≢false, eqb-true, eqb-false, eq-eqb}
+use Rattle.std.proofs.lemmas.Bool.{cases_lt, false≢true, true≢false, eqb-true, eqb-false}
 use Rattle.std.proofs.lemmas.List.Elements.{All-nil, All-cons}
 use Rattle.std.proofs.lemmas.Option.{same_Some, none-some}
 use Rattle.lrc_trace.specs.declared.act.Act.{Act}
@@ -10,10 +10,10 @@ use Rattle.lrc_trace.specs.declared.act.Deed.{Deed}
 use Rattle.lrc_trace.specs.declared.act.Deed.TheVariants.{Acquire, Release, Depart}
 use Rattle.lrc_trace.specs.Run.{Does, arrives_before, departs_before}
 use Rattle.lrc_trace.specs.Synchronization.{Holds, IsWellSynchronized}
-use Rattle.lrc_trace.proofs.Positions.{Does-one_node, Does-one_deed, Does-within}
+use Rattle.lrc_trace.proofs.Positions.{Does-deed, Does-one_node, Does-one_deed, Does-within}
+use Rattle.lrc_trace.proofs.Holding.{Holds-decided}
 use Rattle.lrc_judge.specs.Synchronization.{Breaks, acquire, release, depart}
-use Rattle.lrc_judge.proofs.HandedOn.{Does-node, Does-deed}
-use Rattle.lrc_judge.proofs.Locks.{AreHolders, Holds-decided}
+use Rattle.lrc_judge.proofs.Locks.{AreHolders}
 
 -- each count is above the bound, or one isn't
 above_or_one : (bound : ℕ) (counts : List ℕ) → All (λ c. bound < c) counts ⊎ ((q : ℕ) × (q < length counts) × (get_or counts q 0 ≤ bound))

@@ -1,16 +1,14 @@
 -- What reaches one of some positions: no positions, one set or another, the same set said otherwise, and one position.
-use Rattle.std.proofs.Common.{◌≡◌, ◌≢◌, ℕ, ◌+◌, ◌<◌, ◌≤◌, ◌⊎◌, List, length, get_or, set, max, inl, inr, refl, sym, subst, ◌∙◌, ap, arith, get_or-set_same, get_or-set_other}
-use Rattle.std.specs.Prelude.{slice_set}
+use Rattle.std.proofs.Common.{◌≡◌, ℕ, ◌+◌, ◌<◌, ◌⊎◌, List, length, get_or, set, max, inl, inr, refl, sym, subst, arith, get_or-set_same, get_or-set_other}
 use Rattle.std.proofs.lemmas.Bool.{cases_eq, cases_lt}
 use Rattle.lrc_trace.specs.declared.act.Act.{Act}
 use Rattle.lrc_trace.specs.declared.act.Deed.{Deed}
-use Rattle.lrc_trace.specs.declared.act.Deed.TheVariants.{Acquire, Release, Arrive, Depart}
-use Rattle.lrc_trace.specs.Run.{Does, IsDone, arrives_before, departs_before}
-use Rattle.lrc_trace.specs.Order.{Precedes, program, lock, barrier, HappensBefore, base, further}
-use Rattle.lrc_trace.proofs.Positions.{Does-one_node, Does-one_deed, Does-within}
-use Rattle.lrc_trace.proofs.HappensBefore.{forward, Precedes-forward, transitive}
+use Rattle.lrc_trace.specs.Run.{Does}
+use Rattle.lrc_trace.specs.Order.{Precedes, program, HappensBefore, base, further}
+use Rattle.lrc_trace.proofs.Positions.{Does-one_node}
+use Rattle.lrc_trace.proofs.HappensBefore.{forward, transitive}
 use Rattle.lrc_judge.specs.declared.reach.Reach.{Reach}
-use Rattle.lrc_judge.specs.Past.{Reaches, Gathers, Acted, Released, Arrived}
+use Rattle.lrc_judge.specs.Past.{Reaches, Gathers}
 
 module _ (run : List Act) where
   -- what reaches a position that comes before n happens before n

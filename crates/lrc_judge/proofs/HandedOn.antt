@@ -1,29 +1,17 @@
 -- What is handed on to an act, and the tables that keep it, from one act to the next.
-use Rattle.std.proofs.Common.{◌≡◌, ◌≢◌, ℕ, ◌+◌, ◌<◌, ◌≤◌, ◌⊎◌, List, [], ◌∷◌, ◌++◌, length, get_or, set, max, inl, inr, refl, sym, subst, ◌∙◌, ap, arith, length-set}
-use Rattle.std.proofs.lemmas.Bool.{cases_eq, cases_lt}
+use Rattle.std.proofs.Common.{◌≡◌, ℕ, ◌+◌, ◌<◌, ◌≤◌, ◌⊎◌, List, [], ◌∷◌, ◌++◌, length, get_or, set, max, inl, inr, refl, sym, subst, ◌∙◌, ap, arith, length-set}
+use Rattle.std.proofs.lemmas.Bool.{cases_eq}
 use Rattle.std.proofs.lemmas.List.{get_or-set_same, get_or-set_other, get_or_push, get_or_append_left, length_push}
-use Rattle.std.proofs.lemmas.Option.{slice_get-get_or}
 use Rattle.lrc_trace.specs.declared.act.Act.{Act}
 use Rattle.lrc_trace.specs.declared.act.Deed.{Deed}
-use Rattle.lrc_trace.specs.declared.act.Deed.TheVariants.{Acquire, Release, Arrive, Depart}
-use Rattle.lrc_trace.specs.Run.{Does, IsDone, is_arrive, is_depart, arrives_before, departs_before}
-use Rattle.lrc_trace.specs.Order.{Precedes, program, lock, barrier, HappensBefore, base, further}
-use Rattle.lrc_trace.proofs.Positions.{Does-one_node, Does-one_deed, Does-within}
-use Rattle.lrc_trace.proofs.Intervals.{count_of-rises, count_of-more, count_of-same}
+use Rattle.lrc_trace.specs.declared.act.Deed.TheVariants.{Acquire, Arrive, Depart}
+use Rattle.lrc_trace.specs.Run.{Does, is_arrive, arrives_before, departs_before}
+use Rattle.lrc_trace.specs.Order.{Precedes, program, lock, barrier, HappensBefore}
+use Rattle.lrc_trace.proofs.Positions.{Does-node, Does-deed, Does-one_node, Does-one_deed}
+use Rattle.lrc_trace.proofs.Intervals.{count_of-rises, count_of-more}
 use Rattle.lrc_judge.specs.declared.reach.Reach.{Reach}
-use Rattle.lrc_judge.specs.Past.{Reaches, Gathers, EachGathers, Acted, Released, Arrived}
+use Rattle.lrc_judge.specs.Past.{Gathers, EachGathers, Acted, Released, Arrived}
 use Rattle.lrc_judge.proofs.Gathering.{Reaches-extends, Gathers-same, Gathers-joined}
-
--- the act that a program reads at a position is done there
-pub Does-read : (run : List Act) (i : ℕ) (d : Act) → i < length run → Does run i (get_or run i d).node (get_or run i d).deed
-Does-read run i d h = record { stands = slice_get-get_or run i d h }
-
--- the node that does it, by another name
-pub Does-node : {run : List Act} {i p q : ℕ} {deed : Deed} → p ≡ q → Does run i p deed → Does run i q deed
-Does-node {run} {i} {deed = deed} e h = subst (λ m. Does run i m deed) e h
-
-pub Does-deed : {run : List Act} {i p : ℕ} {a b : Deed} → a ≡ b → Does run i p a → Does run i p b
-Does-deed {run} {i} {p} e h = subst (λ (x : Deed). Does run i p x) e h
 
 -- what comes right before an act: its node's earlier acts, and for an acquire the releases of the lock, for a depart the
 -- arrives with its number

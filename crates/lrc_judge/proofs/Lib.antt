@@ -1,4 +1,3 @@
-pub mod Decided
 pub mod Gathering
 pub mod HandedOn
 pub mod NextPast

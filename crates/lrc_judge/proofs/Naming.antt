@@ -1,18 +1,15 @@
 -- The races of segments, and those that the run names.
 use Rattle.std.proofs.Common.{◌≡◌, ◌≢◌, ℕ, ◌+◌, ◌<◌, ◌≤◌, ◌⊎◌, List, [], ◌∷◌, ◌++◌, length, get_or, take, inl, inr, refl, sym, subst, ◌∙◌, ap, arith}
-use Rattle.std.specs.Prelude.{◌↔◌, ◌&&◌, ◌||◌, not, Bool, true, false, IsTrue, Contains, Option, Some, None}
+use Rattle.std.specs.Prelude.{◌↔◌, ◌||◌, not, Bool, true, false, Contains}
 use Rattle.std.specs.List.{list_any}
-use Rattle.std.proofs.lemmas.Bool.{cases_eq, cases_Bool, cases_order, false≢true, true≢false, and_parts, and_from, or_cases, or_left, or_right, not-true, not_from_false, false_from_ne_true}
+use Rattle.std.proofs.lemmas.Bool.{cases_order, false≢true, and_parts, and_from, or_cases, or_right, not-true, not_from_false, false_from_ne_true}
 use Rattle.std.proofs.lemmas.List.{take_more, take_all}
-use Rattle.std.proofs.lemmas.List.Elements.{Contains-push, Contains-push_cases, Contains-append_left, Contains-get_or}
-use Rattle.std.proofs.lemmas.List.Folds.{Any-from_list_any, list_any-from_Any}
+use Rattle.std.proofs.lemmas.List.Elements.{Contains-push, Contains-push_cases, Contains-append_left}
+use Rattle.std.proofs.lemmas.List.Folds.{Any-from_list_any}
 use Rattle.lrc_trace.specs.declared.act.Act.{Act}
-use Rattle.lrc_trace.specs.declared.act.Deed.{Deed}
 use Rattle.lrc_trace.specs.declared.race.Race.{Race}
-use Rattle.lrc_trace.specs.Run.{Does}
-use Rattle.lrc_trace.specs.Order.{HappensBefore}
-use Rattle.lrc_trace.specs.Conflict.{Reads, Writes, Accesses, ConflictAt, Races}
-use Rattle.lrc_trace.specs.Interval.{interval_at, Names, IsNamedRace}
+use Rattle.lrc_trace.specs.Conflict.{Writes, Accesses, ConflictAt, Races}
+use Rattle.lrc_trace.specs.Interval.{Names, IsNamedRace}
 use Rattle.lrc_trace.proofs.Positions.{Does-one_node, Does-within}
 use Rattle.lrc_trace.proofs.HappensBefore.{forward}
 use Rattle.lrc_trace.proofs.Conflicts.{ConflictAt-symmetric}
@@ -21,7 +18,7 @@ use Rattle.lrc_judge.specs.declared.segments.Place.{Place}
 use Rattle.lrc_judge.specs.declared.segments.Access.{Access}
 use Rattle.lrc_judge.specs.declared.segments.Segment.{Segment}
 use Rattle.lrc_judge.specs.Order.{is_before, IsOrderOf}
-use Rattle.lrc_judge.specs.Segments.{AccessesBy, IsAccess, IsKept, AreSegments}
+use Rattle.lrc_judge.specs.Segments.{AccessesBy, AreSegments}
 use Rattle.lrc_judge.specs.Races.{is_clash, AreRacing, name_of, IsRaceWith, AddsRaces, IsRaceAmong, AreRacesAmong}
 use Rattle.lrc_judge.proofs.Keeping.{Contains-pushed}
 

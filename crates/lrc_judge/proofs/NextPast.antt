@@ -1,18 +1,18 @@
 -- What the past says of one position further, field by field.
-use Rattle.std.proofs.Common.{◌≡◌, ◌≢◌, ℕ, ◌+◌, ◌<◌, ◌≤◌, List, [], ◌∷◌, ◌++◌, length, get_or, set, take, max, inl, inr, refl, sym, subst, ◌∙◌, ap, arith, length-set}
+use Rattle.std.proofs.Common.{◌≡◌, ℕ, ◌+◌, ◌<◌, ◌≤◌, List, [], ◌∷◌, ◌++◌, length, get_or, set, take, max, inl, inr, refl, sym, subst, ◌∙◌, ap, arith, length-set}
 use Rattle.std.specs.Prelude.{Bool, true, false}
 use Rattle.std.proofs.lemmas.Bool.{cases_eq, both_ways}
-use Rattle.std.proofs.lemmas.List.{get_or-set_same, get_or-set_other, length_push}
+use Rattle.std.proofs.lemmas.List.{get_or-set_same, get_or-set_other}
 use Rattle.lrc_trace.specs.declared.act.Act.{Act}
 use Rattle.lrc_trace.specs.declared.act.Deed.{Deed}
 use Rattle.lrc_trace.specs.declared.act.Deed.TheVariants.{Release, Arrive, Depart}
-use Rattle.lrc_trace.specs.Run.{Does, IsDone, is_arrive, is_depart, count_of, arrives_before, departs_before}
+use Rattle.lrc_trace.specs.Run.{Does, IsDone, is_arrive, is_depart, count_of, arrives_before}
 use Rattle.lrc_trace.specs.Order.{program, base}
-use Rattle.lrc_trace.proofs.Positions.{Does-one_node, Does-one_deed}
+use Rattle.lrc_trace.proofs.Positions.{Does-deed, Does-one_node, Does-one_deed}
 use Rattle.lrc_trace.proofs.Intervals.{count_of-rises, count_of-more, count_of-same}
 use Rattle.lrc_judge.specs.declared.reach.Reach.{Reach}
 use Rattle.lrc_judge.specs.Past.{Gathers, EachGathers, Acted, Released, Arrived}
-use Rattle.lrc_judge.proofs.HandedOn.{Does-deed, next-joined, next-only, each-same, each-set, each-push}
+use Rattle.lrc_judge.proofs.HandedOn.{next-joined, next-only, each-same, each-set, each-push}
 
 -- a deed that is neither
 pub no_arrive : (d : Deed) → (d ≡ Arrive → ⊥) → is_arrive d ≡ false

@@ -1,6 +1,6 @@
 -- The rows of the table, and the order that they say.
-use Rattle.std.proofs.Common.{◌≡◌, ℕ, zero, suc, ◌+◌, ◌<◌, ◌≤◌, List, [], ◌∷◌, ◌++◌, length, get_or, inl, inr, refl, sym, subst, ◌∙◌, ap, arith}
-use Rattle.std.specs.Prelude.{IsTrue, ◌↔◌, ◌&&◌, nat_lt, Bool, true, false, Option, Some, None, slice_get, slice_index}
+use Rattle.std.proofs.Common.{◌≡◌, ℕ, zero, suc, ◌+◌, ◌<◌, List, [], ◌∷◌, ◌++◌, length, get_or, inl, inr, refl, sym, subst, ◌∙◌, ap, arith}
+use Rattle.std.specs.Prelude.{nat_lt, true, Option, Some, None, slice_get}
 use Rattle.std.proofs.lemmas.Bool.{cases_lt, and_parts, and_from, ltb-true, lt-ltb, false≢true}
 use Rattle.std.proofs.lemmas.List.{length_push}
 use Rattle.std.proofs.lemmas.Option.{slice_get_within, same_Some}
@@ -8,13 +8,12 @@ use Rattle.lrc_trace.specs.declared.act.Act.{Act}
 use Rattle.lrc_trace.specs.declared.act.Deed.{Deed}
 use Rattle.lrc_trace.specs.Run.{Does}
 use Rattle.lrc_trace.specs.Order.{HappensBefore}
-use Rattle.lrc_trace.proofs.Positions.{Does-within, slice_get-front, slice_get-seam}
+use Rattle.lrc_trace.proofs.Positions.{slice_get-front, slice_get-seam}
 use Rattle.lrc_trace.proofs.HappensBefore.{forward, within}
 use Rattle.lrc_trace.proofs.Intervals.{act_at}
-use Rattle.lrc_judge.specs.declared.reach.Reach.{Reach}
 use Rattle.lrc_judge.specs.declared.reach.Row.{Row}
 use Rattle.lrc_judge.specs.declared.order.Order.{Order}
-use Rattle.lrc_judge.specs.Past.{Reaches, Gathers}
+use Rattle.lrc_judge.specs.Past.{Gathers}
 use Rattle.lrc_judge.proofs.Gathering.{Gathers-one}
 use Rattle.lrc_judge.specs.Order.{is_reached, is_before, IsOrderOf}
 

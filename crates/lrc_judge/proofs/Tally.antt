@@ -1,19 +1,19 @@
 -- What the writes to a word so far say of a read.
-use Rattle.std.proofs.Common.{◌≡◌, ◌≢◌, ℕ, zero, suc, add-one, length, ◌+◌, ◌<◌, ◌≤◌, ◌⊎◌, List, inl, inr, refl, sym, subst, ◌∙◌, ap, arith}
-use Rattle.std.specs.Prelude.{◌↔◌, ◌||◌, ◌&&◌, ◌==◌, Option, Some, None, Bool, true, false, not, IsTrue, nat_eq, MatchOption}
+use Rattle.std.proofs.Common.{◌≡◌, ℕ, zero, suc, add-one, length, ◌+◌, ◌<◌, ◌≤◌, ◌⊎◌, List, inl, inr, refl, sym, subst, ◌∙◌, ap, arith}
+use Rattle.std.specs.Prelude.{◌↔◌, ◌||◌, ◌&&◌, ◌==◌, Option, Some, None, Bool, true, false, not, IsTrue}
 use Rattle.std.specs.Option.{option_map_or}
-use Rattle.std.proofs.lemmas.Bool.{cases_eq, cases_lt, cases_Bool, false≢true, true≢false, eqb-true, eq-eqb, and_parts, and_from, or_cases, or_left, or_right}
+use Rattle.std.proofs.lemmas.Bool.{cases_eq, cases_lt, cases_Bool, false≢true, eqb-true, eq-eqb, and_parts, and_from, or_cases, or_left, or_right}
 use Rattle.lrc_trace.specs.declared.act.Act.{Act}
 use Rattle.lrc_trace.specs.declared.act.Deed.{Deed}
 use Rattle.lrc_trace.specs.declared.act.Deed.TheVariants.{Write}
-use Rattle.lrc_trace.specs.Run.{Does, IsDone}
+use Rattle.lrc_trace.specs.Run.{Does}
 use Rattle.lrc_trace.specs.Order.{HappensBefore}
-use Rattle.lrc_trace.specs.Reading.{WrittenBefore, IsSomeWrite, AreOrdered, IsLastWrite, IsLatest, MayRead, ReadsLazily}
+use Rattle.lrc_trace.specs.Reading.{WrittenBefore, IsSomeWrite, AreOrdered, IsLatest, MayRead, ReadsLazily}
 use Rattle.lrc_trace.proofs.Positions.{Does-one_deed, Does-within}
 use Rattle.lrc_trace.proofs.Intervals.{act_at}
 use Rattle.lrc_trace.proofs.HappensBefore.{forward, transitive}
 use Rattle.lrc_judge.specs.Reading.{Misreads}
-use Rattle.lrc_judge.proofs.Decided.{HappensBefore-decided}
+use Rattle.lrc_trace.proofs.Decided.{HappensBefore-decided}
 use Rattle.lrc_judge.specs.declared.reading.Stored.{Stored}
 
 -- the last write before position n, if there is one

@@ -1,5 +1,5 @@
 -- Happens before, as a table.
-use Rattle.std.specs.Prelude.{ℕ, ◌↔◌, ◌&&◌, nat_lt, Bool, false, IsTrue, List, Option, Some, None, slice_get, slice_index}
+use Rattle.std.specs.Prelude.{ℕ, ◌↔◌, ◌&&◌, nat_lt, Bool, false, IsTrue, List, Option, Some, slice_get, slice_index}
 use Rattle.lrc_trace.specs.declared.act.Act.{Act}
 use Rattle.lrc_trace.specs.Order.{HappensBefore}
 use Rattle.lrc_judge.specs.declared.reach.Row.{Row}

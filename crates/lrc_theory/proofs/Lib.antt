@@ -1,5 +1,4 @@
 pub mod Ahead
-pub mod Holding
 pub mod LastValue
 pub mod Threads
 pub mod Matching

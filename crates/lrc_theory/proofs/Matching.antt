@@ -8,10 +8,10 @@ use Rattle.lrc_trace.specs.declared.act.Deed.{Deed}
 use Rattle.lrc_trace.specs.Run.{Does, is_arrive, is_depart, arrives_before, departs_before}
 use Rattle.lrc_trace.specs.Synchronization.{Holds}
 use Rattle.lrc_trace.proofs.Intervals.{count_of-same}
+use Rattle.lrc_trace.proofs.Holding.{Holds-kept}
 use Rattle.lrc_exec.specs.Meaning.{Thread, holds}
 use Rattle.lrc_exec.specs.Plain.{Plain, thread_in}
 use Rattle.lrc_theory.specs.InOrder.{last_value}
-use Rattle.lrc_theory.proofs.Holding.{Holds-keeps}
 
 -- how often a node has arrived, by how often it has departed and whether its thread waits
 abbrev pub IsPaired : Bool → ℕ → ℕ → Type 0
@@ -55,7 +55,7 @@ module _ (run : List Act) (j node : ℕ) (d : Deed) (here : Does run j node d) w
     words = f.words ∙ sym m;
     locks = f.locks ∙ sym h;
     paired = let arrived = arrives-same n (λ e x. other (sym e)) in let departed = departs-same n (λ e x. other (sym e)) in subst (λ a. IsPaired t.arrived a (departs_before run n (j + 1))) (sym arrived) (subst (λ b. IsPaired t.arrived (arrives_before run n j) b) (sym departed) f.paired);
-    held = λ l e. Holds-keeps run j node d here n l (λ e' x. other e') (f.held l e);
+    held = λ l e. Holds-kept run j node d here n l (λ e' x. other e') (f.held l e);
   }
 
   -- the threads after an act: this node's is the new one, and the others fit as before

@@ -11,10 +11,10 @@ use Rattle.lrc_trace.specs.Run.{Does, is_arrive, is_depart, arrives_before, depa
 use Rattle.lrc_trace.specs.Synchronization.{Holds}
 use Rattle.lrc_trace.proofs.Positions.{Does-one_node, Does-one_deed}
 use Rattle.lrc_trace.proofs.Intervals.{count_of-more}
+use Rattle.lrc_trace.proofs.Holding.{Holds-acquired, Holds-kept, Holds-before, Holds-released}
 use Rattle.lrc_exec.specs.Meaning.{Thread, Next, quiet, prints, reads, writes, acquires, releases, arrives, departs, traps, ends, holds}
 use Rattle.lrc_exec.specs.Plain.{Plain, is_free, all_arrived, deed_of, with_thread, thread_in}
 use Rattle.lrc_theory.specs.InOrder.{value_after, last_value}
-use Rattle.lrc_theory.proofs.Holding.{Holds-acquired, Holds-keeps, Holds-before, Holds-released}
 use Rattle.lrc_theory.proofs.LastValue.{last_value-more, value_after-same, value_after-other}
 use Rattle.lrc_theory.proofs.Threads.{Leads, Stays, IsFine}
 use Rattle.lrc_theory.proofs.Matching.{IsPaired, ThreadFits, Matches, thread_within, arrives-same, departs-same, threads_after}
@@ -59,7 +59,7 @@ module _ (run : List Act) (j node : ℕ) (machine : Plain) (t : Thread) (at : th
     same_held : IsNoLock d → (l k : ℕ) → slice_index_or machine.holders l None ≡ Some k → Holds run (j + 1) k l × ((n : ℕ) → Holds run (j + 1) n l → n ≡ k)
     same_held lockless l k e =
         let h = m.held l k e in (
-          Holds-keeps run j node d here k l (λ same r. lockless.releases_not l r) h.0,
+          Holds-kept run j node d here k l (λ same r. lockless.releases_not l r) h.0,
           λ n g. elim (Holds-before run j node d here n l g) [
             | inl acquired ↦ absurd (lockless.acquires_not l (Does-one_deed here acquired))
             | inr before ↦ h.1 n before
@@ -71,20 +71,25 @@ module _ (run : List Act) (j node : ℕ) (machine : Plain) (t : Thread) (at : th
 
     -- what the thread held it still holds
     same_locks : IsNoLock d → (l : ℕ) → holds t l ≡ true → Holds run (j + 1) node l
-    same_locks lockless l e = Holds-keeps run j node d here node l (λ same r. lockless.releases_not l r) (fits.held l e)
+    same_locks lockless l e = Holds-kept run j node d here node l (λ same r. lockless.releases_not l r) (fits.held l e)
 
-    -- a thread that goes on past an act that is neither of a lock nor of a barrier
-    stays_fit : IsNoLock d → (is_arrive d ≡ true → ⊥) → (is_depart d ≡ true → ⊥) → (after : Plain) (t' : Thread) → length after.memory ≡ length machine.memory → length after.holders ≡ length machine.holders → Stays t t' → ThreadFits run (j + 1) after node t'
-    stays_fit lockless no_arrive no_depart after t' words locks s = record {
-      words = ap (λ x. x.words) s.1.setting ∙ fits.words ∙ sym words;
-      locks = ap (λ x. x.locks) s.1.setting ∙ fits.locks ∙ sym locks;
+    -- a thread that goes on past an act that is not of a barrier, and holds these locks then
+    lock_fits : (locks : List Bool) (after : Plain) (t' : Thread) → (is_arrive d ≡ true → ⊥) → (is_depart d ≡ true → ⊥) → length after.memory ≡ length machine.memory → length after.holders ≡ length machine.holders → t.arrived ≡ false → Leads t t' locks false
+        → ((l : ℕ) → slice_index_or locks l false ≡ true → Holds run (j + 1) node l) → ThreadFits run (j + 1) after node t'
+    lock_fits locks after t' no_arrive no_depart words long free leads held = record {
+      words = ap (λ x. x.words) leads.setting ∙ fits.words ∙ sym words;
+      locks = ap (λ x. x.locks) leads.setting ∙ fits.locks ∙ sym long;
       paired =
-          let paired : IsPaired false (arrives_before run node j) (departs_before run node j) = subst (λ b. IsPaired b (arrives_before run node j) (departs_before run node j)) s.0 fits.paired in
+          let paired : IsPaired false (arrives_before run node j) (departs_before run node j) = subst (λ b. IsPaired b (arrives_before run node j) (departs_before run node j)) free fits.paired in
           let arrived = arrives-same run j node d here node (λ e x. no_arrive x) in
           let departed = departs-same run j node d here node (λ e x. no_depart x) in
-          subst (λ b. IsPaired b (arrives_before run node (j + 1)) (departs_before run node (j + 1))) (sym s.1.arrived) (arrived ∙ paired ∙ sym departed);
-      held = λ l e. same_locks lockless l (ap (λ hs. slice_index_or hs l false) (sym s.1.held) ∙ e);
+          subst (λ b. IsPaired b (arrives_before run node (j + 1)) (departs_before run node (j + 1))) (sym leads.arrived) (arrived ∙ paired ∙ sym departed);
+      held = λ l e. held l (ap (λ hs. slice_index_or hs l false) (sym leads.held) ∙ e);
     }
+
+    -- the same past an act that is not of a lock either
+    stays_fit : IsNoLock d → (is_arrive d ≡ true → ⊥) → (is_depart d ≡ true → ⊥) → (after : Plain) (t' : Thread) → length after.memory ≡ length machine.memory → length after.holders ≡ length machine.holders → Stays t t' → ThreadFits run (j + 1) after node t'
+    stays_fit lockless no_arrive no_depart after t' words locks s = lock_fits t.held after t' no_arrive no_depart words locks s.0 s.1 (same_locks lockless)
 
     -- an act that changes neither memory nor locks nor arrivals
     pub passes : IsNoLock d → ((w x : ℕ) → value_after w d x ≡ x) → (is_arrive d ≡ true → ⊥) → (t' : Option Thread) → ((t'' : Thread) → t' ≡ Some t'' → ThreadFits run (j + 1) (with_thread machine node t') node t'') → Matches run (j + 1) (with_thread machine node t')
@@ -128,20 +133,6 @@ module _ (run : List Act) (j node : ℕ) (machine : Plain) (t : Thread) (at : th
         threads = threads_after run j node (Write w v) here machine after (Some t') long refl refl in_range m thread;
       }
 
-  -- a thread that goes on past an acquire or a release
-  lock_fits : (d : Deed) (here : Does run j node d) (locks : List Bool) (after : Plain) (t' : Thread) → (is_arrive d ≡ true → ⊥) → (is_depart d ≡ true → ⊥) → length after.memory ≡ length machine.memory → length after.holders ≡ length machine.holders → t.arrived ≡ false → Leads t t' locks false
-      → ((l : ℕ) → slice_index_or locks l false ≡ true → Holds run (j + 1) node l) → ThreadFits run (j + 1) after node t'
-  lock_fits d here locks after t' no_arrive no_depart words long free leads held = record {
-    words = ap (λ x. x.words) leads.setting ∙ fits.words ∙ sym words;
-    locks = ap (λ x. x.locks) leads.setting ∙ fits.locks ∙ sym long;
-    paired =
-        let paired : IsPaired false (arrives_before run node j) (departs_before run node j) = subst (λ b. IsPaired b (arrives_before run node j) (departs_before run node j)) free fits.paired in
-        let arrived = arrives-same run j node d here node (λ e x. no_arrive x) in
-        let departed = departs-same run j node d here node (λ e x. no_depart x) in
-        subst (λ b. IsPaired b (arrives_before run node (j + 1)) (departs_before run node (j + 1))) (sym leads.arrived) (arrived ∙ paired ∙ sym departed);
-    held = λ l e. held l (ap (λ hs. slice_index_or hs l false) (sym leads.held) ∙ e);
-  }
-
   -- after an acquire of a free lock
   acquired : (l : ℕ) (t' : Thread) → l < t.setting.locks → t.arrived ≡ false → Leads t t' (slice_set t.held l true) false → slice_index_or machine.holders l None ≡ None → Does run j node (Acquire l)
       → Matches run (j + 1) (record (with_thread machine node (Some t')) { holders = slice_set machine.holders l (Some node) })
@@ -152,7 +143,7 @@ module _ (run : List Act) (j node : ℕ) (machine : Plain) (t : Thread) (at : th
       let now : slice_index_or (slice_set machine.holders l (Some node)) l None ≡ Some node = get_or-set_same machine.holders l (Some node) None in_holders in
       let others : (k : ℕ) → (k ≡ l → ⊥) → slice_index_or (slice_set machine.holders l (Some node)) k None ≡ slice_index_or machine.holders k None = λ k other. get_or-set_other machine.holders l k (Some node) None other in
       let same_lock : (n k : ℕ) → Does run j n (Acquire k) → (k ≡ l) × (n ≡ node) = λ n k a. let e : Acquire k ≡ Acquire l = Does-one_deed a here in (cc, Does-one_node a here) in
-      let keeps : (n k : ℕ) → Holds run j n k → Holds run (j + 1) n k = λ n k h. Holds-keeps run j node (Acquire l) here n k (λ e x. cc) h in
+      let keeps : (n k : ℕ) → Holds run j n k → Holds run (j + 1) n k = λ n k h. Holds-kept run j node (Acquire l) here n k (λ e x. cc) h in
       let free' : (k : ℕ) → slice_index_or (slice_set machine.holders l (Some node)) k None ≡ None → (n : ℕ) → Holds run (j + 1) n k → ⊥ = λ k e n h. elim (cases_eq k l) [
         | inl same ↦ let x : Some node ≡ None = sym now ∙ ap (λ i. slice_index_or (slice_set machine.holders l (Some node)) i None) (sym same) ∙ e in cc
         | inr other ↦ elim (Holds-before run j node (Acquire l) here n k h) [
@@ -203,7 +194,7 @@ module _ (run : List Act) (j node : ℕ) (machine : Plain) (t : Thread) (at : th
       let now : slice_index_or (slice_set machine.holders l None) l None ≡ None = get_or-set_same machine.holders l None None in_holders in
       let others : (k : ℕ) → (k ≡ l → ⊥) → slice_index_or (slice_set machine.holders l None) k None ≡ slice_index_or machine.holders k None = λ k other. get_or-set_other machine.holders l k None None other in
       let no_acquire : (n k : ℕ) → Does run j n (Acquire k) → ⊥ = λ n k a. let e : Acquire k ≡ Release l = Does-one_deed a here in cc in
-      let keeps : (n k : ℕ) → (k ≡ l → ⊥) → Holds run j n k → Holds run (j + 1) n k = λ n k other h. Holds-keeps run j node (Release l) here n k (λ same e. other (let e' : Release l ≡ Release k = e in cc)) h in
+      let keeps : (n k : ℕ) → (k ≡ l → ⊥) → Holds run j n k → Holds run (j + 1) n k = λ n k other h. Holds-kept run j node (Release l) here n k (λ same e. other (let e' : Release l ≡ Release k = e in cc)) h in
       let holder : (n : ℕ) → Holds run j n l → n ≡ node = λ n h. elim (holder_cases (slice_index_or machine.holders l None)) [
         | inl e ↦ absurd (m.free l e n h)
         | inr (p, e) ↦ (m.held l p e).1 n h ∙ sym ((m.held l p e).1 node (fits.held l holding))

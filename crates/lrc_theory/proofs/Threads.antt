@@ -1,12 +1,54 @@
--- What a thread keeps whatever it does: its setting, which locks it holds, and that it arrives before it departs.
-use Rattle.std.proofs.Common.{◌≡◌, ℕ, ◌<◌, List, [], ◌∷◌, Bool, true, false, ◌∙◌, refl}
+-- Which locks a thread holds after its next act, beside what every next act keeps.
+use Rattle.std.proofs.Common.{◌≡◌, ℕ, ◌<◌, List, [], ◌∷◌, Bool, true, false, ap, refl}
 use Rattle.std.specs.Prelude.{Option, Some, None, nat_lt, if◌then◌else◌, slice_set}
-use Rattle.std.proofs.lemmas.Bool.{ltb-true}
 use Rattle.lrc_lang.specs.declared.program.Statement.{Statement}
 use Rattle.lrc_lang.specs.declared.program.Statement.TheVariants.{Assign, Read, Write, Acquire, Release, Barrier, Print, If', While'}
-use Rattle.lrc_trace.specs.declared.act.Cause.{Cause}
-use Rattle.lrc_trace.specs.declared.act.Cause.TheVariants.{WordOutOfRange, LockHeld, LockNotHeld}
-use Rattle.lrc_exec.specs.Meaning.{Thread, Next, quiet, prints, reads, writes, acquires, releases, arrives, departs, traps, ends, value_in, or_trap, if_below, holds, then_does, then_holds, act_of, first_act, next_of}
+use Rattle.lrc_exec.specs.Meaning.{Thread, Next, quiet, prints, reads, writes, acquires, releases, arrives, departs, traps, ends, or_trap, value_in, holds, act_of, first_act, next_of}
+use Rattle.lrc_exec.proofs.NextLaws
+use Rattle.lrc_exec.proofs.NextLaws.{Keeps, next_of-fine}
+
+-- the thread after holds those that it held, but for the one that it gets or gives back
+abbrev pub HoldsOn : Thread → Next → Type 0
+HoldsOn t (quiet after) = after.held ≡ t.held
+HoldsOn t (prints v after) = after.held ≡ t.held
+HoldsOn t (reads w after) = (v : ℕ) → (after v).held ≡ t.held
+HoldsOn t (writes w v after) = after.held ≡ t.held
+HoldsOn t (acquires l after) = after.held ≡ slice_set t.held l true
+HoldsOn t (releases l after) = after.held ≡ slice_set t.held l false
+HoldsOn t (arrives after) = after.held ≡ t.held
+HoldsOn t (departs after) = after.held ≡ t.held
+HoldsOn t (traps c) = Unit {0}
+HoldsOn t ends = Unit {0}
+
+module _ (t : Thread) where
+  value_holds : (o : Option ℕ) (go : ℕ → Next) → ((v : ℕ) → HoldsOn t (go v)) → HoldsOn t (or_trap o go)
+  value_holds None go h = tt
+  value_holds (Some v) go h = h v
+
+  test_holds : (b : Bool) (one other : Next) → HoldsOn t one → HoldsOn t other → HoldsOn t (if b then one else other)
+  test_holds true one other h k = h
+  test_holds false one other h k = k
+
+  act_holds : (s : Statement) (rest : List Statement) → HoldsOn t (act_of t s rest)
+  act_holds (Assign name e) rest = value_holds (value_in t e) _ (λ v. refl)
+  act_holds (Read name e) rest = value_holds (value_in t e) _ (λ w. test_holds (nat_lt w t.setting.words) _ _ (λ v. refl) tt)
+  act_holds (Write word e) rest =
+      value_holds (value_in t word) _ (λ w. value_holds (value_in t e) _ (λ v.
+      test_holds (nat_lt w t.setting.words) _ _ refl tt))
+  act_holds (Acquire e) rest =
+      value_holds (value_in t e) _ (λ l.
+      test_holds (nat_lt l t.setting.locks) _ _ (test_holds (holds t l) _ _ tt refl) tt)
+  act_holds (Release e) rest =
+      value_holds (value_in t e) _ (λ l.
+      test_holds (nat_lt l t.setting.locks) _ _ (test_holds (holds t l) _ _ refl tt) tt)
+  act_holds Barrier rest = refl
+  act_holds (Print e) rest = value_holds (value_in t e) _ (λ v. refl)
+  act_holds (If' e p a q b) rest = value_holds (value_in t e) _ (λ v. refl)
+  act_holds (While' e p a) rest = value_holds (value_in t e) _ (λ v. refl)
+
+  first_holds : (rest : List Statement) → HoldsOn t (first_act t rest)
+  first_holds [] = tt
+  first_holds (s ∷ rest) = act_holds s rest
 
 -- the thread after has the same setting, holds these locks, and has arrived or not
 pub record Leads (before after : Thread) (locks : List Bool) (waits : Bool) : Type 0 where
@@ -18,7 +60,7 @@ pub record Leads (before after : Thread) (locks : List Bool) (waits : Bool) : Ty
 abbrev pub Stays : Thread → Thread → Type 0
 Stays t after = (t.arrived ≡ false) × Leads t after t.held false
 
--- what is known of the next act of a thread
+-- what every next act keeps and which locks are held after it, in one
 abbrev pub IsFine : Thread → Next → Type 0
 IsFine t (quiet after) = Stays t after
 IsFine t (prints v after) = Stays t after
@@ -31,68 +73,24 @@ IsFine t (departs after) = (t.arrived ≡ true) × Leads t after t.held false
 IsFine t (traps c) = Unit {0}
 IsFine t ends = Unit {0}
 
--- the same as a record, so that its arguments are found
-record Fine (t : Thread) (n : Next) : Type 0 where
-  is : IsFine t n
+leads : {t after : Thread} {locks : List Bool} → Keeps t after → after.held ≡ locks → Leads t after locks false
+leads k held = record { setting = k.setting; held = held; arrived = k.not_after }
 
-module _ (t : Thread) (free : t.arrived ≡ false) where
-  fine_value : (o : Option ℕ) (go : ℕ → Next) → ((v : ℕ) → Fine t (go v)) → Fine t (or_trap o go)
-  fine_value None go h = record { is = tt }
-  fine_value (Some v) go h = h v
+stays : {t after : Thread} → Keeps t after → after.held ≡ t.held → Stays t after
+stays k held = (k.not_before, leads k held)
 
-  fine_test : (b : Bool) (c : Cause) (next : Next) → (b ≡ true → Fine t next) → Fine t (if b then next else traps c)
-  fine_test true c next h = h refl
-  fine_test false c next h = record { is = tt }
-
-  fine_untest : (b : Bool) (c : Cause) (next : Next) → (b ≡ false → Fine t next) → Fine t (if b then traps c else next)
-  fine_untest true c next h = record { is = tt }
-  fine_untest false c next h = h refl
-
-  fine_below : (n limit : ℕ) (c : Cause) (next : Next) → (n < limit → Fine t next) → Fine t (if_below n limit c next)
-  fine_below n limit c next h = fine_test (nat_lt n limit) c next (λ e. h (ltb-true n limit e))
-
-  -- a thread that keeps its setting and its locks, and hasn't arrived
-  stays : (after : Thread) → after.setting ≡ t.setting → after.held ≡ t.held → after.arrived ≡ t.arrived → Stays t after
-  stays after s h a = (free, record { setting = s; held = h; arrived = a ∙ free })
-
-  quiet_fine : (after : Thread) → after.setting ≡ t.setting → after.held ≡ t.held → after.arrived ≡ t.arrived → Fine t (quiet after)
-  quiet_fine after s h a = record { is = stays after s h a }
-
-  prints_fine : (v : ℕ) (after : Thread) → after.setting ≡ t.setting → after.held ≡ t.held → after.arrived ≡ t.arrived → Fine t (prints v after)
-  prints_fine v after s h a = record { is = stays after s h a }
-
-  reads_fine : (w : ℕ) (after : ℕ → Thread) → w < t.setting.words → ((v : ℕ) → Stays t (after v)) → Fine t (reads w after)
-  reads_fine w after lt h = record { is = (lt, h) }
-
-  writes_fine : (w v : ℕ) (after : Thread) → w < t.setting.words → Stays t after → Fine t (writes w v after)
-  writes_fine w v after lt h = record { is = (lt, h) }
-
-  acquires_fine : (l : ℕ) (rest : List Statement) → l < t.setting.locks → holds t l ≡ false → Fine t (acquires l (then_holds t rest l true))
-  acquires_fine l rest lt h = record { is = (lt, h, free, record { setting = refl; held = refl; arrived = free }) }
-
-  releases_fine : (l : ℕ) (rest : List Statement) → l < t.setting.locks → holds t l ≡ true → Fine t (releases l (then_holds t rest l false))
-  releases_fine l rest lt h = record { is = (lt, h, free, record { setting = refl; held = refl; arrived = free }) }
-
-  -- each statement leads on as IsFine says
-  fine_act : (s : Statement) (rest : List Statement) → Fine t (act_of t s rest)
-  fine_act (Assign name value) rest = fine_value _ _ (λ v. quiet_fine _ refl refl refl)
-  fine_act (Read name word) rest = fine_value _ _ (λ w. fine_below w t.setting.words _ _ (λ lt. reads_fine w _ lt (λ v. stays _ refl refl refl)))
-  fine_act (Write word value) rest = fine_value (value_in t word) _ (λ w. fine_value (value_in t value) _ (λ v. fine_below w t.setting.words WordOutOfRange _ (λ lt. writes_fine w v (then_does t rest) lt (stays _ refl refl refl))))
-  fine_act (Acquire lock) rest = fine_value _ _ (λ l. fine_below l t.setting.locks _ _ (λ lt. fine_untest (holds t l) LockHeld _ (λ e. acquires_fine l rest lt e)))
-  fine_act (Release lock) rest = fine_value _ _ (λ l. fine_below l t.setting.locks _ _ (λ lt. fine_test (holds t l) LockNotHeld _ (λ e. releases_fine l rest lt e)))
-  fine_act Barrier rest = record { is = (free, record { setting = refl; held = refl; arrived = refl }) }
-  fine_act (Print value) rest = fine_value _ _ (λ v. prints_fine v _ refl refl refl)
-  fine_act (If' condition p first q second) rest = fine_value _ _ (λ v. quiet_fine _ refl refl refl)
-  fine_act (While' condition p body) rest = fine_value _ _ (λ v. quiet_fine _ refl refl refl)
-
-  fine_first : (rest : List Statement) → Fine t (first_act t rest)
-  fine_first [] = record { is = tt }
-  fine_first (s ∷ rest) = fine_act s rest
-
-fine_next : (t : Thread) (b : Bool) → t.arrived ≡ b → Fine t (if b then departs (record t { arrived = false }) else first_act t t.rest)
-fine_next t true e = record { is = (e, record { setting = refl; held = refl; arrived = refl }) }
-fine_next t false e = fine_first t e t.rest
+both : (t : Thread) (n : Next) → NextLaws.IsFine t n → HoldsOn t n → IsFine t n
+both t (quiet after) f h = stays f h
+both t (prints v after) f h = stays f h
+both t (reads w after) f h = (f.0, λ v. stays (f.1 v) (h v))
+both t (writes w v after) f h = (f.0, stays f.1 h)
+both t (acquires l after) f h = (f.0, f.1, f.2.not_before, leads f.2 h)
+both t (releases l after) f h = (f.0, f.1, f.2.not_before, leads f.2 h)
+both t (arrives after) f h = (f.1, record { setting = f.0; held = h; arrived = f.2 })
+both t (departs after) f h = (f.0, record { setting = ap (λ x. x.setting) f.1; held = h; arrived = ap (λ x. x.arrived) f.1 })
+both t (traps c) f h = tt
+both t ends f h = tt
 
 -- what a thread does next is as IsFine says
 pub fine : (t : Thread) → IsFine t (next_of t)
-fine t = (fine_next t t.arrived refl).is
+fine t = both t (next_of t) (next_of-fine t) (test_holds t t.arrived _ _ refl (first_holds t t.rest))

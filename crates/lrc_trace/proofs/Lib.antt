@@ -3,3 +3,5 @@ pub mod HappensBefore
 pub mod Conflicts
 pub mod Latest
 pub mod Intervals
+pub mod Decided
+pub mod Holding

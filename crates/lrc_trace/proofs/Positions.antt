@@ -1,8 +1,8 @@
 -- Positions of a run and of what it grows to.
-use Rattle.std.proofs.Common.{◌≡◌, ℕ, zero, suc, ◌<◌, ◌≤◌, List, [], ◌∷◌, ◌++◌, length, sym, ◌∙◌, ap, refl, arith}
+use Rattle.std.proofs.Common.{◌≡◌, ℕ, zero, suc, ◌<◌, ◌≤◌, List, [], ◌∷◌, ◌++◌, length, get_or, sym, subst, ◌∙◌, ap, refl, arith}
 use Rattle.std.specs.Prelude.{Some, slice_get}
 use Rattle.std.proofs.lemmas.List.{take-append-le}
-use Rattle.std.proofs.lemmas.Option.{slice_get_within, same_Some}
+use Rattle.std.proofs.lemmas.Option.{slice_get_within, slice_get-get_or, same_Some}
 use Rattle.lrc_trace.specs.declared.act.Act.{Act}
 use Rattle.lrc_trace.specs.declared.act.Deed.{Deed}
 use Rattle.lrc_trace.specs.Run.{Does, act_of, is_arrive, is_depart, count_of, arrives_before, departs_before}
@@ -21,6 +21,17 @@ slice_get-seam (x ∷ xs) y ys = slice_get-seam xs y ys
 -- a position where something is done lies in the run
 pub Does-within : {run : List Act} {i node : ℕ} {d : Deed} → Does run i node d → i < length run
 Does-within {run} {i} {node} {d} h = slice_get_within run i (act_of node d) h.stands
+
+-- the act that a program reads at a position is done there
+pub Does-read : (run : List Act) (i : ℕ) (d : Act) → i < length run → Does run i (get_or run i d).node (get_or run i d).deed
+Does-read run i d h = record { stands = slice_get-get_or run i d h }
+
+-- the node that does it, or what it does, by another name
+pub Does-node : {run : List Act} {i p q : ℕ} {deed : Deed} → p ≡ q → Does run i p deed → Does run i q deed
+Does-node {run} {i} {deed = deed} e h = subst (λ m. Does run i m deed) e h
+
+pub Does-deed : {run : List Act} {i p : ℕ} {a b : Deed} → a ≡ b → Does run i p a → Does run i p b
+Does-deed {run} {i} {p} e h = subst (λ (x : Deed). Does run i p x) e h
 
 -- one act stands at a position
 Does-one : {run : List Act} {i p q : ℕ} {a b : Deed} → Does run i p a → Does run i q b → act_of p a ≡ act_of q b

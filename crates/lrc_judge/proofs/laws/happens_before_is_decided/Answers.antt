@@ -1,4 +1,4 @@
-use Rattle.lrc_judge.proofs.Decided.{HappensBefore-decided}
+use Rattle.lrc_trace.proofs.Decided.{HappensBefore-decided}
 use Rattle.lrc_judge.proofs.laws.happens_before_is_decided.Goals as goal
 
 pub returns : goal.returns

@@ -1,10 +1,9 @@
 -- Each act's row is pushed, and at the end the rows say the order.
-use Rattle.std.proofs.Common.{◌≡◌, ℕ, length, get_or, sym, subst, arith}
+use Rattle.std.proofs.Common.{◌≡◌, length, subst, arith}
 use Rattle.lrc_trace.specs.declared.act.Act.{Act}
 use Rattle.lrc_trace.specs.declared.act.Deed.TheVariants.{Quiet}
-use Rattle.lrc_trace.proofs.Positions.{Does-one_node}
+use Rattle.lrc_trace.proofs.Positions.{Does-read, Does-one_node}
 use Rattle.lrc_judge.specs.declared.order.Order.{Order}
-use Rattle.lrc_judge.proofs.HandedOn.{Does-read}
 use Rattle.lrc_judge.proofs.Rows.{AreRows, AreRows-none, AreRows-push, order_of}
 use Rattle.lrc_judge.proofs.order.happens_before.Goals as goal
 

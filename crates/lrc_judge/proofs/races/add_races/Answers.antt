@@ -1,5 +1,5 @@
 -- One segment more, and all of them.
-use Rattle.std.proofs.Common.{◌≡◌, ◌≤◌, length, arith}
+use Rattle.std.proofs.Common.{arith}
 use Rattle.lrc_judge.proofs.Naming.{AddsRaces-none, AddsRaces-all, AddsRaces-same, AddsRaces-more}
 use Rattle.lrc_judge.proofs.races.add_races.Goals as goal
 use Rattle.lrc_judge.proofs.races.add_races.Goals.{in-Some+in_ok-push, in_default}

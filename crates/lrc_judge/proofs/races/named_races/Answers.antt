@@ -1,6 +1,5 @@
 -- The races of the segments are those that the run names, and stay so when they are sorted and each is kept once.
-use Rattle.std.proofs.Common.{◌≡◌, List, subst}
-use Rattle.std.specs.Prelude.{Contains}
+use Rattle.std.proofs.Common.{subst}
 use Rattle.std.proofs.lemmas.List.Filters.{dedup_is}
 use Rattle.lrc_judge.specs.Races.{AreRacesAmong}
 use Rattle.lrc_judge.proofs.Naming.{among-named, named-among}

@@ -1,5 +1,5 @@
 -- A clash that was found makes a race.
-use Rattle.std.proofs.Common.{◌≡◌, refl, sym}
+use Rattle.std.proofs.Common.{refl, sym}
 use Rattle.lrc_judge.proofs.Naming.{clashing}
 use Rattle.lrc_judge.proofs.races.race_of.Goals as goal
 

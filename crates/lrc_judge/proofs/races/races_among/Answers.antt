@@ -1,5 +1,5 @@
 -- One segment more, and all of them.
-use Rattle.std.proofs.Common.{◌≤◌, length, arith}
+use Rattle.std.proofs.Common.{arith}
 use Rattle.lrc_judge.proofs.Naming.{HasRaces-none, HasRaces-more, HasRaces-all}
 use Rattle.lrc_judge.proofs.races.races_among.Goals as goal
 

@@ -1,12 +1,10 @@
 -- One position more, and the whole run.
-use Rattle.std.proofs.Common.{◌≡◌, ℕ, ◌+◌, ◌<◌, inl, inr, length, get_or, refl, sym, subst, arith}
+use Rattle.std.proofs.Common.{◌≡◌, inl, inr, refl, subst, arith}
 use Rattle.std.proofs.lemmas.Bool.{cases_eq, false≢true}
 use Rattle.lrc_trace.specs.declared.act.Act.{Act}
 use Rattle.lrc_trace.specs.declared.act.Deed.TheVariants.{Quiet, Read}
 use Rattle.lrc_trace.specs.Run.{IsDone}
-use Rattle.lrc_trace.specs.Reading.{MayRead}
-use Rattle.lrc_trace.proofs.Positions.{Does-one_deed, Does-within}
-use Rattle.lrc_judge.proofs.HandedOn.{Does-read, Does-deed}
+use Rattle.lrc_trace.proofs.Positions.{Does-read, Does-deed, Does-one_deed, Does-within}
 use Rattle.lrc_judge.proofs.reading.first_fault_of_reading.Goals as goal
 
 pub loop-position-preserved-in_default : goal.loop-position-preserved-in_default

@@ -2,7 +2,6 @@ use Rattle.std.proofs.Common.{ℕ, ◌<◌}
 use Rattle.lrc_trace.specs.declared.act.Deed.TheVariants.{Read}
 use Rattle.lrc_trace.specs.Run.{IsDone}
 use Rattle.lrc_trace.specs.Reading.{MayRead}
-use Rattle.lrc_judge.specs.Order.{IsOrderOf}
 use Rattle.lrc_judge.proofs.reading.first_fault_of_reading.Given as goal
 
 -- the reads so far give what they may give

@@ -1,9 +1,6 @@
 -- The access goes into the segment of its place, or into a new one.
-use Rattle.std.proofs.Common.{◌≡◌, ℕ, ◌<◌, ◌++◌, ◌∷◌, [], inl, inr, length, get_or, refl, sym, subst, ◌∙◌, ap}
-use Rattle.std.specs.Prelude.{Contains}
-use Rattle.lrc_judge.specs.declared.segments.Access.{Access}
+use Rattle.std.proofs.Common.{◌≡◌, ◌<◌, ◌++◌, ◌∷◌, [], length, get_or, refl, sym, ◌∙◌, ap}
 use Rattle.lrc_judge.specs.declared.segments.Segment.{Segment}
-use Rattle.lrc_judge.specs.Segments.{IsKept}
 use Rattle.lrc_judge.proofs.Keeping.{Contains-pushed, IsKept-new, IsKept-set}
 use Rattle.lrc_judge.proofs.segments.add.Goals as goal
 

@@ -1,5 +1,5 @@
 -- One position more is unbroken, and at the end all are.
-use Rattle.std.proofs.Common.{◌≡◌, ℕ, ◌+◌, ◌<◌, inl, inr, length, sym, subst, arith}
+use Rattle.std.proofs.Common.{inl, inr, subst, arith}
 use Rattle.std.proofs.lemmas.Bool.{cases_eq}
 use Rattle.lrc_judge.specs.Synchronization.{Breaks}
 use Rattle.lrc_judge.proofs.Breaking.{no_break, Breaks-within}

@@ -1,10 +1,11 @@
 -- Each arm hands on what the definition of the base order asks for.
-use Rattle.std.proofs.Common.{◌≡◌, ℕ, ◌<◌, ◌≤◌, length, get_or, sym, arith, subst, ◌∙◌, refl}
+use Rattle.std.proofs.Common.{◌≡◌, ◌<◌, length, get_or, sym, arith, subst}
 use Rattle.lrc_trace.specs.declared.act.Act.{Act}
 use Rattle.lrc_trace.specs.declared.act.Deed.TheVariants.{Quiet}
-use Rattle.lrc_trace.specs.Run.{Does, arrives_before, departs_before}
+use Rattle.lrc_trace.specs.Run.{Does, departs_before}
+use Rattle.lrc_trace.proofs.Positions.{Does-read, Does-node}
 use Rattle.lrc_judge.specs.Past.{Gathers, Acted, Released, Arrived}
-use Rattle.lrc_judge.proofs.HandedOn.{Does-read, Does-node, handed_to_others, handed_to_acquire, handed_to_depart, handed_to_lone_depart}
+use Rattle.lrc_judge.proofs.HandedOn.{handed_to_others, handed_to_acquire, handed_to_depart, handed_to_lone_depart}
 use Rattle.lrc_judge.proofs.past.Past.handed_to.Goals as goal
 use Rattle.lrc_judge.proofs.past.Past.handed_to.Goals.{After-index-self-node}
 

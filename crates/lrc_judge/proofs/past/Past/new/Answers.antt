@@ -1,13 +1,13 @@
 -- Before any act every table is empty.
-use Rattle.std.proofs.Common.{◌≡◌, ℕ, ◌<◌, ◌≤◌, zero, suc, length, get_or, List, [], replicate, refl, sym, arith, ap, ◌∙◌}
+use Rattle.std.proofs.Common.{◌≡◌, ℕ, ◌<◌, zero, suc, length, get_or, List, [], replicate, refl, arith, ap, ◌∙◌}
 use Rattle.std.proofs.lemmas.List.{length-replicate, get_or-replicate}
 use Rattle.lrc_trace.specs.declared.act.Act.{Act}
 use Rattle.lrc_trace.specs.declared.act.Deed.{Deed}
 use Rattle.lrc_trace.specs.declared.act.Deed.TheVariants.{Release}
-use Rattle.lrc_trace.specs.Run.{Does, IsDone, arrives_before, departs_before}
+use Rattle.lrc_trace.specs.Run.{Does, IsDone}
 use Rattle.lrc_judge.specs.declared.reach.Reach.{Reach}
 use Rattle.lrc_judge.specs.declared.past.Past.{Past}
-use Rattle.lrc_judge.specs.Past.{Gathers, EachGathers, IsPast}
+use Rattle.lrc_judge.specs.Past.{EachGathers, IsPast}
 use Rattle.lrc_judge.proofs.Gathering.{Gathers-none}
 use Rattle.lrc_judge.proofs.past.Past.new.Goals as goal
 

@@ -1,14 +1,13 @@
 -- Each arm keeps what the definition of the past says, one position further.
-use Rattle.std.proofs.Common.{◌≡◌, ◌≢◌, ℕ, ◌+◌, ◌<◌, ◌≤◌, List, length, get_or, set, max, sym, arith, subst, ◌∙◌, refl, ap, length-set}
-use Rattle.std.specs.Prelude.{Bool, true, false}
+use Rattle.std.proofs.Common.{◌≡◌, ℕ, ◌+◌, ◌<◌, ◌≤◌, List, length, get_or, set, max, sym, arith, ◌∙◌, ap, length-set}
+use Rattle.std.specs.Prelude.{true, false}
 use Rattle.std.proofs.lemmas.List.{length_push, get_or_default}
 use Rattle.lrc_trace.specs.declared.act.Act.{Act}
-use Rattle.lrc_trace.specs.declared.act.Deed.{Deed}
-use Rattle.lrc_trace.specs.declared.act.Deed.TheVariants.{Quiet, Release, Arrive, Depart}
+use Rattle.lrc_trace.specs.declared.act.Deed.TheVariants.{Quiet, Release, Arrive}
 use Rattle.lrc_trace.specs.Run.{Does, is_arrive, is_depart, arrives_before, departs_before}
+use Rattle.lrc_trace.proofs.Positions.{Does-read, Does-node}
 use Rattle.lrc_judge.specs.declared.reach.Reach.{Reach}
-use Rattle.lrc_judge.specs.Past.{Gathers, EachGathers, Acted, Released, Arrived}
-use Rattle.lrc_judge.proofs.HandedOn.{Does-read, Does-node}
+use Rattle.lrc_judge.specs.Past.{EachGathers, Acted, Released, Arrived}
 use Rattle.lrc_judge.proofs.NextPast.{acted_next, released_next, released_same, arrived_next, arrived_push, arrived_same, bound_same, bound_next, counts_same, counts_next, no_arrive, no_depart}
 use Rattle.lrc_judge.proofs.past.Past.note.Goals as goal
 use Rattle.lrc_judge.proofs.past.Past.note.Goals.{After-from-node}

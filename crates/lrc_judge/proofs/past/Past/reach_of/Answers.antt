@@ -2,8 +2,8 @@
 use Rattle.std.proofs.Common.{sym, arith, refl}
 use Rattle.lrc_trace.specs.declared.act.Act.{Act}
 use Rattle.lrc_trace.specs.declared.act.Deed.TheVariants.{Quiet}
+use Rattle.lrc_trace.proofs.Positions.{Does-read, Does-node}
 use Rattle.lrc_judge.proofs.Gathering.{Gathers-here}
-use Rattle.lrc_judge.proofs.HandedOn.{Does-read, Does-node}
 use Rattle.lrc_judge.proofs.past.Past.reach_of.Goals as goal
 
 pub returns : goal.returns

@@ -1,12 +1,12 @@
 -- Each arm keeps what the definition of the log says, one position further.
-use Rattle.std.proofs.Common.{◌≡◌, ℕ, ◌+◌, ◌<◌, inl, inr, length, get_or, set, refl, sym, ◌∙◌, ap, arith}
-use Rattle.std.specs.Prelude.{Bool, true, false}
+use Rattle.std.proofs.Common.{◌≡◌, ℕ, ◌+◌, ◌<◌, inl, inr, length, get_or, sym, ◌∙◌, ap, arith}
+use Rattle.std.specs.Prelude.{true, false}
 use Rattle.std.proofs.lemmas.Bool.{false≢true}
 use Rattle.lrc_trace.specs.declared.act.Act.{Act}
 use Rattle.lrc_trace.specs.declared.act.Deed.TheVariants.{Quiet}
 use Rattle.lrc_trace.specs.Run.{Does}
 use Rattle.lrc_trace.specs.Interval.{closes, interval_at}
-use Rattle.lrc_judge.proofs.HandedOn.{Does-read, Does-node, Does-deed}
+use Rattle.lrc_trace.proofs.Positions.{Does-read, Does-node, Does-deed}
 use Rattle.lrc_judge.proofs.Keeping.{AreSegments-same, AreSegments-more, intervals_same, intervals_next, no_close}
 use Rattle.lrc_judge.proofs.segments.Log.note.Goals as goal
 use Rattle.lrc_judge.proofs.segments.Log.note.Goals.{After-from}

@@ -1,10 +1,10 @@
 -- Each arm decides its clause by what the tables say.
-use Rattle.std.proofs.Common.{◌≡◌, ℕ, ◌<◌, ◌≤◌, length, get_or, take, refl, sym, ◌∙◌, ap, arith}
+use Rattle.std.proofs.Common.{◌≡◌, ◌<◌, ◌≤◌, length, get_or, take, refl, sym, ◌∙◌, ap, arith}
 use Rattle.std.proofs.lemmas.List.{get_or-take, length-take-le}
 use Rattle.lrc_trace.specs.declared.act.Act.{Act}
 use Rattle.lrc_trace.specs.declared.act.Deed.TheVariants.{Quiet, Acquire, Release}
 use Rattle.lrc_trace.specs.Run.{departs_before}
-use Rattle.lrc_judge.proofs.HandedOn.{Does-read}
+use Rattle.lrc_trace.proofs.Positions.{Does-read}
 use Rattle.lrc_judge.proofs.Breaking.{decides_acquire, decides_release, decides_depart, others_go_on}
 use Rattle.lrc_judge.proofs.synchronization.Standing.allows.Goals as goal
 

@@ -1,12 +1,12 @@
 -- Before any act nobody holds a lock, and every count is 0.
-use Rattle.std.proofs.Common.{◌≡◌, ℕ, ◌<◌, zero, suc, length, get_or, List, replicate, refl, ap, ◌∙◌, arith}
-use Rattle.std.specs.Prelude.{Option, Some, None}
+use Rattle.std.proofs.Common.{◌≡◌, ℕ, zero, suc, length, get_or, List, replicate, refl, ap, ◌∙◌, arith}
+use Rattle.std.specs.Prelude.{Option, None}
 use Rattle.std.proofs.lemmas.List.{length-replicate, get_or-replicate}
 use Rattle.std.proofs.lemmas.Option.{none-some}
 use Rattle.lrc_trace.specs.declared.act.Act.{Act}
+use Rattle.lrc_trace.proofs.Holding.{Holds-start}
 use Rattle.lrc_judge.specs.declared.synchronization.Standing.{Standing}
 use Rattle.lrc_judge.specs.Standing.{IsStanding}
-use Rattle.lrc_judge.proofs.Locks.{Holds-start}
 use Rattle.lrc_judge.proofs.synchronization.Standing.new.Goals as goal
 
 get_or-zeros : (n p : ℕ) → get_or {A = ℕ} (replicate n 0) p 0 ≡ 0

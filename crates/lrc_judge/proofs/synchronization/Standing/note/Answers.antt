@@ -1,13 +1,12 @@
 -- Each arm keeps what the definition of the standing says, one position further.
-use Rattle.std.proofs.Common.{◌≡◌, ℕ, ◌+◌, ◌<◌, ◌≤◌, inl, inr, length, get_or, set, refl, sym, ◌∙◌, ap, arith}
-use Rattle.std.specs.Prelude.{Bool, true, false}
+use Rattle.std.proofs.Common.{◌≡◌, ℕ, ◌+◌, ◌<◌, inl, inr, length, get_or, sym, ◌∙◌, ap, arith}
+use Rattle.std.specs.Prelude.{false}
 use Rattle.lrc_trace.specs.declared.act.Act.{Act}
-use Rattle.lrc_trace.specs.declared.act.Deed.{Deed}
-use Rattle.lrc_trace.specs.declared.act.Deed.TheVariants.{Quiet, Acquire, Release, Arrive, Depart}
+use Rattle.lrc_trace.specs.declared.act.Deed.TheVariants.{Quiet, Acquire, Release}
 use Rattle.lrc_trace.specs.Run.{Does, is_arrive, is_depart, arrives_before, departs_before}
 use Rattle.lrc_trace.specs.Synchronization.{Holds}
-use Rattle.lrc_judge.specs.Synchronization.{Breaks, acquire, release}
-use Rattle.lrc_judge.proofs.HandedOn.{Does-read, Does-node, Does-deed}
+use Rattle.lrc_trace.proofs.Positions.{Does-read, Does-node, Does-deed}
+use Rattle.lrc_judge.specs.Synchronization.{acquire, release}
 use Rattle.lrc_judge.proofs.NextPast.{counts_same, counts_next, no_arrive, no_depart}
 use Rattle.lrc_judge.proofs.Locks.{AreHolders, held, holders_same, holders_acquire, holders_release}
 use Rattle.lrc_judge.proofs.synchronization.Standing.note.Goals as goal
