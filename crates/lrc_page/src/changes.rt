@@ -1,8 +1,8 @@
-ghost use Rattle.std.specs.Prelude.{◌≡◌, ◌<◌, ◌↔◌, IsTrue, IfOk, OnOk, OnErr, [], ◌∷◌, ◌++◌, length, slice_get};
+ghost use Rattle.std.specs.Prelude.{◌≡◌, ◌<◌, ◌↔◌, All, IsTrue, IfOk, OnOk, OnErr, [], ◌∷◌, ◌++◌, length, slice_get};
 ghost use Rattle.std.specs.Option.{ForSome};
 ghost use Rattle.std.specs.Cmp.{partial_equiv_from_equiv};
 ghost use Rattle.std.specs.Cmp.Lexicographic.{pointwise};
-ghost use Rattle.lrc_page.specs.Changes.{same_change, same_changes_equiv, last_change, applied, changes_between};
+ghost use Rattle.lrc_page.specs.Changes.{IsAscending, same_change, same_changes_equiv, last_change, applied, changes_between};
 
 use crate::{PAGE_WORDS, Page};
 use std::alloc::{AllocError, Global};
@@ -98,9 +98,11 @@ impl Changes {
         }
     }
 
-    /// How many changes there are.
+    /// How many changes there are. Each is of another word of the page, so they are at most `PAGE_WORDS`.
     pub fn len(&self) -> usize
-        ensures { result ≡ length self.now }
+        ensures count { result ≡ length self.now }
+        ensures ascending { IsAscending self.now }
+        ensures in_range { All (λ c. c.offset < PAGE_WORDS) self.now }
     {
         self.list.len()
     }
