@@ -1,0 +1,1 @@
+// The machine of a node, and the plain machine.

@@ -1,0 +1,1 @@
+// Texts and the programs that they are.

@@ -1,0 +1,1 @@
+// The definitions on runs, computed.
