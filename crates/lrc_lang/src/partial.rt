@@ -16,7 +16,7 @@ use std::alloc::{AllocError, Global};
 use std::mem;
 
 /// What an operator joins.
-#[derive(Clone, Copy, Debug)]
+#[derive(Clone, Copy)]
 enum Joins {
     /// Two factors, to a term.
     Factors,
@@ -27,14 +27,14 @@ enum Joins {
 }
 
 /// A left side, and the operator behind it.
-#[derive(Debug, Drop)]
+#[derive(Drop)]
 pub struct Pending {
     left: Expression,
     operator: Operator,
 }
 
 /// What waits for its right side, outside of all parentheses or inside of one.
-#[derive(Debug, Drop)]
+#[derive(Drop)]
 pub struct Level {
     /// A sum that is compared.
     compared: Option<Pending>,
@@ -45,7 +45,7 @@ pub struct Level {
 }
 
 /// An expression of which some symbols have come.
-#[derive(Debug, Drop)]
+#[derive(Drop)]
 pub struct Partial {
     /// What waits around each open parenthesis, outermost first.
     outer: Vec<Level>,
@@ -178,6 +178,13 @@ impl Partial {
             level: Level::nothing(),
             operand: None,
         }
+    }
+
+    /// Nothing has come from now on.
+    pub fn clear(&mut self, alloc: Global)
+        ensures { partial_seen self.new ≡ nothing }
+    {
+        *self = Partial::nothing(alloc);
     }
 
     /// Takes one more symbol, if it can stand here.
