@@ -1,0 +1,5 @@
+pub mod Passing
+pub mod Lasting
+pub mod Rules
+pub mod Counting
+pub mod Covering

@@ -1,0 +1,26 @@
+-- Which intervals happen before a position.
+use Rattle.std.specs.Prelude.{◌≡◌, ℕ, ◌<◌, true, List}
+use Rattle.lrc_trace.specs.declared.act.Act.{Act}
+use Rattle.lrc_trace.specs.declared.act.Deed.{Deed}
+use Rattle.lrc_trace.specs.Run.{Does}
+use Rattle.lrc_trace.specs.Order.{HappensBefore, Reaches}
+use Rattle.lrc_trace.specs.Interval.{closes, interval_at}
+
+-- at position i the node closes its interval with this index, by an acquire, a release or an arrive
+pub record ClosesAt (run : List Act) (node index i : ℕ) : Type 0 where
+  pub deed : Deed
+  pub does : Does run i node deed
+  pub closing : closes deed ≡ true
+  pub interval : interval_at run node i ≡ index
+
+-- the interval was closed, at position j or where it happens before j
+abbrev pub IsClosedBy : List Act → ℕ → ℕ → ℕ → Type 0
+IsClosedBy run node index j = (i : ℕ) × ClosesAt run node index i × Reaches run i j
+
+-- the interval was closed at a position of another node's, or where it happens before one, before position j
+pub record IsClosedBefore (run : List Act) (node index other j : ℕ) : Type 0 where
+  pub last : ℕ
+  pub earlier : last < j
+  pub deed : Deed
+  pub acts : Does run last other deed
+  pub closed : IsClosedBy run node index last

@@ -1,0 +1,4 @@
+pub mod Times
+pub mod Keeping
+pub mod Cover
+pub mod Laws
