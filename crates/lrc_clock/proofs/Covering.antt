@@ -32,20 +32,20 @@ module _ {nodes : ℕ} {run : List Act} {times : List (List ℕ)} (keeps : Keeps
         | inl holds ↦
             let (e, does) = acts_at-act run j node holds in
             subst (λ t. Covers t (time_at times i)) (sym (cond-true (acts_at run node j) (time_at times j) (time_before nodes run times node j) holds)) (
-              elim (cases_eq i j) [
-                | inl same ↦ subst (λ k. Covers (time_at times j) (time_at times k)) (sym same) (covers-refl (time_at times j))
-                | inr other ↦
-                    covers-trans (time_at times j) (time_before nodes run times node j) (time_at times i)
-                    (at-covers_before keeps j node e does)
-                    (earlier (omega arith))
-              ]
+            elim (cases_eq i j) [
+              | inl same ↦ subst (λ k. Covers (time_at times j) (time_at times k)) (sym same) (covers-refl (time_at times j))
+              | inr other ↦
+                  covers-trans (time_at times j) (time_before nodes run times node j) (time_at times i)
+                  (at-covers_before keeps j node e does)
+                  (earlier (omega arith))
+            ]
             )
         | inr fails ↦
             subst (λ t. Covers t (time_at times i)) (sym (cond-false (acts_at run node j) (time_at times j) (time_before nodes run times node j) fails)) (
-              elim (cases_eq i j) [
-                | inl same ↦ absurd (both_ways (acts_at run node j) fails (acts_at-true run j node d (subst (λ k. Does run k node d) same h)))
-                | inr other ↦ earlier (omega arith)
-              ]
+            elim (cases_eq i j) [
+              | inl same ↦ absurd (both_ways (acts_at run node j) fails (acts_at-true run j node d (subst (λ k. Does run k node d) same h)))
+              | inr other ↦ earlier (omega arith)
+            ]
             )
       ]
 
@@ -112,9 +112,9 @@ module _ {nodes : ℕ} {run : List Act} {times : List (List ℕ)} (keeps : Keeps
         last-stays nodes (releases_at run l) times since j (omega arith) (λ k least most holds.
         let (p, does) = releases_at-act run k l holds in holder_alone ws j q l held k p least most does) in
         subst (λ t. Covers (time_at times j) t) (sym same) (
-          covers-trans (time_at times j) (time_at times since) (released_time nodes run times l since)
-          (program-covers since j q (Acquire l) (Release l) lt held.acquired h)
-          (acquire-covers since q l held.acquired)
+        covers-trans (time_at times j) (time_at times since) (released_time nodes run times l since)
+        (program-covers since j q (Acquire l) (Release l) lt held.acquired h)
+        (acquire-covers since q l held.acquired)
         )
 
     pub released-covers : (i j p l : ℕ) → i < j → Does run i p (Release l) → Covers (released_time nodes run times l j) (time_at times i)
@@ -125,20 +125,20 @@ module _ {nodes : ℕ} {run : List Act} {times : List (List ℕ)} (keeps : Keeps
           | inl holds ↦
               let (q, does) = releases_at-act run j l holds in
               subst (λ t. Covers t (time_at times i)) (sym (cond-true (releases_at run l j) (time_at times j) (released_time nodes run times l j) holds)) (
-                elim (cases_eq i j) [
-                  | inl same ↦ subst (λ k. Covers (time_at times j) (time_at times k)) (sym same) (covers-refl (time_at times j))
-                  | inr other ↦
-                      covers-trans (time_at times j) (released_time nodes run times l j) (time_at times i)
-                      (release-covers j q l does)
-                      (earlier (omega arith))
-                ]
+              elim (cases_eq i j) [
+                | inl same ↦ subst (λ k. Covers (time_at times j) (time_at times k)) (sym same) (covers-refl (time_at times j))
+                | inr other ↦
+                    covers-trans (time_at times j) (released_time nodes run times l j) (time_at times i)
+                    (release-covers j q l does)
+                    (earlier (omega arith))
+              ]
               )
           | inr fails ↦
               subst (λ t. Covers t (time_at times i)) (sym (cond-false (releases_at run l j) (time_at times j) (released_time nodes run times l j) fails)) (
-                elim (cases_eq i j) [
-                  | inl same ↦ absurd (both_ways (releases_at run l j) fails (releases_at-true run j p l (subst (λ k. Does run k p (Release l)) same h)))
-                  | inr other ↦ earlier (omega arith)
-                ]
+              elim (cases_eq i j) [
+                | inl same ↦ absurd (both_ways (releases_at run l j) fails (releases_at-true run j p l (subst (λ k. Does run k p (Release l)) same h)))
+                | inr other ↦ earlier (omega arith)
+              ]
               )
         ]
 

@@ -3,3 +3,7 @@ pub mod Lasting
 pub mod Rules
 pub mod Counting
 pub mod Covering
+pub mod Ordering
+pub mod Stamps
+pub mod Learning
+pub mod Intervals

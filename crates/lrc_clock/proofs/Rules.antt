@@ -96,18 +96,18 @@ module _ {nodes : ℕ} {run : List Act} {times : List (List ℕ)} (keeps : Keeps
         | raising c e ↦ subst (λ t. P (entry t q)) (sym e) (closing c)
         | learning l is e ↦
             subst (λ t. P (entry t q)) (sym e) (
-              joined-entry P (stamp_at nodes run times node j) (released_time nodes run times l j) q (closing (ap closes is)) (
-                last-entry nodes (releases_at run l) times P q j none (λ i lt holds.
-                let (p, does) = releases_at-act run i l holds in some i (lock lt does (Does-deed is h)))
-              )
+            joined-entry P (stamp_at nodes run times node j) (released_time nodes run times l j) q (closing (ap closes is)) (
+            last-entry nodes (releases_at run l) times P q j none (λ i lt holds.
+            let (p, does) = releases_at-act run i l holds in some i (lock lt does (Does-deed is h)))
+            )
             )
         | meeting is e ↦
             let number = departs_before run node j in
             subst (λ t. P (entry t q)) (sym e) (
-              joined-entry P (time_before nodes run times node j) (arrived_time nodes run times number j) q before (
-                join-entry nodes (arrives_at run number) times P q j none (λ i lt holds.
-                let (p, does, same) = arrives_at-act run i number holds in some i (barrier lt does (Does-deed is h) same))
-              )
+            joined-entry P (time_before nodes run times node j) (arrived_time nodes run times number j) q before (
+            join-entry nodes (arrives_at run number) times P q j none (λ i lt holds.
+            let (p, does, same) = arrives_at-act run i number holds in some i (barrier lt does (Does-deed is h) same))
+            )
             )
       ]
 

@@ -1,7 +1,7 @@
 -- Intervals never fall, and rise exactly at an acquire, a release or an arrive.
 use Rattle.std.proofs.Common.{◌≡◌, ℕ, zero, suc, ◌+◌, ◌<◌, ◌≤◌, List, Bool, true, false, ◌&&◌, inl, inr, length, get_or, take, sym, subst, ◌∙◌, ap, refl, arith, eq-eqb, add-zero, ◌∷◌, [], ◌-◌, cond}
 use Rattle.std.specs.Prelude.{IsTrue, ◌==◌, ◌↔◌}
-use Rattle.std.proofs.lemmas.Bool.{cases_Bool, and_parts, and_from, eqb-true}
+use Rattle.std.proofs.lemmas.Bool.{cases_Bool, cases_eq, cases_lt, both_ways, and_parts, and_from, eqb-true}
 use Rattle.std.proofs.lemmas.List.{take-take}
 use Rattle.std.proofs.lemmas.List.Sums.{sum_by-take-le, count_by_more_yes, count_by_more_no}
 use Rattle.std.proofs.lemmas.Option.{get_or_from_slice_get}
@@ -78,3 +78,34 @@ pub same_interval : (run : List Act) (node i j v w : ℕ) → i < j → Accesses
 same_interval run node i j v w lt a b =
     let in_run = Accesses-within b in
     (same_then_none run node i j, none_then_same run node i j lt (omega arith))
+
+-- An interval that the node has reached before b and not before a was closed between: at a position of the node's that is
+-- a closing act with just this interval.
+pub closed_between : (run : List Act) (node a n index : ℕ) → a + n ≤ length run → interval_at run node a ≤ index → index < interval_at run node (a + n) → (i : ℕ) × (a ≤ i) × (i < a + n) × ((d : Deed) × Does run i node d × (closes d ≡ true) × (interval_at run node i ≡ index))
+closed_between run node a zero index within from to =
+    let e : interval_at run node (a + zero) ≡ interval_at run node a = ap (λ k. interval_at run node k) (add-zero a) in absurd (omega arith)
+closed_between run node a (suc n) index within from to =
+    let step : a + suc n ≡ a + n + 1 = omega arith in
+    let to' : index < interval_at run node (a + n + 1) = subst (λ k. index < interval_at run node k) step to in
+    elim (cases_lt index (interval_at run node (a + n))) [
+      | inl below ↦
+          let (i, least, most, found) = closed_between run node a n index (omega arith) from below in
+          (i, least, omega arith, found)
+      | inr reached ↦
+          let (act, does) = act_at run (a + n) (omega arith) in
+          elim (cases_eq act.node node) [
+            | inr other ↦
+                let same = count_of-same closes run node (a + n) act.node act.deed does (λ e k. other e) in
+                absurd (omega arith)
+            | inl own ↦
+                let does' : Does run (a + n) node act.deed = subst (λ m. Does run (a + n) m act.deed) own does in
+                elim (cases_Bool (closes act.deed)) [
+                  | inl closing ↦
+                      let more = count_of-more closes run node (a + n) act.deed does' closing in
+                      (a + n, omega arith, omega arith, (act.deed, does', closing, omega arith))
+                  | inr goes_on ↦
+                      let same = count_of-same closes run node (a + n) node act.deed does' (λ e. both_ways (closes act.deed) goes_on) in
+                      absurd (omega arith)
+                ]
+          ]
+    ]
