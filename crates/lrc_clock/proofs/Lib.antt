@@ -7,3 +7,5 @@ pub mod Ordering
 pub mod Stamps
 pub mod Learning
 pub mod Intervals
+pub mod Epochs
+pub mod Racing

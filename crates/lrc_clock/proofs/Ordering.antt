@@ -53,14 +53,12 @@ module _ (run : List Act) where
       ]
 
   -- where a closing act of the node stands from i on, i's interval is closed there or before
-  closer_from : (i m node : ℕ) (e : Deed) → i ≤ m → Does run m node e → closes e ≡ true → (c : ℕ) × (i ≤ c) × (c ≤ m) × ClosesAt run node (interval_at run node i) c
+  pub closer_from : (i m node : ℕ) (e : Deed) → i ≤ m → Does run m node e → closes e ≡ true → (c : ℕ) × (i ≤ c) × (c ≤ m) × ClosesAt run node (interval_at run node i) c
   closer_from i m node e le h closing =
       let within = Does-within h in
-      let long : i + (m + 1 - i) ≡ m + 1 = omega arith in
       let more = count_of-more closes run node m e h closing in
       let rise = never_fall run node i m le in
-      let later : interval_at run node i < interval_at run node (i + (m + 1 - i)) = subst (λ k. interval_at run node i < interval_at run node k) (sym long) (omega arith) in
-      let (c, least, most, (d, does, ends, index)) = closed_between run node i (m + 1 - i) (interval_at run node i) (omega arith) (omega arith) later in
+      let (c, least, most, (d, does, ends, index)) = closed_between run node i (m + 1) (interval_at run node i) (omega arith) (omega arith) (omega arith) (omega arith) in
       (c, least, omega arith, record { deed = d; does = does; closing = ends; interval = index })
 
   -- a node's own acts reach its later ones

@@ -3,14 +3,17 @@ use Rattle.std.specs.Prelude.{◌≡◌, ◌≢◌, ℕ, ◌+◌, ◌<◌, ◌�
 use Rattle.lrc_trace.specs.declared.act.Act.{Act}
 use Rattle.lrc_trace.specs.declared.act.Deed.{Deed}
 use Rattle.lrc_trace.specs.declared.act.Deed.TheVariants.{Arrive}
-use Rattle.lrc_trace.specs.Run.{Does, count_of, arrives_before}
+use Rattle.lrc_trace.specs.declared.race.Race.{Race}
+use Rattle.lrc_trace.specs.Run.{Does, is_depart, count_of, arrives_before, departs_before}
 use Rattle.lrc_trace.specs.Order.{HappensBefore}
-use Rattle.lrc_trace.specs.Interval.{closes, interval_at}
-use Rattle.lrc_trace.specs.Synchronization.{IsWellSynchronized}
+use Rattle.lrc_trace.specs.Conflict.{Accesses}
+use Rattle.lrc_trace.specs.Interval.{closes, interval_at, IsNamedRace}
+use Rattle.lrc_trace.specs.Synchronization.{IsWellSynchronized, WaitsAtBarriers}
 use Rattle.lrc_time.specs.Time.{entry, Covers, weight_of}
-use Rattle.lrc_clock.specs.Times.{time_at, time_before, stamp_at, released_time, arrived_time}
-use Rattle.lrc_clock.specs.Keeping.{KeepsTime}
+use Rattle.lrc_clock.specs.Times.{time_at, raised, time_before, stamp_at, released_time, arrived_time}
+use Rattle.lrc_clock.specs.Keeping.{KeepsTime, leaves_time}
 use Rattle.lrc_clock.specs.Cover.{ClosesAt, IsClosedBy, IsClosedBefore, IsClosedAtRelease, IsClosedAtArrive}
+use Rattle.lrc_clock.specs.Races.{AreUnknown, NamesUnknown, IsSegment, IsRaceOfSegments}
 
 -- for every timed run that keeps time,
 abbrev pub OfTimedRuns : (ℕ → List Act → List (List ℕ) → Type 0) → Type 0
@@ -178,3 +181,58 @@ abbrev pub CoveredDoesNotCover : Type 0
 CoveredDoesNotCover = OfSynchronizedRuns (λ nodes run times. (j node q k i : ℕ) → j ≤ length run → node < nodes → ClosesAt run q k i
     → (q ≡ node → k ≢ interval_at run node j) → k ≤ entry (stamp_at nodes run times node j) q
     → entry (stamp_at nodes run times q i) node < interval_at run node j)
+
+-- ---- races
+
+-- and for every one in which, besides, no node goes on before it departs
+abbrev pub OfOrderlyRuns : (ℕ → List Act → List (List ℕ) → Type 0) → Type 0
+OfOrderlyRuns Holds = (nodes : ℕ) (run : List Act) (times : List (List ℕ)) → KeepsTime nodes run times
+    → IsWellSynchronized nodes run → WaitsAtBarriers run → Holds nodes run times
+
+-- Two accesses of different nodes are unordered exactly where neither's time covers the other's interval,
+abbrev pub UnorderedIsUnknown : Type 0
+UnorderedIsUnknown = OfSynchronizedRuns (λ nodes run times. (i p j q v w : ℕ) → p ≢ q → Accesses run i p v → Accesses run j q w
+    → ((¬ HappensBefore run i j) × (¬ HappensBefore run j i)) ↔ AreUnknown run times i p j q)
+
+-- so the named races are those of two such accesses,
+abbrev pub NamedRaceIsUnknown : Type 0
+NamedRaceIsUnknown = OfSynchronizedRuns (λ nodes run times. (race : Race)
+    → IsNamedRace run race ↔ ((i : ℕ) × (j : ℕ) × NamesUnknown run times race i j))
+
+-- and those of two such segments.
+abbrev pub NamedRaceIsOfSegments : Type 0
+NamedRaceIsOfSegments = OfOrderlyRuns (λ nodes run times. (race : Race) → IsNamedRace run race ↔ IsRaceOfSegments run times race)
+
+-- A segment has one time, that of each of its accesses with the own entry one greater.
+abbrev pub SegmentTime : Type 0
+SegmentTime = OfOrderlyRuns (λ nodes run times. (node index i word : ℕ) (time : List ℕ) → IsSegment run times node index time
+    → Accesses run i node word → interval_at run node i ≡ index → time ≡ raised (time_at times i) node)
+
+-- Behind an access, the node's time stands still until it closes the interval,
+abbrev pub TimeStandsStill : Type 0
+TimeStandsStill = OfOrderlyRuns (λ nodes run times. (i j node : ℕ) (deed : Deed) → Does run i node deed → leaves_time deed ≡ true → i < j
+    → interval_at run node i ≡ interval_at run node j → time_before nodes run times node j ≡ time_at times i)
+
+-- so the interval's stamp is the time of each of its accesses with the own entry one greater.
+abbrev pub StampOfInterval : Type 0
+StampOfInterval = OfOrderlyRuns (λ nodes run times. (i j node : ℕ) (deed : Deed) → Does run i node deed → leaves_time deed ≡ true → i < j
+    → interval_at run node i ≡ interval_at run node j → stamp_at nodes run times node j ≡ raised (time_at times i) node)
+
+-- An access happens before one of another node exactly where the stamp of that one's interval, closed or to be closed next,
+-- covers its interval.
+abbrev pub IntervalOrderIsCover : Type 0
+IntervalOrderIsCover = OfOrderlyRuns (λ nodes run times. (i j p q c : ℕ) (d e : Deed) → p ≢ q → Does run i p d → Does run j q e
+    → leaves_time e ≡ true → j < c → interval_at run q j ≡ interval_at run q c
+    → HappensBefore run i j ↔ (interval_at run p i ≤ entry (stamp_at nodes run times q c) p))
+
+-- ---- epochs
+
+-- Of two acts with different numbers of departs of their nodes before them, the one with fewer happens before the other,
+abbrev pub EarlierEpochHappensBefore : Type 0
+EarlierEpochHappensBefore = OfOrderlyRuns (λ nodes run times. (i j p q : ℕ) (d e : Deed) → Does run i p d → is_depart d ≡ false → Does run j q e
+    → departs_before run p i < departs_before run q j → HappensBefore run i j)
+
+-- and the other's time covers its interval.
+abbrev pub EarlierEpochIsCovered : Type 0
+EarlierEpochIsCovered = OfOrderlyRuns (λ nodes run times. (i j p q : ℕ) (d e : Deed) → Does run i p d → is_depart d ≡ false → Does run j q e
+    → departs_before run p i < departs_before run q j → interval_at run p i ≤ entry (time_at times j) p)

@@ -1,7 +1,7 @@
 // Laws of timed runs that keep time. Each function is a theorem: its body is empty, and its clauses are the law. The
 // statements stand in specs/, so that others can cite them.
 
-ghost use Rattle.lrc_clock.specs.Laws.{ArrivedCoversArrives, ArrivedIsCover, ArrivedIsLeast, CloserCoversStamp, CloserHasIndex, CoveredDoesNotCover, CoveredIsLighter, CutAt, CutBefore, CutOfStamp, EntryBound, EntryBoundBefore, EntryIsCover, IntervalBetween, IntervalOfClosing, IntervalOfOther, IntervalOfStamp, LengthAt, LengthBefore, LengthOfStamp, OrderIsCover, OtherEntryIsHappensBefore, OwnEntryAt, PresentIsCover, ReleasedIsCover, StampHasIndex, StampIsTimeBefore, StampsRise, TimesRise, WaitingIsCover};
+ghost use Rattle.lrc_clock.specs.Laws.{ArrivedCoversArrives, ArrivedIsCover, ArrivedIsLeast, CloserCoversStamp, CloserHasIndex, CoveredDoesNotCover, CoveredIsLighter, CutAt, CutBefore, CutOfStamp, EarlierEpochHappensBefore, EarlierEpochIsCovered, EntryBound, EntryBoundBefore, EntryIsCover, IntervalBetween, IntervalOfClosing, IntervalOfOther, IntervalOfStamp, IntervalOrderIsCover, LengthAt, LengthBefore, LengthOfStamp, NamedRaceIsOfSegments, NamedRaceIsUnknown, OrderIsCover, OtherEntryIsHappensBefore, OwnEntryAt, PresentIsCover, ReleasedIsCover, SegmentTime, StampHasIndex, StampIsTimeBefore, StampOfInterval, StampsRise, TimeStandsStill, TimesRise, UnorderedIsUnknown, WaitingIsCover};
 
 /// Every time has an entry for each node.
 pub fn every_time_has_an_entry_for_each_node()
@@ -90,4 +90,35 @@ pub fn times_are_closed_downward()
 pub fn covered_interval_is_lighter()
     ensures lighter { CoveredIsLighter }
     ensures one_way { CoveredDoesNotCover }
+{}
+
+/// Two accesses of different nodes are unordered exactly where neither's time covers the other's interval, and the named races
+/// are those of two such accesses.
+pub fn unordered_accesses_are_unknown()
+    ensures accesses { UnorderedIsUnknown }
+    ensures races { NamedRaceIsUnknown }
+{}
+
+/// The named races are exactly those of two segments of different nodes, one of which wrote the word and the other accessed it,
+/// of which neither time covers the other's interval.
+pub fn named_races_are_of_segments()
+    ensures { NamedRaceIsOfSegments }
+{}
+
+/// Within an interval a node's time stands still from its first access on.
+pub fn time_stands_still_within_an_interval()
+    ensures time { TimeStandsStill }
+    ensures stamp { StampOfInterval }
+    ensures segment { SegmentTime }
+{}
+
+/// An access happens before one of another node exactly where the stamp of that one's interval covers its interval.
+pub fn order_of_intervals_is_cover()
+    ensures { IntervalOrderIsCover }
+{}
+
+/// Epochs agree: what has fewer departs of its node before it happens before what has more, and is covered there.
+pub fn earlier_epoch_is_covered()
+    ensures before { EarlierEpochHappensBefore }
+    ensures covered { EarlierEpochIsCovered }
 {}

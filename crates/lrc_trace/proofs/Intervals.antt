@@ -79,33 +79,45 @@ same_interval run node i j v w lt a b =
     let in_run = Accesses-within b in
     (same_then_none run node i j, none_then_same run node i j lt (omega arith))
 
--- An interval that the node has reached before b and not before a was closed between: at a position of the node's that is
--- a closing act with just this interval.
-pub closed_between : (run : List Act) (node a n index : ℕ) → a + n ≤ length run → interval_at run node a ≤ index → index < interval_at run node (a + n) → (i : ℕ) × (a ≤ i) × (i < a + n) × ((d : Deed) × Does run i node d × (closes d ≡ true) × (interval_at run node i ≡ index))
-closed_between run node a zero index within from to =
-    let e : interval_at run node (a + zero) ≡ interval_at run node a = ap (λ k. interval_at run node k) (add-zero a) in absurd (omega arith)
-closed_between run node a (suc n) index within from to =
+-- Where a count has passed c from a on, it did so at a deed of this kind that has c before it.
+counted_between : (kind : Deed → Bool) (run : List Act) (node a n c : ℕ) → a + n ≤ length run → count_of kind node (take a run) ≤ c → c < count_of kind node (take (a + n) run) → (i : ℕ) × (a ≤ i) × (i < a + n) × ((d : Deed) × Does run i node d × (kind d ≡ true) × (count_of kind node (take i run) ≡ c))
+counted_between kind run node a zero c within from to =
+    let e : count_of kind node (take (a + zero) run) ≡ count_of kind node (take a run) = ap (λ k. count_of kind node (take k run)) (add-zero a) in absurd (omega arith)
+counted_between kind run node a (suc n) c within from to =
     let step : a + suc n ≡ a + n + 1 = omega arith in
-    let to' : index < interval_at run node (a + n + 1) = subst (λ k. index < interval_at run node k) step to in
-    elim (cases_lt index (interval_at run node (a + n))) [
+    let to' : c < count_of kind node (take (a + n + 1) run) = subst (λ k. c < count_of kind node (take k run)) step to in
+    elim (cases_lt c (count_of kind node (take (a + n) run))) [
       | inl below ↦
-          let (i, least, most, found) = closed_between run node a n index (omega arith) from below in
+          let (i, least, most, found) = counted_between kind run node a n c (omega arith) from below in
           (i, least, omega arith, found)
       | inr reached ↦
           let (act, does) = act_at run (a + n) (omega arith) in
           elim (cases_eq act.node node) [
             | inr other ↦
-                let same = count_of-same closes run node (a + n) act.node act.deed does (λ e k. other e) in
+                let same = count_of-same kind run node (a + n) act.node act.deed does (λ e k. other e) in
                 absurd (omega arith)
             | inl own ↦
                 let does' : Does run (a + n) node act.deed = subst (λ m. Does run (a + n) m act.deed) own does in
-                elim (cases_Bool (closes act.deed)) [
-                  | inl closing ↦
-                      let more = count_of-more closes run node (a + n) act.deed does' closing in
-                      (a + n, omega arith, omega arith, (act.deed, does', closing, omega arith))
-                  | inr goes_on ↦
-                      let same = count_of-same closes run node (a + n) node act.deed does' (λ e. both_ways (closes act.deed) goes_on) in
+                elim (cases_Bool (kind act.deed)) [
+                  | inl passes ↦
+                      let more = count_of-more kind run node (a + n) act.deed does' passes in
+                      (a + n, omega arith, omega arith, (act.deed, does', passes, omega arith))
+                  | inr fails ↦
+                      let same = count_of-same kind run node (a + n) node act.deed does' (λ e. both_ways (kind act.deed) fails) in
                       absurd (omega arith)
                 ]
           ]
     ]
+
+pub counted_in : (kind : Deed → Bool) (run : List Act) (node a b c : ℕ) → a ≤ b → b ≤ length run → count_of kind node (take a run) ≤ c → c < count_of kind node (take b run) → (i : ℕ) × (a ≤ i) × (i < b) × ((d : Deed) × Does run i node d × (kind d ≡ true) × (count_of kind node (take i run) ≡ c))
+counted_in kind run node a b c le within from to =
+    let long : a + (b - a) ≡ b = omega arith in
+    let to' : c < count_of kind node (take (a + (b - a)) run) = subst (λ k. c < count_of kind node (take k run)) (sym long) to in
+    let (i, least, most, found) = counted_between kind run node a (b - a) c (omega arith) from to' in
+    (i, least, omega arith, found)
+
+-- An interval that the node is in at a, or comes to later, and that is over at b, was closed between.
+pub closed_between : (run : List Act) (node a b index : ℕ) → a ≤ b → b ≤ length run → interval_at run node a ≤ index → index < interval_at run node b → (i : ℕ) × (a ≤ i) × (i < b) × ((d : Deed) × Does run i node d × (closes d ≡ true) × (interval_at run node i ≡ index))
+closed_between run node a b index le within from to =
+    let (i, least, most, (d, does, closing, count)) = counted_in closes run node a b (index - 1) le within (omega arith) (omega arith) in
+    (i, least, most, (d, does, closing, omega arith))
