@@ -5,3 +5,4 @@ pub mod Latest
 pub mod Intervals
 pub mod Decided
 pub mod Holding
+pub mod Prefixes

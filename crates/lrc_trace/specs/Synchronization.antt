@@ -1,5 +1,5 @@
 -- Well synchronized: locks exclude one another, and barriers hold every node back.
-use Rattle.std.specs.Prelude.{◌≡◌, ℕ, ◌<◌, ◌≤◌, false, List}
+use Rattle.std.specs.Prelude.{◌≡◌, ℕ, ◌<◌, ◌≤◌, false, List, length}
 use Rattle.lrc_trace.specs.declared.act.Act.{Act}
 use Rattle.lrc_trace.specs.declared.act.Deed.{Deed}
 use Rattle.lrc_trace.specs.declared.act.Deed.TheVariants.{Acquire, Release, Depart}
@@ -27,3 +27,11 @@ pub record IsWellSynchronized (nodes : ℕ) (run : List Act) : Type 0 where
 pub record WaitsAtBarriers (run : List Act) : Type 0 where
   pub departed : (j node : ℕ) (deed : Deed) → Does run j node deed → is_depart deed ≡ false
       → arrives_before run node j ≤ departs_before run node j
+
+-- A well-synchronized run may go on with this act: the lock that it acquires is free, its node holds the lock that it
+-- releases, and every node has arrived for its depart.
+pub record MayGoOn (nodes : ℕ) (run : List Act) (act : Act) : Type 0 where
+  pub acquires : (l : ℕ) → act.deed ≡ Acquire l → (other : ℕ) → ¬ Holds run (length run) other l
+  pub releases : (l : ℕ) → act.deed ≡ Release l → Holds run (length run) act.node l
+  pub departs : act.deed ≡ Depart → (other : ℕ) → other < nodes
+      → departs_before run act.node (length run) < arrives_before run other (length run)
