@@ -11,7 +11,7 @@ use Rattle.lrc_trace.specs.Interval.{closes, interval_at}
 use Rattle.lrc_trace.specs.Synchronization.{IsWellSynchronized, WaitsAtBarriers}
 use Rattle.lrc_trace.proofs.Positions.{Does-deed, Does-node, Does-within}
 use Rattle.lrc_trace.proofs.HappensBefore.{Reaches-extends}
-use Rattle.lrc_trace.proofs.Intervals.{act_at, count_of-more, count_of-rises, counted_in, never_fall}
+use Rattle.lrc_trace.proofs.Intervals.{act_at, count_of-more, count_of-rises, counted_in, numbered_arrive, numbered_depart, never_fall}
 use Rattle.lrc_time.specs.Time.{entry}
 use Rattle.lrc_clock.specs.Times.{time_at, acts_at, raised, time_before, stamp_at}
 use Rattle.lrc_clock.specs.Keeping.{KeepsTime, leaves_time}
@@ -21,10 +21,6 @@ use Rattle.lrc_clock.proofs.Covering.{complete}
 use Rattle.lrc_clock.proofs.Ordering.{closer_from, own_reaches}
 
 -- a deed that does not depart, or departs
-is_arrive-deed : (d : Deed) → is_arrive d ≡ true → d ≡ Arrive
-is_arrive-deed Arrive h = refl
-is_arrive-deed _ h = absurd (false≢true h)
-
 is_depart-deed : (d : Deed) → is_depart d ≡ true → d ≡ Depart
 is_depart-deed Depart h = refl
 is_depart-deed _ h = absurd (false≢true h)
@@ -50,22 +46,20 @@ module _ {nodes : ℕ} {run : List Act} (ws : IsWellSynchronized nodes run) (wai
   between_epochs i j p q d e lt first other second less =
       let number = departs_before run p i in
       let within = Does-within second in
-      let (m, least, most, (x, departs, is, count)) = counted_in is_depart run q 0 j number (omega arith) (omega arith) (omega arith) less in
-      let departs' : Does run m q Depart = Does-deed (is_depart-deed x is) departs in
-      let above = ws.departs m q departs' p lt in
-      let within' = Does-within departs in
-      let (a, least', most', (y, arrives, is', count')) = counted_in is_arrive run p 0 m number (omega arith) (omega arith) (omega arith) (omega arith) in
-      let arrives' : Does run a p Arrive = Does-deed (is_arrive-deed y is') arrives in
+      let (m, earlier, departs, count) = numbered_depart run q j number (omega arith) less in
+      let above = ws.departs m q departs p lt in
+      let (a, earlier', arrives, count') = numbered_arrive run p m number (omega arith) (omega arith) in
       let few = waits.departed i p d first other in
       let le : i ≤ a = elim (cases_lt a i) [
         | inr le ↦ le
         | inl before ↦
-            let more = count_of-more is_arrive run p a y arrives is' in
+            let more = count_of-more is_arrive run p a Arrive arrives refl in
             let rises = count_of-rises is_arrive run p (a + 1) i (omega arith) in
-            absurd (omega arith)
+            absurd {A = i ≤ a} (omega arith)
       ] in
       let numbers : arrives_before run p a ≡ departs_before run q m = omega arith in
-      (a, le, arrives', further (base (barrier (omega arith) arrives' departs' numbers)) (program (omega arith) departs' second))
+      let across : HappensBefore run a m = base (barrier earlier' arrives departs numbers) in
+      (a, le, arrives, further across (program earlier departs second))
 
   pub earlier_epoch : (i j p q : ℕ) (d e : Deed) → p < nodes → Does run i p d → is_depart d ≡ false → Does run j q e → departs_before run p i < departs_before run q j → HappensBefore run i j
   earlier_epoch i j p q d e lt first other second less =

@@ -9,3 +9,4 @@ pub mod Learning
 pub mod Intervals
 pub mod Epochs
 pub mod Racing
+pub mod Prefixes

@@ -1,5 +1,5 @@
 -- What holds of every timed run that keeps time.
-use Rattle.std.specs.Prelude.{◌≡◌, ◌≢◌, ℕ, ◌+◌, ◌<◌, ◌≤◌, ◌⊎◌, ◌↔◌, true, false, List, length, take}
+use Rattle.std.specs.Prelude.{◌≡◌, ◌≢◌, ℕ, ◌+◌, ◌<◌, ◌≤◌, ◌⊎◌, ◌↔◌, true, false, List, [], ◌∷◌, ◌++◌, length, take}
 use Rattle.lrc_trace.specs.declared.act.Act.{Act}
 use Rattle.lrc_trace.specs.declared.act.Deed.{Deed}
 use Rattle.lrc_trace.specs.declared.act.Deed.TheVariants.{Arrive}
@@ -11,7 +11,7 @@ use Rattle.lrc_trace.specs.Interval.{closes, interval_at, IsNamedRace}
 use Rattle.lrc_trace.specs.Synchronization.{IsWellSynchronized, WaitsAtBarriers}
 use Rattle.lrc_time.specs.Time.{entry, Covers, weight_of}
 use Rattle.lrc_clock.specs.Times.{time_at, raised, time_before, stamp_at, released_time, arrived_time}
-use Rattle.lrc_clock.specs.Keeping.{KeepsTime, leaves_time}
+use Rattle.lrc_clock.specs.Keeping.{KeepsTime, leaves_time, next_time}
 use Rattle.lrc_clock.specs.Cover.{ClosesAt, IsClosedBy, IsClosedBefore, IsClosedAtRelease, IsClosedAtArrive}
 use Rattle.lrc_clock.specs.Races.{AreUnknown, NamesUnknown, IsSegment, IsRaceOfSegments}
 
@@ -236,3 +236,40 @@ EarlierEpochHappensBefore = OfOrderlyRuns (λ nodes run times. (i j p q : ℕ) (
 abbrev pub EarlierEpochIsCovered : Type 0
 EarlierEpochIsCovered = OfOrderlyRuns (λ nodes run times. (i j p q : ℕ) (d e : Deed) → Does run i p d → is_depart d ≡ false → Does run j q e
     → departs_before run p i < departs_before run q j → interval_at run p i ≤ entry (time_at times j) p)
+
+-- ---- prefixes
+
+-- What the times on a prefix say is what those on the whole run say, for as long as the prefix lasts.
+abbrev pub OnPrefix : (List Act → List (List ℕ) → List Act → List (List ℕ) → Type 0) → Type 0
+OnPrefix Holds = (run more : List Act) (times later : List (List ℕ)) → length times ≡ length run
+    → Holds run times (run ++ more) (times ++ later)
+
+abbrev pub TimeOnPrefix : Type 0
+TimeOnPrefix = OnPrefix (λ run times whole all. (j : ℕ) → j < length run → time_at all j ≡ time_at times j)
+
+abbrev pub TimeBeforeOnPrefix : Type 0
+TimeBeforeOnPrefix = OnPrefix (λ run times whole all. (nodes node j : ℕ) → j ≤ length run
+    → time_before nodes whole all node j ≡ time_before nodes run times node j)
+
+abbrev pub StampOnPrefix : Type 0
+StampOnPrefix = OnPrefix (λ run times whole all. (nodes node j : ℕ) → j ≤ length run
+    → stamp_at nodes whole all node j ≡ stamp_at nodes run times node j)
+
+abbrev pub ReleasedOnPrefix : Type 0
+ReleasedOnPrefix = OnPrefix (λ run times whole all. (nodes l j : ℕ) → j ≤ length run
+    → released_time nodes whole all l j ≡ released_time nodes run times l j)
+
+abbrev pub ArrivedOnPrefix : Type 0
+ArrivedOnPrefix = OnPrefix (λ run times whole all. (nodes number j : ℕ) → j ≤ length run
+    → arrived_time nodes whole all number j ≡ arrived_time nodes run times number j)
+
+-- A prefix of what keeps time keeps time,
+abbrev pub KeepsOnPrefix : Type 0
+KeepsOnPrefix = (nodes : ℕ) (run more : List Act) (times later : List (List ℕ)) → length times ≡ length run
+    → KeepsTime nodes (run ++ more) (times ++ later) → KeepsTime nodes run times
+
+-- and so does what keeps time with one act more, exactly where its time is that of the rule.
+abbrev pub KeepsByOneMore : Type 0
+KeepsByOneMore = (nodes : ℕ) (run : List Act) (times : List (List ℕ)) (act : Act) (time : List ℕ) → KeepsTime nodes run times
+    → KeepsTime nodes (run ++ act ∷ []) (times ++ time ∷ [])
+    ↔ ((act.node < nodes) × (time ≡ next_time nodes run times act.node act.deed))

@@ -1,7 +1,7 @@
 // Laws of timed runs that keep time. Each function is a theorem: its body is empty, and its clauses are the law. The
 // statements stand in specs/, so that others can cite them.
 
-ghost use Rattle.lrc_clock.specs.Laws.{ArrivedCoversArrives, ArrivedIsCover, ArrivedIsLeast, CloserCoversStamp, CloserHasIndex, CoveredDoesNotCover, CoveredIsLighter, CutAt, CutBefore, CutOfStamp, EarlierEpochHappensBefore, EarlierEpochIsCovered, EntryBound, EntryBoundBefore, EntryIsCover, IntervalBetween, IntervalOfClosing, IntervalOfOther, IntervalOfStamp, IntervalOrderIsCover, LengthAt, LengthBefore, LengthOfStamp, NamedRaceIsOfSegments, NamedRaceIsUnknown, OrderIsCover, OtherEntryIsHappensBefore, OwnEntryAt, PresentIsCover, ReleasedIsCover, SegmentTime, StampHasIndex, StampIsTimeBefore, StampOfInterval, StampsRise, TimeStandsStill, TimesRise, UnorderedIsUnknown, WaitingIsCover};
+ghost use Rattle.lrc_clock.specs.Laws.{ArrivedCoversArrives, ArrivedIsCover, ArrivedIsLeast, ArrivedOnPrefix, CloserCoversStamp, CloserHasIndex, CoveredDoesNotCover, CoveredIsLighter, CutAt, CutBefore, CutOfStamp, EarlierEpochHappensBefore, EarlierEpochIsCovered, EntryBound, EntryBoundBefore, EntryIsCover, IntervalBetween, IntervalOfClosing, IntervalOfOther, IntervalOfStamp, IntervalOrderIsCover, KeepsByOneMore, KeepsOnPrefix, LengthAt, LengthBefore, LengthOfStamp, NamedRaceIsOfSegments, NamedRaceIsUnknown, OrderIsCover, OtherEntryIsHappensBefore, OwnEntryAt, PresentIsCover, ReleasedIsCover, ReleasedOnPrefix, SegmentTime, StampHasIndex, StampIsTimeBefore, StampOfInterval, StampOnPrefix, StampsRise, TimeBeforeOnPrefix, TimeOnPrefix, TimeStandsStill, TimesRise, UnorderedIsUnknown, WaitingIsCover};
 
 /// Every time has an entry for each node.
 pub fn every_time_has_an_entry_for_each_node()
@@ -121,4 +121,19 @@ pub fn order_of_intervals_is_cover()
 pub fn earlier_epoch_is_covered()
     ensures before { EarlierEpochHappensBefore }
     ensures covered { EarlierEpochIsCovered }
+{}
+
+/// The times on a prefix are those on the whole run.
+pub fn times_on_a_prefix()
+    ensures at { TimeOnPrefix }
+    ensures before { TimeBeforeOnPrefix }
+    ensures stamp { StampOnPrefix }
+    ensures released { ReleasedOnPrefix }
+    ensures arrived { ArrivedOnPrefix }
+{}
+
+/// A prefix of what keeps time keeps time, and one act more does exactly where its time is that of the rule.
+pub fn keeping_time_on_a_prefix()
+    ensures prefix { KeepsOnPrefix }
+    ensures one_more { KeepsByOneMore }
 {}
