@@ -41,25 +41,33 @@ leaves-not_depart Depart h = absurd (false≢true h)
 leaves-not_depart _ h = refl
 
 module _ {nodes : ℕ} {run : List Act} (ws : IsWellSynchronized nodes run) (waits : WaitsAtBarriers run) where
-  -- the arrive that an act of an earlier epoch of its node has ahead of it, and the depart behind one of a later epoch
-  pub between_epochs : (i j p q : ℕ) (d e : Deed) → p < nodes → Does run i p d → is_depart d ≡ false → Does run j q e → departs_before run p i < departs_before run q j → (a : ℕ) × (i ≤ a) × Does run a p Arrive × HappensBefore run a j
-  between_epochs i j p q d e lt first other second less =
-      let number = departs_before run p i in
-      let within = Does-within second in
-      let (m, earlier, departs, count) = numbered_depart run q j number (omega arith) less in
-      let above = ws.departs m q departs p lt in
-      let (a, earlier', arrives, count') = numbered_arrive run p m number (omega arith) (omega arith) in
-      let few = waits.departed i p d first other in
-      let le : i ≤ a = elim (cases_lt a i) [
+  -- the arrive of its epoch stands at or behind an act,
+  behind : (i a p : ℕ) (d : Deed) → Does run i p d → is_depart d ≡ false → Does run a p Arrive → arrives_before run p a ≡ departs_before run p i → i ≤ a
+  behind i a p d first other arrives number =
+      elim (cases_lt a i) [
         | inr le ↦ le
         | inl before ↦
+            let few = waits.departed i p d first other in
             let more = count_of-more is_arrive run p a Arrive arrives refl in
             let rises = count_of-rises is_arrive run p (a + 1) i (omega arith) in
-            absurd {A = i ≤ a} (omega arith)
-      ] in
-      let numbers : arrives_before run p a ≡ departs_before run q m = omega arith in
-      let across : HappensBefore run a m = base (barrier earlier' arrives departs numbers) in
-      (a, le, arrives, further across (program earlier departs second))
+            absurd (omega arith)
+      ]
+
+  -- and happens before every depart with its number
+  across : (a m p q : ℕ) → a < m → Does run a p Arrive → Does run m q Depart → arrives_before run p a ≡ departs_before run q m → HappensBefore run a m
+  across a m p q lt arrives departs number = base (barrier lt arrives departs number)
+
+  onward : (a m j q : ℕ) (e : Deed) → HappensBefore run a m → m < j → Does run m q Depart → Does run j q e → HappensBefore run a j
+  onward a m j q e before lt departs second = further before (program lt departs second)
+
+  -- so it lies between an act of an earlier epoch and one of a later
+  pub between_epochs : (i j p q : ℕ) (d e : Deed) → p < nodes → Does run i p d → is_depart d ≡ false → Does run j q e → departs_before run p i < departs_before run q j → (a : ℕ) × (i ≤ a) × Does run a p Arrive × HappensBefore run a j
+  between_epochs i j p q d e lt first other second less =
+      let within = Does-within second in
+      let (m, earlier, departs, count) = numbered_depart run q j (departs_before run p i) (omega arith) less in
+      let above = ws.departs m q departs p lt in
+      let (a, earlier', arrives, count') = numbered_arrive run p m (departs_before run p i) (omega arith) (omega arith) in
+      (a, behind i a p d first other arrives count', arrives, onward a m j q e (across a m p q earlier' arrives departs (omega arith)) earlier departs second)
 
   pub earlier_epoch : (i j p q : ℕ) (d e : Deed) → p < nodes → Does run i p d → is_depart d ≡ false → Does run j q e → departs_before run p i < departs_before run q j → HappensBefore run i j
   earlier_epoch i j p q d e lt first other second less =
