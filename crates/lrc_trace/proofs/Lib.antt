@@ -6,3 +6,5 @@ pub mod Intervals
 pub mod Decided
 pub mod Holding
 pub mod Prefixes
+pub mod Locks
+pub mod Counts
