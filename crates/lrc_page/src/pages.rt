@@ -1,4 +1,4 @@
-ghost use Rattle.std.specs.Prelude.{◌≡◌, ◌<◌, ◌==◌, ◌↔◌, IsTrue, IfOk, OnOk, OnErr, All, [], ◌∷◌, ◌++◌, length, slice_get};
+ghost use Rattle.std.specs.Prelude.{◌≡◌, ◌<◌, ◌≤◌, ◌==◌, ◌↔◌, ◌⊎◌, ℕ, IsTrue, IfOk, OnOk, OnErr, All, Contains, [], ◌∷◌, ◌++◌, length, slice_get, slice_index};
 ghost use Rattle.std.specs.Option.{ForSome};
 ghost use Rattle.std.specs.Cmp.{partial_equiv_from_equiv};
 ghost use Rattle.std.specs.Cmp.Lexicographic.{pointwise};
@@ -66,6 +66,26 @@ impl Pages {
         Ok(())
     }
 
+    /// Adds a page that is not among them, at its place. An error leaves the pages as they were.
+    pub fn insert(&mut self, page: u16) -> Result<(), AllocError>
+        requires in_range { page < MOST_PAGES }
+        requires other { ¬ Contains self.old page }
+        ensures members { OnOk result ((p : ℕ) → Contains self.new p ↔ ((p ≡ page) ⊎ Contains self.old p)) }
+        ensures rising { OnOk result (IsRising self.new) }
+        ensures err { OnErr result (self.new ≡ self.old) }
+    {
+        let place = place_of(self.list.as_slice(), page);
+        self.list.insert(place, page)?;
+        Ok(())
+    }
+
+    /// Takes out all pages, and keeps the room for as many.
+    pub fn clear(&mut self)
+        ensures { self.new ≡ [] }
+    {
+        self.list.clear();
+    }
+
     /// How many pages there are. They are different, so they are at most `MOST_PAGES`.
     pub fn len(&self) -> usize
         ensures count { result ≡ length self.now }
@@ -105,4 +125,20 @@ impl Pages {
             list: self.list.clone()?,
         })
     }
+}
+
+/// How many numbers of a rising list stand before the place of a page that is not among them. It looks from the end,
+/// since pages are mostly added in their order.
+fn place_of(list: &[u16], page: u16) -> usize
+    requires rising { IsRising list.now }
+    requires other { ¬ Contains list.now page }
+    ensures within { result ≤ length list.now }
+    ensures before { (k : ℕ) → k < result → slice_index list.now k < page }
+    ensures after { (k : ℕ) → result ≤ k → k < length list.now → page < slice_index list.now k }
+{
+    let mut place = list.len();
+    while place > 0 && list[place - 1] > page {
+        place -= 1;
+    }
+    place
 }
