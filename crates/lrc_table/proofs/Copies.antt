@@ -1,12 +1,11 @@
 -- Lemmas on one copy, for the laws and for the crates above.
-use Rattle.std.proofs.Common.{ℕ, cond, ◌≡◌, ◌≢◌, ◌<◌, ◌∙◌, ◌↔◌, ◌⊎◌, Bool, true, false, List, length, get_or, set, Option, None, Some, refl, ap, sym, ⊎_elim, get_or-set_same, get_or-set_other}
+use Rattle.std.proofs.Common.{ℕ, cond, ◌≡◌, ◌≢◌, ◌<◌, ◌↔◌, Bool, true, false, List, length, Option, None, Some, refl, ap, get_or-set_same, get_or-set_other}
 use Rattle.std.specs.Prelude.{IsSome, is_some}
-use Rattle.std.proofs.lemmas.Bool.{cases_Bool}
 use Rattle.lrc_page.specs.Changes.{changes_between}
 use Rattle.lrc_page.specs.declared.size.Size.{Size}
 use Rattle.lrc_table.specs.declared.slot.State.{State}
 use Rattle.lrc_table.specs.declared.slot.State.TheVariants.{Valid, Written, Invalid, Absent}
-use Rattle.lrc_table.specs.PageCopy.{PageCopy, IsWhole, is_valid, is_written, is_readable, is_pending, pending_changes, read_at, written_in, after_write, closed, settled, without_twin, invalidated, absent_if_invalid, dropped, with_base}
+use Rattle.lrc_table.specs.PageCopy.{PageCopy, IsWhole, is_written, is_readable, is_pending, pending_changes, read_at, written_in, after_write, closed, settled, without_twin, dropped}
 
 -- a copy taken apart
 abbrev pub copy_of : State → List ℕ → Option (List ℕ) → Option (List ℕ) → PageCopy

@@ -1,6 +1,6 @@
 -- Lemmas on page tables, for the crates above too.
-use Rattle.std.proofs.Common.{ℕ, replicate, take, drop, ◌++◌, zero, suc, zero-add, cond, ◌≡◌, ◌≢◌, ◌<◌, ◌+◌, ◌≤◌, ◌∙◌, ◌⊎◌, ◌↔◌, Bool, true, false, not, List, [], ◌∷◌, length, map, get_or, set, Option, None, Some, refl, ap, subst, sym, inl, inr, ⊎_elim, arith}
-use Rattle.std.specs.Prelude.{filter, All, AllPairs, Contains, IsTrue, Result, Ok, Err, OnOk, OnErr}
+use Rattle.std.proofs.Common.{ℕ, replicate, take, drop, ◌++◌, zero, suc, zero-add, cond, ◌≡◌, ◌≢◌, ◌<◌, ◌+◌, ◌≤◌, ◌∙◌, ◌⊎◌, ◌↔◌, Bool, true, false, List, [], ◌∷◌, length, map, get_or, set, refl, ap, subst, sym, inl, inr, ⊎_elim, arith}
+use Rattle.std.specs.Prelude.{filter, All, Contains, Result, Ok, Err, OnOk, OnErr}
 use Rattle.std.specs.List.{range_with_len}
 use Rattle.std.proofs.lemmas.Bool.{and_parts, cases_eq, cases_lt, cases_Bool}
 use Rattle.std.proofs.lemmas.List.{length-map, length-set, get_or-map, get_or-set_same, get_or-set_other, get_or_past, same_lists, get_or_default, get_or-replicate, length-replicate, set-set, take_all, append-nil, drop_all}
@@ -106,10 +106,10 @@ contains-written table page =
     let p : ℕ → Bool = λ q. is_written (copy_at table q).state in
     let all = range_with_len 0 (length table.copies) in (
       (λ member. (
-          All-contains (λ q. q < length table.copies) (filter p all) page
-          (All-filter p (λ q. q < length table.copies) all (below-range (length table.copies))) member,
-          All-contains (λ q. p q ≡ true) (filter p all) page (filter_passes p all) member,
-        )),
+        All-contains (λ q. q < length table.copies) (filter p all) page
+            (All-filter p (λ q. q < length table.copies) all (below-range (length table.copies))) member,
+        All-contains (λ q. p q ≡ true) (filter p all) page (filter_passes p all) member,
+      )),
       (λ facts. contains-filter p all page facts.1 (contains-range (length table.copies) page facts.0)),
     )
 
@@ -145,7 +145,7 @@ whole-fresh size = record {
   twin = λ x is. absurd (cc);
   base = λ x is. absurd (cc);
   kept = λ is. absurd (cc);
-  none = λ is. refl
+  none = λ is. refl;
 }
 
 pub whole-opened : (size : Size) (copy : PageCopy) → IsWhole size copy → IsWhole size (opened copy)
@@ -154,7 +154,7 @@ whole-opened size copy whole = record {
   twin = λ x is. ap length (sym (same_Some copy.values x is)) ∙ whole.values;
   base = whole.base;
   kept = λ is. refl;
-  none = λ is. absurd (cc)
+  none = λ is. absurd (cc);
 }
 
 pub whole-with_value : (size : Size) (copy : PageCopy) (offset value : ℕ) → IsWhole size copy
@@ -164,7 +164,7 @@ whole-with_value size copy offset value whole = record {
   twin = whole.twin;
   base = whole.base;
   kept = whole.kept;
-  none = whole.none
+  none = whole.none;
 }
 
 pub whole-patched : (size : Size) (copy : PageCopy) (changes : List Change) → IsWhole size copy
@@ -174,7 +174,7 @@ whole-patched size copy changes whole = record {
   twin = whole.twin;
   base = whole.base;
   kept = whole.kept;
-  none = whole.none
+  none = whole.none;
 }
 
 pub whole-repaired : (size : Size) (copy : PageCopy) (lists : List (List Change)) → IsWhole size copy
@@ -184,7 +184,7 @@ whole-repaired size copy lists whole = record {
   twin = whole.twin;
   base = whole.base;
   kept = λ is. absurd (cc);
-  none = λ is. absurd (cc)
+  none = λ is. absurd (cc);
 }
 
 pub whole-without_twin : (size : Size) (copy : PageCopy) → IsWhole size copy → is_written copy.state ≡ false
@@ -194,7 +194,7 @@ whole-without_twin size copy whole unwritten = record {
   twin = λ x is. absurd (cc);
   base = whole.base;
   kept = λ is. absurd (true_false (sym is ∙ unwritten));
-  none = λ is. refl
+  none = λ is. refl;
 }
 
 pub unwritten : (state : State) → state ≢ Written → is_written state ≡ false
@@ -241,7 +241,7 @@ whole-dropped size copy whole = record {
   twin = whole.twin;
   base = whole.base;
   kept = λ is. whole.kept (sym (dropped_written copy.state) ∙ is);
-  none = λ is. whole.none (sym (dropped_readable copy.state) ∙ is)
+  none = λ is. whole.none (sym (dropped_readable copy.state) ∙ is);
 }
 
 pub written-dropped : (copy : PageCopy) → is_written (dropped copy).state ≡ is_written copy.state
@@ -269,7 +269,7 @@ whole-closed size copy whole =
       twin = whole.twin;
       base = whole.base;
       kept = λ now. absurd (cc);
-      none = λ now. absurd (cc)
+      none = λ now. absurd (cc);
     }))
     (λ (not_so : is_written copy.state ≡ false). rw not_so whole)
     (cases_Bool (is_written copy.state))
@@ -317,7 +317,7 @@ pub sound-with_copy : (table : Table) (written : List ℕ) (page : ℕ) (copy : 
 sound-with_copy table written page copy sound whole same = record {
   whole = All-set (IsWhole table.size) table.copies page copy whole sound.whole;
   few = omega (arith, sound.few, length-set table.copies page copy);
-  listed = sound.listed ∙ sym (written-with_copy table page copy same)
+  listed = sound.listed ∙ sym (written-with_copy table page copy same);
 }
 
 -- a copy that was read from a sound table is whole
@@ -378,34 +378,34 @@ sound-opened table written more page copy sound whole within is rises members = 
   whole = All-set (IsWhole table.size) table.copies page copy whole sound.whole;
   few = omega (arith, sound.few, length-set table.copies page copy);
   listed =
-    let long = length-set table.copies page copy in
-    let new = with_copy table page copy in
-    let here = copy_at-with_copy table page copy within in
-    rising_same more (written_pages new) rises (rising-written new)
-    (λ p member.
-    (contains-written new p).1
-    (⊎_elim
-    (λ (at : p ≡ page). rw at (omega (arith, long, within), ap (λ (c : PageCopy). is_written c.state) here ∙ is))
-    (λ (before : Contains written p).
-    let facts = (contains-written table p).0 (rw (← sound.listed) before) in
-    ⊎_elim
-    (λ (at : p ≡ page). rw at (omega (arith, long, within), ap (λ (c : PageCopy). is_written c.state) here ∙ is))
-    (λ (other : p ≡ page → ⊥).
-    (omega (arith, long, facts.0), ap (λ (c : PageCopy). is_written c.state) (copy_at-with_copy_other table page p copy other) ∙ facts.1))
-    (cases_eq p page))
-    ((members p).0 member)))
-    (λ p member.
-    let facts = (contains-written new p).0 member in
-    (members p).1
-    (⊎_elim
-    (λ (at : p ≡ page). inl at)
-    (λ (other : p ≡ page → ⊥).
-    inr (rw sound.listed
-    ((contains-written table p).1 (
-      omega (arith, long, facts.0),
-      ap (λ (c : PageCopy). is_written c.state) (sym (copy_at-with_copy_other table page p copy other)) ∙ facts.1,
-    ))))
-    (cases_eq p page)))
+      let long = length-set table.copies page copy in
+      let new = with_copy table page copy in
+      let here = copy_at-with_copy table page copy within in
+      rising_same more (written_pages new) rises (rising-written new)
+      (λ p member.
+      (contains-written new p).1
+      (⊎_elim
+      (λ (at : p ≡ page). rw at (omega (arith, long, within), ap (λ (c : PageCopy). is_written c.state) here ∙ is))
+      (λ (before : Contains written p).
+      let facts = (contains-written table p).0 (rw (← sound.listed) before) in
+      ⊎_elim
+      (λ (at : p ≡ page). rw at (omega (arith, long, within), ap (λ (c : PageCopy). is_written c.state) here ∙ is))
+      (λ (other : p ≡ page → ⊥).
+      (omega (arith, long, facts.0), ap (λ (c : PageCopy). is_written c.state) (copy_at-with_copy_other table page p copy other) ∙ facts.1))
+      (cases_eq p page))
+      ((members p).0 member)))
+      (λ p member.
+      let facts = (contains-written new p).0 member in
+      (members p).1
+      (⊎_elim
+      (λ (at : p ≡ page). inl at)
+      (λ (other : p ≡ page → ⊥).
+      inr (rw sound.listed
+      ((contains-written table p).1 (
+        omega (arith, long, facts.0),
+        ap (λ (c : PageCopy). is_written c.state) (sym (copy_at-with_copy_other table page p copy other)) ∙ facts.1,
+      ))))
+      (cases_eq p page)));
 }
 
 -- ---- every copy changed
@@ -421,16 +421,16 @@ sound-with_each table written f sound whole same = record {
   whole = All-map (IsWhole table.size) f table.copies whole;
   few = omega (arith, sound.few, length-map table.copies f);
   listed = sound.listed
-    ∙ sym
-    (same_written (with_each table f) table (length-map table.copies f)
-    (λ page.
-    ⊎_elim
-    (λ (within : page < length table.copies).
-    ap (λ (c : PageCopy). is_written c.state) (copy_at-with_each table f page within) ∙ same (copy_at table page))
-    (λ (beyond : length table.copies ≤ page).
-    ap (λ (c : PageCopy). is_written c.state)
-    (get_or_past (map f table.copies) page none (omega (arith, length-map table.copies f)) ∙ sym (get_or_past table.copies page none beyond)))
-    (cases_lt page (length table.copies))))
+      ∙ sym
+      (same_written (with_each table f) table (length-map table.copies f)
+      (λ page.
+      ⊎_elim
+      (λ (within : page < length table.copies).
+      ap (λ (c : PageCopy). is_written c.state) (copy_at-with_each table f page within) ∙ same (copy_at table page))
+      (λ (beyond : length table.copies ≤ page).
+      ap (λ (c : PageCopy). is_written c.state)
+      (get_or_past (map f table.copies) page none (omega (arith, length-map table.copies f)) ∙ sym (get_or_past table.copies page none beyond)))
+      (cases_lt page (length table.copies))));
 }
 
 -- a fresh table is sound, and no page of it is listed
@@ -443,15 +443,15 @@ sound-fresh size n copies written are few empty =
       whole = rw are (All-replicate (IsWhole size) n (fresh (zero_page size)) (whole-fresh size));
       few = omega (arith, long, few);
       listed = empty
-        ∙ sym
-        (none_written table
-        (λ page.
-        ⊎_elim
-        (λ (within : page < length copies).
-        ap (λ (c : PageCopy). is_written c.state)
-        (ap (λ l. get_or l page none) are ∙ get_or-replicate n page (fresh (zero_page size)) none (omega (arith, within, long))))
-        (λ (beyond : length copies ≤ page). ap (λ (c : PageCopy). is_written c.state) (get_or_past copies page none beyond))
-        (cases_lt page (length copies))))
+          ∙ sym
+          (none_written table
+          (λ page.
+          ⊎_elim
+          (λ (within : page < length copies).
+          ap (λ (c : PageCopy). is_written c.state)
+          (ap (λ l. get_or l page none) are ∙ get_or-replicate n page (fresh (zero_page size)) none (omega (arith, within, long))))
+          (λ (beyond : length copies ≤ page). ap (λ (c : PageCopy). is_written c.state) (get_or_past copies page none beyond))
+          (cases_lt page (length copies))));
     }
 
 -- a table seen by another name
@@ -510,7 +510,7 @@ abbrev pub IsClosedSoFar : List ℕ → ℕ → List PageCopy → List PageCopy 
 IsClosedSoFar pages i old new = record {
   long : length new ≡ length old;
   done : (j : ℕ) → j < i → get_or new (get_or pages j 0) none ≡ closed (get_or old (get_or pages j 0) none);
-  kept : (k : ℕ) → ((j : ℕ) → j < i → get_or pages j 0 ≢ k) → get_or new k none ≡ get_or old k none
+  kept : (k : ℕ) → ((j : ℕ) → j < i → get_or pages j 0 ≢ k) → get_or new k none ≡ get_or old k none;
 }
 
 pub closed_more : (pages : List ℕ) (i : ℕ) (old new : List PageCopy) → IsRising pages → i < length pages
@@ -521,19 +521,19 @@ closed_more pages i old new rises within inside so_far =
     let apart : (j : ℕ) → j < i → get_or pages j 0 ≢ page = λ j before same. omega (arith, rises j i 0 before within, same) in record {
       long = length-set new page (closed (get_or new page none)) ∙ so_far.long;
       done = λ j before.
-        ⊎_elim
-        (λ (last : j ≡ i).
-        rw last
-        (get_or-set_same new page (closed (get_or new page none)) none (omega (arith, so_far.long, inside))
-        ∙ ap closed (so_far.kept page apart)))
-        (λ (earlier : j ≡ i → ⊥).
-        let less : j < i = omega arith in
-        get_or-set_other new page (get_or pages j 0) (closed (get_or new page none)) none (apart j less) ∙ so_far.done j less)
-        (cases_eq j i);
+          ⊎_elim
+          (λ (last : j ≡ i).
+          rw last
+          (get_or-set_same new page (closed (get_or new page none)) none (omega (arith, so_far.long, inside))
+          ∙ ap closed (so_far.kept page apart)))
+          (λ (earlier : j ≡ i → ⊥).
+          let less : j < i = omega arith in
+          get_or-set_other new page (get_or pages j 0) (closed (get_or new page none)) none (apart j less) ∙ so_far.done j less)
+          (cases_eq j i);
       kept = λ k others.
-        let other : k ≢ page = λ same. others i (omega arith) (sym same) in
-        get_or-set_other new page k (closed (get_or new page none)) none other
-        ∙ so_far.kept k (λ j before. others j (omega (arith, before)))
+          let other : k ≢ page = λ same. others i (omega arith) (sym same) in
+          get_or-set_other new page k (closed (get_or new page none)) none other
+          ∙ so_far.kept k (λ j before. others j (omega (arith, before)));
     }
 
 closed-unwritten : (copy : PageCopy) → is_written copy.state ≡ false → closed copy ≡ copy
@@ -594,21 +594,21 @@ sound-closed table written none_left new sound are empty =
     let after : Table = record { size = table.size; copies = new } in
     let long : length new ≡ length table.copies = ap length are ∙ length-map table.copies closed in record {
       whole = rw are
-        (All-map (IsWhole table.size) closed table.copies
-        (λ k d within. whole-closed table.size (get_or table.copies k d) (sound.whole k d within)));
+          (All-map (IsWhole table.size) closed table.copies
+          (λ k d within. whole-closed table.size (get_or table.copies k d) (sound.whole k d within)));
       few = omega (arith, long, sound.few);
       listed = empty
-        ∙ sym
-        (none_written after
-        (λ page.
-        ⊎_elim
-        (λ (within : page < length new).
-        ap (λ (c : PageCopy). is_written c.state)
-        (ap (λ l. get_or l page none) are
-        ∙ copy_at-with_each table closed page (omega (arith, within, long)))
-        ∙ closed_written (copy_at table page))
-        (λ (beyond : length new ≤ page). ap (λ (c : PageCopy). is_written c.state) (get_or_past new page none beyond))
-        (cases_lt page (length new))))
+          ∙ sym
+          (none_written after
+          (λ page.
+          ⊎_elim
+          (λ (within : page < length new).
+          ap (λ (c : PageCopy). is_written c.state)
+          (ap (λ l. get_or l page none) are
+          ∙ copy_at-with_each table closed page (omega (arith, within, long)))
+          ∙ closed_written (copy_at table page))
+          (λ (beyond : length new ≤ page). ap (λ (c : PageCopy). is_written c.state) (get_or_past new page none beyond))
+          (cases_lt page (length new))));
     }
 
 -- no page is written after a close

@@ -1,5 +1,5 @@
 -- One node's copy of one page, in the state that lazy release consistency gives it.
-use Rattle.std.specs.Prelude.{ℕ, ◌≡◌, ◌≤◌, List, length, Option, None, Some, Bool, true, false, ◌&&◌, if◌then◌else◌, is_some, IsTrue, slice_index, slice_set, fold}
+use Rattle.std.specs.Prelude.{ℕ, ◌≡◌, List, length, Option, None, Some, Bool, true, false, ◌&&◌, if◌then◌else◌, is_some, IsTrue, slice_index, slice_set, fold}
 use Rattle.std.specs.Option.{ForSome, option_map}
 use Rattle.lrc_page.specs.declared.changes.Change.{Change}
 use Rattle.lrc_page.specs.declared.size.Size.{Size}
@@ -126,5 +126,5 @@ IsWhole size copy = record {
   twin : ForSome copy.twin (λ twin. length twin ≡ words_of size);
   base : ForSome copy.base (λ base. length base ≡ words_of size);
   kept : IsTrue (is_written copy.state) → IsTrue (is_some copy.twin);
-  none : is_readable copy.state ≡ false → copy.twin ≡ None
+  none : is_readable copy.state ≡ false → copy.twin ≡ None;
 }

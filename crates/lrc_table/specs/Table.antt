@@ -39,5 +39,5 @@ abbrev pub IsSound : Table → List ℕ → Type 0
 IsSound table written = record {
   whole : All (IsWhole table.size) table.copies;
   few : length table.copies ≤ MOST_PAGES;
-  listed : written ≡ written_pages table
+  listed : written ≡ written_pages table;
 }

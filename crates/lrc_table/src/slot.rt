@@ -36,10 +36,10 @@ impl Model for Slot {
     ghost Value = { PageCopy };
 
     ghost view = { λ slot. record {
-        state = slot.state;
-        values = slot.words.items;
-        twin = option_map (λ twin. twin.items) slot.twin;
-        base = option_map (λ base. base.value) slot.base
+      state = slot.state;
+      values = slot.words.items;
+      twin = option_map (λ twin. twin.items) slot.twin;
+      base = option_map (λ base. base.value) slot.base;
     } };
 }
 
@@ -124,7 +124,11 @@ impl Slot {
         ensures err { OnErr result (self.new ≡ self.old) }
     {
         let changes = match (&self.twin, self.state) {
-            (Some(twin), State::Valid) => Changes::between_words(alloc, twin.as_slice(), self.words.as_slice())?,
+            (Some(twin), State::Valid) => Changes::between_words(
+                alloc,
+                twin.as_slice(),
+                self.words.as_slice(),
+            )?,
             _ => return Ok(None),
         };
         self.twin = None;

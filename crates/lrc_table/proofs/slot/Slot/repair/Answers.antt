@@ -1,6 +1,4 @@
-use Rattle.std.proofs.Common.{ap, ◌≡◌, ◌∙◌, sym, subst, length, take, List, get_or}
-use Rattle.std.specs.Prelude.{All}
-use Rattle.lrc_page.specs.declared.changes.Change.{Change}
+use Rattle.std.proofs.Common.{ap, ◌≡◌, ◌∙◌, length, take}
 use Rattle.lrc_page.proofs.ChangeLists.{length-fold-applied}
 use Rattle.lrc_table.specs.PageCopy.{PageCopy}
 use Rattle.lrc_table.proofs.Tables.{none_past}

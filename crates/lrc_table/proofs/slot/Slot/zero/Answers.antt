@@ -1,5 +1,5 @@
-use Rattle.std.proofs.Common.{ap, ◌≡◌, ◌∙◌, replicate}
-use Rattle.lrc_page.specs.Page.{words_of, zero_page}
+use Rattle.std.proofs.Common.{ap, ◌∙◌, replicate}
+use Rattle.lrc_page.specs.Page.{zero_page}
 use Rattle.lrc_table.specs.PageCopy.{fresh}
 use Rattle.lrc_table.proofs.slot.Slot.zero.Goals as goal
 

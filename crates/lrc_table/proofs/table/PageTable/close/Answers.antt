@@ -1,4 +1,4 @@
-use Rattle.std.proofs.Common.{◌≡◌, ◌<◌, ◌∙◌, List, ℕ, ap, map, length, get_or, refl, arith}
+use Rattle.std.proofs.Common.{◌≡◌, ◌<◌, ◌∙◌, ap, map, length, get_or, arith}
 use Rattle.lrc_page.specs.Pages.{IsRising}
 use Rattle.lrc_table.specs.Table.{Table, with_each}
 use Rattle.lrc_table.specs.PageCopy.{closed}
@@ -29,7 +29,7 @@ loop-page-preserved c =
     (omega (arith, ap length pages, c.loop-page-test.true)) at in record {
       size = c.loop-page.invariant.size;
       so_far = closed_step items i c.from.result table.copies c.loop-page.self-inside.slots.items c.index_mut.result.now c.close.new.self
-        rises c.loop-page-test.true c.from.ensures within c.loop-page.invariant.so_far c.index_mut.ensures.value c.close.ensures
+          rises c.loop-page-test.true c.from.ensures within c.loop-page.invariant.so_far c.index_mut.ensures.value c.close.ensures;
     }
 
 pub invariant_of-self : goal.invariant_of-self

@@ -1,5 +1,4 @@
-use Rattle.std.proofs.Common.{◌≡◌, ◌<◌, ◌∙◌, ap, sym, length, refl, arith}
-use Rattle.std.specs.Prelude.{Bool, true}
+use Rattle.std.proofs.Common.{◌≡◌, ◌<◌, ◌∙◌, ap, length, arith}
 use Rattle.lrc_table.specs.PageCopy.{PageCopy, is_written}
 use Rattle.lrc_table.specs.Table.{Table, copy_at}
 use Rattle.lrc_table.proofs.Tables.{sound-opened, whole-opened, whole-read, unlisted}

@@ -1,4 +1,4 @@
-use Rattle.std.proofs.Common.{◌≡◌, ◌<◌, ◌∙◌, ap, sym, inl, inr, get_or, length, refl, arith}
+use Rattle.std.proofs.Common.{◌≡◌, ◌<◌, ◌∙◌, ap, sym, inl, inr, get_or, length, arith}
 use Rattle.lrc_page.specs.Place.{page_of, offset_of}
 use Rattle.lrc_table.specs.PageCopy.{PageCopy, is_written, after_write}
 use Rattle.lrc_table.specs.Table.{Table, copy_at, with_copy}
