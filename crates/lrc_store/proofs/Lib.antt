@@ -1,3 +1,4 @@
+pub mod Chained
 pub mod IntervalLists
 pub mod Lookups
 pub mod Orders

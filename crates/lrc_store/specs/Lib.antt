@@ -1,3 +1,5 @@
+pub mod Chains
 pub mod Interval
+pub mod Linked
 pub mod Order
 pub mod Store

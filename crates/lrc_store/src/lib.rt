@@ -2,6 +2,7 @@
 //! and Zwaenepoel 1992; Amza et al. 1996).
 #![tactic(auto)]
 
+mod chains;
 pub mod interval;
 pub mod intervals;
 pub mod key;
