@@ -7,3 +7,4 @@ pub mod Ranks
 pub mod Records
 pub mod Risings
 pub mod Stores
+pub mod Walks

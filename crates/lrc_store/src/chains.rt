@@ -57,6 +57,7 @@ impl Chains {
     pub(crate) fn len(&self) -> usize
         ensures count { result ≡ length self.now.keys }
         ensures room { length self.now.keys ≤ self.now.room }
+        ensures few { length self.now.keys ≤ MOST_ENTRIES }
     {
         self.entries.len()
     }
@@ -108,10 +109,13 @@ impl Chains {
 
     /// The newest entry that has the key.
     pub(crate) fn first(&self, key: u16) -> Option<u32>
-        requires { key < self.now.lists }
         ensures { result ≡ last_at (λ other. other == key) self.now.keys }
     {
-        self.newest[usize::from(key)]
+        if usize::from(key) < self.newest.len() {
+            self.newest[usize::from(key)]
+        } else {
+            None
+        }
     }
 
     /// The newest entry before this one that has the same key.

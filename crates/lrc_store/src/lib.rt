@@ -8,6 +8,7 @@ pub mod intervals;
 pub mod key;
 pub mod laws;
 pub mod store;
+mod links;
 mod stored;
 
 pub use interval::Interval;

@@ -85,6 +85,13 @@ impl Stored {
         })
     }
 
+    /// The interval's node.
+    pub(crate) fn node(&self) -> u8
+        ensures { result ≡ self.now.node }
+    {
+        self.node
+    }
+
     /// The interval's number among those of its node.
     pub(crate) fn index(&self) -> u32
         ensures { result ≡ index_of (interval_of self.now) }

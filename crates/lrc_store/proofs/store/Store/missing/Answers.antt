@@ -6,7 +6,8 @@ use Rattle.lrc_store.specs.declared.key.Key.{Key}
 use Rattle.lrc_store.specs.Interval.{index_of}
 use Rattle.lrc_time.specs.Time.{knows}
 use Rattle.lrc_store.specs.Store.{StoreRecord, StoredRecord, IsMissing, IsStore, interval_of, intervals_of, is_missing}
-use Rattle.lrc_store.proofs.Ranks.{ranked, IsMissing-from_sort, IsMissing-missing_of, IsMissing-only, gathered_more}
+use Rattle.lrc_store.specs.Links.{ranked}
+use Rattle.lrc_store.proofs.Ranks.{IsMissing-from_sort, IsMissing-missing_of, IsMissing-only, gathered_more}
 use Rattle.lrc_store.proofs.store.Store.missing.Goals as goal
 use Rattle.lrc_store.proofs.store.Store.missing.Goals.{After-keys_of, After-stored-item, then-names+then-not-is_known+in_ok-push, else-names, else-names-via-then-names+else-not-is_known, else-names-via-else-names}
 
