@@ -1,5 +1,6 @@
 pub mod Chained
 pub mod IntervalLists
+pub mod LinkedStores
 pub mod Lookups
 pub mod Orders
 pub mod Places

@@ -12,6 +12,29 @@ use crate::stored::Stored;
 use lrc_time::Time;
 use std::alloc::{AllocError, Global};
 
+/// Makes room for an interval with this many notices. An error changes nothing.
+pub(crate) fn make_room(
+    by_node: &mut Chains,
+    by_page: &mut Chains,
+    notices: &mut Vec<(u64, Key)>,
+    more: usize,
+) -> Result<(), AllocError>
+    ensures node_keys { by_node.new.keys ≡ by_node.old.keys }
+    ensures node_lists { by_node.new.lists ≡ by_node.old.lists }
+    ensures page_keys { by_page.new.keys ≡ by_page.old.keys }
+    ensures page_lists { by_page.new.lists ≡ by_page.old.lists }
+    ensures notices { notices.new.items ≡ notices.old.items }
+    ensures node_room { OnOk result (length by_node.old.keys < by_node.new.room) }
+    ensures node_few { OnOk result (length by_node.old.keys < MOST_ENTRIES) }
+    ensures page_room { OnOk result (length by_page.old.keys + more ≤ by_page.new.room) }
+    ensures page_few { OnOk result (length by_page.old.keys + more ≤ MOST_ENTRIES) }
+    ensures room { OnOk result (vec_len notices.old + more ≤ vec_capacity notices.new) }
+{
+    by_node.reserve(1)?;
+    by_page.reserve(more)?;
+    notices.reserve(more)
+}
+
 /// Adds the interval's notices, for which there is room, each with the weight of the interval's stamp.
 pub(crate) fn add_notices(notices: &mut Vec<(u64, Key)>, by_page: &mut Chains, interval: &Interval)
     requires in_range { All (λ page. page < by_page.old.lists) interval.now.pages }

@@ -26,7 +26,7 @@ newer c =
     IsSortedBy-by_node c.sort_unstable_by_key.new.self.items
     (c.sort_unstable_by_key.ensures.sorted (λ (i : IntervalRecord). (i.node, index_of i)) (answers_always _ _ _ (λ f a r g h. search rules))) in
     IsNewer-from_sort (store_of c) c.args.since.now c.args.upto.now c.loop-stored.found.items c.sort_unstable_by_key.new.self.items
-    c.self.invariant kept c.sort_unstable_by_key.ensures.permutation sorted
+    c.self.invariant.sound kept c.sort_unstable_by_key.ensures.permutation sorted
 
 pub returns-clause-newer : goal.returns-clause-newer
 returns-clause-newer c =
@@ -42,7 +42,7 @@ returns-clause-value c =
     c.from_ascending.ensures
     ∙ IsNewer-only (store_of a) c.args.since.now c.args.upto.now a.sort_unstable_by_key.new.self.items
     (newer_of (store_of a) c.args.since.now c.args.upto.now) (newer a)
-    (IsNewer-newer_of (store_of a) c.args.since.now c.args.upto.now c.self.invariant)
+    (IsNewer-newer_of (store_of a) c.args.since.now c.args.upto.now c.self.invariant.sound)
     ∙ ap (λ (store : StoreRecord). newer_of store c.args.since.now c.args.upto.now) c.self.view_is
 
 pub from_ascending-requires : goal.from_ascending-requires
