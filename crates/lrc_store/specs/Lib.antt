@@ -1,3 +1,7 @@
+pub mod Chains
 pub mod Interval
+pub mod Linked
+pub mod Links
+pub mod Lists
 pub mod Order
 pub mod Store

@@ -5,10 +5,13 @@ ghost use Rattle.std.specs.Option.{option_copied};
 ghost use Rattle.lrc_time.specs.Time.{entry};
 ghost use Rattle.lrc_store.specs.Store.{is_at};
 
-use crate::interval::{Interval, MOST_PAGES};
+use crate::chains::Chains;
+use crate::interval::Interval;
+use crate::intervals::Intervals;
 use crate::key::Key;
+use crate::links::{add_notices, is_known, link_nodes, link_pages, make_room, unknown_on};
 use crate::stored::Stored;
-use lrc_page::Changes;
+use lrc_page::{Changes, MOST_PAGES};
 use lrc_time::Time;
 use std::alloc::{AllocError, Global};
 use std::marker::Model;
@@ -16,27 +19,32 @@ use std::marker::Model;
 /// The intervals that a node knows, each with its write notices, and the changes that came for some of these.
 ///
 /// The intervals stand in one list in the order of adding, so a look-up takes time linear in their number.
-#[derive(Debug, Drop)]
+#[derive(Drop)]
 pub struct Store {
     pages: u16,
     last: Time,
-    entries: Vec<Stored>,
+    pub(crate) entries: Vec<Stored>,
+    pub(crate) by_node: Chains,
+    pub(crate) by_page: Chains,
+    pub(crate) notices: Vec<(u64, Key)>,
 }
 
 impl Model for Store {
-    ghost use Rattle.lrc_store.specs.Store.{StoreRecord, IsStore};
+    ghost use Rattle.lrc_store.specs.Store.{StoreRecord};
+    ghost use Rattle.lrc_store.specs.Links.{IsLinkedUp};
 
     ghost Value = { StoreRecord };
 
     ghost view = { λ s. record { pages = s.pages; last = s.last; entries = s.entries.items } };
 
     ghost invariant = { λ s.
-        IsStore (record { pages = s.pages; last = s.last; entries = s.entries.items }) };
+        IsLinkedUp (record { pages = s.pages; last = s.last; entries = s.entries.items })
+            s.by_node s.by_page s.notices.items };
 }
 
 impl Store {
     ghost use Rattle.lrc_store.specs.Interval.{index_of};
-    ghost use Rattle.lrc_store.specs.Store.{IsStore, empty_store, added, attached, notice_at, changes_at};
+    ghost use Rattle.lrc_store.specs.Store.{IsStore, empty_store, added, attached, discarded, notice_at, changes_at};
     ghost use Rattle.lrc_store.specs.Store.{IsMissing, IsNewer, missing_of, newer_of};
 
     /// A store that knows no interval, for this many nodes, 1 to 16, and pages, at most `MOST_PAGES`.
@@ -50,6 +58,9 @@ impl Store {
             pages,
             last: Time::new(nodes),
             entries: Vec::new(alloc),
+            by_node: Chains::new(alloc, usize::from(nodes))?,
+            by_page: Chains::new(alloc, usize::from(pages))?,
+            notices: Vec::new(alloc),
         })
     }
 
@@ -63,7 +74,11 @@ impl Store {
         ensures sound { IsStore self.new }
     {
         let stored = Stored::new(*self.entries.allocator(), interval)?;
+        let more = interval.pages.len();
+        make_room(&mut self.by_node, &mut self.by_page, &mut self.notices, more)?;
         self.entries.push(stored)?;
+        add_notices(&mut self.notices, &mut self.by_page, interval);
+        self.by_node.push(u16::from(interval.node));
         self.last.raise(interval.node, interval.index());
         Ok(())
     }
@@ -110,12 +125,24 @@ impl Store {
         }
     }
 
+    /// Takes out the intervals that this time knows, with their notices. What was added last of each node stays known.
+    pub fn discard(&mut self, time: &Time)
+        requires { length time.now ≡ length self.old.last }
+        ensures { self.new ≡ discarded self.old time.now }
+    {
+        self.entries.retain(|stored| !stored.is_known(time));
+        self.notices
+            .retain(|(_, key)| !is_known(time, key.node, key.index));
+        link_nodes(&mut self.by_node, &self.entries);
+        link_pages(&mut self.by_page, &self.notices);
+    }
+
     /// The intervals that `upto` knows and `since` does not, ascending by node and index.
-    pub fn newer_than(&self, since: &Time, upto: &Time) -> Result<Vec<Interval>, AllocError>
+    pub fn newer_than(&self, since: &Time, upto: &Time) -> Result<Intervals, AllocError>
         requires since { length since.now ≡ length self.now.last }
         requires upto { length upto.now ≡ length self.now.last }
-        ensures newer { IfOk result (λ found. IsNewer self.now since.now upto.now found.items) }
-        ensures value { IfOk result (λ found. found.items ≡ newer_of self.now since.now upto.now) }
+        ensures newer { IfOk result (λ found. IsNewer self.now since.now upto.now found) }
+        ensures value { IfOk result (λ found. found ≡ newer_of self.now since.now upto.now) }
     {
         let mut found = Vec::new(*self.entries.allocator());
         for stored in &self.entries {
@@ -124,7 +151,7 @@ impl Store {
             }
         }
         found.sort_unstable_by_key(|interval| (interval.node, interval.index()));
-        Ok(found)
+        Ok(Intervals::from_ascending(found))
     }
 
     /// The notices of a page that `since` does not know, ascending by the weight of their interval's stamp, then by
@@ -135,12 +162,7 @@ impl Store {
         ensures value { IfOk result (λ found. found.items ≡ missing_of self.now page since.now) }
     {
         let alloc = *self.entries.allocator();
-        let mut found = Vec::new(alloc);
-        for stored in &self.entries {
-            if stored.names(page) && !stored.is_known(since) {
-                found.push((stored.weight(), stored.key(page)))?;
-            }
-        }
+        let mut found = unknown_on(alloc, &self.notices, &self.by_page, page, since)?;
         found.sort_unstable();
         keys_of(alloc, &found)
     }
