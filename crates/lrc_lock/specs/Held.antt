@@ -1,5 +1,5 @@
 -- The tokens at one node: how they come, are held, kept and passed on.
-use Rattle.std.specs.Prelude.{◌≡◌, ℕ, ◌<◌, ◌≤◌, ◌==◌, Bool, true, false, List, All, length, map, slice_index_or, slice_set, if◌then◌else◌, Option, Some, None, Result, Ok, Err}
+use Rattle.std.specs.Prelude.{ℕ, ◌<◌, ◌≤◌, ◌==◌, Bool, true, false, List, All, length, map, slice_index_or, slice_set, if◌then◌else◌, Option, Some, None, Result, Ok, Err}
 use Rattle.std.specs.List.{range_with_len}
 use Rattle.lrc_time.specs.Time.{zeros}
 use Rattle.lrc_lock.specs.declared.fault.LockFault.{LockFault}
@@ -146,3 +146,10 @@ is_held Away = false
 is_held (Awaited successor) = false
 is_held (Free kept) = false
 is_held (Held successor) = true
+
+-- the token is here
+abbrev pub has_token : LockState → Bool
+has_token Away = false
+has_token (Awaited successor) = false
+has_token (Free kept) = true
+has_token (Held successor) = true

@@ -6,6 +6,7 @@
 
 mod fault;
 mod held;
+pub mod laws;
 mod managed;
 mod state;
 
