@@ -1,3 +1,4 @@
 pub mod Filled
 pub mod News
 pub mod Steps
+pub mod Told

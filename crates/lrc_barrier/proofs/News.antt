@@ -20,6 +20,9 @@ by_node-later a b before = grind (arith, common_steps, before)
 pub is_news-above : (since : List ℕ) (i : IntervalRecord) → is_news since i ≡ true → entry since i.node < index_of i
 is_news-above since i news = grind (arith, common_steps, news)
 
+pub is_news-true : (since : List ℕ) (i : IntervalRecord) → entry since i.node < index_of i → is_news since i ≡ true
+is_news-true since i above = grind (arith, common_steps, above)
+
 pub is_news-below : (since : List ℕ) (i : IntervalRecord) → is_news since i ≡ false → index_of i ≤ entry since i.node
 is_news-below since i old = grind (arith, common_steps, old)
 

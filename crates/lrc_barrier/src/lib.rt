@@ -8,6 +8,7 @@ mod arrival;
 mod departing;
 mod departure;
 mod fault;
+pub mod laws;
 mod manager;
 
 pub use arrival::Arrival;
