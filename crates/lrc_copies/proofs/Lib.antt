@@ -1,0 +1,5 @@
+pub mod Members
+pub mod Fitting
+pub mod Heaviest
+pub mod Closing
+pub mod Repairing
