@@ -3,3 +3,4 @@ pub mod Fitting
 pub mod Heaviest
 pub mod Closing
 pub mod Repairing
+pub mod Paging

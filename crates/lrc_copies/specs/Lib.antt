@@ -1,2 +1,3 @@
 pub mod Word
 pub mod Sound
+pub mod Page

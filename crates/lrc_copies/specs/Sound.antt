@@ -1,5 +1,5 @@
 -- When the changes of intervals can be relied on, and what they make of a copy.
-use Rattle.std.specs.Prelude.{◌≡◌, ℕ, ◌<◌, ◌≤◌, ◌⊎◌, ◌==◌, IsTrue, Option, Some, None, unwrap_or, if◌then◌else◌, List, [], ◌∷◌, ◌++◌, filter, fold, Contains, AllPairs}
+use Rattle.std.specs.Prelude.{◌≡◌, ℕ, ◌<◌, ◌≤◌, ◌⊎◌, ◌==◌, Bool, IsTrue, Option, Some, None, unwrap_or, if◌then◌else◌, List, [], ◌∷◌, ◌++◌, filter, fold, Contains, AllPairs}
 use Rattle.lrc_copies.specs.Word.{WordHistory, IsWriter, IsBelowNone, Fits}
 
 -- the members of the list that are below the interval
@@ -22,22 +22,25 @@ pub record IsSound {A : Type 0} (w : WordHistory A) (all : List A) : Type 0 wher
 
 -- ---- closing
 
+-- An interval is added after all others:
+pub record IsAddedLast {A : Type 0} (weight : A → ℕ) (below : A → A → Bool) (all : List A) (x : A) : Type 0 where
+  -- what is below it weighs less,
+  pub lighter : (a : A) → Contains all a → IsTrue (below a x) → weight a < weight x
+  -- and it is below none, nor below itself.
+  pub newest : (a : A) → Contains (all ++ x ∷ []) a → ¬ IsTrue (below x a)
+
 -- what the changes between twin and copy say of one word: the copy's value, where the two differ
 abbrev pub difference : ℕ → ℕ → Option ℕ
 difference twin value = if twin == value then None else Some value
 
--- An interval that is closed after all others, whose twin had one value at the word and whose copy has another:
+-- An interval is closed, whose twin had one value at the word and whose copy has another:
 pub record IsClosed {A : Type 0} (w : WordHistory A) (all : List A) (x : A) (twin value : ℕ) : Type 0 where
   -- the twin fits what is below it,
   pub fits : Fits w twin (those_below w all x)
   -- the copy has what it wrote last, or else what the twin has,
   pub copy : value ≡ unwrap_or (w.wrote x) twin
-  -- its change is what differs,
+  -- and its change is what differs.
   pub change : w.change x ≡ difference twin value
-  -- what is below it weighs less,
-  pub lighter : (a : A) → Contains all a → IsTrue (w.below a x) → w.weight a < w.weight x
-  -- and it is below none, nor below itself.
-  pub newest : (a : A) → Contains (all ++ x ∷ []) a → ¬ IsTrue (w.below x a)
 
 -- ---- repair
 

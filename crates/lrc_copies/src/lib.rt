@@ -2,4 +2,5 @@
 //! changes (Keleher, Cox and Zwaenepoel 1992). Each function is a law, with nothing to do.
 #![tactic(auto)]
 
+pub mod page;
 pub mod word;

@@ -1,8 +1,8 @@
 // One word of a page. Each function is a theorem: its body is empty, and its clause is the law.
 
-ghost use Rattle.std.specs.Prelude.{◌≡◌, ℕ, ◌⊎◌, Some, unwrap_or, List, [], ◌∷◌, ◌++◌, Contains};
+ghost use Rattle.std.specs.Prelude.{◌≡◌, ℕ, ◌⊎◌, None, unwrap_or, List, [], ◌∷◌, ◌++◌, Contains};
 ghost use Rattle.lrc_copies.specs.Word.{WordHistory, IsUnwritten, AreWritersOrdered, IsLastWriter, Fits, HaveSameWriters, AgreeOn, IsBelowNone};
-ghost use Rattle.lrc_copies.specs.Sound.{IsLighterBelow, IsSound, IsClosed, IsNext, AreNext, repaired_value};
+ghost use Rattle.lrc_copies.specs.Sound.{IsLighterBelow, IsSound, IsAddedLast, IsClosed, IsNext, AreNext, repaired_value};
 
 /// Before the first write a word is zero.
 pub fn zero_fits_nothing<A>()
@@ -36,8 +36,14 @@ pub fn ordered_writers_have_a_last<A>()
 
 /// What is closed after all others is sound, also where it wrote what the word had before.
 pub fn closing_stays_sound<A>()
-    ensures { (w : WordHistory A) (all : List A) (x : A) (twin value : ℕ) → IsSound w all → IsClosed w all x twin value
-        → IsSound w (all ++ x ∷ []) }
+    ensures { (w : WordHistory A) (all : List A) (x : A) (twin value : ℕ) → IsSound w all
+        → IsAddedLast w.weight w.below all x → IsClosed w all x twin value → IsSound w (all ++ x ∷ []) }
+{}
+
+/// So is what is closed without writing the word and without a change of it.
+pub fn closing_without_a_write_stays_sound<A>()
+    ensures { (w : WordHistory A) (all : List A) (x : A) → IsSound w all → IsAddedLast w.weight w.below all x
+        → w.wrote x ≡ None → w.change x ≡ None → IsSound w (all ++ x ∷ []) }
 {}
 
 /// To apply the changes of one interval keeps the fit, where all below it are in and it is below none that is in.

@@ -1,0 +1,45 @@
+// A whole page, of any length. Each function is a theorem: its body is empty, and its clause is the law.
+
+ghost use Rattle.std.specs.Prelude.{◌≡◌, ℕ, ◌<◌, None, List, [], ◌∷◌, ◌++◌, length, map, fold, replicate, slice_set, Contains};
+ghost use Rattle.lrc_page.specs.Changes.{applied};
+ghost use Rattle.lrc_copies.specs.Sound.{IsAddedLast};
+ghost use Rattle.lrc_copies.specs.Page.{PageHistory, PageFits, IsPageSound, IsUntouchedBy, IsMoreUntouched, IsWrittenOnce, IsPageClosed, ArePageNext};
+
+/// Before the first write a page is zero.
+pub fn zero_page_fits_nothing<A>()
+    ensures { (h : PageHistory A) (words : ℕ) → PageFits h (replicate words 0) [] }
+{}
+
+/// A copy goes on to fit where the list gets more intervals that did not write the page.
+pub fn untouched_page_keeps_fitting<A>()
+    ensures { (h : PageHistory A) (copy : List ℕ) (xs ys : List A) → IsMoreUntouched h xs ys → PageFits h copy xs
+        → PageFits h copy ys }
+{}
+
+/// A write in an interval that is below none of the list keeps the fit with the list and the interval.
+pub fn writing_keeps_the_page_fitting<A>()
+    ensures { (before after : PageHistory A) (copy : List ℕ) (xs : List A) (x : A) (offset value : ℕ)
+        → IsWrittenOnce before after xs x offset value → PageFits before copy (x ∷ xs)
+        → PageFits after (slice_set copy offset value) (x ∷ xs) }
+{}
+
+/// An interval that wrote the page is sound once it is closed with the changes between twin and copy, also where it wrote
+/// what a word had before.
+pub fn closing_a_written_page_stays_sound<A>()
+    ensures { (h : PageHistory A) (all : List A) (x : A) (twin copy : List ℕ) → IsPageSound h (length copy) all
+        → IsAddedLast h.weight h.below all x → IsPageClosed h all x twin copy → IsPageSound h (length copy) (all ++ x ∷ []) }
+{}
+
+/// An interval that did not write the page is sound without changes, whatever copy its node has of it.
+pub fn closing_an_untouched_page_stays_sound<A>()
+    ensures { (h : PageHistory A) (all : List A) (x : A) (words : ℕ) → IsPageSound h words all
+        → IsAddedLast h.weight h.below all x → IsUntouchedBy h x → h.changes x ≡ [] → IsPageSound h words (all ++ x ∷ []) }
+{}
+
+/// To apply the changes of intervals by rising weight keeps the fit, where all below them are in, or among them, or did not
+/// write the page.
+pub fn repairing_keeps_the_page_fitting<A>()
+    ensures { (h : PageHistory A) (all xs more : List A) (copy : List ℕ) → IsPageSound h (length copy) all
+        → ((a : A) → Contains xs a → Contains all a) → ArePageNext h all xs more → PageFits h copy xs
+        → PageFits h (fold applied copy (map h.changes more)) (xs ++ more) }
+{}
