@@ -4,3 +4,5 @@ pub mod Heaviest
 pub mod Closing
 pub mod Repairing
 pub mod Paging
+pub mod Stamping
+pub mod Timing

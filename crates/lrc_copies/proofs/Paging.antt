@@ -1,15 +1,17 @@
 -- Whole pages, word by word.
-use Rattle.std.proofs.Common.{◌≡◌, ℕ, zero, suc, ◌<◌, ◌⊎◌, ◌∙◌, List, [], ◌∷◌, ◌++◌, length, map, get_or, set, replicate, Some, ap, sym, subst, refl, inl, inr, ⊎_elim, arith}
+use Rattle.std.proofs.Common.{◌≡◌, ℕ, IsTrue, zero, suc, ◌<◌, ◌⊎◌, ◌∙◌, List, [], ◌∷◌, ◌++◌, length, map, get_or, set, replicate, Some, ap, sym, subst, refl, inl, inr, ⊎_elim, arith}
 use Rattle.std.specs.Prelude.{Contains, unwrap_or, fold}
 use Rattle.std.proofs.lemmas.Bool.{cases_eq}
 use Rattle.std.proofs.lemmas.List.{length-set, get_or-set_other}
 use Rattle.std.proofs.lemmas.Grind.{get_or-set_at}
+use Rattle.lrc_page.specs.declared.size.Size.{Size}
+use Rattle.lrc_page.specs.Page.{words_of, zero_page}
 use Rattle.lrc_page.specs.Changes.{applied, change_at, changes_between}
 use Rattle.lrc_page.proofs.ChangeLists.{length-fold-applied, get_or-fold-applied, change_at-between_same, change_at-between_differs}
 use Rattle.lrc_copies.specs.Word.{IsWriter, Fits, AgreeOn}
 use Rattle.lrc_copies.specs.Sound.{IsAddedLast, difference, AreNext, repaired_value}
-use Rattle.lrc_copies.specs.Page.{PageHistory, at_word, PageFits, IsPageSound, IsUntouchedBy, IsMoreUntouched, IsWrittenOnce, IsPageClosed, ArePageNext}
-use Rattle.lrc_copies.proofs.Fitting.{zero_fits, fits_writers, fits_agreed, newest_fits}
+use Rattle.lrc_copies.specs.Page.{PageHistory, at_word, PageFits, IsPageSound, IsUntouchedBy, IsMoreUntouched, IsWrittenOnce, IsClosedWith, page_below, ArePageNext}
+use Rattle.lrc_copies.proofs.Fitting.{fits_open, zero_fits, fits_writers, fits_agreed, newest_fits}
 use Rattle.lrc_copies.proofs.Closing.{difference-same, difference-differs, sound_closed, sound_unwritten}
 use Rattle.lrc_copies.proofs.Repairing.{fits_all_next}
 
@@ -35,6 +37,10 @@ module _ {A : Type 0} (h : PageHistory A) where
   zero_page_fits words offset within =
       subst (λ v. Fits (at_word h offset) v []) (sym (get_or-zeros words offset)) (zero_fits (at_word h offset))
 
+  pub zero_page_of_size_fits : (size : Size) → PageFits h (zero_page size) []
+  unfolding zero_page
+  zero_page_of_size_fits size = zero_page_fits (words_of size)
+
   -- an interval that did not write the page is no writer of its words
   untouched_no_writer : {xs : List A} {a : A} {offset value : ℕ} → IsUntouchedBy h a → IsWriter (at_word h offset) xs a value → ⊥
   untouched_no_writer {offset = offset} untouched g =
@@ -53,11 +59,12 @@ module _ {A : Type 0} (h : PageHistory A) where
       (fits offset within)
 
   pub page_closed : (all : List A) (x : A) (twin copy : List ℕ) → IsPageSound h (length copy) all
-      → IsAddedLast h.weight h.below all x → IsPageClosed h all x twin copy → IsPageSound h (length copy) (all ++ x ∷ [])
-  page_closed all x twin copy sound added closed offset within =
+      → IsAddedLast h.weight h.below all x → IsClosedWith h x twin copy → PageFits h twin (page_below h all x)
+      → IsPageSound h (length copy) (all ++ x ∷ [])
+  page_closed all x twin copy sound added closed fits offset within =
       sound_closed (at_word h offset) all x (get_or twin offset 0) (get_or copy offset 0)
       (record {
-        fits = closed.fits offset (let long = closed.long in omega arith);
+        fits = fits offset (let long = closed.long in omega arith);
         copy = closed.copy_has offset within;
         change = ap (λ cs. change_at cs offset) closed.changes ∙ change_at-between twin copy offset within;
       })
@@ -93,6 +100,14 @@ module _ {A : Type 0} (h : PageHistory A) where
       subst (λ v. Fits w v (xs ++ more))
       (sym (get_or-fold-applied copy (map h.changes more) offset inside ∙ repaired_word offset more (get_or copy offset 0)))
       (fits_all_next w all (sound offset inside) xs more (get_or copy offset 0) within words (fits offset inside))
+
+  -- what an interval that is below none makes of its twin
+  pub page_open : (twin copy : List ℕ) (x : A) (xs : List A) → IsClosedWith h x twin copy
+      → ((a : A) → Contains xs a → IsTrue (h.below x a) → ⊥) → PageFits h twin xs → PageFits h copy (x ∷ xs)
+  page_open twin copy x xs closed newest fits offset within =
+      subst (λ v. Fits (at_word h offset) v (x ∷ xs)) (sym (closed.copy_has offset within))
+      (fits_open (at_word h offset) (get_or twin offset 0) x xs (λ a v g. newest a g.member)
+      (fits offset (let long = closed.long in omega arith)))
 
 -- ---- one write more
 

@@ -1,3 +1,4 @@
 pub mod Word
 pub mod Sound
 pub mod Page
+pub mod Stamps

@@ -53,15 +53,17 @@ pub record IsWrittenOnce {A : Type 0} (before after : PageHistory A) (xs : List 
   pub newest : (a : A) → Contains xs a → ¬ IsTrue (after.below x a)
 
 -- An interval that wrote the page is closed, with this twin and this copy:
-pub record IsPageClosed {A : Type 0} (h : PageHistory A) (all : List A) (x : A) (twin copy : List ℕ) : Type 0 where
+pub record IsClosedWith {A : Type 0} (h : PageHistory A) (x : A) (twin copy : List ℕ) : Type 0 where
   pub long : length twin ≡ length copy
-  -- the twin fits what is below it,
-  pub fits : PageFits h twin (filter (λ a. h.below a x) all)
   -- each word of the copy has what it wrote last, or else what the twin has,
   pub copy_has : (offset : ℕ) → offset < length copy
       → slice_index copy offset ≡ unwrap_or (h.wrote x offset) (slice_index twin offset)
   -- and its changes are those between the two.
   pub changes : h.changes x ≡ changes_between twin copy
+
+-- the members of the list that are below the interval
+abbrev pub page_below : {A : Type 0} → PageHistory A → List A → A → List A
+page_below h all x = filter (λ a. h.below a x) all
 
 -- Intervals whose changes can be applied to a copy, one after another:
 pub record ArePageNext {A : Type 0} (h : PageHistory A) (all xs more : List A) : Type 0 where

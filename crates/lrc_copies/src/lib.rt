@@ -3,4 +3,5 @@
 #![tactic(auto)]
 
 pub mod page;
+pub mod times;
 pub mod word;

@@ -1,13 +1,16 @@
 // A whole page, of any length. Each function is a theorem: its body is empty, and its clause is the law.
 
 ghost use Rattle.std.specs.Prelude.{◌≡◌, ℕ, ◌<◌, None, List, [], ◌∷◌, ◌++◌, length, map, fold, replicate, slice_set, Contains};
+ghost use Rattle.lrc_page.specs.declared.size.Size.{Size};
+ghost use Rattle.lrc_page.specs.Page.{zero_page};
 ghost use Rattle.lrc_page.specs.Changes.{applied};
 ghost use Rattle.lrc_copies.specs.Sound.{IsAddedLast};
-ghost use Rattle.lrc_copies.specs.Page.{PageHistory, PageFits, IsPageSound, IsUntouchedBy, IsMoreUntouched, IsWrittenOnce, IsPageClosed, ArePageNext};
+ghost use Rattle.lrc_copies.specs.Page.{PageHistory, page_below, PageFits, IsPageSound, IsUntouchedBy, IsMoreUntouched, IsWrittenOnce, IsClosedWith, ArePageNext};
 
 /// Before the first write a page is zero.
 pub fn zero_page_fits_nothing<A>()
-    ensures { (h : PageHistory A) (words : ℕ) → PageFits h (replicate words 0) [] }
+    ensures any_length { (h : PageHistory A) (words : ℕ) → PageFits h (replicate words 0) [] }
+    ensures of_a_size { (h : PageHistory A) (size : Size) → PageFits h (zero_page size) [] }
 {}
 
 /// A copy goes on to fit where the list gets more intervals that did not write the page.
@@ -27,7 +30,8 @@ pub fn writing_keeps_the_page_fitting<A>()
 /// what a word had before.
 pub fn closing_a_written_page_stays_sound<A>()
     ensures { (h : PageHistory A) (all : List A) (x : A) (twin copy : List ℕ) → IsPageSound h (length copy) all
-        → IsAddedLast h.weight h.below all x → IsPageClosed h all x twin copy → IsPageSound h (length copy) (all ++ x ∷ []) }
+        → IsAddedLast h.weight h.below all x → IsClosedWith h x twin copy → PageFits h twin (page_below h all x)
+        → IsPageSound h (length copy) (all ++ x ∷ []) }
 {}
 
 /// An interval that did not write the page is sound without changes, whatever copy its node has of it.
