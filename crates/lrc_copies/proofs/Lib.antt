@@ -6,3 +6,4 @@ pub mod Repairing
 pub mod Paging
 pub mod Stamping
 pub mod Timing
+pub mod Lazily

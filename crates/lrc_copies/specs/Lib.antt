@@ -2,3 +2,4 @@ pub mod Word
 pub mod Sound
 pub mod Page
 pub mod Stamps
+pub mod Reading

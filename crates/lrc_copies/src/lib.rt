@@ -3,5 +3,6 @@
 #![tactic(auto)]
 
 pub mod page;
+pub mod reading;
 pub mod times;
 pub mod word;
