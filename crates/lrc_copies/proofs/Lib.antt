@@ -7,3 +7,4 @@ pub mod Paging
 pub mod Stamping
 pub mod Timing
 pub mod Lazily
+pub mod Deciding

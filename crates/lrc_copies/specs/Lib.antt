@@ -3,3 +3,4 @@ pub mod Sound
 pub mod Page
 pub mod Stamps
 pub mod Reading
+pub mod Decided

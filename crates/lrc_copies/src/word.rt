@@ -1,8 +1,9 @@
 // One word of a page. Each function is a theorem: its body is empty, and its clause is the law.
 
-ghost use Rattle.std.specs.Prelude.{◌≡◌, ℕ, ◌⊎◌, None, unwrap_or, List, [], ◌∷◌, ◌++◌, Contains};
+ghost use Rattle.std.specs.Prelude.{◌≡◌, ℕ, ◌⊎◌, ◌↔◌, IsTrue, None, unwrap_or, List, [], ◌∷◌, ◌++◌, Contains};
 ghost use Rattle.lrc_copies.specs.Word.{WordHistory, IsUnwritten, AreWritersOrdered, IsLastWriter, Fits, HaveSameWriters, AgreeOn, IsBelowNone};
 ghost use Rattle.lrc_copies.specs.Sound.{IsLighterBelow, IsSound, IsAddedLast, IsClosed, IsNext, AreNext, repaired_value};
+ghost use Rattle.lrc_copies.specs.Decided.{fits};
 
 /// Before the first write a word is zero.
 pub fn zero_fits_nothing<A>()
@@ -58,4 +59,9 @@ pub fn repairing_keeps_the_fit<A>()
     ensures { (w : WordHistory A) (all xs more : List A) (value : ℕ) → IsSound w all
         → ((a : A) → Contains xs a → Contains all a) → AreNext w all xs more → Fits w value xs
         → Fits w (repaired_value w value more) (xs ++ more) }
+{}
+
+/// Where intervals are named by numbers, a test tells whether a value fits.
+pub fn fitting_is_decided()
+    ensures { (w : WordHistory ℕ) (value : ℕ) (xs : List ℕ) → IsTrue (fits w value xs) ↔ Fits w value xs }
 {}
