@@ -10,7 +10,8 @@ use Rattle.lrc_page.specs.Changes.{applied, change_at, changes_between}
 use Rattle.lrc_page.proofs.ChangeLists.{length-fold-applied, get_or-fold-applied, change_at-between_same, change_at-between_differs}
 use Rattle.lrc_copies.specs.Word.{IsWriter, Fits, AgreeOn}
 use Rattle.lrc_copies.specs.Sound.{IsAddedLast, difference, AreNext, repaired_value}
-use Rattle.lrc_copies.specs.Page.{PageHistory, at_word, PageFits, IsPageSound, IsUntouchedBy, IsMoreUntouched, IsWrittenOnce, IsClosedWith, page_below, ArePageNext}
+use Rattle.lrc_copies.specs.Page.{PageHistory, at_word, PageFits, IsPageSound, IsUntouchedBy, IsMoreUntouched, IsWrittenOnce, IsMadeOf, IsClosedWith, page_below, ArePageNext}
+use Rattle.lrc_copies.proofs.Members.{Contains-first}
 use Rattle.lrc_copies.proofs.Fitting.{fits_open, zero_fits, fits_writers, fits_agreed, newest_fits}
 use Rattle.lrc_copies.proofs.Closing.{difference-same, difference-differs, sound_closed, sound_unwritten}
 use Rattle.lrc_copies.proofs.Repairing.{fits_all_next}
@@ -64,8 +65,8 @@ module _ {A : Type 0} (h : PageHistory A) where
   page_closed all x twin copy sound added closed fits offset within =
       sound_closed (at_word h offset) all x (get_or twin offset 0) (get_or copy offset 0)
       (record {
-        fits = fits offset (let long = closed.long in omega arith);
-        copy = closed.copy_has offset within;
+        fits = fits offset (let long = closed.made.long in omega arith);
+        copy = closed.made.has offset within;
         change = ap (λ cs. change_at cs offset) closed.changes ∙ change_at-between twin copy offset within;
       })
       added (sound offset within)
@@ -102,12 +103,12 @@ module _ {A : Type 0} (h : PageHistory A) where
       (fits_all_next w all (sound offset inside) xs more (get_or copy offset 0) within words (fits offset inside))
 
   -- what an interval that is below none makes of its twin
-  pub page_open : (twin copy : List ℕ) (x : A) (xs : List A) → IsClosedWith h x twin copy
+  pub page_open : (twin copy : List ℕ) (x : A) (xs : List A) → IsMadeOf h x twin copy
       → ((a : A) → Contains xs a → IsTrue (h.below x a) → ⊥) → PageFits h twin xs → PageFits h copy (x ∷ xs)
-  page_open twin copy x xs closed newest fits offset within =
-      subst (λ v. Fits (at_word h offset) v (x ∷ xs)) (sym (closed.copy_has offset within))
+  page_open twin copy x xs made newest fits offset within =
+      subst (λ v. Fits (at_word h offset) v (x ∷ xs)) (sym (made.has offset within))
       (fits_open (at_word h offset) (get_or twin offset 0) x xs (λ a v g. newest a g.member)
-      (fits offset (let long = closed.long in omega arith)))
+      (fits offset (let long = made.long in omega arith)))
 
 -- ---- one write more
 
@@ -131,3 +132,21 @@ module _ {A : Type 0} (before after : PageHistory A) (copy : List ℕ) (xs : Lis
       subst (λ v. Fits (at_word after place) v (x ∷ xs)) (sym there)
       (fits_agreed (at_word before place) (at_word after place) (x ∷ xs) agree (get_or copy place 0) (fits place inside)))
       (cases_eq place offset)
+
+  -- the copy is made of the same twin
+  pub page_still_made : (twin : List ℕ) → IsMadeOf before x twin copy → IsMadeOf after x twin (set copy offset value)
+  page_still_made twin made = record {
+    long = made.long ∙ sym (length-set copy offset value);
+    has = λ place below.
+        let inside : place < length copy = omega (arith, length-set copy offset value) in
+        ⊎_elim
+        (λ (same : place ≡ offset).
+        let here : get_or (set copy offset value) place 0 ≡ value = get_or-set_at copy offset place value 0 same (omega arith) in
+        let wrote : after.wrote x place ≡ Some value = ap (after.wrote x) same ∙ written.wrote in
+        here ∙ sym (ap (λ o. unwrap_or o (get_or twin place 0)) wrote))
+        (λ (other : place ≡ offset → ⊥).
+        let there : get_or (set copy offset value) place 0 ≡ get_or copy place 0 = get_or-set_other copy offset place value 0 other in
+        let same : before.wrote x place ≡ after.wrote x place = written.others x place (Contains-first x xs) other in
+        there ∙ made.has place inside ∙ ap (λ o. unwrap_or o (get_or twin place 0)) same)
+        (cases_eq place offset);
+  }

@@ -32,6 +32,11 @@ pub test_cases : (b : Bool) → (b ≡ true) ⊎ (b ≡ true → ⊥)
 test_cases true = inl refl
 test_cases false = inr false≢true
 
+-- what does not hold fails
+pub not_from : (b : Bool) → (b ≡ true → ⊥) → not b ≡ true
+not_from true never = absurd (never refl)
+not_from false never = refl
+
 module _ {A : Type 0} (s : Stamps A) where
   pub covered-le : (time : List ℕ) (a : A) → IsTrue (is_covered s time a) → number_of s a ≤ entry time (s.node a)
   covered-le time a h = leb-true (number_of s a) (entry time (s.node a)) h
@@ -73,11 +78,7 @@ module _ {A : Type 0} (s : Stamps A) where
       false≢true (sym apart ∙ same)
 
   pub below-from : (a b : A) → IsTrue (is_covered s (s.stamp b) a) → (is_same s a b ≡ true → ⊥) → IsTrue (is_below s a b)
-  below-from a b known apart = and_from _ _ known (other (is_same s a b) apart)
-    where
-      other : (b : Bool) → (b ≡ true → ⊥) → not b ≡ true
-      other true never = absurd (never refl)
-      other false never = refl
+  below-from a b known apart = and_from _ _ known (not_from (is_same s a b) apart)
 
   -- no interval is below itself
   pub not_below_itself : (a : A) → IsTrue (is_below s a a) → ⊥

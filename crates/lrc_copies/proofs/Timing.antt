@@ -1,7 +1,7 @@
 -- Copies by times.
-use Rattle.std.proofs.Common.{◌≡◌, ℕ, ◌<◌, ◌≤◌, ◌⊎◌, true, eqb, ltb, IsTrue, Option, List, [], ◌∷◌, ◌++◌, length, map, sym, subst, inl, inr, ⊎_elim, arith}
-use Rattle.std.specs.Prelude.{Contains, fold}
-use Rattle.std.proofs.lemmas.Bool.{ltb-true, eqb-true, and_parts, or_cases}
+use Rattle.std.proofs.Common.{◌≡◌, ℕ, ◌∙◌, ◌↔◌, ◌&&◌, Bool, not, ◌<◌, ◌≤◌, ◌⊎◌, true, eqb, ltb, IsTrue, Option, List, [], ◌∷◌, ◌++◌, length, map, sym, subst, inl, inr, ⊎_elim, arith}
+use Rattle.std.specs.Prelude.{Contains, AllPairs, fold}
+use Rattle.std.proofs.lemmas.Bool.{ltb-true, eqb-true, and_parts, and_from, not-true, false≢true, or_cases}
 use Rattle.std.proofs.lemmas.List.Elements.{Contains-append_left, Contains-append_right, Contains-append_cases, Contains-push_cases}
 use Rattle.lrc_time.specs.Time.{Covers}
 use Rattle.lrc_page.specs.declared.changes.Change.{Change}
@@ -10,7 +10,7 @@ use Rattle.lrc_copies.specs.Page.{PageHistory, PageFits, IsPageSound, IsUntouche
 use Rattle.lrc_copies.specs.Stamps.{Stamps, stamp_weight, is_covered, covered, is_below, comes_before, page_of_stamps, IsCut, AreStamped, IsClosedAt, IsBetween, AreLacking}
 use Rattle.lrc_copies.proofs.Members.{Contains-filter, Contains-from_filter}
 use Rattle.lrc_copies.proofs.Paging.{page_fits_more, page_closed, page_open, page_repaired}
-use Rattle.lrc_copies.proofs.Stamping.{test_cases, covered-up, below-covered, added_last, below_none, into_stamp, from_stamp, covered_below, below_covered}
+use Rattle.lrc_copies.proofs.Stamping.{test_cases, not_from, covered-up, below-covered, added_last, below_none, into_stamp, from_stamp, covered_below, below_covered}
 
 -- what comes before weighs no more
 before-lighter : {A : Type 0} (s : Stamps A) (a b : A) → IsTrue (comes_before s a b) → stamp_weight s a ≤ stamp_weight s b
@@ -43,7 +43,7 @@ module _ {A : Type 0} (s : Stamps A) (wrote : A → ℕ → Option ℕ) (changes
     pub closed_fits : (twin copy : List ℕ) → IsClosedWith h x twin copy → PageFits h twin (covered s time all)
         → PageFits h copy (covered s (s.stamp x) (all ++ x ∷ []))
     closed_fits twin copy with_twin fits =
-        open_fits_closed copy (page_open h twin copy x (covered s time all) with_twin
+        open_fits_closed copy (page_open h twin copy x (covered s time all) with_twin.made
         (λ a a_in under. below_none s nodes all time x closed a (Contains-from_filter (is_covered s time) all a a_in).0 under)
         fits)
 
@@ -147,3 +147,32 @@ module _ {A : Type 0} (s : Stamps A) (wrote : A → ℕ → Option ℕ) (changes
           page_fits_more h (fold applied copy (map changes missing)) (covered s since all ++ missing) (covered s upto all) lacking_all
           (page_repaired h all (covered s since all) missing copy sound
           (λ a a_in. (Contains-from_filter (is_covered s since) all a a_in).0) lacking_next fits)
+
+  -- what a store that has the intervals up to a time says is missing
+  pub parts_lacking : (all stored : List A) (since upto : List ℕ) (names : A → Bool) (part : List A)
+      → ((a : A) → IsBetween s all since upto a → Contains stored a)
+      → ((a : A) → Contains stored a → Contains all a × IsTrue (is_covered s upto a))
+      → ((a : A) → Contains all a → (IsTrue (names a) → ⊥) → IsUntouchedBy h a)
+      → ((a : A) → Contains part a ↔ (Contains stored a × IsTrue (names a && not (is_covered s since a))))
+      → AllPairs (λ a b. IsTrue (comes_before s a b)) part → AreLacking s wrote all since upto part
+  parts_lacking all stored since upto names part into_store from_store unnamed exactly ascending = record {
+    members = λ a a_in.
+        let found = (exactly a).0 a_in in
+        let known = from_store a found.0 in
+        let parts = and_parts (names a) (not (is_covered s since a)) found.1 in
+        record {
+          member = known.0;
+          later = λ covers. false≢true (sym (not-true (is_covered s since a) parts.1) ∙ covers);
+          known = known.1;
+        };
+    complete = λ a between. ⊎_elim
+        (λ (named : IsTrue (names a)).
+        inl ((exactly a).1 (
+          into_store a between,
+          and_from (names a) (not (is_covered s since a)) named
+              (not_from (is_covered s since a) between.later),
+        )))
+        (λ (other : IsTrue (names a) → ⊥). inr (unnamed a between.member other))
+        (test_cases (names a));
+    ascending = ascending;
+  }

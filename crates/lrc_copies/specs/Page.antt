@@ -52,13 +52,15 @@ pub record IsWrittenOnce {A : Type 0} (before after : PageHistory A) (xs : List 
   -- and it is below none of the list.
   pub newest : (a : A) → Contains xs a → ¬ IsTrue (after.below x a)
 
--- An interval that wrote the page is closed, with this twin and this copy:
-pub record IsClosedWith {A : Type 0} (h : PageHistory A) (x : A) (twin copy : List ℕ) : Type 0 where
+-- what an interval made of its twin: each word of the copy has what it wrote last, or else what the twin has
+pub record IsMadeOf {A : Type 0} (h : PageHistory A) (x : A) (twin copy : List ℕ) : Type 0 where
   pub long : length twin ≡ length copy
-  -- each word of the copy has what it wrote last, or else what the twin has,
-  pub copy_has : (offset : ℕ) → offset < length copy
+  pub has : (offset : ℕ) → offset < length copy
       → slice_index copy offset ≡ unwrap_or (h.wrote x offset) (slice_index twin offset)
-  -- and its changes are those between the two.
+
+-- an interval that wrote the page is closed, with this twin and this copy: its changes are those between the two
+pub record IsClosedWith {A : Type 0} (h : PageHistory A) (x : A) (twin copy : List ℕ) : Type 0 where
+  pub made : IsMadeOf h x twin copy
   pub changes : h.changes x ≡ changes_between twin copy
 
 -- the members of the list that are below the interval

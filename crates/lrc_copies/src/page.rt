@@ -1,11 +1,11 @@
 // A whole page, of any length. Each function is a theorem: its body is empty, and its clause is the law.
 
-ghost use Rattle.std.specs.Prelude.{◌≡◌, ℕ, ◌<◌, None, List, [], ◌∷◌, ◌++◌, length, map, fold, replicate, slice_set, Contains};
+ghost use Rattle.std.specs.Prelude.{◌≡◌, ℕ, IsTrue, List, [], ◌∷◌, ◌++◌, length, map, fold, replicate, slice_set, Contains};
 ghost use Rattle.lrc_page.specs.declared.size.Size.{Size};
 ghost use Rattle.lrc_page.specs.Page.{zero_page};
 ghost use Rattle.lrc_page.specs.Changes.{applied};
 ghost use Rattle.lrc_copies.specs.Sound.{IsAddedLast};
-ghost use Rattle.lrc_copies.specs.Page.{PageHistory, page_below, PageFits, IsPageSound, IsUntouchedBy, IsMoreUntouched, IsWrittenOnce, IsClosedWith, ArePageNext};
+ghost use Rattle.lrc_copies.specs.Page.{PageHistory, page_below, PageFits, IsPageSound, IsUntouchedBy, IsMoreUntouched, IsWrittenOnce, IsMadeOf, IsClosedWith, ArePageNext};
 
 /// Before the first write a page is zero.
 pub fn zero_page_fits_nothing<A>()
@@ -24,6 +24,19 @@ pub fn writing_keeps_the_page_fitting<A>()
     ensures { (before after : PageHistory A) (copy : List ℕ) (xs : List A) (x : A) (offset value : ℕ)
         → IsWrittenOnce before after xs x offset value → PageFits before copy (x ∷ xs)
         → PageFits after (slice_set copy offset value) (x ∷ xs) }
+{}
+
+/// It leaves the copy what the interval made of the same twin.
+pub fn writing_is_over_the_same_twin<A>()
+    ensures { (before after : PageHistory A) (copy : List ℕ) (xs : List A) (x : A) (offset value : ℕ) (twin : List ℕ)
+        → IsWrittenOnce before after xs x offset value → IsMadeOf before x twin copy
+        → IsMadeOf after x twin (slice_set copy offset value) }
+{}
+
+/// What an interval that is below none of the list makes of a twin that fits the list fits the list and the interval.
+pub fn open_interval_keeps_the_page_fitting<A>()
+    ensures { (h : PageHistory A) (twin copy : List ℕ) (x : A) (xs : List A) → IsMadeOf h x twin copy
+        → ((a : A) → Contains xs a → ¬ IsTrue (h.below x a)) → PageFits h twin xs → PageFits h copy (x ∷ xs) }
 {}
 
 /// An interval that wrote the page is sound once it is closed with the changes between twin and copy, also where it wrote

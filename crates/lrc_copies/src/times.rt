@@ -1,12 +1,12 @@
 // Copies by times. Each function is a theorem: its body is empty, and its clause is the law.
 
-ghost use Rattle.std.specs.Prelude.{◌≡◌, ℕ, ◌<◌, Option, IsTrue, unwrap_or, List, [], ◌∷◌, ◌++◌, length, map, fold, slice_index, Contains};
+ghost use Rattle.std.specs.Prelude.{◌≡◌, ℕ, ◌<◌, ◌↔◌, ◌&&◌, Bool, not, Option, None, AllPairs, IsTrue, unwrap_or, List, [], ◌∷◌, ◌++◌, length, map, fold, slice_index, Contains};
 ghost use Rattle.lrc_time.specs.Time.{Covers};
 ghost use Rattle.lrc_page.specs.declared.changes.Change.{Change};
 ghost use Rattle.lrc_page.specs.Changes.{applied, changes_between};
 ghost use Rattle.lrc_copies.specs.Sound.{IsAddedLast};
 ghost use Rattle.lrc_copies.specs.Page.{PageFits, IsPageSound, IsUntouchedBy, IsClosedWith};
-ghost use Rattle.lrc_copies.specs.Stamps.{Stamps, stamp_weight, is_covered, covered, is_below, page_of_stamps, IsCut, AreStamped, IsClosedAt, IsBetween, AreLacking};
+ghost use Rattle.lrc_copies.specs.Stamps.{Stamps, stamp_weight, is_covered, covered, is_below, comes_before, page_of_stamps, IsCut, AreStamped, IsClosedAt, IsBetween, AreLacking};
 
 /// An interval that is below another weighs less.
 pub fn stamps_below_weigh_less<A>()
@@ -76,4 +76,16 @@ pub fn repairing_reaches_a_later_time<A>()
         → IsCut s all since → IsCut s all upto → Covers upto since → AreLacking s wrote all since upto missing
         → PageFits (page_of_stamps s wrote changes) copy (covered s since all)
         → PageFits (page_of_stamps s wrote changes) (fold applied copy (map changes missing)) (covered s upto all) }
+{}
+
+/// What a store says that a page misses is what a copy lacks: where the store has the intervals between the two times, and
+/// none that the later one does not cover, and those that do not name the page did not write it, the intervals that name it
+/// and that the earlier time does not cover, in order.
+pub fn missing_intervals_are_lacking<A>()
+    ensures { (s : Stamps A) (wrote : A → ℕ → Option ℕ) (all stored : List A) (since upto : List ℕ) (names : A → Bool)
+        (part : List A) → ((a : A) → IsBetween s all since upto a → Contains stored a)
+        → ((a : A) → Contains stored a → Contains all a × IsTrue (is_covered s upto a))
+        → ((a : A) → Contains all a → ¬ IsTrue (names a) → (offset : ℕ) → wrote a offset ≡ None)
+        → ((a : A) → Contains part a ↔ (Contains stored a × IsTrue (names a && not (is_covered s since a))))
+        → AllPairs (λ a b. IsTrue (comes_before s a b)) part → AreLacking s wrote all since upto part }
 {}
