@@ -4,3 +4,7 @@ pub mod Page
 pub mod Stamps
 pub mod Reading
 pub mod Decided
+pub mod WordLaws
+pub mod PageLaws
+pub mod TimeLaws
+pub mod ReadingLaws

@@ -1,62 +1,46 @@
 // A whole page, of any length. Each function is a theorem: its body is empty, and its clause is the law.
 
-ghost use Rattle.std.specs.Prelude.{◌≡◌, ℕ, IsTrue, List, [], ◌∷◌, ◌++◌, length, map, fold, replicate, slice_set, Contains};
-ghost use Rattle.lrc_page.specs.declared.size.Size.{Size};
-ghost use Rattle.lrc_page.specs.Page.{zero_page};
-ghost use Rattle.lrc_page.specs.Changes.{applied};
-ghost use Rattle.lrc_copies.specs.Sound.{IsAddedLast};
-ghost use Rattle.lrc_copies.specs.Page.{PageHistory, page_below, PageFits, IsPageSound, IsUntouchedBy, IsMoreUntouched, IsWrittenOnce, IsMadeOf, IsClosedWith, ArePageNext};
+ghost use Rattle.lrc_copies.specs.PageLaws.{ZeroPageFitsNothing, ZeroPageOfASizeFitsNothing, UntouchedPageKeepsFitting, WritingKeepsThePageFitting, WritingIsOverTheSameTwin, OpenIntervalKeepsThePageFitting, ClosingAWrittenPageStaysSound, ClosingAnUntouchedPageStaysSound, RepairingKeepsThePageFitting};
 
 /// Before the first write a page is zero.
 pub fn zero_page_fits_nothing<A>()
-    ensures any_length { (h : PageHistory A) (words : ℕ) → PageFits h (replicate words 0) [] }
-    ensures of_a_size { (h : PageHistory A) (size : Size) → PageFits h (zero_page size) [] }
+    ensures any_length { ZeroPageFitsNothing A }
+    ensures of_a_size { ZeroPageOfASizeFitsNothing A }
 {}
 
 /// A copy goes on to fit where the list gets more intervals that did not write the page.
 pub fn untouched_page_keeps_fitting<A>()
-    ensures { (h : PageHistory A) (copy : List ℕ) (xs ys : List A) → IsMoreUntouched h xs ys → PageFits h copy xs
-        → PageFits h copy ys }
+    ensures { UntouchedPageKeepsFitting A }
 {}
 
 /// A write in an interval that is below none of the list keeps the fit with the list and the interval.
 pub fn writing_keeps_the_page_fitting<A>()
-    ensures { (before after : PageHistory A) (copy : List ℕ) (xs : List A) (x : A) (offset value : ℕ)
-        → IsWrittenOnce before after xs x offset value → PageFits before copy (x ∷ xs)
-        → PageFits after (slice_set copy offset value) (x ∷ xs) }
+    ensures { WritingKeepsThePageFitting A }
 {}
 
 /// It leaves the copy what the interval made of the same twin.
 pub fn writing_is_over_the_same_twin<A>()
-    ensures { (before after : PageHistory A) (copy : List ℕ) (xs : List A) (x : A) (offset value : ℕ) (twin : List ℕ)
-        → IsWrittenOnce before after xs x offset value → IsMadeOf before x twin copy
-        → IsMadeOf after x twin (slice_set copy offset value) }
+    ensures { WritingIsOverTheSameTwin A }
 {}
 
 /// What an interval that is below none of the list makes of a twin that fits the list fits the list and the interval.
 pub fn open_interval_keeps_the_page_fitting<A>()
-    ensures { (h : PageHistory A) (twin copy : List ℕ) (x : A) (xs : List A) → IsMadeOf h x twin copy
-        → ((a : A) → Contains xs a → ¬ IsTrue (h.below x a)) → PageFits h twin xs → PageFits h copy (x ∷ xs) }
+    ensures { OpenIntervalKeepsThePageFitting A }
 {}
 
 /// An interval that wrote the page is sound once it is closed with the changes between twin and copy, also where it wrote
 /// what a word had before.
 pub fn closing_a_written_page_stays_sound<A>()
-    ensures { (h : PageHistory A) (all : List A) (x : A) (twin copy : List ℕ) → IsPageSound h (length copy) all
-        → IsAddedLast h.weight h.below all x → IsClosedWith h x twin copy → PageFits h twin (page_below h all x)
-        → IsPageSound h (length copy) (all ++ x ∷ []) }
+    ensures { ClosingAWrittenPageStaysSound A }
 {}
 
 /// An interval that did not write the page is sound without changes, whatever copy its node has of it.
 pub fn closing_an_untouched_page_stays_sound<A>()
-    ensures { (h : PageHistory A) (all : List A) (x : A) (words : ℕ) → IsPageSound h words all
-        → IsAddedLast h.weight h.below all x → IsUntouchedBy h x → h.changes x ≡ [] → IsPageSound h words (all ++ x ∷ []) }
+    ensures { ClosingAnUntouchedPageStaysSound A }
 {}
 
 /// To apply the changes of intervals by rising weight keeps the fit, where all below them are in, or among them, or did not
 /// write the page.
 pub fn repairing_keeps_the_page_fitting<A>()
-    ensures { (h : PageHistory A) (all xs more : List A) (copy : List ℕ) → IsPageSound h (length copy) all
-        → ((a : A) → Contains xs a → Contains all a) → ArePageNext h all xs more → PageFits h copy xs
-        → PageFits h (fold applied copy (map h.changes more)) (xs ++ more) }
+    ensures { RepairingKeepsThePageFitting A }
 {}

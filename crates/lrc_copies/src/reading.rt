@@ -1,24 +1,13 @@
 // From copies to lazy reading. Each function is a theorem: its body is empty, and its clause is the law.
 
-ghost use Rattle.std.specs.Prelude.{ℕ, ◌<◌, Bool, IsTrue, Option, List, length, slice_index};
-ghost use Rattle.lrc_page.specs.declared.changes.Change.{Change};
-ghost use Rattle.lrc_trace.specs.declared.act.Act.{Act};
-ghost use Rattle.lrc_trace.specs.Reading.{MayRead};
-ghost use Rattle.lrc_copies.specs.Word.{WordHistory, Fits};
-ghost use Rattle.lrc_copies.specs.Page.{PageFits};
-ghost use Rattle.lrc_copies.specs.Stamps.{Stamps, page_of_stamps};
-ghost use Rattle.lrc_copies.specs.Reading.{HasWritesBefore, ListsWrites};
+ghost use Rattle.lrc_copies.specs.ReadingLaws.{FittingValueMayBeRead, FittingCopyMayBeRead};
 
 /// A value that fits the writes that happen before a read may be read: reading it is lazy.
 pub fn fitting_value_may_be_read<A>()
-    ensures { (run : List Act) (j word : ℕ) (w : WordHistory A) (inside : A → ℕ → Bool) (xs : List A) (value : ℕ)
-        → HasWritesBefore run j word w (λ a i. IsTrue (inside a i)) xs → Fits w value xs → MayRead run j word value }
+    ensures { FittingValueMayBeRead A }
 {}
 
 /// So may a word of a copy that fits what its node's time covers, with the node's own interval.
 pub fn fitting_copy_may_be_read<A>()
-    ensures { (run : List Act) (j node word : ℕ) (s : Stamps A) (wrote : A → ℕ → Option ℕ) (changes : A → List Change)
-        (time : List ℕ) (xs : List A) (copy : List ℕ) (offset : ℕ)
-        → ListsWrites run j node word s (λ a. wrote a offset) time xs → offset < length copy
-        → PageFits (page_of_stamps s wrote changes) copy xs → MayRead run j word (slice_index copy offset) }
+    ensures { FittingCopyMayBeRead A }
 {}
