@@ -9,7 +9,7 @@ use Rattle.lrc_copies.proofs.Members.{Contains-first, Contains-later, cases_Cont
 
 -- ---- tests of all members, or of some
 
-all_each : (p : ℕ → Bool) (xs : List ℕ) (a : ℕ) → list_all p xs ≡ true → Contains xs a → p a ≡ true
+pub all_each : (p : ℕ → Bool) (xs : List ℕ) (a : ℕ) → list_all p xs ≡ true → Contains xs a → p a ≡ true
 all_each p [] a holds there = absurd (none_Contains a there)
 all_each p (x ∷ xs) a holds there =
     let parts = and_parts (p x) (list_all p xs) holds in

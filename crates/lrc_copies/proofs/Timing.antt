@@ -19,7 +19,8 @@ before-lighter s a b before =
     (λ (less : ltb (stamp_weight s a) (stamp_weight s b) ≡ true).
     let lt : stamp_weight s a < stamp_weight s b = ltb-true (stamp_weight s a) (stamp_weight s b) less in omega arith)
     (λ also.
-    let same : stamp_weight s a ≡ stamp_weight s b = eqb-true (stamp_weight s a) (stamp_weight s b) (and_parts (eqb (stamp_weight s a) (stamp_weight s b)) _ also).0 in
+    let parts = and_parts (eqb (stamp_weight s a) (stamp_weight s b)) _ also in
+    let same : stamp_weight s a ≡ stamp_weight s b = eqb-true (stamp_weight s a) (stamp_weight s b) parts.0 in
     omega arith)
     (or_cases (ltb (stamp_weight s a) (stamp_weight s b)) _ before)
 
