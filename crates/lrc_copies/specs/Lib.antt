@@ -1,0 +1,10 @@
+pub mod Word
+pub mod Sound
+pub mod Page
+pub mod Stamps
+pub mod Reading
+pub mod Decided
+pub mod WordLaws
+pub mod PageLaws
+pub mod TimeLaws
+pub mod ReadingLaws

@@ -1,0 +1,80 @@
+-- A whole page, of any length: what holds of each of its words, in the terms of changes.
+use Rattle.std.specs.Prelude.{◌≡◌, ℕ, ◌<◌, ◌≤◌, ◌⊎◌, ◌≢◌, Bool, IsTrue, Option, Some, None, unwrap_or, List, ◌∷◌, length, filter, slice_index, Contains, AllPairs}
+use Rattle.lrc_page.specs.declared.changes.Change.{Change}
+use Rattle.lrc_page.specs.Changes.{change_at, changes_between}
+use Rattle.lrc_copies.specs.Word.{WordHistory, Fits}
+use Rattle.lrc_copies.specs.Sound.{IsSound}
+
+-- What each interval did to the page, and how the intervals stand to one another.
+pub record PageHistory (A : Type 0) : Type 0 where
+  -- the last value that the interval wrote to the word at an offset, if it wrote it
+  pub wrote : A → ℕ → Option ℕ
+  -- the interval's changes of the page: none where it did not write the page
+  pub changes : A → List Change
+  -- weight and order, as for one word
+  pub weight : A → ℕ
+  pub below : A → A → Bool
+
+-- the same with regard to one word of the page
+abbrev pub at_word : {A : Type 0} → PageHistory A → ℕ → WordHistory A
+at_word h offset = record {
+  wrote = λ a. h.wrote a offset;
+  change = λ a. change_at (h.changes a) offset;
+  weight = h.weight;
+  below = h.below;
+}
+
+-- the copy fits the list, word by word
+abbrev pub PageFits : {A : Type 0} → PageHistory A → List ℕ → List A → Type 0
+PageFits h copy xs = (offset : ℕ) → offset < length copy → Fits (at_word h offset) (slice_index copy offset) xs
+
+-- the list is sound for each of so many words
+abbrev pub IsPageSound : {A : Type 0} → PageHistory A → ℕ → List A → Type 0
+IsPageSound h words all = (offset : ℕ) → offset < words → IsSound (at_word h offset) all
+
+-- the interval wrote no word of the page
+abbrev pub IsUntouchedBy : {A : Type 0} → PageHistory A → A → Type 0
+IsUntouchedBy h a = (offset : ℕ) → h.wrote a offset ≡ None
+
+-- the first list, and more intervals that did not write the page
+pub record IsMoreUntouched {A : Type 0} (h : PageHistory A) (xs ys : List A) : Type 0 where
+  pub kept : (a : A) → Contains xs a → Contains ys a
+  pub more : (a : A) → Contains ys a → Contains xs a ⊎ IsUntouchedBy h a
+
+-- In an interval that is below none of the list, one more word of the page is written:
+pub record IsWrittenOnce {A : Type 0} (before after : PageHistory A) (xs : List A) (x : A) (offset value : ℕ) : Type 0 where
+  -- it wrote this value last,
+  pub wrote : after.wrote x offset ≡ Some value
+  -- nothing else was written to another word,
+  pub others : (a : A) (other : ℕ) → Contains (x ∷ xs) a → other ≢ offset → before.wrote a other ≡ after.wrote a other
+  -- the intervals stand to one another as before,
+  pub below : (a b : A) → Contains (x ∷ xs) a → Contains (x ∷ xs) b → before.below a b ≡ after.below a b
+  -- and it is below none of the list.
+  pub newest : (a : A) → Contains xs a → ¬ IsTrue (after.below x a)
+
+-- what an interval made of its twin: each word of the copy has what it wrote last, or else what the twin has
+pub record IsMadeOf {A : Type 0} (h : PageHistory A) (x : A) (twin copy : List ℕ) : Type 0 where
+  pub long : length twin ≡ length copy
+  pub has : (offset : ℕ) → offset < length copy
+      → slice_index copy offset ≡ unwrap_or (h.wrote x offset) (slice_index twin offset)
+
+-- an interval that wrote the page is closed, with this twin and this copy: its changes are those between the two
+pub record IsClosedWith {A : Type 0} (h : PageHistory A) (x : A) (twin copy : List ℕ) : Type 0 where
+  pub made : IsMadeOf h x twin copy
+  pub changes : h.changes x ≡ changes_between twin copy
+
+-- the members of the list that are below the interval
+abbrev pub page_below : {A : Type 0} → PageHistory A → List A → A → List A
+page_below h all x = filter (λ a. h.below a x) all
+
+-- Intervals whose changes can be applied to a copy, one after another:
+pub record ArePageNext {A : Type 0} (h : PageHistory A) (all xs more : List A) : Type 0 where
+  -- they are some of all,
+  pub members : (x : A) → Contains more x → Contains all x
+  -- all below one of them are in, or among them, or did not write the page,
+  pub complete : (x a : A) → Contains more x → Contains all a → IsTrue (h.below a x)
+      → Contains xs a ⊎ (Contains more a ⊎ IsUntouchedBy h a)
+  -- none is below one that is in,
+  pub newer : (x a : A) → Contains more x → Contains xs a → ¬ IsTrue (h.below x a)
+  -- and they stand by rising weight.
+  pub rising : AllPairs (λ a b. h.weight a ≤ h.weight b) more

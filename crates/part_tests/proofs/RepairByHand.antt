@@ -1,0 +1,86 @@
+-- A repair of a page of two words, by hand.
+use Rattle.std.proofs.Common.{◌≡◌, ℕ, zero, suc, List, [], ◌∷◌, Some, None, subst, refl, ⊎_elim, arith}
+use Rattle.std.specs.Prelude.{Contains}
+use Rattle.std.proofs.lemmas.Bool.{false≢true}
+use Rattle.lrc_copies.specs.Word.{Fits}
+use Rattle.lrc_copies.specs.Sound.{those_below, IsSound}
+use Rattle.lrc_copies.specs.Page.{at_word, IsPageSound, PageFits}
+use Rattle.lrc_copies.specs.Stamps.{AreStamped, IsBetween}
+use Rattle.lrc_copies.proofs.Members.{cases_Contains, none_Contains}
+use Rattle.lrc_copies.proofs.Deciding.{fits_true}
+use Rattle.lrc_copies.proofs.Stamping.{lighter_below}
+use Rattle.part_tests.specs.Copies.{four, four_stamps, four_wrote, four_page}
+
+-- what holds of each of four holds of every member of their list
+each_of_four : (P : ℕ → Type 0) → P 0 → P 1 → P 2 → P 3 → (a : ℕ) → Contains four a → P a
+each_of_four P first second third last a there =
+    ⊎_elim (λ (same : 0 ≡ a). subst P same first)
+    (λ (after : Contains (1 ∷ 2 ∷ 3 ∷ []) a). ⊎_elim (λ (same : 1 ≡ a). subst P same second)
+    (λ (after : Contains (2 ∷ 3 ∷ []) a). ⊎_elim (λ (same : 2 ≡ a). subst P same third)
+    (λ (after : Contains (3 ∷ []) a). ⊎_elim (λ (same : 3 ≡ a). subst P same last)
+    (λ (after : Contains [] a). absurd (none_Contains a after))
+    (cases_Contains 3 [] a after))
+    (cases_Contains 2 (3 ∷ []) a after))
+    (cases_Contains 1 (2 ∷ 3 ∷ []) a after))
+    (cases_Contains 0 (1 ∷ 2 ∷ 3 ∷ []) a there)
+
+pub fits_before : PageFits four_page (0 ∷ 7 ∷ []) (1 ∷ [])
+fits_before zero within = fits_true (at_word four_page 0) (1 ∷ []) 0 refl
+fits_before (suc zero) within = fits_true (at_word four_page 1) (1 ∷ []) 7 refl
+fits_before (suc (suc offset)) within = absurd (omega arith)
+
+module _ (stamped : AreStamped four_stamps 3 four) where
+  first_sound : IsSound (at_word four_page 0) four
+  first_sound = record {
+    lighter = λ a b. lighter_below four_stamps 3 four stamped a b;
+    change = λ a v a_in.
+        each_of_four (λ b. (at_word four_page 0).change b ≡ Some v → four_wrote b 0 ≡ Some v)
+        (λ given. given) (λ given. given) (λ given. given) (λ given. absurd (cc)) a a_in;
+    silent = λ a v a_in.
+        each_of_four (λ b. four_wrote b 0 ≡ Some v → (at_word four_page 0).change b ≡ None → Fits (at_word four_page 0) v (those_below (at_word four_page 0) four b))
+        (λ wrote none. absurd (cc)) (λ wrote none. absurd (cc)) (λ wrote none. absurd (cc))
+        (λ wrote none.
+        let value : 9 ≡ v = cc in
+        subst (λ u. Fits (at_word four_page 0) u (those_below (at_word four_page 0) four 3)) value
+        (fits_true (at_word four_page 0) (those_below (at_word four_page 0) four 3) 9 refl))
+        a a_in;
+  }
+
+  second_sound : IsSound (at_word four_page 1) four
+  second_sound = record {
+    lighter = λ a b. lighter_below four_stamps 3 four stamped a b;
+    change = λ a v a_in.
+        each_of_four (λ b. (at_word four_page 1).change b ≡ Some v → four_wrote b 1 ≡ Some v)
+        (λ given. given) (λ given. given) (λ given. given) (λ given. given) a a_in;
+    silent = λ a v a_in.
+        each_of_four (λ b. four_wrote b 1 ≡ Some v → (at_word four_page 1).change b ≡ None → Fits (at_word four_page 1) v (those_below (at_word four_page 1) four b))
+        (λ wrote none. absurd (cc)) (λ wrote none. absurd (cc)) (λ wrote none. absurd (cc)) (λ wrote none. absurd (cc)) a a_in;
+  }
+
+  pub four_sound : IsPageSound four_page 2 four
+  four_sound zero within = first_sound
+  four_sound (suc zero) within = second_sound
+  four_sound (suc (suc offset)) within = absurd (omega arith)
+
+-- the three that node 2 lacks
+abbrev lacking_list : List ℕ
+lacking_list = 0 ∷ 2 ∷ 3 ∷ []
+
+pub between : (a : ℕ) → Contains lacking_list a → IsBetween four_stamps four (0 ∷ 0 ∷ 1 ∷ []) (2 ∷ 1 ∷ 1 ∷ []) a
+between a there =
+    ⊎_elim (λ (same : 0 ≡ a). subst P same (record { member = (0, omega arith, refl); later = false≢true; known = refl }))
+    (λ (after : Contains (2 ∷ 3 ∷ []) a). ⊎_elim (λ (same : 2 ≡ a). subst P same (record { member = (2, omega arith, refl); later = false≢true; known = refl }))
+    (λ (after : Contains (3 ∷ []) a). ⊎_elim (λ (same : 3 ≡ a). subst P same (record { member = (3, omega arith, refl); later = false≢true; known = refl }))
+    (λ (after : Contains [] a). absurd (none_Contains a after))
+    (cases_Contains 3 [] a after))
+    (cases_Contains 2 (3 ∷ []) a after))
+    (cases_Contains 0 (2 ∷ 3 ∷ []) a there)
+  where
+    P : ℕ → Type 0
+    P b = IsBetween four_stamps four (0 ∷ 0 ∷ 1 ∷ []) (2 ∷ 1 ∷ 1 ∷ []) b
+
+pub among : (a : ℕ) → IsBetween four_stamps four (0 ∷ 0 ∷ 1 ∷ []) (2 ∷ 1 ∷ 1 ∷ []) a → Contains lacking_list a
+among a h =
+    each_of_four (λ b. IsBetween four_stamps four (0 ∷ 0 ∷ 1 ∷ []) (2 ∷ 1 ∷ 1 ∷ []) b → Contains lacking_list b)
+    (λ g. (0, omega arith, refl)) (λ g. absurd (g.later refl)) (λ g. (1, omega arith, refl)) (λ g. (2, omega arith, refl))
+    a h.member h
