@@ -10,3 +10,4 @@ pub mod Intervals
 pub mod Epochs
 pub mod Racing
 pub mod Prefixes
+pub mod Computing

@@ -63,3 +63,8 @@ released_time nodes run times l j = last_time nodes (releases_at run l) times j
 -- the join of the times at every node's arrive with this number, before j
 abbrev pub arrived_time : ℕ → List Act → List (List ℕ) → ℕ → ℕ → List ℕ
 arrived_time nodes run times number j = joined_times nodes (arrives_at run number) times j
+
+-- the time at this position, or zeros where there is none
+abbrev pub time_or_zeros : ℕ → List (List ℕ) → Option ℕ → List ℕ
+time_or_zeros nodes times (Some position) = time_at times position
+time_or_zeros nodes times None = zeros nodes

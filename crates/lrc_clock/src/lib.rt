@@ -6,3 +6,4 @@
 #![tactic(auto)]
 
 pub mod laws;
+pub mod times;
