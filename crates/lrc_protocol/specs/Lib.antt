@@ -1,0 +1,5 @@
+pub mod Place
+pub mod Copy
+pub mod Memory
+pub mod Fetch
+pub mod Mail
