@@ -1,0 +1,52 @@
+-- The locks that a node manages: who asked last for each.
+use Rattle.std.specs.Prelude.{◌≡◌, ℕ, ◌<◌, ◌≤◌, ◌==◌, List, All, length, map, slice_index, slice_set, if◌then◌else◌, Result, Ok, Err}
+use Rattle.std.specs.List.{range_with_len}
+use Rattle.lrc_lock.specs.declared.fault.LockFault.{LockFault}
+use Rattle.lrc_lock.specs.declared.fault.LockFault.TheVariants.{NotMine}
+use Rattle.lrc_lock.specs.Lock.{manager_of}
+
+-- this node, the number of nodes, and for each lock its most recent asker. Where another node manages the lock that
+-- entry stays the manager.
+pub record ManagedRecord : Type 0 where
+  pub me : ℕ
+  pub nodes : ℕ
+  pub recent : List ℕ
+
+-- there are 1 to 16 nodes and at most 64 locks, and each asker is a node
+pub record IsManaged (managed : ManagedRecord) : Type 0 where
+  pub some : 1 ≤ managed.nodes
+  pub few : managed.nodes ≤ 16
+  pub locks : length managed.recent ≤ 64
+  pub askers : All (λ asker. asker < managed.nodes) managed.recent
+
+-- at the start the manager counts as the most recent asker
+abbrev pub first_managed : ℕ → ℕ → ℕ → ManagedRecord
+first_managed me nodes locks = record {
+  me = me;
+  nodes = nodes;
+  recent = map (manager_of nodes) (range_with_len 0 locks);
+}
+
+-- what a request does: nothing, or it goes on to a node
+pub data Requested : Type 0 where
+  refuses : LockFault → Requested
+  forwards : ℕ → ManagedRecord → Requested
+
+-- a request goes on to the most recent asker, and its sender is that from now on
+abbrev pub requested : ManagedRecord → ℕ → ℕ → Requested
+requested managed lock asker =
+    if manager_of managed.nodes lock == managed.me
+    then forwards
+    (slice_index managed.recent lock)
+    (record managed { recent = slice_set managed.recent lock asker })
+    else refuses NotMine
+
+-- what the manager answers
+abbrev pub answer_of : Requested → Result ℕ LockFault
+answer_of (refuses fault) = Err fault
+answer_of (forwards to managed) = Ok to
+
+-- what it is afterwards
+abbrev pub managed_after : ManagedRecord → Requested → ManagedRecord
+managed_after managed (refuses fault) = managed
+managed_after managed (forwards to next) = next
