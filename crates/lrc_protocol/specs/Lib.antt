@@ -3,3 +3,15 @@ pub mod Copy
 pub mod Memory
 pub mod Fetch
 pub mod Mail
+pub mod Course
+pub mod Locks
+pub mod Barrier
+pub mod Node
+pub mod Letters
+pub mod Waits
+pub mod Run
+pub mod Expected
+pub mod Take
+pub mod Turn
+pub mod Log
+pub mod World

@@ -1,5 +1,5 @@
 -- A node's mail: what it waits for, with what has come of it, and the numbers of messages sent and taken.
-use Rattle.std.specs.Prelude.{ℕ, ◌+◌, ◌==◌, Bool, true, false, Option, Some, None, option_map, List, [], ◌∷◌, ◌++◌, nat_le, replicate, slice_index, slice_index_or, slice_set, if◌then◌else◌}
+use Rattle.std.specs.Prelude.{ℕ, ◌+◌, ◌==◌, Bool, true, false, Option, Some, None, is_some, option_map, List, [], ◌∷◌, ◌++◌, nat_le, replicate, slice_index, slice_index_or, slice_set, if◌then◌else◌}
 use Rattle.std.specs.List.{list_any}
 use Rattle.lrc_wire.specs.declared.message.Message.{Message}
 use Rattle.lrc_wire.specs.Envelope.{EnvelopeRecord}
@@ -71,13 +71,17 @@ awaits_departure (upkeep collection needs) = false
 awaits_departure (discard collection) = false
 
 -- the collection in which the word to discard is awaited
-abbrev pub discards : Wait → Option Collection
-discards nothing = None
-discards (grant lock) = None
-discards departure = None
-discards (access need) = None
-discards (upkeep collection needs) = None
-discards (discard collection) = Some collection
+abbrev pub collection_of : Wait → Option Collection
+collection_of nothing = None
+collection_of (grant lock) = None
+collection_of departure = None
+collection_of (access need) = None
+collection_of (upkeep collection needs) = None
+collection_of (discard collection) = Some collection
+
+-- whether the word to discard is awaited
+abbrev pub awaits_discard : Wait → Bool
+awaits_discard wait = is_some (collection_of wait)
 
 -- ---- numbers
 
