@@ -1,9 +1,10 @@
 -- A node of the protocol machine: its text, and four parts that know nothing of one another.
 use Rattle.std.specs.Prelude.{ℕ, ◌==◌, ◌-◌, ◌≤◌, Bool, true, false, Option, Some, None, List, [], nat_le, if◌then◌else◌}
 use Rattle.lrc_lang.specs.declared.program.Program.{Program}
+use Rattle.lrc_lang.specs.declared.program.Statement.{Statement}
 use Rattle.lrc_trace.specs.declared.act.Deed.{Deed}
-use Rattle.lrc_exec.specs.Meaning.{Setting, Thread, Next, quiet, prints, reads, writes, acquires, releases, arrives, departs, traps, ends, next_of}
-use Rattle.lrc_exec.specs.Plain.{setting_of, start_of}
+use Rattle.lrc_exec.specs.Meaning.{Setting, thread_at_start, Thread, Next, quiet, prints, reads, writes, acquires, releases, arrives, departs, traps, ends, next_of}
+use Rattle.lrc_exec.specs.Plain.{setting_of}
 use Rattle.lrc_lock.specs.Held.{HeldRecord}
 use Rattle.lrc_protocol.specs.Place.{pages_of}
 use Rattle.lrc_protocol.specs.Memory.{Memory, fresh_memory, value_at, with_word}
@@ -30,18 +31,22 @@ pub record Node : Type 0 where
   pub memory : Memory
   pub mail : Mail
 
+-- a node at the beginning of these statements
+abbrev pub first_node : OptionsRecord → Setting → List Statement → Node
+first_node options setting statements = record {
+  setting = setting;
+  options = options;
+  course = going (thread_at_start setting statements);
+  left = options.steps;
+  locks = fresh_locks setting.me setting.nodes setting.locks;
+  barrier = fresh_barrier setting.me setting.nodes;
+  memory = fresh_memory setting.nodes (pages_of setting.words options.size) options.size;
+  mail = fresh_mail setting.nodes;
+}
+
 -- node `me` at the beginning of the program
 abbrev pub fresh_node : Program → ℕ → OptionsRecord → ℕ → Node
-fresh_node program nodes options me = record {
-  setting = setting_of program nodes me;
-  options = options;
-  course = going (start_of program nodes me);
-  left = options.steps;
-  locks = fresh_locks me nodes program.locks;
-  barrier = fresh_barrier me nodes;
-  memory = fresh_memory nodes (pages_of program.words options.size) options.size;
-  mail = fresh_mail nodes;
-}
+fresh_node program nodes options me = first_node options (setting_of program nodes me) program.statements.items
 
 -- ---- one part changed
 

@@ -25,14 +25,18 @@ pub record World : Type 0 where
   pub acts : List Act
   pub times : List (List ℕ)
 
--- all nodes at the beginning of a program
-abbrev pub fresh_world : Program → ℕ → OptionsRecord → World
-fresh_world program nodes options = record {
-  nodes = map (λ me. record { node = fresh_node program nodes options me; log = [] }) (range_with_len 0 nodes);
+-- these nodes before their first turn
+abbrev pub world_of : List Node → World
+world_of nodes = record {
+  nodes = map (λ node. record { node = node; log = [] }) nodes;
   flight = [];
   acts = [];
   times = [];
 }
+
+-- all nodes at the beginning of a program
+abbrev pub fresh_world : Program → ℕ → OptionsRecord → World
+fresh_world program nodes options = world_of (map (fresh_node program nodes options) (range_with_len 0 nodes))
 
 -- the messages of a turn, in flight
 abbrev pub sent_by : EntryRecord → List Flying
@@ -87,9 +91,13 @@ abbrev pub step_of : Option World → Event → Option World
 step_of None event = None
 step_of (Some world) event = event_on world event
 
+-- the run of these events from a world on
+abbrev pub played : World → List Event → Option World
+played world events = fold step_of (Some world) events
+
 -- the run of the events of a program on so many nodes; none where a number would be too large
 abbrev pub run_of : Program → ℕ → OptionsRecord → List Event → Option World
-run_of program nodes options events = fold step_of (Some (fresh_world program nodes options)) events
+run_of program nodes options events = played (fresh_world program nodes options) events
 
 -- ---- messages that are still to be taken
 
