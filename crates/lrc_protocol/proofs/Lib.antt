@@ -1,2 +1,4 @@
 pub mod Keeps
 pub mod Numbers
+pub mod Turned
+pub mod Locally
