@@ -2,3 +2,4 @@ pub mod Keeps
 pub mod Numbers
 pub mod Turned
 pub mod Locally
+pub mod Worlds
