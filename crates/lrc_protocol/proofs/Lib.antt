@@ -3,3 +3,5 @@ pub mod Numbers
 pub mod Turned
 pub mod Locally
 pub mod Worlds
+pub mod Skips
+pub mod Texts

@@ -28,12 +28,12 @@ use Rattle.lrc_protocol.proofs.Locally.{Proper, local-proper}
 
 -- ---- places in a list
 
-get_set_same : {X : Type 0} (xs : List X) (n : ℕ) (x y : X) → slice_get xs n ≡ Some x → slice_get (slice_set xs n y) n ≡ Some y
+pub get_set_same : {X : Type 0} (xs : List X) (n : ℕ) (x y : X) → slice_get xs n ≡ Some x → slice_get (slice_set xs n y) n ≡ Some y
 get_set_same [] n x y e = cc
 get_set_same (z ∷ xs) zero x y e = refl
 get_set_same (z ∷ xs) (suc n) x y e = get_set_same xs n x y e
 
-get_set_other : {X : Type 0} (xs : List X) (n m : ℕ) (y : X) → (n ≡ m → ⊥) → slice_get (slice_set xs n y) m ≡ slice_get xs m
+pub get_set_other : {X : Type 0} (xs : List X) (n m : ℕ) (y : X) → (n ≡ m → ⊥) → slice_get (slice_set xs n y) m ≡ slice_get xs m
 get_set_other [] n m y ne = refl
 get_set_other (z ∷ xs) zero zero y ne = absurd (ne refl)
 get_set_other (z ∷ xs) zero (suc m) y ne = refl
@@ -93,7 +93,7 @@ logging-entries l input stamp not_ready e = tt
 logging-entries l input stamp unexpected e = tt
 logging-entries l input stamp worn e = tt
 
-logs-entries : (l : Logged) (input : Input) (came : ℕ) → Entries l input (logs l input came)
+pub logs-entries : (l : Logged) (input : Input) (came : ℕ) → Entries l input (logs l input came)
 logs-entries l input came = logging-entries l input (next_stamp l.log came) (outcome_of l.node input) refl
 
 -- ---- what holds of a world

@@ -2,5 +2,6 @@
 #![tactic(auto)]
 
 mod event;
+pub mod laws;
 
 pub use event::Event;
