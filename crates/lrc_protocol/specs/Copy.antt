@@ -26,11 +26,11 @@ values_of (invalid values since) = values
 values_of absent = []
 
 -- a readable copy after a write at an offset: the first write of an interval makes the twin
-abbrev pub after_write : ℕ → ℕ → Copy → Copy
-after_write offset value (valid values) = written (slice_set values offset value) values
-after_write offset value (written values twin) = written (slice_set values offset value) twin
-after_write offset value (invalid values since) = invalid values since
-after_write offset value absent = absent
+abbrev pub after_write : Copy → ℕ → ℕ → Copy
+after_write (valid values) offset value = written (slice_set values offset value) values
+after_write (written values twin) offset value = written (slice_set values offset value) twin
+after_write (invalid values since) offset value = invalid values since
+after_write absent offset value = absent
 
 -- what a written copy has that its twin has not
 abbrev pub changes_of : Copy → Option (List Change)
@@ -53,9 +53,9 @@ invalidated before (written values twin) = written values twin
 invalidated before (invalid values since) = invalid values since
 invalidated before absent = absent
 
--- the copy after a collection: what is invalid is given up
-abbrev pub given_up : Copy → Copy
-given_up (valid values) = valid values
-given_up (written values twin) = written values twin
-given_up (invalid values since) = absent
-given_up absent = absent
+-- the copy once a collection is done: an invalid one is dropped
+abbrev pub dropped : Copy → Copy
+dropped (valid values) = valid values
+dropped (written values twin) = written values twin
+dropped (invalid values since) = absent
+dropped absent = absent

@@ -10,7 +10,7 @@ use Rattle.lrc_store.specs.Interval.{IntervalRecord, index_of}
 use Rattle.lrc_store.specs.Order.{ascending_part}
 use Rattle.lrc_store.specs.Store.{StoreRecord, empty_store, intervals_of, added, attached, changes_at, missing_of, interval_of}
 use Rattle.lrc_protocol.specs.Place.{page_of, offset_of, zero_page}
-use Rattle.lrc_protocol.specs.Copy.{Copy, valid, written, invalid, absent, values_of, after_write, changes_of, closed, invalidated, given_up}
+use Rattle.lrc_protocol.specs.Copy.{Copy, valid, written, invalid, absent, values_of, after_write, changes_of, closed, invalidated, dropped}
 
 -- the intervals that are known; for each page the copy, a base copy where one is kept, and who keeps one; and the time up
 -- to which intervals were collected
@@ -49,7 +49,7 @@ value_at size memory word = slice_index (values_of (copy_at memory (page_of word
 abbrev pub with_word : ℕ → ℕ → ℕ → Memory → Memory
 with_word size word value memory =
     let page = page_of word size in
-    with_copy memory page (after_write (offset_of word size) value (copy_at memory page))
+    with_copy memory page (after_write (copy_at memory page) (offset_of word size) value)
 
 -- ---- intervals
 
@@ -84,16 +84,16 @@ learned before intervals memory = record memory {
   copies = map (λ place. if is_named intervals place.0 then invalidated before place.1 else place.1) (enumerate_from 0 memory.copies);
 }
 
--- the time up to which a copy has what was written: an invalid one remembers it, an absent one has what was collected
-abbrev pub since_of : Memory → Copy → List ℕ
-since_of memory (valid values) = memory.collected
-since_of memory (written values twin) = memory.collected
-since_of memory (invalid values since) = since
-since_of memory absent = memory.collected
+-- the notices of a page that a copy of it lacks, in the order in which their changes are applied: by weight, node, index.
+-- An invalid copy has what its remembered time covers, an absent one what was collected.
+abbrev pub lacking_in : Memory → ℕ → Copy → List Key
+lacking_in memory page (valid values) = []
+lacking_in memory page (written values twin) = []
+lacking_in memory page (invalid values since) = missing_of memory.store page since
+lacking_in memory page absent = missing_of memory.store page memory.collected
 
--- the notices of a page that its copy lacks, in the order in which their changes are applied: by weight, node, index
 abbrev pub lacking : Memory → ℕ → List Key
-lacking memory page = missing_of memory.store page (since_of memory (copy_at memory page))
+lacking memory page = lacking_in memory page (copy_at memory page)
 
 -- what is known of the changes of a key, and nothing where they are not known
 abbrev pub changes_or_none : StoreRecord → Key → List Change
@@ -146,7 +146,7 @@ base_at memory page = slice_index_or memory.bases page None
 abbrev pub collected_at : ℕ → List ℕ → Memory → Memory
 collected_at me time memory = record {
   store = discarded memory.store time;
-  copies = map given_up memory.copies;
+  copies = map dropped memory.copies;
   bases = map (λ place. if keeper_at memory place.0 == me then place.1 else None) (enumerate_from 0 memory.bases);
   keepers = memory.keepers;
   collected = time;
