@@ -1,13 +1,13 @@
 -- Barriers with one manager (Keleher, Cox, Dwarkadas and Zwaenepoel 1994): who has arrived, what each node is told at
 -- its departure, and who has brought its pages up to date at a collection (Amza et al. 1996).
-use Rattle.std.specs.Prelude.{◌≡◌, ℕ, ◌+◌, ◌<◌, ◌≤◌, ◌==◌, ◌&&◌, Bool, true, false, not, List, All, IfSome, length, map, replicate, slice_index, slice_index_or, slice_set, is_some, if◌then◌else◌, Option, Some, None, Result, Ok, Err}
+use Rattle.std.specs.Prelude.{◌≡◌, ℕ, ◌+◌, ◌<◌, ◌≤◌, ◌==◌, ◌&&◌, Bool, true, false, not, List, All, IfSome, length, map, replicate, slice_index_or, slice_set, is_some, if◌then◌else◌, Option, Some, None, Result, Ok, Err}
 use Rattle.std.specs.List.{enumerate_from, filter, filter_map, flat_map, fold, list_all, list_any}
 use Rattle.lrc_time.specs.Time.{entry, joined, knows, zeros}
 use Rattle.lrc_store.specs.Interval.{IntervalRecord, index_of}
 use Rattle.lrc_barrier.specs.declared.fault.BarrierFault.{BarrierFault}
 use Rattle.lrc_barrier.specs.declared.fault.BarrierFault.TheVariants.{WrongEpisode, Twice}
 use Rattle.lrc_barrier.specs.declared.arrival.Arrival.{Arrival}
-use Rattle.lrc_barrier.specs.declared.arrival.Departure.{Departure}
+use Rattle.lrc_barrier.specs.declared.departure.Departure.{Departure}
 
 -- the episodes that are over; for each node its own entry in the time of its newest arrival, 0 before any; the arrivals
 -- of the episode under way, by node; and while a collection is under way, which nodes have sent their Clean
@@ -22,6 +22,21 @@ pub record IsArrival (nodes from : ℕ) (arrival : Arrival) : Type 0 where
   pub counted : length arrival.time ≡ nodes
   pub own : All (λ interval. interval.node ≡ from) arrival.intervals
   pub stamps : All (λ interval. length interval.stamp ≡ nodes) arrival.intervals
+
+-- a departure of one of so many nodes: its times have an entry for each
+pub record IsDeparture (nodes : ℕ) (departure : Departure) : Type 0 where
+  pub in_range : departure.to < nodes
+  pub counted : length departure.time ≡ nodes
+  pub stamps : All (λ interval. length interval.stamp ≡ nodes) departure.intervals
+
+-- there are 1 to 16 nodes, and a place for each; what is kept for a node is its own arrival
+pub record IsManager (manager : ManagerRecord) : Type 0 where
+  pub some : 1 ≤ length manager.last
+  pub few : length manager.last ≤ 16
+  pub places : length manager.arrivals ≡ length manager.last
+  pub cleans : IfSome manager.cleans (λ cleans. length cleans ≡ length manager.last)
+  pub kept :
+      (node : ℕ) → IfSome (slice_index_or manager.arrivals node None) (IsArrival (length manager.last) node)
 
 -- ---- arrivals
 

@@ -1,1 +1,2 @@
 pub mod Barrier
+pub mod Filled

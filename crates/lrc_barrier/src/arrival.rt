@@ -1,10 +1,13 @@
-// What comes with an arrival, and what goes out with a departure.
+// What comes with an arrival.
 
-use crate::intervals::Intervals;
+ghost use Rattle.std.specs.Prelude.{◌≡◌, IfOk};
+
+use lrc_store::Intervals;
 use lrc_time::Time;
+use std::alloc::AllocError;
 
 /// A node's arrival at an episode of the barrier, episodes counted from 1: whether it asks for a collection, its time,
-/// and its own intervals since it last departed, strictly ascending by index.
+/// and its own intervals since it last departed.
 #[derive(Drop)]
 pub struct Arrival {
     pub episode: u32,
@@ -13,13 +16,16 @@ pub struct Arrival {
     pub intervals: Intervals,
 }
 
-/// What the barrier's manager tells one node once all have arrived: whether a collection follows, the time of all, and
-/// the intervals that the node's own arrival didn't know, ascending by node, then index.
-#[derive(Drop)]
-pub struct Departure {
-    pub to: u8,
-    pub episode: u32,
-    pub collect: bool,
-    pub time: Time,
-    pub intervals: Intervals,
+impl Arrival {
+    /// An equal arrival of its own.
+    pub(crate) fn duplicate(&self) -> Result<Self, AllocError>
+        ensures { IfOk result (λ arrival. arrival ≡ self.now) }
+    {
+        Ok(Arrival {
+            episode: self.episode,
+            ask: self.ask,
+            time: self.time.copy(),
+            intervals: self.intervals.duplicate()?,
+        })
+    }
 }

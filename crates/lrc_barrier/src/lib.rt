@@ -5,8 +5,13 @@
 #![tactic(auto)]
 
 mod arrival;
+mod departing;
+mod departure;
 mod fault;
-mod intervals;
+pub mod laws;
+mod manager;
 
-pub use arrival::{Arrival, Departure};
+pub use arrival::Arrival;
+pub use departure::{Departure, Departures};
 pub use fault::BarrierFault;
+pub use manager::Manager;

@@ -1,6 +1,7 @@
 -- Locks, one token for each (Keleher, Cox, Dwarkadas and Zwaenepoel 1994): which node manages a lock, and what a node
 -- knows of it.
-use Rattle.std.specs.Prelude.{◌≡◌, ◌≢◌, ℕ, ◌<◌, ◌%◌, List, length, IfSome}
+use Rattle.std.specs.Prelude.{◌≡◌, ◌≢◌, ℕ, ◌<◌, ◌%◌, length, IfSome}
+use Rattle.lrc_lock.specs.declared.state.Pass.{Pass}
 use Rattle.lrc_lock.specs.declared.state.Waiter.{Waiter}
 use Rattle.lrc_lock.specs.declared.state.LockState.{LockState}
 use Rattle.lrc_lock.specs.declared.state.LockState.TheVariants.{Away, Awaited, Free, Held}
@@ -21,3 +22,10 @@ IsLockState me nodes Away = Unit {0}
 IsLockState me nodes (Awaited successor) = IfSome successor (IsWaiter me nodes)
 IsLockState me nodes (Free kept) = length kept ≡ nodes
 IsLockState me nodes (Held successor) = IfSome successor (IsWaiter me nodes)
+
+-- the pass goes to another of so many nodes, and each of its times has an entry for each
+pub record IsPass (me nodes : ℕ) (pass : Pass) : Type 0 where
+  pub another : pass.to ≢ me
+  pub in_range : pass.to < nodes
+  pub since : length pass.since ≡ nodes
+  pub upto : length pass.upto ≡ nodes

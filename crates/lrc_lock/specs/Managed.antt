@@ -1,5 +1,5 @@
 -- The locks that a node manages: who asked last for each.
-use Rattle.std.specs.Prelude.{◌≡◌, ℕ, ◌<◌, ◌≤◌, ◌==◌, List, All, length, map, slice_index, slice_set, if◌then◌else◌, Result, Ok, Err}
+use Rattle.std.specs.Prelude.{ℕ, ◌<◌, ◌≤◌, ◌==◌, List, All, length, map, slice_index, slice_set, if◌then◌else◌, Result, Ok, Err}
 use Rattle.std.specs.List.{range_with_len}
 use Rattle.lrc_lock.specs.declared.fault.LockFault.{LockFault}
 use Rattle.lrc_lock.specs.declared.fault.LockFault.TheVariants.{NotMine}
@@ -12,9 +12,9 @@ pub record ManagedRecord : Type 0 where
   pub nodes : ℕ
   pub recent : List ℕ
 
--- there are 1 to 16 nodes and at most 64 locks, and each asker is a node
+-- there are 1 to 16 nodes, of which this is one, and at most 64 locks, and each asker is a node
 pub record IsManaged (managed : ManagedRecord) : Type 0 where
-  pub some : 1 ≤ managed.nodes
+  pub me : managed.me < managed.nodes
   pub few : managed.nodes ≤ 16
   pub locks : length managed.recent ≤ 64
   pub askers : All (λ asker. asker < managed.nodes) managed.recent

@@ -5,7 +5,12 @@
 #![tactic(auto)]
 
 mod fault;
+mod held;
+pub mod laws;
+mod managed;
 mod state;
 
 pub use fault::LockFault;
-pub use state::{LockState, Pass, Waiter};
+pub use held::Held;
+pub use managed::Managed;
+pub use state::{LockState, MOST_LOCKS, Pass, Waiter};

@@ -1,6 +1,10 @@
+pub mod Chained
+pub mod IntervalLists
 pub mod Lookups
 pub mod Orders
 pub mod Places
 pub mod Ranks
 pub mod Records
+pub mod Risings
 pub mod Stores
+pub mod Walks

@@ -13,6 +13,7 @@ use Rattle.lrc_time.proofs.Times.{weight-covers_strictly}
 use Rattle.lrc_store.specs.declared.key.Key.{Key}
 use Rattle.lrc_store.specs.Interval.{IntervalRecord, index_of, by_node, by_weight}
 use Rattle.lrc_store.specs.Store.{StoredRecord, StoreRecord, IsStore, IsMissing, IsNewer, interval_of, intervals_of, is_missing, is_newer, key_of, missing_of, newer_of}
+use Rattle.lrc_store.specs.Links.{ranked}
 use Rattle.lrc_store.specs.Order.{ascending_part}
 use Rattle.lrc_store.proofs.Orders.{Comparable, IsAscendingPart-ascending_part, IsAscendingPart-only, IsAscendingPart-from_sort, IsPermutation-from_map, map-map}
 
@@ -179,10 +180,6 @@ IsNewer-only store since upto first second one other =
     IsAscendingPart-only by_node IsStrictWeakOrder-by_node (is_newer since upto) (intervals_of store) first second one other
 
 -- ---- what is missing
-
--- an interval's weight, with the key of its notice
-abbrev pub ranked : ℕ → IntervalRecord → ℕ × Key
-ranked page interval = (weight_of interval.stamp, key_of page interval)
 
 -- keys, in the order of Rust's structs
 abbrev key_cmp : Key → Key → Ordering

@@ -2,14 +2,16 @@
 //! and Zwaenepoel 1992; Amza et al. 1996).
 #![tactic(auto)]
 
+mod chains;
 pub mod interval;
+pub mod intervals;
 pub mod key;
 pub mod laws;
 pub mod store;
+mod links;
 mod stored;
-#[cfg(test)]
-mod tests;
 
 pub use interval::Interval;
+pub use intervals::Intervals;
 pub use key::Key;
 pub use store::Store;

@@ -5,10 +5,11 @@ ghost use Rattle.std.specs.Option.{option_copied};
 ghost use Rattle.lrc_time.specs.Time.{entry};
 ghost use Rattle.lrc_store.specs.Store.{is_at};
 
-use crate::interval::{Interval, MOST_PAGES};
+use crate::interval::Interval;
+use crate::intervals::Intervals;
 use crate::key::Key;
 use crate::stored::Stored;
-use lrc_page::Changes;
+use lrc_page::{Changes, MOST_PAGES};
 use lrc_time::Time;
 use std::alloc::{AllocError, Global};
 use std::marker::Model;
@@ -16,7 +17,7 @@ use std::marker::Model;
 /// The intervals that a node knows, each with its write notices, and the changes that came for some of these.
 ///
 /// The intervals stand in one list in the order of adding, so a look-up takes time linear in their number.
-#[derive(Debug, Drop)]
+#[derive(Drop)]
 pub struct Store {
     pages: u16,
     last: Time,
@@ -36,7 +37,7 @@ impl Model for Store {
 
 impl Store {
     ghost use Rattle.lrc_store.specs.Interval.{index_of};
-    ghost use Rattle.lrc_store.specs.Store.{IsStore, empty_store, added, attached, notice_at, changes_at};
+    ghost use Rattle.lrc_store.specs.Store.{IsStore, empty_store, added, attached, discarded, notice_at, changes_at};
     ghost use Rattle.lrc_store.specs.Store.{IsMissing, IsNewer, missing_of, newer_of};
 
     /// A store that knows no interval, for this many nodes, 1 to 16, and pages, at most `MOST_PAGES`.
@@ -110,12 +111,20 @@ impl Store {
         }
     }
 
+    /// Takes out the intervals that this time knows, with their notices. What was added last of each node stays known.
+    pub fn discard(&mut self, time: &Time)
+        requires { length time.now ≡ length self.old.last }
+        ensures { self.new ≡ discarded self.old time.now }
+    {
+        self.entries.retain(|stored| !stored.is_known(time));
+    }
+
     /// The intervals that `upto` knows and `since` does not, ascending by node and index.
-    pub fn newer_than(&self, since: &Time, upto: &Time) -> Result<Vec<Interval>, AllocError>
+    pub fn newer_than(&self, since: &Time, upto: &Time) -> Result<Intervals, AllocError>
         requires since { length since.now ≡ length self.now.last }
         requires upto { length upto.now ≡ length self.now.last }
-        ensures newer { IfOk result (λ found. IsNewer self.now since.now upto.now found.items) }
-        ensures value { IfOk result (λ found. found.items ≡ newer_of self.now since.now upto.now) }
+        ensures newer { IfOk result (λ found. IsNewer self.now since.now upto.now found) }
+        ensures value { IfOk result (λ found. found ≡ newer_of self.now since.now upto.now) }
     {
         let mut found = Vec::new(*self.entries.allocator());
         for stored in &self.entries {
@@ -124,7 +133,7 @@ impl Store {
             }
         }
         found.sort_unstable_by_key(|interval| (interval.node, interval.index()));
-        Ok(found)
+        Ok(Intervals::from_ascending(found))
     }
 
     /// The notices of a page that `since` does not know, ascending by the weight of their interval's stamp, then by

@@ -1,7 +1,7 @@
 use Rattle.std.proofs.Common.{◌≡◌, map, take}
 use Rattle.std.specs.List.{filter}
 use Rattle.lrc_store.specs.Store.{interval_of, is_missing}
-use Rattle.lrc_store.proofs.Ranks.{ranked}
+use Rattle.lrc_store.specs.Links.{ranked}
 use Rattle.lrc_store.proofs.store.Store.missing.Given as goal
 
 abbrev pub invariant-loop-stored : goal.invariant-loop-stored

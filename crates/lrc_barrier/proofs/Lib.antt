@@ -1,0 +1,4 @@
+pub mod Filled
+pub mod News
+pub mod Steps
+pub mod Told

@@ -1,0 +1,63 @@
+// What goes out with the departures.
+
+ghost use Rattle.std.specs.Prelude.{◌≡◌, length};
+
+use lrc_store::Intervals;
+use lrc_time::Time;
+use std::marker::Model;
+
+/// What the barrier's manager tells one node once all have arrived: whether a collection follows, the time of all, and
+/// the intervals that the node's own arrival didn't know, ascending by node, then index.
+#[derive(Drop)]
+pub struct Departure {
+    pub to: u8,
+    pub episode: u32,
+    pub collect: bool,
+    pub time: Time,
+    pub intervals: Intervals,
+}
+
+/// A departure for each node, from node 0 on.
+#[derive(Drop)]
+pub struct Departures {
+    list: Vec<Departure>,
+}
+
+impl Model for Departures {
+    ghost use Rattle.std.specs.Prelude.{List};
+    ghost use Rattle.lrc_barrier.specs.declared.departure.Departure.{Departure};
+
+    ghost Value = { List Departure };
+
+    ghost view = { λ d. d.list.items };
+}
+
+impl Departures {
+    /// These departures.
+    pub(crate) fn from_vec(list: Vec<Departure>) -> Self
+        ensures { result ≡ list.items }
+    {
+        Departures { list }
+    }
+
+    /// How many there are.
+    pub fn len(&self) -> usize
+        ensures { result ≡ length self.now }
+    {
+        self.list.len()
+    }
+
+    /// The departures in order.
+    pub fn as_slice(&self) -> &[Departure]
+        ensures { result.now ≡ self.now }
+    {
+        self.list.as_slice()
+    }
+
+    /// The departures in order, as a vector.
+    pub fn into_vec(self) -> Vec<Departure>
+        ensures { result.items ≡ self }
+    {
+        self.list
+    }
+}

@@ -1,0 +1,77 @@
+// What always holds of tokens. Each function is a law: its clauses are the statement, and there is nothing to do.
+
+ghost use Rattle.std.specs.Prelude.{◌≡◌, ◌≢◌, ◌↔◌, ℕ, ◌<◌, ◌≤◌, IsTrue, IsFalse, List, Some, None, length};
+ghost use Rattle.lrc_lock.specs.declared.state.Pass.{Pass};
+ghost use Rattle.lrc_lock.specs.declared.state.Waiter.{Waiter};
+ghost use Rattle.lrc_lock.specs.declared.state.LockState.TheVariants.{Away, Awaited, Free, Held};
+ghost use Rattle.lrc_lock.specs.declared.state.LockState.{LockState};
+ghost use Rattle.lrc_lock.specs.Lock.{manager_of};
+ghost use Rattle.lrc_lock.specs.Managed.{ManagedRecord, requested, forwards};
+ghost use Rattle.lrc_lock.specs.Held.{HeldRecord, LockStep, stays, passes, pass_to, lock_at, held_after, first_held, has_token, taken, asked, forwarded, granted, released};
+
+/// At the start the token of each lock is at one node, the lock's manager.
+pub fn one_node_has_the_token_at_first()
+    ensures { (me nodes locks lock : ℕ) → lock < locks
+        → IsTrue (has_token (lock_at (first_held me nodes locks) lock)) ↔ (manager_of nodes lock ≡ me) }
+{}
+
+/// A call on a lock leaves the other locks as they were.
+pub fn a_step_leaves_the_other_locks()
+    ensures { (held : HeldRecord) (lock other : ℕ) (step : LockStep) → other ≢ lock
+        → lock_at (held_after held lock step) other ≡ lock_at held other }
+{}
+
+/// After a pass the token is gone.
+pub fn a_pass_takes_the_token_away()
+    ensures { (held : HeldRecord) (lock : ℕ) (pass : Pass) → lock < length held.locks
+        → lock_at (held_after held lock (passes pass)) lock ≡ Away }
+{}
+
+/// A request of another node makes the token leave exactly where it is here and the lock is free. The grant has the time
+/// of the request, and the one kept with the token.
+pub fn a_request_gets_a_free_token()
+    ensures only { (held : HeldRecord) (lock asker : ℕ) (time : List ℕ) (pass : Pass)
+        → forwarded held lock asker time ≡ passes pass
+        → (asker ≢ held.me) × (lock_at held lock ≡ Free pass.upto)
+        × (pass ≡ pass_to lock (record { node = asker; time = time }) pass.upto) }
+    ensures always { (held : HeldRecord) (lock asker : ℕ) (time kept : List ℕ)
+        → asker ≢ held.me → lock_at held lock ≡ Free kept
+        → forwarded held lock asker time
+        ≡ passes (pass_to lock (record { node = asker; time = time }) kept) }
+{}
+
+/// A release makes the token leave exactly where there is a successor, and with the time of this release. Else the token
+/// stays with that time.
+pub fn a_release_serves_the_successor()
+    ensures passes { (held : HeldRecord) (lock : ℕ) (now : List ℕ) (waiter : Waiter)
+        → lock_at held lock ≡ Held (Some waiter)
+        → released held lock now ≡ passes (pass_to lock waiter now) }
+    ensures keeps { (held : HeldRecord) (lock : ℕ) (now : List ℕ)
+        → lock_at held lock ≡ Held None → released held lock now ≡ stays (Free now) }
+{}
+
+/// A token comes by a grant alone, to a node that awaits it, and it goes by a pass alone.
+pub fn a_token_comes_by_a_grant_and_goes_by_a_pass()
+    ensures granted { (held : HeldRecord) (lock : ℕ) (next : LockState)
+        → granted held lock ≡ stays next
+        → IsFalse (has_token (lock_at held lock)) × IsTrue (has_token next) }
+    ensures forwarded { (held : HeldRecord) (lock asker : ℕ) (time : List ℕ) (next : LockState)
+        → forwarded held lock asker time ≡ stays next
+        → has_token next ≡ has_token (lock_at held lock) }
+    ensures released { (held : HeldRecord) (lock : ℕ) (now : List ℕ) (next : LockState)
+        → released held lock now ≡ stays next
+        → has_token next ≡ has_token (lock_at held lock) }
+    ensures taken { (held : HeldRecord) (lock : ℕ)
+        → has_token (lock_at (taken held lock) lock) ≡ has_token (lock_at held lock) }
+    ensures asked { (held : HeldRecord) (lock : ℕ) → lock_at held lock ≡ Away
+        → IsFalse (has_token (lock_at (asked held lock) lock)) }
+{}
+
+/// A request goes on to whoever asked last before.
+pub fn a_request_goes_to_the_last_asker()
+    ensures { (managed next later : ManagedRecord) (lock first second to onward : ℕ)
+        → lock < length managed.recent
+        → requested managed lock first ≡ forwards to next
+        → requested next lock second ≡ forwards onward later
+        → onward ≡ first }
+{}

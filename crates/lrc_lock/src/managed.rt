@@ -1,0 +1,62 @@
+// The locks that a node manages.
+
+ghost use Rattle.std.specs.Prelude.{◌≡◌, ◌<◌, ◌≤◌, IfOk, length};
+ghost use Rattle.lrc_lock.specs.Managed.{first_managed, requested, answer_of, managed_after};
+
+use crate::fault::LockFault;
+use crate::state::MOST_LOCKS;
+use arrayvec::ArrayVec;
+use std::marker::Model;
+
+/// The most recent asker of each lock that a node manages. Lock `l` is managed by node `l % nodes`, which has its token
+/// at the start and counts as the first asker.
+#[derive(Drop)]
+pub struct Managed {
+    me: u8,
+    nodes: u8,
+    recent: ArrayVec<u8, MOST_LOCKS>,
+}
+
+impl Model for Managed {
+    ghost use Rattle.lrc_lock.specs.Managed.{ManagedRecord, IsManaged};
+
+    ghost Value = { ManagedRecord };
+
+    ghost view = { λ m. record { me = m.me; nodes = m.nodes; recent = m.recent.items } };
+
+    ghost invariant = { λ m. IsManaged (record { me = m.me; nodes = m.nodes; recent = m.recent.items }) };
+}
+
+impl Managed {
+    /// What node `me` of 1 to 16 manages of at most 64 locks, before any request.
+    pub fn new(me: u8, nodes: u8, locks: u8) -> Self
+        requires here { me < nodes }
+        requires few { nodes ≤ 16 }
+        requires room { locks ≤ 64 }
+        ensures { result ≡ first_managed me nodes locks }
+    {
+        let mut recent = ArrayVec::new();
+        for lock in 0..locks {
+            recent.push(lock % nodes);
+        }
+        Managed { me, nodes, recent }
+    }
+
+    /// The node to which a request for a lock goes on: whoever asked last before. From now on that is `asker`. A lock
+    /// that another node manages is refused with `NotMine`, and nothing changes.
+    pub fn request(&mut self, lock: u8, asker: u8) -> Result<u8, LockFault>
+        requires lock { lock < length self.old.recent }
+        requires asker { asker < self.old.nodes }
+        ensures answer { result ≡ answer_of (requested self.old lock asker) }
+        ensures managed { self.new ≡ managed_after self.old (requested self.old lock asker) }
+        ensures to { IfOk result (λ to. to < self.old.nodes) }
+    {
+        if lock % self.nodes != self.me {
+            return Err(LockFault::NotMine);
+        }
+        let place = usize::from(lock);
+        let last = self.recent[place];
+        self.recent[place] = asker;
+        Ok(last)
+    }
+}

@@ -1,0 +1,88 @@
+-- What a walk along a page's list has gathered.
+use Rattle.std.proofs.Common.{◌≡◌, ℕ, ◌+◌, ◌<◌, ◌≤◌, ◌∙◌, Bool, true, false, not, ◌&&◌, cond, eqb, eqb-true, Option, None, Some, List, [], ◌∷◌, ◌++◌, length, get_or, map, take, reverse, refl, ap, sym, subst, arith}
+use Rattle.std.specs.List.{filter}
+use Rattle.std.proofs.lemmas.List.{get_or-map, length-map, take-map, take_all, reverse-append, append-nil, append_assoc}
+use Rattle.lrc_time.specs.Time.{knows}
+use Rattle.lrc_store.specs.declared.key.Key.{Key}
+use Rattle.lrc_store.specs.Chains.{last_at}
+use Rattle.lrc_store.specs.Links.{page_named, is_unknown_on}
+use Rattle.lrc_store.proofs.Chained.{Reaches, reaches, picked_more, last_at-map}
+
+abbrev none : ℕ × Key
+none = (0, record { node = 0; index = 0; page = 0 })
+
+module _ (page : ℕ) (since : List ℕ) (notices : List (ℕ × Key)) where
+  abbrev on_page : ℕ × Key → Bool
+  on_page notice = eqb (page_named notice) page
+
+  narrow : (notice : ℕ × Key) → on_page notice ≡ false → is_unknown_on page since notice ≡ false
+  narrow notice fails = ap (λ b. b && not (knows since notice.1.node notice.1.index)) fails
+
+  -- the walk stands at an entry of the page's list, and what comes after it was gathered, newest first
+  abbrev pub IsWalked : Option ℕ → List (ℕ × Key) → Type 0
+  IsWalked next found =
+      (bound : ℕ) × (bound ≤ length notices)
+      × (next ≡ last_at on_page (take bound notices))
+      × (filter (is_unknown_on page since) notices ≡ filter (is_unknown_on page since) (take bound notices) ++ reverse found)
+
+  reached : (next : Option ℕ) (found : List (ℕ × Key)) (walked : IsWalked next found)
+      → Reaches on_page (is_unknown_on page since) notices walked.0 next
+  reached next found walked =
+      subst (Reaches on_page (is_unknown_on page since) notices walked.0) (sym walked.2)
+      (reaches on_page (is_unknown_on page since) narrow notices none walked.0 walked.1)
+
+  pub walk_starts : (keys : List ℕ) (next : Option ℕ) → keys ≡ map page_named notices
+      → next ≡ last_at (λ other. eqb other page) keys → IsWalked next []
+  walk_starts keys next linked is =
+      let whole : take (length notices) notices ≡ notices = take_all (length notices) notices (omega arith) in
+      (length notices, omega arith,
+      is ∙ ap (last_at (λ other. eqb other page)) linked ∙ last_at-map (λ other. eqb other page) page_named notices
+      ∙ ap (last_at on_page) (sym whole),
+      sym (append-nil (filter (is_unknown_on page since) notices))
+      ∙ ap (λ (l : List (ℕ × Key)). filter (is_unknown_on page since) l ++ []) (sym whole))
+
+  pub walk_within : (at : ℕ) (found : List (ℕ × Key)) → IsWalked (Some at) found → at < length notices
+  walk_within at found walked = let r = reached (Some at) found walked in omega (arith, r.0, walked.1)
+
+  here : (at : ℕ) (found : List (ℕ × Key)) → IsWalked (Some at) found → (d : ℕ × Key) → page_named (get_or notices at d) ≡ page
+  here at found walked d = eqb-true _ _ ((reached (Some at) found walked).1 d)
+
+  -- what was gathered with the entry where the walk stands
+  gathered : (at : ℕ) (found more : List (ℕ × Key)) (known : Bool) → IsWalked (Some at) found → (d : ℕ × Key)
+      → knows since (get_or notices at d).1.node (get_or notices at d).1.index ≡ known
+      → more ≡ found ++ cond known [] (get_or notices at d ∷ [])
+      → filter (is_unknown_on page since) notices ≡ filter (is_unknown_on page since) (take at notices) ++ reverse more
+  gathered at found more known walked d is_known is_more =
+      let q = is_unknown_on page since in
+      let r = reached (Some at) found walked in
+      let n = get_or notices at d in
+      let test : q n ≡ not known = ap (λ b. b && not (knows since n.1.node n.1.index)) (r.1 d) ∙ ap not is_known in
+      let step : filter q (take (at + 1) notices) ≡ filter q (take at notices) ++ cond (not known) (n ∷ []) [] =
+      picked_more on_page q narrow notices d at (not known) (omega (arith, r.0, walked.1)) test in
+      walked.3 ∙ ap (λ (l : List (ℕ × Key)). l ++ reverse found) (r.2 ∙ step)
+      ∙ append_assoc (filter q (take at notices)) (cond (not known) (n ∷ []) []) (reverse found)
+      ∙ ap (λ (l : List (ℕ × Key)). filter q (take at notices) ++ l) (turned known n ∙ ap reverse (sym is_more))
+    where
+      turned : (b : Bool) (n : ℕ × Key) → cond (not b) (n ∷ []) [] ++ reverse found ≡ reverse (found ++ cond b [] (n ∷ []))
+      turned true n = ap reverse (sym (append-nil found))
+      turned false n = sym (reverse-append found (n ∷ []))
+
+  pub walk_goes_on : (at : ℕ) (found more : List (ℕ × Key)) (known : Bool) (keys : List ℕ) (next : Option ℕ) (d : ℕ × Key)
+      → IsWalked (Some at) found → keys ≡ map page_named notices
+      → next ≡ last_at (λ other. eqb other (get_or keys at 0)) (take at keys)
+      → knows since (get_or notices at d).1.node (get_or notices at d).1.index ≡ known
+      → more ≡ found ++ cond known [] (get_or notices at d ∷ []) → IsWalked next more
+  walk_goes_on at found more known keys next d walked linked is_next is_known is_more =
+      let within = walk_within at found walked in
+      let key : get_or keys at 0 ≡ page =
+      ap (λ (l : List ℕ). get_or l at 0) linked ∙ get_or-map page_named notices at d 0 within ∙ here at found walked d in
+      (at, omega (arith, within),
+      is_next ∙ ap (λ k. last_at (λ other. eqb other k) (take at keys)) key
+      ∙ ap (λ (l : List ℕ). last_at (λ other. eqb other page) (take at l)) linked
+      ∙ ap (last_at (λ other. eqb other page)) (take-map page_named at notices)
+      ∙ last_at-map (λ other. eqb other page) page_named (take at notices),
+      gathered at found more known walked d is_known is_more)
+
+  pub walk_ends : (found : List (ℕ × Key)) → IsWalked None found → filter (is_unknown_on page since) notices ≡ reverse found
+  walk_ends found walked =
+      walked.3 ∙ ap (λ (l : List (ℕ × Key)). l ++ reverse found) (reached None found walked)

@@ -1,0 +1,8 @@
+use Rattle.std.proofs.Common.{◌≡◌, ◌≤◌, map, take}
+use Rattle.lrc_store.proofs.links.link_nodes.Given as goal
+
+abbrev pub invariant-loop-stored : goal.invariant-loop-stored
+invariant-loop-stored l =
+    (l.by_node.keys ≡ map (λ stored. stored.node) (take l.stored-index l.entries))
+    × (l.by_node.lists ≡ l.initial.by_node.lists)
+    × (l.initial.by_node.room ≤ l.by_node.room)

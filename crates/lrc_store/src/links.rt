@@ -1,0 +1,102 @@
+// What links the intervals and the notices of a store.
+
+ghost use Rattle.std.specs.Prelude.{◌≡◌, ◌<◌, ◌≤◌, ◌+◌, All, IfOk, OnErr, OnOk, [], ◌∷◌, ◌++◌, filter, length, map, not, vec_capacity, vec_len};
+ghost use Rattle.lrc_time.specs.Time.{knows};
+ghost use Rattle.lrc_store.specs.Interval.{index_of};
+ghost use Rattle.lrc_store.specs.Links.{page_named, ranked_pages, is_unknown_on};
+
+use crate::chains::{Chains, MOST_ENTRIES};
+use crate::interval::Interval;
+use crate::key::Key;
+use crate::stored::Stored;
+use lrc_time::Time;
+use std::alloc::{AllocError, Global};
+
+/// Adds the interval's notices, for which there is room, each with the weight of the interval's stamp.
+pub(crate) fn add_notices(notices: &mut Vec<(u64, Key)>, by_page: &mut Chains, interval: &Interval)
+    requires in_range { All (λ page. page < by_page.old.lists) interval.now.pages }
+    requires room { vec_len notices.old + length interval.now.pages ≤ vec_capacity notices.old }
+    requires linked { length by_page.old.keys + length interval.now.pages ≤ by_page.old.room }
+    requires few { length by_page.old.keys + length interval.now.pages ≤ MOST_ENTRIES }
+    ensures notices { notices.new.items ≡ notices.old.items ++ ranked_pages interval.now }
+    ensures keys { by_page.new.keys ≡ by_page.old.keys ++ interval.now.pages }
+    ensures lists { by_page.new.lists ≡ by_page.old.lists }
+{
+    let weight = interval.stamp.weight();
+    let node = interval.node;
+    let index = interval.index();
+    for page in interval.pages.as_slice() {
+        let key = Key {
+            node,
+            index,
+            page: *page,
+        };
+        let Ok(()) = notices.push((weight, key)) else {
+            unreachable!();
+        };
+        by_page.push(*page);
+    }
+}
+
+/// Links the intervals again, fewer than there were.
+pub(crate) fn link_nodes(by_node: &mut Chains, entries: &[Stored])
+    requires in_range { All (λ stored. stored.node < by_node.old.lists) entries.now }
+    requires fewer { length entries.now ≤ length by_node.old.keys }
+    ensures keys { by_node.new.keys ≡ map (λ stored. stored.node) entries.now }
+    ensures lists { by_node.new.lists ≡ by_node.old.lists }
+{
+    let _room = by_node.len();
+    by_node.clear();
+    for stored in entries {
+        by_node.push(u16::from(stored.node()));
+    }
+}
+
+/// Links the notices again, fewer than there were.
+pub(crate) fn link_pages(by_page: &mut Chains, notices: &[(u64, Key)])
+    requires in_range { All (λ notice. notice.1.page < by_page.old.lists) notices.now }
+    requires fewer { length notices.now ≤ length by_page.old.keys }
+    ensures keys { by_page.new.keys ≡ map page_named notices.now }
+    ensures lists { by_page.new.lists ≡ by_page.old.lists }
+{
+    let _room = by_page.len();
+    by_page.clear();
+    for (_, key) in notices {
+        by_page.push(key.page);
+    }
+}
+
+/// The notices of a page that the time does not know, oldest first, found along the page's list.
+pub(crate) fn unknown_on(
+    alloc: Global,
+    notices: &[(u64, Key)],
+    by_page: &Chains,
+    page: u16,
+    since: &Time,
+) -> Result<Vec<(u64, Key)>, AllocError>
+    requires linked { by_page.now.keys ≡ map page_named notices.now }
+    ensures { IfOk result (λ found. found.items ≡ filter (is_unknown_on page since.now) notices.now) }
+{
+    let mut found = Vec::new(alloc);
+    let mut next = by_page.first(page);
+    while let Some(at) = next {
+        let (weight, key) = notices[at as usize];
+        if !is_known(since, key.node, key.index) {
+            found.push((weight, key))?;
+        }
+        next = by_page.next(at);
+    }
+    found.reverse();
+    Ok(found)
+}
+
+/// Whether the time knows the interval of this node and index. Of a node that it does not count it knows none.
+pub(crate) fn is_known(time: &Time, node: u8, index: u32) -> bool
+    ensures { result ≡ knows time.now node index }
+{
+    if node < time.nodes() {
+        index <= time.at(node)
+    } else {
+        index == 0
+    }
+}
