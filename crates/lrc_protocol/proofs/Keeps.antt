@@ -1,0 +1,177 @@
+-- What every effect leaves as it was: the setting, the options, the counts of messages sent, and a text that moves on by
+-- its own next deed, or not at all.
+use Rattle.std.proofs.Common.{◌≡◌, ℕ, List, [], ◌∷◌, Bool, true, false, refl, sym, subst}
+use Rattle.std.specs.Prelude.{Option, Some, None, nat_lt, if◌then◌else◌, flat_map, map, fold}
+use Rattle.std.specs.List.{list_all}
+use Rattle.lrc_trace.specs.declared.act.Deed.{Deed}
+use Rattle.lrc_exec.specs.Meaning.{Setting, Thread, Next, quiet, prints, reads, writes, acquires, releases, arrives, departs, traps, ends, next_of}
+use Rattle.lrc_wire.specs.declared.message.Message.{Message}
+use Rattle.lrc_wire.specs.declared.message.Message.TheVariants.{LockRequest, LockForward, LockGrant, Arrive, Depart, Clean, Discard, ChangesRequest, ChangesReply, PageRequest, PageReply}
+use Rattle.lrc_lock.specs.Managed.{Requested, refuses as refuses_request, forwards, requested}
+use Rattle.lrc_lock.specs.Held.{LockStep, refuses, stays as token_stays, passes, forwarded, granted, held_after, lock_at, is_free, taken, asked, released}
+use Rattle.lrc_barrier.specs.Barrier.{ArriveStep, refuses as refuses_arrival, waits, departs as all_depart, CleanStep, refuses_clean, awaits, discards}
+use Rattle.lrc_theory.specs.Follows.{Goes, quietly, printing, reading, writing, acquiring, releasing, arriving, departing, trapping, ending}
+use Rattle.lrc_protocol.specs.Copy.{is_readable}
+use Rattle.lrc_protocol.specs.Memory.{copy_at, kept_pages, with_keepers, base_at}
+use Rattle.lrc_protocol.specs.Fetch.{Need, need_of, is_met, with_changes, with_page}
+use Rattle.lrc_protocol.specs.Mail.{Letter, Wait, nothing, grant, departure, access, upkeep, discard, Collection, collection_of, MOST_NUMBER}
+use Rattle.lrc_protocol.specs.Course.{Course, going, trapped, ended, thread_of, deed_of, course_of}
+use Rattle.lrc_protocol.specs.Barrier.{arrive_step, clean_step}
+use Rattle.lrc_protocol.specs.Node.{Node, OptionsRecord, Effect, sends, acts, acts_by, value_read, with_memory, waiting}
+use Rattle.lrc_protocol.specs.Letters.{requests_of}
+use Rattle.lrc_protocol.specs.Waits.{waits_or_goes_on, with_needs}
+use Rattle.lrc_protocol.specs.Place.{page_of}
+use Rattle.lrc_protocol.specs.Run.{own_index, closes, closing, reaches, acquire_at, release_by, release_at, arrive_at, run_effect}
+use Rattle.lrc_protocol.specs.Take.{request_by, forward_by, learns, take_grant, arrive_by, collects, take_departure, clean_by, discard_by, take_changes, take_page, page_reply_by, take_effect, needs_to_keep, with_part}
+
+-- a text stays where it is, or moves on by its next deed
+pub data Moves : Course → Option Deed → Course → Type 0 where
+  stays : {c : Course} → Moves c None c
+  goes : {t : Thread} {d : Deed} {c : Course} → Goes (next_of t) d (thread_of c) → Moves (going t) (Some d) c
+
+pub record Keeps (s : Setting) (o : OptionsRecord) (sent : List ℕ) (c : Course) (e : Effect) : Type 0 where
+  pub setting : e.node.setting ≡ s
+  pub options : e.node.options ≡ o
+  pub sent_before : e.node.mail.sent ≡ sent
+  pub course : Moves c e.deed e.node.course
+
+abbrev pub Kept : Node → Effect → Type 0
+Kept node e = Keeps node.setting node.options node.mail.sent node.course e
+
+abbrev pub KeptIf : Node → Option Effect → Type 0
+KeptIf node None = Unit {0}
+KeptIf node (Some e) = Kept node e
+
+-- what a thread does next is its deed
+goes_on : (v : ℕ) (next : Next) → Goes next (deed_of v next) (thread_of (course_of v next))
+goes_on v (quiet after) = quietly
+goes_on v (prints printed after) = printing
+goes_on v (reads word after) = reading
+goes_on v (writes word written after) = writing
+goes_on v (acquires lock after) = acquiring
+goes_on v (releases lock after) = releasing
+goes_on v (arrives after) = arriving
+goes_on v (departs after) = departing
+goes_on v (traps cause) = trapping
+goes_on v ends = ending
+
+sends-keeps : (letters : List Letter) (node : Node) → Kept node (sends letters node)
+sends-keeps letters node = record { setting = refl; options = refl; sent_before = refl; course = stays }
+
+acts_by-keeps : (letters : List Letter) (node : Node) (c : Course) → node.course ≡ c → Kept node (acts_by letters node c)
+acts_by-keeps letters node (going t) e =
+    let v = value_read node (next_of t) in
+    record {
+      setting = refl;
+      options = refl;
+      sent_before = refl;
+      course = subst (λ c. Moves c (Some (deed_of v (next_of t))) (course_of v (next_of t))) (sym e) (goes (goes_on v (next_of t)));
+    }
+acts_by-keeps letters node (trapped cause) e = sends-keeps letters node
+acts_by-keeps letters node ended e = sends-keeps letters node
+
+acts-keeps : (letters : List Letter) (node : Node) → Kept node (acts letters node)
+acts-keeps letters node = acts_by-keeps letters node node.course refl
+
+either : (node : Node) (b : Bool) (x y : Effect) → Kept node x → Kept node y → Kept node (if b then x else y)
+either node true x y k l = k
+either node false x y k l = l
+
+optional : (node : Node) (b : Bool) (x : Effect) → Kept node x → KeptIf node (if b then Some x else None)
+optional node true x k = k
+optional node false x k = tt
+
+waits-keeps : (letters : List Letter) (node : Node) (wait : Wait) → Kept node (waits_or_goes_on letters node wait)
+waits-keeps letters node (access need) = either node (is_met need) _ _ (acts-keeps letters _) (sends-keeps letters _)
+waits-keeps letters node (upkeep collection needs) =
+    either node (list_all is_met needs) _ _ (sends-keeps _ _) (sends-keeps letters _)
+waits-keeps letters node nothing = sends-keeps letters _
+waits-keeps letters node (grant lock) = sends-keeps letters _
+waits-keeps letters node departure = sends-keeps letters _
+waits-keeps letters node (discard collection) = sends-keeps letters _
+
+-- ---- what a node does by itself
+
+closing-keeps : (node : Node) (go : Node → Effect) → ((m : Node) → Kept m (go m)) → KeptIf node (closing node go)
+closing-keeps node go k = optional node (nat_lt (own_index node) MOST_NUMBER) (go (closes node)) (k (closes node))
+
+reaches-keeps : (node : Node) (page : ℕ) → Kept node (reaches node page)
+reaches-keeps node page =
+    let need : Need = need_of node.setting.nodes node.memory page in
+    either node (is_readable (copy_at node.memory page)) _ _ (acts-keeps [] node) (waits-keeps (requests_of need) node (access need))
+
+acquire-keeps : (lock : ℕ) (node : Node) → Kept node (acquire_at lock node)
+acquire-keeps lock node = either node (is_free (lock_at node.locks.held lock)) _ _ (acts-keeps [] _) (sends-keeps _ _)
+
+release_by-keeps : (node : Node) (step : LockStep) → Kept node (release_by node step)
+release_by-keeps node (refuses fault) = acts-keeps [] node
+release_by-keeps node (token_stays held) = acts-keeps [] _
+release_by-keeps node (passes pass held) = acts-keeps _ _
+
+pub run-keeps : (node : Node) (next : Next) → KeptIf node (run_effect node next)
+run-keeps node (quiet after) = acts-keeps [] node
+run-keeps node (prints value after) = acts-keeps [] node
+run-keeps node (reads word after) = reaches-keeps node (page_of word node.options.size)
+run-keeps node (writes word value after) = reaches-keeps node (page_of word node.options.size)
+run-keeps node (acquires lock after) = closing-keeps node (acquire_at lock) (acquire-keeps lock)
+run-keeps node (releases lock after) = closing-keeps node (release_at lock) (λ m. release_by-keeps m (released m.locks.held lock m.locks.time))
+run-keeps node (arrives after) = closing-keeps node arrive_at (λ m. acts-keeps _ _)
+run-keeps node (departs after) = acts-keeps [] node
+run-keeps node (traps cause) = acts-keeps [] node
+run-keeps node ends = acts-keeps [] node
+
+-- ---- what a node does with a message
+
+request-keeps : (node : Node) (from lock : ℕ) (time : List ℕ) (r : Requested) → Kept node (request_by node from lock time r)
+request-keeps node from lock time (refuses_request fault) = sends-keeps [] node
+request-keeps node from lock time (forwards to managed) = sends-keeps _ _
+
+forward-keeps : (node : Node) (step : LockStep) → Kept node (forward_by node step)
+forward-keeps node (refuses fault) = sends-keeps [] node
+forward-keeps node (token_stays held) = sends-keeps [] _
+forward-keeps node (passes pass held) = sends-keeps _ _
+
+arrive-keeps : (node : Node) (step : Option ArriveStep) → Kept node (arrive_by node step)
+arrive-keeps node None = sends-keeps [] node
+arrive-keeps node (Some (refuses_arrival fault)) = sends-keeps [] node
+arrive-keeps node (Some (waits manager)) = sends-keeps [] _
+arrive-keeps node (Some (all_depart departures manager)) = sends-keeps _ _
+
+clean-keeps : (node : Node) (step : Option CleanStep) → Kept node (clean_by node step)
+clean-keeps node None = sends-keeps [] node
+clean-keeps node (Some (refuses_clean fault)) = sends-keeps [] node
+clean-keeps node (Some (awaits manager)) = sends-keeps [] _
+clean-keeps node (Some (discards episode manager)) = sends-keeps _ _
+
+discard-keeps : (node : Node) (c : Option Collection) → Kept node (discard_by node c)
+discard-keeps node None = sends-keeps [] node
+discard-keeps node (Some collection) = acts-keeps [] _
+
+reply-keeps : (node : Node) (from page : ℕ) (base : Option (List ℕ)) → Kept node (page_reply_by node from page base)
+reply-keeps node from page None = sends-keeps [] node
+reply-keeps node from page (Some values) = sends-keeps _ node
+
+collects-keeps : (time : List ℕ) (node : Node) → Kept node (collects time node)
+collects-keeps time node =
+    let keeping : Node = with_memory node (with_keepers node.memory) in
+    let kept : List ℕ = kept_pages node.setting.me keeping.memory in
+    let needs : List Need = needs_to_keep keeping kept in
+    waits-keeps (flat_map requests_of needs) keeping (upkeep (record { time = time; kept = kept }) needs)
+
+pub take-keeps : (node : Node) (from : ℕ) (message : Message) → Kept node (take_effect node from message)
+take-keeps node from (LockRequest m) = request-keeps node from m.lock m.time (requested node.locks.managed m.lock from)
+take-keeps node from (LockForward m) = forward-keeps node (forwarded node.locks.held m.lock m.asker m.time)
+take-keeps node from (LockGrant m) = acts-keeps [] _
+take-keeps node from (Arrive m) = arrive-keeps node _
+take-keeps node from (Depart m) = 
+    let knowing : Node = learns m.time m.intervals node in
+    either node m.collect _ _ (collects-keeps m.time knowing) (acts-keeps [] (waiting nothing knowing))
+take-keeps node from (Clean episode) = clean-keeps node (clean_step node.barrier from episode)
+take-keeps node from (Discard episode) = discard-keeps node (collection_of node.mail.wait)
+take-keeps node from (ChangesRequest m) = sends-keeps _ node
+take-keeps node from (ChangesReply m) =
+    waits-keeps []
+    (with_memory node (record node.memory { store = fold (with_part from m.page) node.memory.store m.parts }))
+    (with_needs (with_changes m.page from) node.mail.wait)
+take-keeps node from (PageRequest page) = reply-keeps node from page (base_at node.memory page)
+take-keeps node from (PageReply m) = waits-keeps [] node (with_needs (with_page m.page m.values) node.mail.wait)

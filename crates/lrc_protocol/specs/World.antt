@@ -1,0 +1,112 @@
+-- The run of all nodes: what each event does, and the run of a list of events.
+use Rattle.std.specs.Prelude.{ℕ, ◌+◌, ◌==◌, unwrap_or, Bool, true, false, not, Option, Some, None, is_some, option_and_then, option_map, List, [], ◌∷◌, ◌++◌, fold, filter, map, remove, slice_get, slice_set, if◌then◌else◌}
+use Rattle.std.specs.Option.{option_to_list}
+use Rattle.std.specs.List.{enumerate_from, range_with_len}
+use Rattle.lrc_lang.specs.declared.program.Program.{Program}
+use Rattle.lrc_trace.specs.declared.act.Act.{Act}
+use Rattle.lrc_wire.specs.Envelope.{EnvelopeRecord}
+use Rattle.lrc_protocol.specs.declared.event.Event.{Event}
+use Rattle.lrc_protocol.specs.declared.event.Event.TheVariants.{Run, Deliver, Repeat}
+use Rattle.lrc_protocol.specs.Node.{Node, OptionsRecord, fresh_node}
+use Rattle.lrc_protocol.specs.Turn.{TurnRecord, is_repeat}
+use Rattle.lrc_protocol.specs.Log.{Input, run, taken, EntryRecord, Logged, Logging, logged, refused, too_large, logs}
+
+-- a message in flight, with the stamp of the turn that sent it, and whether it was delivered already
+pub record Flying : Type 0 where
+  pub envelope : EnvelopeRecord
+  pub stamp : ℕ
+  pub delivered : Bool
+
+-- the nodes with their logs; the messages in flight, oldest first; the acts so far, and for each the time of its node just
+-- after it
+pub record World : Type 0 where
+  pub nodes : List Logged
+  pub flight : List Flying
+  pub acts : List Act
+  pub times : List (List ℕ)
+
+-- these nodes before their first turn
+abbrev pub world_of : List Node → World
+world_of nodes = record {
+  nodes = map (λ node. record { node = node; log = [] }) nodes;
+  flight = [];
+  acts = [];
+  times = [];
+}
+
+-- all nodes at the beginning of a program
+abbrev pub fresh_world : Program → ℕ → OptionsRecord → World
+fresh_world program nodes options = world_of (map (fresh_node program nodes options) (range_with_len 0 nodes))
+
+-- the messages of a turn, in flight
+abbrev pub sent_by : EntryRecord → List Flying
+sent_by entry = map (λ envelope. record { envelope = envelope; stamp = entry.stamp; delivered = false }) entry.turn.out
+
+-- the world after a node's turn, with the messages that were in flight when it made it
+abbrev pub with_turn : World → List Flying → ℕ → EntryRecord → Logged → World
+with_turn world flight n entry l = record {
+  nodes = slice_set world.nodes n l;
+  flight = flight ++ sent_by entry;
+  acts = world.acts ++ option_to_list entry.turn.act;
+  times = world.times ++ map (λ act. l.node.locks.time) (option_to_list entry.turn.act);
+}
+
+-- the world after what came of an input to a node: a refused one changes nothing, and none is left of a run where a number
+-- would be too large
+abbrev pub after_input : World → List Flying → ℕ → Logging → Option World
+after_input world flight n (logged entry l) = Some (with_turn world flight n entry l)
+after_input world flight n refused = Some world
+after_input world flight n too_large = None
+
+-- an input to a node, with the messages that are in flight then; nothing where there is no such node
+abbrev pub input_to : World → List Flying → ℕ → Input → ℕ → Option Logged → Option World
+input_to world flight n input stamp None = Some world
+input_to world flight n input stamp (Some l) = after_input world flight n (logs l input stamp)
+
+abbrev pub inputs : World → List Flying → ℕ → Input → ℕ → Option World
+inputs world flight n input stamp = input_to world flight n input stamp (slice_get world.nodes n)
+
+-- a message is delivered to its receiver, with the messages that are in flight then; nothing where there is none
+abbrev pub delivers : World → List Flying → Option Flying → Option World
+delivers world flight None = Some world
+delivers world flight (Some flying) = inputs world flight flying.envelope.to (taken flying.envelope) flying.stamp
+
+-- the message stays in flight, marked as delivered
+abbrev pub marked : Flying → Flying
+marked flying = record flying { delivered = true }
+
+-- the messages in flight, the one at a place marked
+abbrev pub with_mark : List Flying → ℕ → List Flying
+with_mark flight place = map (λ at. if at.0 == place then marked at.1 else at.1) (enumerate_from 0 flight)
+
+-- What an event does: one turn where it names a ready node, or a message in flight that its receiver takes; and nothing
+-- else. None where a number would be too large.
+abbrev pub event_on : World → Event → Option World
+event_on world (Run n) = inputs world world.flight n run 0
+event_on world (Deliver place) = delivers world (remove world.flight place) (slice_get world.flight place)
+event_on world (Repeat place) = delivers world (with_mark world.flight place) (slice_get world.flight place)
+
+-- the run goes on with one event more
+abbrev pub step_of : Option World → Event → Option World
+step_of None event = None
+step_of (Some world) event = event_on world event
+
+-- the run of these events from a world on
+abbrev pub played : World → List Event → Option World
+played world events = fold step_of (Some world) events
+
+-- the run of the events of a program on so many nodes; none where a number would be too large
+abbrev pub run_of : Program → ℕ → OptionsRecord → List Event → Option World
+run_of program nodes options events = played (fresh_world program nodes options) events
+
+-- ---- messages that are still to be taken
+
+-- whether its receiver has taken the message's number
+abbrev pub is_taken_in : World → Flying → Bool
+is_taken_in world flying =
+    unwrap_or (option_map (λ l. is_repeat l.node flying.envelope) (slice_get world.nodes flying.envelope.to)) false
+
+-- the messages that were sent and whose numbers their receivers have not taken. (What is delivered and taken leaves the
+-- flight, or stays there as a repeat.)
+abbrev pub pending : World → List EnvelopeRecord
+pending world = map (λ flying. flying.envelope) (filter (λ flying. not (is_taken_in world flying)) world.flight)

@@ -1,0 +1,8 @@
+use Rattle.std.proofs.Common.{refl}
+use Rattle.part_tests.proofs.protocol.a_collection_costs_cleans_and_discards.Goals as goal
+
+pub returns-clause-collected : goal.returns-clause-collected
+returns-clause-collected c = refl
+
+pub returns-clause-uncollected : goal.returns-clause-uncollected
+returns-clause-uncollected c = refl

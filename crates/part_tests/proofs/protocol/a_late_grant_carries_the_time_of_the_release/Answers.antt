@@ -1,0 +1,8 @@
+use Rattle.std.proofs.Common.{refl}
+use Rattle.part_tests.proofs.protocol.a_late_grant_carries_the_time_of_the_release.Goals as goal
+
+pub returns-clause-reads : goal.returns-clause-reads
+returns-clause-reads c = refl
+
+pub returns-clause-messages : goal.returns-clause-messages
+returns-clause-messages c = refl

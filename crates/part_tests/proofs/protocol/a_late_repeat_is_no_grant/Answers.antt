@@ -1,0 +1,5 @@
+use Rattle.std.proofs.Common.{refl}
+use Rattle.part_tests.proofs.protocol.a_late_repeat_is_no_grant.Goals as goal
+
+pub returns : goal.returns
+returns c = refl
