@@ -37,6 +37,24 @@ fn words_are_read(rt: HostRuntime) {
     assert!(rt; ask_for_check(rt.alloc(), &["check", "a.tm"]));
 }
 
+const OUT_OF_RANGE: [[&str; 4]; 6] = [
+    ["plain", "a.tm", "--nodes", "17"],
+    ["plain", "a.tm", "--nodes", "0"],
+    ["plain", "a.tm", "--steps", "0"],
+    ["plain", "a.tm", "--steps", "1000001"],
+    ["sim", "a.tm", "--steps", "1000001"],
+    ["sim", "a.tm", "--nodes", "18446744073709551615"],
+];
+
+const MISUSED: [[&str; 4]; 6] = [
+    ["plain", "a.tm", "--nodes", "18446744073709551616"],
+    ["plain", "a.tm", "--nodes", "x"],
+    ["plain", "a.tm", "--events", "e"],
+    ["plain", "a.tm", "b.tm", "c.tm"],
+    ["sim", "a.tm", "--steps=1", "--steps=2"],
+    ["plan", "a.tm", "--nodes", "1"],
+];
+
 fn are_out_of_range(alloc: Global, words: &[&str]) -> bool {
     matches!(choose(alloc, words), Err(ChooseFault::BadNumber))
 }
@@ -47,30 +65,14 @@ fn are_misused(alloc: Global, words: &[&str]) -> bool {
 
 #[test]
 fn numbers_out_of_range_are_refused(rt: HostRuntime) {
-    let cases: [[&str; 4]; 6] = [
-        ["plain", "a.tm", "--nodes", "17"],
-        ["plain", "a.tm", "--nodes", "0"],
-        ["plain", "a.tm", "--steps", "0"],
-        ["plain", "a.tm", "--steps", "1000001"],
-        ["sim", "a.tm", "--steps", "1000001"],
-        ["sim", "a.tm", "--nodes", "18446744073709551615"],
-    ];
-    for words in cases {
-        assert!(rt; are_out_of_range(rt.alloc(), &words));
+    for words in &OUT_OF_RANGE {
+        assert!(rt; are_out_of_range(rt.alloc(), words));
     }
 }
 
 #[test]
 fn other_words_are_a_fault_of_usage(rt: HostRuntime) {
-    let cases: [[&str; 4]; 6] = [
-        ["plain", "a.tm", "--nodes", "18446744073709551616"],
-        ["plain", "a.tm", "--nodes", "x"],
-        ["plain", "a.tm", "--events", "e"],
-        ["plain", "a.tm", "b.tm", "c.tm"],
-        ["sim", "a.tm", "--steps=1", "--steps=2"],
-        ["plan", "a.tm", "--nodes", "1"],
-    ];
-    for words in cases {
-        assert!(rt; are_misused(rt.alloc(), &words));
+    for words in &MISUSED {
+        assert!(rt; are_misused(rt.alloc(), words));
     }
 }
