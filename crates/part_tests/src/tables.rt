@@ -1,7 +1,11 @@
 // The page table of a node: worked values, each state and call, and largest sizes.
 
+ghost use Rattle.std.specs.Prelude.{◌≡◌, ◌<◌, length};
+ghost use Rattle.lrc_page.specs.Place.{page_of};
+
 use lrc_page::{Changes, Page, Size};
 use lrc_table::{PageTable, State};
+use std::alloc::{AllocError, Global};
 use std::test::Fail;
 
 /// How many changes there are, and the offset and the value of the last; zeros where there is none.
@@ -127,5 +131,49 @@ fn fetches_an_absent_page(rt: HostRuntime) -> Result<(), Fail> {
     assert!(rt;
         (table.state(1), table.read(64), table.read(65)) == (State::Valid, Some(7), Some(9))
     );
+    Ok(())
+}
+
+/// Writes its number and one more to a word, where its page is not pending.
+fn put(table: &mut PageTable, word: u32) -> Result<(), AllocError>
+    requires in_range { word < 65536 }
+    requires on_a_page { page_of word table.old.size < length table.old.copies }
+    ensures size { table.new.size ≡ table.old.size }
+    ensures pages { length table.new.copies ≡ length table.old.copies }
+{
+    let page = lrc_page::page_of(word, table.size());
+    if !table.pending(page) {
+        table.write(word, u64::from(word) + 1)?;
+    }
+    Ok(())
+}
+
+/// Writes to every word of the first 1,024 pages of 64 words, and gives the number of pages that a close names, and the
+/// changes of the last.
+fn fills_pages_of_64(alloc: Global) -> Result<(usize, Option<(usize, u8, u64)>), AllocError> {
+    let mut table = PageTable::new(alloc, 65_536, Size::Words64)?;
+    for word in 0..65_536 {
+        put(&mut table, word)?;
+    }
+    let closed = table.close()?.len();
+    Ok((closed, summary(table.settle(1023)?)))
+}
+
+/// The same for pages of 256 words.
+fn fills_pages_of_256(alloc: Global) -> Result<(usize, Option<(usize, u8, u64)>), AllocError> {
+    let mut table = PageTable::new(alloc, 65_536, Size::Words256)?;
+    for word in 0..65_536 {
+        put(&mut table, word)?;
+    }
+    let closed = table.close()?.len();
+    Ok((closed, summary(table.settle(255)?)))
+}
+
+#[test]
+fn holds_the_most_words(rt: HostRuntime) -> Result<(), Fail> {
+    let small = fills_pages_of_64(rt.alloc())?;
+    assert!(rt; small == (1024, Some((64, 63, 65_536))));
+    let large = fills_pages_of_256(rt.alloc())?;
+    assert!(rt; large == (256, Some((256, 255, 65_536))));
     Ok(())
 }
