@@ -1,4 +1,5 @@
 pub mod Chained
+pub mod Followed
 pub mod IntervalLists
 pub mod LinkedStores
 pub mod Lookups

@@ -55,7 +55,11 @@ impl Store {
     pub fn key(&self, at: NoticeAt) -> Option<Key>
         ensures { result ≡ key_at self.now at }
     {
-        let (_, key) = self.notices.get(at.place as usize)?;
-        Some(*key)
+        let place = at.place as usize;
+        if place < self.notices.len() {
+            Some(self.notices[place].1)
+        } else {
+            None
+        }
     }
 }
