@@ -3,7 +3,7 @@ use Rattle.std.proofs.Common.{◌≡◌, ℕ, zero, suc, ◌+◌, ◌<◌, ◌�
 use Rattle.std.proofs.lemmas.List.{take_more, take_all, length-take-le, reverse-append, append-nil}
 use Rattle.lrc_store.specs.Chains.{last_at}
 use Rattle.lrc_store.specs.Lists.{Follows, head_of, link_of, list_of, places_from}
-use Rattle.lrc_store.proofs.Chained.{last_at-push_here, last_at-push_other}
+use Rattle.lrc_store.proofs.Chained.{last_at-push_here, last_at-push_other, reach, reach-taken}
 
 places_from-push : (key start : ℕ) (xs : List ℕ) (x : ℕ)
     → places_from key start (xs ++ x ∷ []) ≡ places_from key start xs ++ cond (eqb x key) ((start + length xs) ∷ []) []
@@ -66,3 +66,18 @@ module _ (keys : List ℕ) (key : ℕ) where
   follows =
       let whole : take (length keys) keys ≡ keys = take_all (length keys) keys (omega arith) in
       subst (λ (l : List ℕ). Follows (link_of keys) (head_of l key) (list_of l key)) whole (follows_taken (length keys) (omega arith))
+
+-- ---- a link is in use
+
+pub head_within : (keys : List ℕ) (key at : ℕ) → head_of keys key ≡ Some at → at < length keys
+head_within keys key at is =
+    let whole : take (length keys) keys ≡ keys = take_all (length keys) keys (omega arith) in
+    let most : reach (head_of keys key) ≤ length keys =
+    subst (λ (l : List ℕ). reach (head_of l key) ≤ length keys) whole
+    (reach-taken (λ other. eqb other key) keys 0 (length keys) (omega arith)) in
+    subst (λ (r : Option ℕ). reach r ≤ length keys) is most
+
+pub link_within : (keys : List ℕ) (from at : ℕ) → from < length keys → link_of keys from ≡ Some at → at < from
+link_within keys from at within is =
+    let most = reach-taken (λ other. eqb other (get_or keys from 0)) keys 0 from (omega arith) in
+    subst (λ (r : Option ℕ). reach r ≤ from) is most
