@@ -12,7 +12,10 @@ use Rattle.lrc_page.specs.Pages.{IsRising}
 use Rattle.lrc_store.specs.declared.key.Key.{Key}
 use Rattle.lrc_store.specs.Chains.{ChainsRecord}
 use Rattle.lrc_store.specs.Interval.{IntervalRecord, IsInterval, index_of}
-use Rattle.lrc_store.specs.Lists.{keys_of, notices_of, pages_noted}
+use Rattle.std.specs.Option.{option_map}
+use Rattle.std.specs.List.{slice_get}
+use Rattle.std.proofs.lemmas.Option.{slice_get-map}
+use Rattle.lrc_store.specs.Lists.{key_at, keys_of, notices_of, pages_noted}
 use Rattle.lrc_store.specs.Links.{IsLinkedUp, is_unknown_on, page_named, ranked, ranked_of, ranked_pages}
 use Rattle.lrc_store.specs.Store.{StoredRecord, StoreRecord, IsStore, added, attached, discarded, interval_of, intervals_of, is_covered, is_missing, key_of}
 use Rattle.lrc_store.proofs.Orders.{map-map}
@@ -254,3 +257,10 @@ noted_pages store by_node by_page notices linked =
     linked.pages
     ∙ sym (map-map (λ (notice : ℕ × Key). notice.1) (λ (key : Key). key.page) notices)
     ∙ ap (map (λ (key : Key). key.page)) (noted_keys store by_node by_page notices linked)
+
+-- the key of a notice
+pub key_at-noted : (store : StoreRecord) (by_node by_page : ChainsRecord) (notices : List (ℕ × Key)) (at : ℕ)
+    → IsLinkedUp store by_node by_page notices → key_at store at ≡ option_map (λ notice. notice.1) (slice_get notices at)
+key_at-noted store by_node by_page notices at linked =
+    ap (λ (l : List Key). slice_get l at) (sym (noted_keys store by_node by_page notices linked))
+    ∙ slice_get-map (λ (notice : ℕ × Key). notice.1) notices at

@@ -4,7 +4,7 @@ use Rattle.lrc_time.specs.Time.{knows, weight_of}
 use Rattle.lrc_store.specs.declared.key.Key.{Key}
 use Rattle.lrc_store.specs.Chains.{ChainsRecord}
 use Rattle.lrc_store.specs.Interval.{IntervalRecord, IsInterval}
-use Rattle.lrc_store.specs.Store.{StoreRecord, IsStore, intervals_of, key_of}
+use Rattle.lrc_store.specs.Store.{StoreRecord, IsStore, intervals_of, is_newer, key_of}
 
 -- an interval's notice of a page
 abbrev pub ranked : ℕ → IntervalRecord → ℕ × Key
@@ -25,6 +25,10 @@ page_named notice = notice.1.page
 -- the notice is of this page, and the time does not know its interval
 abbrev pub is_unknown_on : ℕ → List ℕ → ℕ × Key → Bool
 is_unknown_on page since notice = (notice.1.page == page) && not (knows since notice.1.node notice.1.index)
+
+-- the interval is of this node, and the second time knows it where the first does not
+abbrev pub is_newer_of : ℕ → List ℕ → List ℕ → IntervalRecord → Bool
+is_newer_of node since upto interval = (interval.node == node) && is_newer since upto interval
 
 -- the links of a store: they run through its intervals by node, and through their notices by page
 pub record IsLinkedUp (store : StoreRecord) (by_node by_page : ChainsRecord) (notices : List (ℕ × Key)) : Type 0 where

@@ -1,6 +1,7 @@
 // The lists that run through a store.
 
 ghost use Rattle.std.specs.Prelude.{◌≡◌, ◌<◌, length};
+ghost use Rattle.std.specs.Option.{ForSome};
 ghost use Rattle.lrc_store.specs.Lists.{interval_at, key_at, newest_of, before_of, first_on_page_of, next_on_page_of, notices_of};
 ghost use Rattle.lrc_store.specs.Store.{intervals_of};
 
@@ -11,7 +12,8 @@ use crate::store::Store;
 impl Store {
     /// The interval of a node that was added last.
     pub fn newest(&self, node: u8) -> Option<IntervalAt>
-        ensures { result ≡ newest_of self.now node }
+        ensures newest { result ≡ newest_of self.now node }
+        ensures in_use { ForSome result (λ at. at < length (intervals_of self.now)) }
     {
         let place = self.by_node.first(u16::from(node))?;
         Some(IntervalAt { place })
@@ -20,7 +22,8 @@ impl Store {
     /// The interval of the same node that was added before this one.
     pub fn before(&self, at: IntervalAt) -> Option<IntervalAt>
         requires { at < length (intervals_of self.now) }
-        ensures { result ≡ before_of self.now at }
+        ensures before { result ≡ before_of self.now at }
+        ensures in_use { ForSome result (λ earlier. earlier < at) }
     {
         let place = self.by_node.next(at.place)?;
         Some(IntervalAt { place })
@@ -28,7 +31,8 @@ impl Store {
 
     /// The notice of a page that was added last.
     pub fn first_on_page(&self, page: u16) -> Option<NoticeAt>
-        ensures { result ≡ first_on_page_of self.now page }
+        ensures first { result ≡ first_on_page_of self.now page }
+        ensures in_use { ForSome result (λ at. at < length (notices_of self.now)) }
     {
         let place = self.by_page.first(page)?;
         Some(NoticeAt { place })
@@ -37,7 +41,8 @@ impl Store {
     /// The notice of the same page that was added before this one.
     pub fn next_on_page(&self, at: NoticeAt) -> Option<NoticeAt>
         requires { at < length (notices_of self.now) }
-        ensures { result ≡ next_on_page_of self.now at }
+        ensures next { result ≡ next_on_page_of self.now at }
+        ensures in_use { ForSome result (λ earlier. earlier < at) }
     {
         let place = self.by_page.next(at.place)?;
         Some(NoticeAt { place })
@@ -55,7 +60,11 @@ impl Store {
     pub fn key(&self, at: NoticeAt) -> Option<Key>
         ensures { result ≡ key_at self.now at }
     {
-        let (_, key) = self.notices.get(at.place as usize)?;
-        Some(*key)
+        let place = at.place as usize;
+        if place < self.notices.len() {
+            Some(self.notices[place].1)
+        } else {
+            None
+        }
     }
 }

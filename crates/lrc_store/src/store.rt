@@ -9,7 +9,7 @@ use crate::chains::Chains;
 use crate::interval::Interval;
 use crate::intervals::Intervals;
 use crate::key::Key;
-use crate::links::{add_notices, is_known, link_nodes, link_pages, make_room, unknown_on};
+use crate::links::{add_notices, is_known, link_nodes, link_pages, make_room, newer_of_node, unknown_on};
 use crate::stored::Stored;
 use lrc_page::{Changes, MOST_PAGES};
 use lrc_time::Time;
@@ -144,13 +144,12 @@ impl Store {
         ensures newer { IfOk result (λ found. IsNewer self.now since.now upto.now found) }
         ensures value { IfOk result (λ found. found ≡ newer_of self.now since.now upto.now) }
     {
-        let mut found = Vec::new(*self.entries.allocator());
-        for stored in &self.entries {
-            if !stored.is_known(since) && stored.is_known(upto) {
-                found.push(stored.interval()?)?;
-            }
+        let alloc = *self.entries.allocator();
+        let mut found = Vec::new(alloc);
+        for node in 0..self.last.nodes() {
+            let mut newer = newer_of_node(alloc, &self.entries, &self.by_node, node, since, upto)?;
+            found.append(&mut newer)?;
         }
-        found.sort_unstable_by_key(|interval| (interval.node, interval.index()));
         Ok(Intervals::from_ascending(found))
     }
 

@@ -1,6 +1,9 @@
-use Rattle.std.proofs.Common.{◌≡◌, ℕ, List, ap, sym, ◌∙◌}
-use Rattle.lrc_store.specs.Lists.{first_on_page_of, head_of}
+use Rattle.std.proofs.Common.{◌≡◌, ℕ, List, length, ap, sym, ◌∙◌, arith}
+use Rattle.std.proofs.lemmas.List.{length-map}
+use Rattle.lrc_store.specs.declared.key.Key.{Key}
+use Rattle.lrc_store.specs.Lists.{first_on_page_of, head_of, notices_of}
 use Rattle.lrc_store.specs.Store.{StoreRecord}
+use Rattle.lrc_store.proofs.Followed.{head_within}
 use Rattle.lrc_store.proofs.LinkedStores.{noted_pages}
 use Rattle.lrc_store.proofs.store.Store.first_on_page.Goals as goal
 use Rattle.lrc_store.proofs.store.Store.first_on_page.Goals.{After-first}
@@ -14,9 +17,17 @@ first c =
     (noted_pages store c.self.inside.by_node c.self.inside.by_page c.self.inside.notices.items c.self.invariant)
     ∙ ap (λ (s : StoreRecord). first_on_page_of s c.args.page) c.self.view_is
 
-pub returns-in_err-place : goal.returns-in_err-place
-returns-in_err-place c =
-    c.from_residual.ensures ∙ sym c.in_err-place.was ∙ first (goal.at.returns-in_err-place c).After-first
+pub returns-in_err-place-clause-first : goal.returns-in_err-place-clause-first
+returns-in_err-place-clause-first c =
+    c.from_residual.ensures ∙ sym c.in_err-place.was ∙ first (goal.at.returns-in_err-place-clause-first c).After-first
 
-pub returns : goal.returns
-returns c = sym c.in_ok-place.was ∙ first (goal.at.returns c).After-first
+pub returns-clause-first : goal.returns-clause-first
+returns-clause-first c = sym c.in_ok-place.was ∙ first (goal.at.returns-clause-first c).After-first
+
+pub returns-clause-in_use : goal.returns-clause-in_use
+returns-clause-in_use c = λ at is.
+    let store : StoreRecord = record { pages = c.self.inside.pages; last = c.self.inside.last; entries = c.self.inside.entries.items } in
+    let linked = noted_pages store c.self.inside.by_node c.self.inside.by_page c.self.inside.notices.items c.self.invariant in
+    let within = head_within c.self.inside.by_page.keys c.args.page at (sym c.first.ensures ∙ c.in_ok-place.was ∙ is) in
+    omega (arith, within, ap length linked, length-map (notices_of store) (λ (key : Key). key.page),
+      ap (λ (s : StoreRecord). length (notices_of s)) c.self.view_is)
