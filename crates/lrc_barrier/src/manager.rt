@@ -86,6 +86,7 @@ impl Manager {
         ensures answer { IfOk result (λ answer. arrive_answer (arrived self.old from arrival.now) ≡ Ok answer) }
         ensures manager { OnOk result (self.new ≡ after_arrive self.old (arrived self.old from arrival.now)) }
         ensures memory { IsTrue (is_accepted (arrived self.old from arrival.now)) → IfErr result (λ fault. fault ≡ NoMemory) }
+        ensures nodes { length self.new.last ≡ length self.old.last }
         ensures err { OnErr result (self.new ≡ self.old) }
         ensures departures { IfOk result (λ answer. IfSome answer (All (IsDeparture (length self.old.last)))) }
     {
@@ -108,6 +109,7 @@ impl Manager {
         requires { from < length self.old.last }
         ensures answer { result ≡ clean_answer (cleaned self.old from episode) }
         ensures manager { self.new ≡ after_clean self.old (cleaned self.old from episode) }
+        ensures nodes { length self.new.last ≡ length self.old.last }
     {
         let Some(cleans) = &mut self.cleans else {
             return Err(BarrierFault::WrongEpisode);

@@ -1,5 +1,5 @@
 -- The tokens at one node: how they come, are held, kept and passed on.
-use Rattle.std.specs.Prelude.{ℕ, ◌<◌, ◌≤◌, ◌==◌, Bool, true, false, List, All, length, map, slice_index_or, slice_set, if◌then◌else◌, Option, Some, None, Result, Ok, Err}
+use Rattle.std.specs.Prelude.{◌≡◌, ℕ, ◌<◌, ◌≤◌, ◌==◌, Bool, true, false, List, All, length, map, slice_index_or, slice_set, if◌then◌else◌, Option, Some, None, Result, Ok, Err}
 use Rattle.std.specs.List.{range_with_len}
 use Rattle.lrc_time.specs.Time.{zeros}
 use Rattle.lrc_lock.specs.declared.fault.LockFault.{LockFault}
@@ -22,6 +22,12 @@ pub record IsHeld (held : HeldRecord) : Type 0 where
   pub few : held.nodes ≤ 16
   pub locks : length held.locks ≤ 64
   pub states : All (IsLockState held.me held.nodes) held.locks
+
+-- it is the same node, of as many, with as many locks
+pub record SamePlace (before after : HeldRecord) : Type 0 where
+  pub me : after.me ≡ before.me
+  pub nodes : after.nodes ≡ before.nodes
+  pub locks : length after.locks ≡ length before.locks
 
 -- what the node knows of a lock
 abbrev pub lock_at : HeldRecord → ℕ → LockState

@@ -1,5 +1,5 @@
 -- The locks that a node manages: who asked last for each.
-use Rattle.std.specs.Prelude.{ℕ, ◌<◌, ◌≤◌, ◌==◌, List, All, length, map, slice_index, slice_set, if◌then◌else◌, Result, Ok, Err}
+use Rattle.std.specs.Prelude.{◌≡◌, ℕ, ◌<◌, ◌≤◌, ◌==◌, List, All, length, map, slice_index, slice_set, if◌then◌else◌, Result, Ok, Err}
 use Rattle.std.specs.List.{range_with_len}
 use Rattle.lrc_lock.specs.declared.fault.LockFault.{LockFault}
 use Rattle.lrc_lock.specs.declared.fault.LockFault.TheVariants.{NotMine}
@@ -18,6 +18,12 @@ pub record IsManaged (managed : ManagedRecord) : Type 0 where
   pub few : managed.nodes ≤ 16
   pub locks : length managed.recent ≤ 64
   pub askers : All (λ asker. asker < managed.nodes) managed.recent
+
+-- it is the same node, of as many, with as many locks
+pub record SameManager (before after : ManagedRecord) : Type 0 where
+  pub me : after.me ≡ before.me
+  pub nodes : after.nodes ≡ before.nodes
+  pub locks : length after.recent ≡ length before.recent
 
 -- at the start the manager counts as the most recent asker
 abbrev pub first_managed : ℕ → ℕ → ℕ → ManagedRecord

@@ -1,7 +1,7 @@
 // The tokens at one node.
 
 ghost use Rattle.std.specs.Prelude.{◌≡◌, ◌<◌, ◌≤◌, IfOk, IfSome, IsTrue, length};
-ghost use Rattle.lrc_lock.specs.Held.{first_held, lock_at, held_after, answer_of, grant_answer, pass_of, is_free, is_held, taken, asked, forwarded, granted, released};
+ghost use Rattle.lrc_lock.specs.Held.{first_held, lock_at, held_after, answer_of, grant_answer, pass_of, is_free, is_held, taken, asked, forwarded, granted, released, SamePlace};
 ghost use Rattle.lrc_lock.specs.Lock.{IsPass};
 ghost use Rattle.lrc_lock.specs.declared.state.LockState.TheVariants.{Away};
 
@@ -53,6 +53,7 @@ impl Held {
         requires { lock < length self.old.locks }
         ensures answer { result ≡ is_free (lock_at self.old lock) }
         ensures held { self.new ≡ taken self.old lock }
+        ensures place { SamePlace self.old self.new }
     {
         let state = &mut self.locks[usize::from(lock)];
         let free = state.is_free();
@@ -66,7 +67,8 @@ impl Held {
     pub fn ask(&mut self, lock: u8)
         requires lock { lock < length self.old.locks }
         requires away { lock_at self.old lock ≡ Away }
-        ensures { self.new ≡ asked self.old lock }
+        ensures held { self.new ≡ asked self.old lock }
+        ensures place { SamePlace self.old self.new }
     {
         self.locks[usize::from(lock)] = LockState::Awaited(None);
     }
@@ -81,6 +83,7 @@ impl Held {
         requires counted { length time ≡ self.old.nodes }
         ensures answer { result ≡ answer_of (forwarded self.old lock asker time) }
         ensures held { self.new ≡ held_after self.old lock (forwarded self.old lock asker time) }
+        ensures place { SamePlace self.old self.new }
         ensures pass { IfOk result (λ answer. IfSome answer (IsPass self.old.me self.old.nodes)) }
     {
         if asker == self.me {
@@ -96,6 +99,7 @@ impl Held {
         requires { lock < length self.old.locks }
         ensures answer { result ≡ grant_answer (granted self.old lock) }
         ensures held { self.new ≡ held_after self.old lock (granted self.old lock) }
+        ensures place { SamePlace self.old self.new }
     {
         self.locks[usize::from(lock)].granted()
     }
@@ -108,6 +112,7 @@ impl Held {
         requires counted { length now ≡ self.old.nodes }
         ensures answer { result ≡ pass_of (released self.old lock now) }
         ensures held { self.new ≡ held_after self.old lock (released self.old lock now) }
+        ensures place { SamePlace self.old self.new }
         ensures pass { IfSome result (IsPass self.old.me self.old.nodes) }
     {
         self.locks[usize::from(lock)].release(lock, now)

@@ -1,7 +1,7 @@
 // The locks that a node manages.
 
 ghost use Rattle.std.specs.Prelude.{◌≡◌, ◌<◌, ◌≤◌, IfOk, length};
-ghost use Rattle.lrc_lock.specs.Managed.{first_managed, requested, answer_of, managed_after};
+ghost use Rattle.lrc_lock.specs.Managed.{first_managed, requested, answer_of, managed_after, SameManager};
 
 use crate::fault::LockFault;
 use crate::state::MOST_LOCKS;
@@ -49,6 +49,7 @@ impl Managed {
         requires asker { asker < self.old.nodes }
         ensures answer { result ≡ answer_of (requested self.old lock asker) }
         ensures managed { self.new ≡ managed_after self.old (requested self.old lock asker) }
+        ensures place { SameManager self.old self.new }
         ensures to { IfOk result (λ to. to < self.old.nodes) }
     {
         if lock % self.nodes != self.me {
