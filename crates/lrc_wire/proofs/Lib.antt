@@ -11,3 +11,4 @@ pub mod Bodies
 pub mod Envelopes
 pub mod Written
 pub mod Lengths
+mod Runs

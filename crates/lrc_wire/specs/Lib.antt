@@ -1,5 +1,6 @@
 pub mod Records
 pub mod Envelope
+pub mod Runs
 pub mod Ranges
 pub mod Spelling
 pub mod Reading
