@@ -191,6 +191,11 @@ pub applied-push : (page : List ℕ) (cs : List Change) (c : Change)
     → applied page (cs ++ c ∷ []) ≡ set (applied page cs) c.offset c.value
 applied-push page cs c = applied-append page cs (c ∷ []) ∙ applied-one (applied page cs) c
 
+-- a page to which the changes were written so far is as long as before
+pub length-applied-so_far : (start page : List ℕ) (cs : List Change) (k : ℕ) → page ≡ applied start (take k cs)
+    → length page ≡ length start
+length-applied-so_far start page cs k so_far = ap length so_far ∙ length-applied start (take k cs)
+
 -- several lists of changes, one after another, word by word
 pub length-fold-applied : (page : List ℕ) (lists : List (List Change)) → length (fold applied page lists) ≡ length page
 length-fold-applied page [] = refl

@@ -1,3 +1,3 @@
 pub mod ChangeLists
 pub mod Masks
-pub mod Pages
+pub mod PageLists

@@ -1,55 +1,82 @@
 -- Lemmas on masks, for the crates above too.
-use Rattle.std.proofs.Common.{ℕ, ◌≡◌, ◌≢◌, ◌*◌, ◌%◌, ◌^◌, ◌<◌, ◌∙◌, ◌↔◌, not, ◌||◌, eqb, min, refl, ap, sym, ⊎_elim, w64, arith}
-use Rattle.std.specs.Prelude.{IsTrue, bit_and, bit_or}
+use Rattle.std.proofs.Common.{ℕ, ◌≡◌, ◌≢◌, ◌*◌, ◌+◌, ◌/◌, ◌%◌, ◌^◌, ◌<◌, ◌≤◌, ◌∙◌, ◌||◌, List, length, get_or, set, eqb, min, refl, ap, sym, ⊎_elim, w64, arith, get_or-set_same, get_or-set_other}
+use Rattle.std.specs.Prelude.{bit_and, bit_or}
 use Rattle.std.specs.Int.{bit_at, trailing_zeros}
-use Rattle.std.proofs.lemmas.Bool.{cases_eq, eqb-true, eqb-false, eq-eqb, ne_eqb, not-true}
-use Rattle.std.proofs.lemmas.Nat.Bits.{bit_at_set_same, bit_at_set_other, bit_at_and, bit_at-zero, bit_at-lt, bit_at-trailing_zeros, same_from_bits}
+use Rattle.std.proofs.lemmas.Bool.{cases_eq, cases_lt, eqb-true, eq-eqb, ne_eqb}
+use Rattle.std.proofs.lemmas.List.{get_or_past}
+use Rattle.std.proofs.lemmas.Nat.Bits.{bit_at_set_same, bit_at_set_other, bit_at_and, bit_at-zero, bit_at-lt, bit_at-trailing_zeros}
 use Rattle.lrc_page.specs.Mask.{has, Meets}
 
+-- the number that holds an offset's bit
+abbrev word : List ℕ → ℕ → ℕ
+word mask offset = get_or mask (offset / 64) 0
+
+has-same_word : (a b : List ℕ) (offset : ℕ) → word a offset ≡ word b offset → has a offset ≡ has b offset
+has-same_word a b offset same = ap (λ w. eqb (bit_at w (offset % 64)) 1) same
+
 -- one bit more
-pub has-with : (mask offset other : ℕ) → offset < 64
-    → has (bit_or mask (1 * 2 ^ offset % 2 ^ 64)) other ≡ (eqb other offset || has mask other)
-has-with mask offset other within =
+pub has-with : (mask : List ℕ) (offset other : ℕ) → length mask ≡ 4 → offset < 256
+    → has (set mask (offset / 64) (bit_or (get_or mask (offset / 64) 0) (1 * 2 ^ (offset % 64) % 2 ^ 64))) other
+    ≡ (eqb other offset || has mask other)
+has-with mask offset other long within =
+    let place = offset / 64 in
+    let bits = bit_or (get_or mask place 0) (1 * 2 ^ (offset % 64) % 2 ^ 64) in
+    let inside : place < length mask = omega (arith, long) in
+    let small : offset % 64 < 64 = omega arith in
     ⊎_elim
     (λ (same : other ≡ offset).
-    rw (same, eq-eqb offset offset refl) (ap (λ bit. eqb bit 1) (bit_at_set_same w64 mask offset within)))
+    rw (same, eq-eqb offset offset refl)
+    (ap (λ w. eqb (bit_at w (offset % 64)) 1) (get_or-set_same mask place bits 0 inside)
+    ∙ ap (λ bit. eqb bit 1) (bit_at_set_same w64 (get_or mask place 0) (offset % 64) small)))
     (λ (differ : other ≡ offset → ⊥).
-    rw (ne_eqb other offset differ) (ap (λ bit. eqb bit 1) (bit_at_set_other w64 mask offset within other differ)))
+    rw (ne_eqb other offset differ)
+    (⊎_elim
+    (λ (near : other / 64 ≡ place).
+    let apart : other % 64 ≢ offset % 64 = λ even. differ (omega arith) in
+    let read : word (set mask place bits) other ≡ bits =
+    ap (λ i. get_or (set mask place bits) i 0) near ∙ get_or-set_same mask place bits 0 inside in
+    ap (λ w. eqb (bit_at w (other % 64)) 1) read
+    ∙ ap (λ bit. eqb bit 1) (bit_at_set_other w64 (get_or mask place 0) (offset % 64) small (other % 64) apart)
+    ∙ ap (λ i. eqb (bit_at (get_or mask i 0) (other % 64)) 1) (sym near))
+    (λ (far : other / 64 ≡ place → ⊥).
+    has-same_word (set mask place bits) mask other (get_or-set_other mask place (other / 64) bits 0 far))
+    (cases_eq (other / 64) place)))
     (cases_eq other offset)
 
--- two masks share a bit where their `&` is not zero
-pub meets-and : (a b : ℕ) → bit_and a b < 2 ^ 64 → IsTrue (not (eqb (bit_and a b) 0)) ↔ Meets a b
-meets-and a b small = (
-  (λ holds.
-      let some : bit_and a b ≢ 0 = eqb-false (bit_and a b) 0 (not-true _ holds) in
-      let offset = trailing_zeros w64 (bit_and a b) in
-      let lowest = bit_at-trailing_zeros w64 (bit_and a b) (omega arith) small in
-      let both : min (bit_at a offset) (bit_at b offset) ≡ 1 = sym (bit_at_and a b offset) ∙ lowest.1 in (
-        offset,
-        (
-          eq-eqb (bit_at a offset) 1 (omega (arith, bit_at-lt a offset)),
-          eq-eqb (bit_at b offset) 1 (omega (arith, bit_at-lt b offset)),
-        ),
-      )),
-  (λ meets.
-      let offset = meets.0 in
-      let first : bit_at a offset ≡ 1 = eqb-true _ _ meets.1.0 in
-      let second : bit_at b offset ≡ 1 = eqb-true _ _ meets.1.1 in
-      ap not (ne_eqb (bit_and a b) 0
-      (λ none.
-      let zero_bit : bit_at (bit_and a b) offset ≡ 0 = ap (λ n. bit_at n offset) none ∙ bit_at-zero offset in
-      omega (arith, bit_at_and a b offset, first, second, zero_bit)))),
-)
+-- two masks share an offset where the `&` of two of their numbers is not zero
+pub meets-and : (a b : List ℕ) (place : ℕ) → bit_and (get_or a place 0) (get_or b place 0) < 2 ^ 64
+    → bit_and (get_or a place 0) (get_or b place 0) ≢ 0 → Meets a b
+meets-and a b place small some =
+    let both = bit_and (get_or a place 0) (get_or b place 0) in
+    let bit = trailing_zeros w64 both in
+    let lowest = bit_at-trailing_zeros w64 both (omega arith) small in
+    let ones : min (bit_at (get_or a place 0) bit) (bit_at (get_or b place 0) bit) ≡ 1 =
+    sym (bit_at_and (get_or a place 0) (get_or b place 0) bit) ∙ lowest.1 in
+    let below : bit < 64 = lowest.0 in
+    let offset = place * 64 + bit in
+    let here : offset / 64 ≡ place = omega arith in
+    let there : offset % 64 ≡ bit = omega arith in (
+      offset,
+      (
+        rw (here, there) (eq-eqb (bit_at (get_or a place 0) bit) 1 (omega (arith, bit_at-lt (get_or a place 0) bit))),
+        rw (here, there) (eq-eqb (bit_at (get_or b place 0) bit) 1 (omega (arith, bit_at-lt (get_or b place 0) bit))),
+      ),
+    )
 
--- masks with the same members are the same
-pub same_masks : (a b : ℕ) → ((offset : ℕ) → has a offset ≡ has b offset) → a ≡ b
-same_masks a b same =
-    same_from_bits a b
-    (λ offset.
+-- and only there
+pub meets-none : (a b : List ℕ) → length a ≤ 4
+    → ((place : ℕ) → place < 4 → bit_and (get_or a place 0) (get_or b place 0) ≡ 0) → Meets a b → ⊥
+meets-none a b long none meets =
+    let offset = meets.0 in
+    let first : bit_at (word a offset) (offset % 64) ≡ 1 = eqb-true _ _ meets.1.0 in
+    let second : bit_at (word b offset) (offset % 64) ≡ 1 = eqb-true _ _ meets.1.1 in
     ⊎_elim
-    (λ (in_a : bit_at a offset ≡ 1).
-    in_a ∙ sym (eqb-true (bit_at b offset) 1 (sym (same offset) ∙ eq-eqb (bit_at a offset) 1 in_a)))
-    (λ (not_in_a : bit_at a offset ≡ 1 → ⊥).
-    let not_in_b : bit_at b offset ≢ 1 = eqb-false (bit_at b offset) 1 (sym (same offset) ∙ ne_eqb (bit_at a offset) 1 not_in_a) in
-    omega (arith, bit_at-lt a offset, bit_at-lt b offset))
-    (cases_eq (bit_at a offset) 1))
+    (λ (within : offset / 64 < 4).
+    let zero_bit : bit_at (bit_and (word a offset) (word b offset)) (offset % 64) ≡ 0 =
+    ap (λ n. bit_at n (offset % 64)) (none (offset / 64) within) ∙ bit_at-zero (offset % 64) in
+    omega (arith, bit_at_and (word a offset) (word b offset) (offset % 64), first, second, zero_bit))
+    (λ (past : 4 ≤ offset / 64).
+    let zero_bit : bit_at (word a offset) (offset % 64) ≡ 0 =
+    ap (λ n. bit_at n (offset % 64)) (get_or_past a (offset / 64) 0 (omega arith)) ∙ bit_at-zero (offset % 64) in
+    omega (arith, first, zero_bit))
+    (cases_lt (offset / 64) 4)

@@ -1,4 +1,5 @@
 pub mod Page
+pub mod Pages
 pub mod Place
 pub mod Changes
 pub mod Mask

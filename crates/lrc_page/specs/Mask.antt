@@ -1,11 +1,11 @@
--- Masks: sets of offsets, as numbers whose bits are the members.
-use Rattle.std.specs.Prelude.{ℕ, Bool, IsTrue, ◌==◌}
+-- Masks: sets of offsets, as four numbers whose bits are the members, 64 offsets each.
+use Rattle.std.specs.Prelude.{ℕ, Bool, List, IsTrue, ◌==◌, ◌/◌, ◌%◌, slice_index}
 use Rattle.std.specs.Int.{bit_at}
 
 -- the offset is in the mask
-abbrev pub has : ℕ → ℕ → Bool
-has mask offset = bit_at mask offset == 1
+abbrev pub has : List ℕ → ℕ → Bool
+has mask offset = bit_at (slice_index mask (offset / 64)) (offset % 64) == 1
 
 -- the masks share an offset
-abbrev pub Meets : ℕ → ℕ → Type 0
+abbrev pub Meets : List ℕ → List ℕ → Type 0
 Meets a b = (offset : ℕ) × (IsTrue (has a offset) × IsTrue (has b offset))

@@ -1,10 +1,10 @@
-ghost use Rattle.std.specs.Prelude.{◌≡◌, ◌<◌, ◌↔◌, All, IsTrue, IfOk, OnOk, OnErr, [], ◌∷◌, ◌++◌, length, slice_get};
+ghost use Rattle.std.specs.Prelude.{◌≡◌, ◌<◌, ◌≤◌, ◌↔◌, All, IsTrue, IfOk, OnOk, OnErr, [], ◌∷◌, ◌++◌, length, slice_get};
 ghost use Rattle.std.specs.Option.{ForSome};
 ghost use Rattle.std.specs.Cmp.{partial_equiv_from_equiv};
 ghost use Rattle.std.specs.Cmp.Lexicographic.{pointwise};
 ghost use Rattle.lrc_page.specs.Changes.{IsAscending, same_change, same_changes_equiv, last_change, applied, changes_between};
 
-use crate::{PAGE_WORDS, Page};
+use crate::{MOST_PAGE_WORDS, Page};
 use std::alloc::{AllocError, Global};
 use std::marker::Model;
 
@@ -16,14 +16,14 @@ pub struct Change {
 }
 
 /// Changes of one page, at most one for each offset, the offsets ascending.
-#[derive(Debug, Drop)]
+#[derive(Drop)]
 pub struct Changes {
     list: Vec<Change>,
 }
 
 impl Model for Changes {
     ghost use Rattle.std.specs.Prelude.{List, ◌<◌, All};
-    ghost use Rattle.lrc_page.specs.declared.TheConstants.{PAGE_WORDS};
+    ghost use Rattle.lrc_page.specs.declared.TheConstants.{MOST_PAGE_WORDS};
     ghost use Rattle.lrc_page.specs.declared.changes.Change.{Change};
     ghost use Rattle.lrc_page.specs.Changes.{IsAscending};
 
@@ -32,7 +32,7 @@ impl Model for Changes {
     ghost view = { λ changes. changes.list.items };
 
     ghost invariant = { λ changes. (IsAscending changes.list.items)
-        × (All (λ c. c.offset < PAGE_WORDS) changes.list.items) };
+        × (All (λ c. c.offset < MOST_PAGE_WORDS) changes.list.items) };
 }
 
 impl PartialEq for Changes {
@@ -64,8 +64,7 @@ impl Changes {
 
     /// Adds a change at an offset above all others. An error leaves the changes as they were.
     pub fn push(&mut self, offset: u8, value: u64) -> Result<(), AllocError>
-        requires in_range { offset < PAGE_WORDS }
-        requires above { ForSome (last_change self.old) (λ c. c.offset < offset) }
+        requires { ForSome (last_change self.old) (λ c. c.offset < offset) }
         ensures ok { OnOk result (self.new ≡ self.old ++ record { offset = offset; value = value } ∷ []) }
         ensures err { OnErr result (self.new ≡ self.old) }
     {
@@ -73,16 +72,25 @@ impl Changes {
         Ok(())
     }
 
-    /// The changes that turn the twin into the page: the page's values where the two differ.
+    /// The changes that turn the twin into the page: the page's values where the two differ. Both have one size.
     pub fn between(alloc: Global, twin: &Page, page: &Page) -> Result<Self, AllocError>
+        requires { length twin.now ≡ length page.now }
         ensures exact { IfOk result (λ changes. changes ≡ changes_between twin.now page.now) }
         ensures turns { IfOk result (λ changes. applied twin.now changes ≡ page.now) }
     {
-        let old = twin.words();
-        let new = page.words();
+        Changes::between_words(alloc, twin.words(), page.words())
+    }
+
+    /// `between`, of two pages that are given as their values.
+    pub fn between_words(alloc: Global, twin: &[u64], page: &[u64]) -> Result<Self, AllocError>
+        requires same { length twin.now ≡ length page.now }
+        requires few { length page.now ≤ MOST_PAGE_WORDS }
+        ensures exact { IfOk result (λ changes. changes ≡ changes_between twin.now page.now) }
+        ensures turns { IfOk result (λ changes. applied twin.now changes ≡ page.now) }
+    {
         let mut changes = Changes::empty(alloc);
-        for (offset, value) in new.iter().enumerate() {
-            if old[offset] != *value {
+        for (offset, value) in page.iter().enumerate() {
+            if twin[offset] != *value {
                 changes.push(offset as u8, *value)?;
             }
         }
@@ -91,6 +99,7 @@ impl Changes {
 
     /// Writes each value to its offset of the page, and leaves the others.
     pub fn apply(&self, page: &mut Page)
+        requires { All (λ c. c.offset < length page.old) self.now }
         ensures { page.new ≡ applied page.old self.now }
     {
         for change in &self.list {
@@ -98,11 +107,21 @@ impl Changes {
         }
     }
 
-    /// How many changes there are. Each is of another word of the page, so they are at most `PAGE_WORDS`.
+    /// `apply`, to a page that is given as its values.
+    pub fn apply_to_words(&self, page: &mut [u64])
+        requires { All (λ c. c.offset < length page.old) self.now }
+        ensures { page.new ≡ applied page.old self.now }
+    {
+        for change in &self.list {
+            page[usize::from(change.offset)] = change.value;
+        }
+    }
+
+    /// How many changes there are. Each is of another word of the page, so they are at most `MOST_PAGE_WORDS`.
     pub fn len(&self) -> usize
         ensures count { result ≡ length self.now }
         ensures ascending { IsAscending self.now }
-        ensures in_range { All (λ c. c.offset < PAGE_WORDS) self.now }
+        ensures in_range { All (λ c. c.offset < MOST_PAGE_WORDS) self.now }
     {
         self.list.len()
     }

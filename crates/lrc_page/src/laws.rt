@@ -1,7 +1,21 @@
-// What always holds of changes. Each function is a law: its clauses are the statement, and there is nothing to do.
+// What always holds of pages and changes. Each function is a law: its clauses are the statement, and there is nothing
+// to do.
 
-ghost use Rattle.std.specs.Prelude.{◌≡◌, ◌≢◌, ◌<◌, ◌↔◌, ℕ, List, length, slice_index, Contains};
+ghost use Rattle.std.specs.Prelude.{◌≡◌, ◌≢◌, ◌<◌, ◌≤◌, ◌↔◌, ℕ, List, length, slice_index, Contains};
 ghost use Rattle.lrc_page.specs.Changes.{applied, changes_between, IsAscending};
+ghost use Rattle.lrc_page.specs.Page.{words_of};
+ghost use Rattle.lrc_page.specs.Place.{page_of, offset_of, pages_of};
+
+use crate::{MOST_PAGE_WORDS, MOST_PAGES, MOST_WORDS, Size};
+
+/// The limits as numbers: pages of 64 or 256 words, 65,536 words, 1,024 pages.
+pub fn the_limits()
+    ensures small { words_of Size.Words64 ≡ 64 }
+    ensures large { words_of Size.Words256 ≡ 256 }
+    ensures page_words { MOST_PAGE_WORDS ≡ 256 }
+    ensures words { MOST_WORDS ≡ 65536 }
+    ensures pages { MOST_PAGES ≡ 1024 }
+{}
 
 /// The changes between a twin and a page turn the twin into the page.
 pub fn changes_turn_the_twin_into_the_page()

@@ -1,23 +1,22 @@
-ghost use Rattle.std.specs.Prelude.{◌≡◌, ◌<◌, ◌↔◌, ◌==◌, ◌||◌, ℕ, IsTrue, false};
+ghost use Rattle.std.specs.Prelude.{◌≡◌, ◌↔◌, ◌==◌, ◌||◌, ℕ, IsTrue, false};
 ghost use Rattle.lrc_page.specs.Mask.{has, Meets};
 
-use crate::PAGE_WORDS;
 use std::marker::Model;
 
-/// A set of words of one page, by their offsets.
-#[derive(Clone, Copy, Debug, PartialEq, Eq, Hash)]
+/// A set of words of one page of either size, by their offsets: 256 bits, one for each offset.
+#[derive(Clone, Copy, PartialEq, Eq, Hash)]
 pub struct Mask {
-    bits: u64,
+    words: [u64; 4],
 }
 
 impl Model for Mask {
-    ghost use Rattle.std.specs.Prelude.{ℕ};
+    ghost use Rattle.std.specs.Prelude.{ℕ, List};
 
-    ghost Value = { ℕ };
+    ghost Value = { List ℕ };
 
-    ghost view = { λ mask. mask.bits };
+    ghost view = { λ mask. mask.words };
 
-    ghost inverse = { λ bits. record { bits = bits } };
+    ghost inverse = { λ words. record { words = words } };
 }
 
 impl Mask {
@@ -25,31 +24,35 @@ impl Mask {
     pub fn none() -> Self
         ensures { (offset : ℕ) → has result offset ≡ false }
     {
-        Mask { bits: 0 }
+        Mask { words: [0; 4] }
     }
 
     /// The set with this offset added.
     pub fn with(&self, offset: u8) -> Self
-        requires { offset < PAGE_WORDS }
         ensures { (other : ℕ) → has result other ≡ (other == offset || has self.now other) }
     {
-        Mask {
-            bits: self.bits | 1 << offset,
-        }
+        let mut words = self.words;
+        let place = usize::from(offset / 64);
+        words[place] |= 1 << (offset % 64);
+        Mask { words }
     }
 
     /// Whether the offset is a member.
     pub fn has(&self, offset: u8) -> bool
-        requires { offset < PAGE_WORDS }
         ensures { result ≡ has self.now offset }
     {
-        self.bits >> offset & 1 == 1
+        self.words[usize::from(offset / 64)] >> (offset % 64) & 1 == 1
     }
 
     /// Whether the two sets share a member.
     pub fn meets(&self, other: &Mask) -> bool
         ensures { IsTrue result ↔ Meets self.now other.now }
     {
-        self.bits & other.bits != 0
+        for place in 0..4 {
+            if self.words[place] & other.words[place] != 0 {
+                return true;
+            }
+        }
+        false
     }
 }

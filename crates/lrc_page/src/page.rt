@@ -1,64 +1,104 @@
-ghost use Rattle.std.specs.Prelude.{◌≡◌, ◌<◌, length, slice_index, slice_set};
-ghost use Rattle.lrc_page.specs.Page.{zero_page};
+ghost use Rattle.std.specs.Prelude.{◌≡◌, ◌<◌, ◌≤◌, ◌==◌, ◌↔◌, IsTrue, length, slice_index, slice_set};
+ghost use Rattle.std.specs.Cmp.{partial_equiv_from_equiv};
+ghost use Rattle.std.specs.Cmp.Lexicographic.{pointwise};
+ghost use Rattle.lrc_page.specs.Page.{words_of, zero_page, same_values_equiv};
 
-use crate::PAGE_WORDS;
+use crate::{MOST_PAGE_WORDS, Size};
 use std::marker::Model;
 
-/// The values of the words of one page.
-#[derive(Debug, PartialEq, Eq, Drop)]
+/// The values of the words of one page, of either size.
+#[derive(Drop)]
 pub struct Page {
-    words: [u64; PAGE_WORDS],
+    size: Size,
+    words: [u64; MOST_PAGE_WORDS],
 }
 
 impl Model for Page {
-    ghost use Rattle.std.specs.Prelude.{ℕ, List};
+    ghost use Rattle.std.specs.Prelude.{ℕ, List, take};
+    ghost use Rattle.lrc_page.specs.Page.{words_of};
 
     ghost Value = { List ℕ };
 
-    ghost view = { λ page. page.words };
+    ghost view = { λ page. take (words_of page.size) page.words };
+}
 
-    ghost inverse = { λ words. record { words = words } };
+impl PartialEq for Page {
+    ghost eq = { pointwise ◌==◌ };
+
+    ghost laws = { partial_equiv_from_equiv same_values_equiv };
+
+    fn eq(&self, other: &Page) -> bool
+        ensures eq { result ≡ pointwise ◌==◌ self.now other.now }
+        ensures same { IsTrue result ↔ (self.now ≡ other.now) }
+    {
+        self.words() == other.words()
+    }
+}
+
+impl Eq for Page {
+    ghost laws = { same_values_equiv };
 }
 
 impl Page {
     /// A page of zeros.
-    pub fn zero() -> Self
-        ensures { result ≡ zero_page }
+    pub fn zero(size: Size) -> Self
+        ensures { result ≡ zero_page size }
     {
         Page {
-            words: [0; PAGE_WORDS],
+            size,
+            words: [0; MOST_PAGE_WORDS],
         }
+    }
+
+    /// A page with these values, as many as the size says.
+    pub fn with_words(size: Size, words: &[u64]) -> Self
+        requires { length words.now ≡ words_of size }
+        ensures { result ≡ words.now }
+    {
+        let mut all = [0; MOST_PAGE_WORDS];
+        all[..words.len()].copy_from_slice(words);
+        Page { size, words: all }
+    }
+
+    /// How many words the page has.
+    pub fn size(&self) -> Size
+        ensures { length self.now ≡ words_of result }
+    {
+        self.size
+    }
+
+    /// The values of the words, one after the other.
+    pub fn words(&self) -> &[u64]
+        ensures values { result.now ≡ self.now }
+        ensures few { length self.now ≤ MOST_PAGE_WORDS }
+    {
+        &self.words[..usize::from(self.size.words())]
     }
 
     /// The value of the word at this offset.
     pub fn get(&self, offset: u8) -> u64
-        requires { offset < PAGE_WORDS }
-        ensures value { result ≡ slice_index self.now offset }
-        ensures long { length self.now ≡ PAGE_WORDS }
+        requires { offset < length self.now }
+        ensures { result ≡ slice_index self.now offset }
     {
         self.words[usize::from(offset)]
     }
 
     /// Gives the word at this offset a value.
     pub fn set(&mut self, offset: u8, value: u64)
-        requires { offset < PAGE_WORDS }
+        requires { offset < length self.old }
         ensures { self.new ≡ slice_set self.old offset value }
     {
         let place = usize::from(offset);
         self.words[place] = value;
     }
 
-    pub(crate) fn words(&self) -> &[u64; PAGE_WORDS]
-        ensures value { result.now ≡ self.now }
-        ensures long { length self.now ≡ PAGE_WORDS }
-    {
-        &self.words
-    }
-
     /// A page with the same values.
     pub fn copy(&self) -> Self
         ensures { result ≡ self.now }
     {
-        Page { words: self.words }
+        Page {
+            size: self.size,
+            words: self.words,
+        }
     }
 }

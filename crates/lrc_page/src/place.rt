@@ -1,31 +1,31 @@
 ghost use Rattle.std.specs.Prelude.{◌≡◌, ◌<◌, ◌≤◌};
+ghost use Rattle.lrc_page.specs.Page.{words_of};
 ghost use Rattle.lrc_page.specs.Place.{page_of, offset_of, pages_of};
 
-use crate::PAGE_WORDS;
+use crate::{MOST_PAGES, MOST_WORDS, Size};
 
-/// The largest number of words of a shared memory.
-pub const MOST_WORDS: u32 = 4096;
-
-/// The page that a word is on. Pages count from 0.
-pub fn page_of(word: u32) -> u16
+/// The page that a word is on. Words and pages count from 0.
+pub fn page_of(word: u32, size: Size) -> u16
     requires { word < MOST_WORDS }
-    ensures { result ≡ page_of word }
+    ensures page { result ≡ page_of word size }
+    ensures in_range { result < MOST_PAGES }
 {
-    (word as usize / PAGE_WORDS) as u16
+    (word / u32::from(size.words())) as u16
 }
 
 /// The place of a word on its page, counted from 0.
-pub fn offset_of(word: u32) -> u8
-    ensures offset { result ≡ offset_of word }
-    ensures in_range { result < PAGE_WORDS }
+pub fn offset_of(word: u32, size: Size) -> u8
+    ensures offset { result ≡ offset_of word size }
+    ensures in_range { result < words_of size }
 {
-    (word as usize % PAGE_WORDS) as u8
+    (word % u32::from(size.words())) as u8
 }
 
-/// How many pages hold this many words.
-pub fn pages_of(words: u32) -> u16
+/// How many pages of this size hold this many words.
+pub fn pages_of(words: u32, size: Size) -> u16
     requires { words ≤ MOST_WORDS }
-    ensures { result ≡ pages_of words }
+    ensures pages { result ≡ pages_of words size }
+    ensures few { result ≤ MOST_PAGES }
 {
-    (words as usize).div_ceil(PAGE_WORDS) as u16
+    words.div_ceil(u32::from(size.words())) as u16
 }

@@ -1,9 +1,16 @@
-use Rattle.std.proofs.Common.{sym}
-use Rattle.lrc_page.proofs.ChangeLists.{change, applied-nil, applied-more}
+use Rattle.std.proofs.Common.{◌≡◌, ◌∙◌, ap, sym, length, arith}
+use Rattle.lrc_page.proofs.ChangeLists.{change, applied-nil, applied-more, length-applied-so_far}
 use Rattle.lrc_page.proofs.changes.Changes.apply.Goals as goal
 
 pub loop-change-init : goal.loop-change-init
 loop-change-init c = sym (applied-nil c.args.page.now)
+
+pub set-requires : goal.set-requires
+set-requires c =
+    let long = length-applied-so_far c.args.page.now c.loop-change.page c.deref-change-items.result.now c.loop-change.change-index c.loop-change.invariant in
+    let below = c.requires c.loop-change.change-index (change 0 0) in
+    let items : c.deref-change-items.result.now ≡ c.args.self.now = c.deref-change-items.ensures.value ∙ c.self.view_is in
+    rw (long, items) (below (omega (arith, ap length items, c.loop-change-test.true)))
 
 pub loop-change-preserved : goal.loop-change-preserved
 loop-change-preserved c =

@@ -1,0 +1,108 @@
+ghost use Rattle.std.specs.Prelude.{◌≡◌, ◌<◌, ◌==◌, ◌↔◌, IsTrue, IfOk, OnOk, OnErr, All, [], ◌∷◌, ◌++◌, length, slice_get};
+ghost use Rattle.std.specs.Option.{ForSome};
+ghost use Rattle.std.specs.Cmp.{partial_equiv_from_equiv};
+ghost use Rattle.std.specs.Cmp.Lexicographic.{pointwise};
+ghost use Rattle.lrc_page.specs.Page.{same_values_equiv};
+ghost use Rattle.lrc_page.specs.Pages.{IsRising, last_page};
+
+use crate::MOST_PAGES;
+use std::alloc::{AllocError, Global};
+use std::marker::Model;
+
+/// Numbers of pages, ascending, each at most once. A write notice names a page of its interval, and the pages of an
+/// interval are such a list (Keleher, Cox and Zwaenepoel 1992).
+#[derive(Drop)]
+pub struct Pages {
+    list: Vec<u16>,
+}
+
+impl Model for Pages {
+    ghost use Rattle.std.specs.Prelude.{ℕ, List, ◌<◌, All};
+    ghost use Rattle.lrc_page.specs.declared.TheConstants.{MOST_PAGES};
+    ghost use Rattle.lrc_page.specs.Pages.{IsRising};
+
+    ghost Value = { List ℕ };
+
+    ghost view = { λ pages. pages.list.items };
+
+    ghost invariant = { λ pages. (IsRising pages.list.items) × (All (λ page. page < MOST_PAGES) pages.list.items) };
+}
+
+impl PartialEq for Pages {
+    ghost eq = { pointwise ◌==◌ };
+
+    ghost laws = { partial_equiv_from_equiv same_values_equiv };
+
+    fn eq(&self, other: &Pages) -> bool
+        ensures eq { result ≡ pointwise ◌==◌ self.now other.now }
+        ensures same { IsTrue result ↔ (self.now ≡ other.now) }
+    {
+        self.list.as_slice() == other.list.as_slice()
+    }
+}
+
+impl Eq for Pages {
+    ghost laws = { same_values_equiv };
+}
+
+impl Pages {
+    /// No pages.
+    pub fn empty(alloc: Global) -> Self
+        ensures { result ≡ [] }
+    {
+        Pages {
+            list: Vec::new(alloc),
+        }
+    }
+
+    /// Adds a page above all others. An error leaves the pages as they were.
+    pub fn push(&mut self, page: u16) -> Result<(), AllocError>
+        requires in_range { page < MOST_PAGES }
+        requires above { ForSome (last_page self.old) (λ last. last < page) }
+        ensures ok { OnOk result (self.new ≡ self.old ++ page ∷ []) }
+        ensures err { OnErr result (self.new ≡ self.old) }
+    {
+        self.list.push(page)?;
+        Ok(())
+    }
+
+    /// How many pages there are. They are different, so they are at most `MOST_PAGES`.
+    pub fn len(&self) -> usize
+        ensures count { result ≡ length self.now }
+        ensures rising { IsRising self.now }
+        ensures in_range { All (λ page. page < MOST_PAGES) self.now }
+    {
+        self.list.len()
+    }
+
+    /// Whether there is no page.
+    pub fn is_empty(&self) -> bool
+        ensures { IsTrue result ↔ (self.now ≡ []) }
+    {
+        self.list.is_empty()
+    }
+
+    /// The page at a place, counted from 0 in ascending order.
+    pub fn at(&self, place: usize) -> u16
+        requires { place < length self.now }
+        ensures { slice_get self.now place ≡ Some result }
+    {
+        self.list[place]
+    }
+
+    /// The pages, ascending.
+    pub fn as_slice(&self) -> &[u16]
+        ensures { result.now ≡ self.now }
+    {
+        self.list.as_slice()
+    }
+
+    /// A second list of the same pages.
+    pub fn duplicate(&self) -> Result<Self, AllocError>
+        ensures { IfOk result (λ pages. pages ≡ self.now) }
+    {
+        Ok(Pages {
+            list: self.list.clone()?,
+        })
+    }
+}
