@@ -1,3 +1,4 @@
+pub mod IntervalLists
 pub mod Lookups
 pub mod Orders
 pub mod Places

@@ -1,7 +1,9 @@
 -- Interval records: what a node did between two synchronizations, as other nodes learn of it (Amza et al. 1996).
-use Rattle.std.specs.Prelude.{ℕ, ◌<◌, ◌≤◌, ◌==◌, ◌&&◌, ◌||◌, Bool, List, length, All, nat_lt}
+use Rattle.std.specs.Prelude.{ℕ, ◌-◌, ◌<◌, ◌≤◌, ◌==◌, ◌&&◌, ◌||◌, Bool, List, Option, length, All, nat_lt, slice_get}
 use Rattle.std.specs.List.Sorted.{IsStrictlyIncreasing}
 use Rattle.std.specs.Ordering.{on, eq_of_both}
+use Rattle.std.specs.Cmp.{IsEquivalence, and_equiv, on_equiv, nat_eq_equiv}
+use Rattle.std.specs.Cmp.Lexicographic.{lists_equiv}
 use lib.Pointwise.{pointwise}
 use Rattle.lrc_time.specs.Time.{entry, weight_of}
 use Rattle.lrc_store.specs.declared.interval.TheConstants.{MOST_PAGES}
@@ -21,6 +23,16 @@ abbrev pub same_interval : IntervalRecord → IntervalRecord → Bool
 same_interval =
     eq_of_both (on (λ i. i.node) ◌==◌)
     (eq_of_both (on (λ i. i.stamp) (pointwise ◌==◌)) (on (λ i. i.pages) (pointwise ◌==◌)))
+
+-- the test of two lists of intervals, interval by interval, is an equivalence
+pub same_intervals_equiv : IsEquivalence (pointwise same_interval)
+same_intervals_equiv =
+    lists_equiv (and_equiv (on_equiv (λ i. i.node) nat_eq_equiv)
+    (and_equiv (on_equiv (λ i. i.stamp) (lists_equiv nat_eq_equiv)) (on_equiv (λ i. i.pages) (lists_equiv nat_eq_equiv))))
+
+-- the interval at the end of a list
+abbrev pub last_interval : List IntervalRecord → Option IntervalRecord
+last_interval intervals = slice_get intervals (length intervals - 1)
 
 -- the stamp counts the interval's node, and the interval itself; each page is named once, in order
 pub record IsInterval (interval : IntervalRecord) : Type 0 where

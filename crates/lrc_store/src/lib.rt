@@ -3,6 +3,7 @@
 #![tactic(auto)]
 
 pub mod interval;
+pub mod intervals;
 pub mod key;
 pub mod laws;
 pub mod store;
@@ -11,5 +12,6 @@ mod stored;
 mod tests;
 
 pub use interval::Interval;
+pub use intervals::Intervals;
 pub use key::Key;
 pub use store::Store;

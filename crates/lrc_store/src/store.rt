@@ -6,6 +6,7 @@ ghost use Rattle.lrc_time.specs.Time.{entry};
 ghost use Rattle.lrc_store.specs.Store.{is_at};
 
 use crate::interval::{Interval, MOST_PAGES};
+use crate::intervals::Intervals;
 use crate::key::Key;
 use crate::stored::Stored;
 use lrc_page::Changes;
@@ -111,11 +112,11 @@ impl Store {
     }
 
     /// The intervals that `upto` knows and `since` does not, ascending by node and index.
-    pub fn newer_than(&self, since: &Time, upto: &Time) -> Result<Vec<Interval>, AllocError>
+    pub fn newer_than(&self, since: &Time, upto: &Time) -> Result<Intervals, AllocError>
         requires since { length since.now ≡ length self.now.last }
         requires upto { length upto.now ≡ length self.now.last }
-        ensures newer { IfOk result (λ found. IsNewer self.now since.now upto.now found.items) }
-        ensures value { IfOk result (λ found. found.items ≡ newer_of self.now since.now upto.now) }
+        ensures newer { IfOk result (λ found. IsNewer self.now since.now upto.now found) }
+        ensures value { IfOk result (λ found. found ≡ newer_of self.now since.now upto.now) }
     {
         let mut found = Vec::new(*self.entries.allocator());
         for stored in &self.entries {
@@ -124,7 +125,7 @@ impl Store {
             }
         }
         found.sort_unstable_by_key(|interval| (interval.node, interval.index()));
-        Ok(found)
+        Ok(Intervals::from_ascending(found))
     }
 
     /// The notices of a page that `since` does not know, ascending by the weight of their interval's stamp, then by

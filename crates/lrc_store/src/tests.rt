@@ -74,7 +74,7 @@ fn missing_of(store: &Store, page: u16, since: &Time) -> Result<Vec<Key>, AllocE
 }
 
 /// What is newer, asked for a second time where memory was refused.
-fn newer_of(store: &Store, since: &Time, upto: &Time) -> Result<Vec<Interval>, AllocError>
+fn newer_of(store: &Store, since: &Time, upto: &Time) -> Result<Intervals, AllocError>
     requires since { length since.now ≡ length store.now.last }
     requires upto { length upto.now ≡ length store.now.last }
 {

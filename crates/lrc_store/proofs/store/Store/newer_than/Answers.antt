@@ -31,12 +31,19 @@ newer c =
 
 pub returns-clause-newer : goal.returns-clause-newer
 returns-clause-newer c =
-    subst (λ (store : StoreRecord). IsNewer store c.args.since.now c.args.upto.now c.sort_unstable_by_key.new.self.items) c.self.view_is (newer c)
+    let a = (goal.at.returns-clause-newer c).After-sort_unstable_by_key in
+    subst (λ (found : List IntervalRecord). IsNewer c.args.self.now c.args.since.now c.args.upto.now found)
+    (sym c.from_ascending.ensures)
+    (subst (λ (store : StoreRecord). IsNewer store c.args.since.now c.args.upto.now a.sort_unstable_by_key.new.self.items)
+    c.self.view_is (newer a))
 
 pub returns-clause-value : goal.returns-clause-value
 returns-clause-value c =
-    IsNewer-only (store_of c) c.args.since.now c.args.upto.now c.sort_unstable_by_key.new.self.items _ (newer c)
-    (IsNewer-newer_of (store_of c) c.args.since.now c.args.upto.now c.self.invariant)
+    let a = (goal.at.returns-clause-value c).After-sort_unstable_by_key in
+    c.from_ascending.ensures
+    ∙ IsNewer-only (store_of a) c.args.since.now c.args.upto.now a.sort_unstable_by_key.new.self.items
+    (newer_of (store_of a) c.args.since.now c.args.upto.now) (newer a)
+    (IsNewer-newer_of (store_of a) c.args.since.now c.args.upto.now c.self.invariant)
     ∙ ap (λ (store : StoreRecord). newer_of store c.args.since.now c.args.upto.now) c.self.view_is
 
 -- the stamp has an entry for each node
@@ -55,3 +62,6 @@ is_known-requires c = stamp_is_long c ∙ sym c.requires.since
 pub is_known-requires-then-not-is_known : goal.is_known-requires-then-not-is_known
 is_known-requires-then-not-is_known c =
     stamp_is_long (goal.at.is_known-requires-then-not-is_known c).After-stored-item ∙ sym c.requires.upto
+
+pub from_ascending-requires : goal.from_ascending-requires
+from_ascending-requires c = (newer c).ascending

@@ -1,0 +1,124 @@
+// Lists of interval records.
+
+ghost use Rattle.std.specs.Prelude.{◌≡◌, ◌<◌, ◌↔◌, AllPairs, IfOk, IsTrue, OnErr, OnOk, Some, [], ◌∷◌, ◌++◌, length, slice_get};
+ghost use Rattle.std.specs.Option.{ForSome};
+ghost use Rattle.std.specs.Cmp.{partial_equiv_from_equiv};
+ghost use Rattle.std.specs.Cmp.Lexicographic.{pointwise};
+ghost use Rattle.lrc_store.specs.Interval.{by_node, same_interval, same_intervals_equiv, last_interval};
+
+use crate::interval::Interval;
+use std::alloc::{AllocError, Global};
+use std::marker::Model;
+
+/// Intervals strictly ascending by node and index, so that none is there twice: as one node sends them to another.
+#[derive(Debug, Drop)]
+pub struct Intervals {
+    list: Vec<Interval>,
+}
+
+impl Model for Intervals {
+    ghost use Rattle.std.specs.Prelude.{List, AllPairs, IsTrue};
+    ghost use Rattle.lrc_store.specs.Interval.{IntervalRecord, by_node};
+
+    ghost Value = { List IntervalRecord };
+
+    ghost view = { λ i. i.list.items };
+
+    ghost invariant = { λ i. AllPairs (λ a b. IsTrue (by_node a b)) i.list.items };
+}
+
+impl PartialEq for Intervals {
+    ghost eq = { pointwise same_interval };
+
+    ghost laws = { partial_equiv_from_equiv same_intervals_equiv };
+
+    fn eq(&self, other: &Intervals) -> bool
+        ensures eq { result ≡ pointwise same_interval self.now other.now }
+        ensures same { IsTrue result ↔ (self.now ≡ other.now) }
+    {
+        self.list.as_slice() == other.list.as_slice()
+    }
+}
+
+impl Eq for Intervals {
+    ghost laws = { same_intervals_equiv };
+}
+
+impl Intervals {
+    /// No intervals.
+    pub fn empty(alloc: Global) -> Self
+        ensures { result ≡ [] }
+    {
+        Intervals {
+            list: Vec::new(alloc),
+        }
+    }
+
+    /// These intervals, which ascend by node and index.
+    pub fn from_ascending(list: Vec<Interval>) -> Self
+        requires { AllPairs (λ a b. IsTrue (by_node a b)) list.items }
+        ensures { result ≡ list.items }
+    {
+        Intervals { list }
+    }
+
+    /// Adds an interval that comes after all others by node and index. An error leaves the intervals as they were.
+    pub fn push(&mut self, interval: Interval) -> Result<(), AllocError>
+        requires above { ForSome (last_interval self.old) (λ last. IsTrue (by_node last interval)) }
+        ensures ok { OnOk result (self.new ≡ self.old ++ interval ∷ []) }
+        ensures err { OnErr result (self.new ≡ self.old) }
+    {
+        self.list.push(interval)?;
+        Ok(())
+    }
+
+    /// How many intervals there are.
+    pub fn len(&self) -> usize
+        ensures count { result ≡ length self.now }
+        ensures ascending { AllPairs (λ a b. IsTrue (by_node a b)) self.now }
+    {
+        self.list.len()
+    }
+
+    /// Whether there is no interval.
+    pub fn is_empty(&self) -> bool
+        ensures { IsTrue result ↔ (self.now ≡ []) }
+    {
+        self.list.is_empty()
+    }
+
+    /// The interval at a place, counted from 0 in the order of nodes and indices.
+    pub fn at(&self, place: usize) -> &Interval
+        requires { place < length self.now }
+        ensures { slice_get self.now place ≡ Some result.now }
+    {
+        &self.list[place]
+    }
+
+    /// The intervals in order.
+    pub fn as_slice(&self) -> &[Interval]
+        ensures all { result.now ≡ self.now }
+        ensures ascending { AllPairs (λ a b. IsTrue (by_node a b)) self.now }
+    {
+        self.list.as_slice()
+    }
+
+    /// The intervals in order, as a vector of their own.
+    pub fn into_vec(self) -> Vec<Interval>
+        ensures all { result.items ≡ self }
+        ensures ascending { AllPairs (λ a b. IsTrue (by_node a b)) self }
+    {
+        self.list
+    }
+
+    /// Equal intervals of their own.
+    pub fn duplicate(&self) -> Result<Self, AllocError>
+        ensures { IfOk result (λ intervals. intervals ≡ self.now) }
+    {
+        let mut list = Vec::new(*self.list.allocator());
+        for interval in &self.list {
+            list.push(interval.duplicate()?)?;
+        }
+        Ok(Intervals { list })
+    }
+}
