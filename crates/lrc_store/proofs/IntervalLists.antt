@@ -1,9 +1,8 @@
 -- Lemmas on lists of intervals that ascend by node and index.
-use Rattle.std.proofs.Common.{◌≡◌, ℕ, ◌-◌, ◌<◌, ◌∙◌, Bool, true, eqb, eqb-true, List, [], ◌∷◌, ◌++◌, length, get_or, ap, sym, ⊎_elim, arith, refl}
+use Rattle.std.proofs.Common.{◌≡◌, ℕ, ◌-◌, ◌∙◌, true, eqb, eqb-true, List, [], ◌∷◌, ◌++◌, length, get_or, ap, ⊎_elim, arith}
 use Rattle.std.specs.Prelude.{IsTrue, ◌&&◌}
 use Rattle.std.specs.List.{All, AllPairs}
 use Rattle.std.specs.Option.{ForSome}
-use Rattle.std.specs.Cmp.{nat_eq_equiv}
 use Rattle.std.specs.Cmp.Lexicographic.{pointwise, pointwise_decides}
 use Rattle.std.proofs.lemmas.Bool.{and_parts, and_from, cases_eq, eq-eqb}
 use Rattle.std.proofs.lemmas.List.Quantifiers.{all_pairs_push}

@@ -4,4 +4,5 @@ pub mod Orders
 pub mod Places
 pub mod Ranks
 pub mod Records
+pub mod Risings
 pub mod Stores

@@ -1,10 +1,9 @@
 -- Lemmas on interval records and what is stored of them.
 use Rattle.std.proofs.Common.{◌≡◌, ◌≢◌, ℕ, ◌<◌, ◌∙◌, true, false, cond, eqb, eqb-true, Some, None, List, [], ◌∷◌, length, get_or, set, map, refl, ap, sym, ⊎_elim, arith}
 use Rattle.std.specs.List.{position, AllPairs}
-use Rattle.std.specs.List.Sorted.{IsStrictlyIncreasing}
+use Rattle.lrc_page.specs.Pages.{IsRising}
 use Rattle.std.proofs.lemmas.Bool.{cases_lt, ne_eqb}
 use Rattle.std.proofs.lemmas.List.{get_or-map, length-map, map-set, set-get_or}
-use Rattle.std.proofs.lemmas.List.Kept.{AllPairs-from_increasing}
 use Rattle.std.proofs.lemmas.List.Quantifiers.{position-Some}
 use Rattle.lrc_page.specs.declared.changes.Change.{Change}
 use Rattle.lrc_store.specs.Interval.{IntervalRecord}
@@ -24,7 +23,7 @@ interval_of-without_changes interval =
 -- ---- one page's notice
 
 -- no page has two notices
-pub apart : (notices : List NoticeRecord) → IsStrictlyIncreasing (map (λ notice. notice.page) notices)
+pub apart : (notices : List NoticeRecord) → IsRising (map (λ notice. notice.page) notices)
     → (i j : ℕ) (d : NoticeRecord) → i < length notices → j < length notices → i ≢ j
     → (get_or notices i d).page ≢ (get_or notices j d).page
 apart notices rising i j d i_in j_in differ same =
@@ -32,7 +31,7 @@ apart notices rising i j d i_in j_in differ same =
     let long : length pages ≡ length notices = length-map notices (λ notice. notice.page) in
     let at_i : get_or pages i d.page ≡ (get_or notices i d).page = get_or-map (λ notice. notice.page) notices i d d.page i_in in
     let at_j : get_or pages j d.page ≡ (get_or notices j d).page = get_or-map (λ notice. notice.page) notices j d d.page j_in in
-    let pairs : AllPairs (λ x y. x < y) pages = AllPairs-from_increasing pages rising in
+    let pairs : AllPairs (λ x y. x < y) pages = rising in
     ⊎_elim
     (λ (less : i < j).
     let below : get_or pages i d.page < get_or pages j d.page = pairs i j d.page less (omega arith) in
@@ -63,7 +62,7 @@ pages-written notices i old new within read same =
 
 -- the notice of a page gets changes
 pub map-notice_with : (page : ℕ) (changes : List Change) (notices : List NoticeRecord) (place : ℕ)
-    → IsStrictlyIncreasing (map (λ notice. notice.page) notices)
+    → IsRising (map (λ notice. notice.page) notices)
     → position (λ notice. eqb notice.page page) notices ≡ Some place
     → map (notice_with page changes) notices ≡ set notices place (record { page = page; changes = Some changes })
 map-notice_with page changes notices place rising found =

@@ -1,16 +1,17 @@
 -- What `add` and `attach` leave true of a store.
-use Rattle.std.proofs.Common.{◌≡◌, ℕ, ◌+◌, ◌<◌, ◌≤◌, ◌∙◌, Bool, true, false, cond, eqb, eqb-true, Some, List, [], ◌∷◌, ◌++◌, length, get_or, set, map, refl, ap, sym, subst, ⊎_elim, arith}
-use Rattle.std.specs.List.{All, AllPairs, position}
+use Rattle.std.proofs.Common.{◌≡◌, ℕ, ◌+◌, ◌<◌, ◌≤◌, ◌∙◌, Bool, true, false, not, cond, eqb, eqb-true, Some, List, [], ◌∷◌, ◌++◌, length, get_or, set, map, refl, ap, sym, subst, ⊎_elim, arith}
+use Rattle.std.specs.List.{All, AllPairs, filter, position}
 use Rattle.std.proofs.lemmas.Bool.{cases_lt, and_parts, false_from_ne_true}
 use Rattle.std.proofs.lemmas.List.{get_or-map, get_or_default, length-map, length-set, map_push}
-use Rattle.std.proofs.lemmas.List.Elements.{All-push, All-weaker}
+use Rattle.std.proofs.lemmas.List.Elements.{All-filter, All-push, All-weaker}
+use Rattle.std.proofs.lemmas.List.Kept.{AllPairs-filter}
 use Rattle.std.proofs.lemmas.List.Quantifiers.{all_pairs_push, position-Some}
 use Rattle.lrc_time.specs.Time.{entry}
 use Rattle.lrc_time.proofs.Times.{covers-raised, entry-set_same}
 use Rattle.lrc_page.specs.declared.changes.Change.{Change}
 use Rattle.lrc_store.specs.declared.key.Key.{Key}
 use Rattle.lrc_store.specs.Interval.{IntervalRecord, IsInterval, index_of}
-use Rattle.lrc_store.specs.Store.{NoticeRecord, StoredRecord, StoreRecord, IsStore, interval_of, intervals_of, without_changes, added, attached, stored_with, notice_with, is_at}
+use Rattle.lrc_store.specs.Store.{NoticeRecord, StoredRecord, StoreRecord, IsStore, interval_of, intervals_of, without_changes, added, attached, discarded, is_covered, stored_with, notice_with, is_at}
 use Rattle.lrc_store.proofs.Places.{map_one}
 use Rattle.lrc_store.proofs.Records.{interval_of-without_changes}
 
@@ -115,6 +116,41 @@ IsStore-attached store key changes sound =
       pages = subst (All (λ i. All (λ page. page < store.pages) i.pages)) same sound.pages;
       counted = subst (All (λ i. index_of i ≤ entry store.last i.node)) same sound.counted;
       ascending = subst (AllPairs (λ a b. a.node ≡ b.node → index_of a < index_of b)) same sound.ascending;
+    }
+
+-- the intervals of some entries are some of the intervals
+intervals_of-filter : (test : IntervalRecord → Bool) (entries : List StoredRecord)
+    → map interval_of (filter (λ stored. test (interval_of stored)) entries) ≡ filter test (map interval_of entries)
+intervals_of-filter test [] = refl
+intervals_of-filter test (stored ∷ entries) =
+    by_test (test (interval_of stored)) (intervals_of-filter test entries)
+  where
+    by_test : (b : Bool)
+        → map interval_of (filter (λ stored. test (interval_of stored)) entries) ≡ filter test (map interval_of entries)
+        → map interval_of (cond b (stored ∷ filter (λ stored. test (interval_of stored)) entries) (filter (λ stored. test (interval_of stored)) entries))
+        ≡ cond b (interval_of stored ∷ filter test (map interval_of entries)) (filter test (map interval_of entries))
+    by_test true rest = ap (λ (l : List IntervalRecord). interval_of stored ∷ l) rest
+    by_test false rest = rest
+
+-- the intervals that are left when those of a time are taken out
+pub intervals_of-discarded : (store : StoreRecord) (time : List ℕ)
+    → intervals_of (discarded store time) ≡ filter (λ interval. not (is_covered time interval)) (intervals_of store)
+intervals_of-discarded store time = intervals_of-filter (λ interval. not (is_covered time interval)) store.entries
+
+-- a store from which intervals are taken out is a store
+pub IsStore-discarded : (store : StoreRecord) (time : List ℕ) → IsStore store → IsStore (discarded store time)
+IsStore-discarded store time sound =
+    let kept = λ (interval : IntervalRecord). not (is_covered time interval) in
+    let same = sym (intervals_of-discarded store time) in
+    record {
+      stamps = subst (All (λ i. length i.stamp ≡ length store.last)) same
+          (All-filter kept (λ i. length i.stamp ≡ length store.last) (intervals_of store) sound.stamps);
+      pages = subst (All (λ i. All (λ page. page < store.pages) i.pages)) same
+          (All-filter kept (λ i. All (λ page. page < store.pages) i.pages) (intervals_of store) sound.pages);
+      counted = subst (All (λ i. index_of i ≤ entry store.last i.node)) same
+          (All-filter kept (λ i. index_of i ≤ entry store.last i.node) (intervals_of store) sound.counted);
+      ascending = subst (AllPairs (λ a b. a.node ≡ b.node → index_of a < index_of b)) same
+          (AllPairs-filter (λ a b. a.node ≡ b.node → index_of a < index_of b) kept (intervals_of store) sound.ascending);
     }
 
 -- no node and index are in the store twice

@@ -1,12 +1,12 @@
 -- Interval records: what a node did between two synchronizations, as other nodes learn of it (Amza et al. 1996).
 use Rattle.std.specs.Prelude.{ℕ, ◌-◌, ◌<◌, ◌≤◌, ◌==◌, ◌&&◌, ◌||◌, Bool, List, Option, length, All, nat_lt, slice_get}
-use Rattle.std.specs.List.Sorted.{IsStrictlyIncreasing}
 use Rattle.std.specs.Ordering.{on, eq_of_both}
 use Rattle.std.specs.Cmp.{IsEquivalence, and_equiv, on_equiv, nat_eq_equiv}
 use Rattle.std.specs.Cmp.Lexicographic.{lists_equiv}
 use lib.Pointwise.{pointwise}
 use Rattle.lrc_time.specs.Time.{entry, weight_of}
-use Rattle.lrc_store.specs.declared.interval.TheConstants.{MOST_PAGES}
+use Rattle.lrc_page.specs.declared.TheConstants.{MOST_PAGES}
+use Rattle.lrc_page.specs.Pages.{IsRising}
 
 -- a node, the time after it closed the interval, and the pages that it wrote in it
 pub record IntervalRecord : Type 0 where
@@ -38,7 +38,7 @@ last_interval intervals = slice_get intervals (length intervals - 1)
 pub record IsInterval (interval : IntervalRecord) : Type 0 where
   pub counted : interval.node < length interval.stamp
   pub begun : 1 ≤ index_of interval
-  pub ascending : IsStrictlyIncreasing interval.pages
+  pub ascending : IsRising interval.pages
   pub in_range : All (λ page. page < MOST_PAGES) interval.pages
 
 -- the first interval comes before the second by node, then index

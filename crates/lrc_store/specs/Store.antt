@@ -1,5 +1,5 @@
 -- The intervals that a node knows, with their write notices and the changes that came for them (Amza et al. 1996).
-use Rattle.std.specs.Prelude.{◌≡◌, ℕ, ◌<◌, ◌≤◌, ◌==◌, ◌&&◌, Bool, not, Option, Some, None, option_and_then, List, [], ◌∷◌, ◌++◌, length, map, find, slice_set, All, AllPairs, if◌then◌else◌}
+use Rattle.std.specs.Prelude.{◌≡◌, ℕ, ◌<◌, ◌≤◌, ◌==◌, ◌&&◌, Bool, not, Option, Some, None, option_and_then, List, [], ◌∷◌, ◌++◌, length, map, filter, find, slice_set, All, AllPairs, if◌then◌else◌}
 use Rattle.std.specs.List.{list_any}
 use Rattle.lrc_time.specs.Time.{entry, zeros, knows}
 use Rattle.lrc_page.specs.declared.changes.Change.{Change}
@@ -101,6 +101,14 @@ stored_with key changes stored =
 -- the store with the changes of one key
 abbrev pub attached : StoreRecord → Key → List Change → StoreRecord
 attached store key changes = record store { entries = map (stored_with key changes) store.entries }
+
+-- the time knows the interval
+abbrev pub is_covered : List ℕ → IntervalRecord → Bool
+is_covered time interval = knows time interval.node (index_of interval)
+
+-- the store without the intervals that a time knows. The greatest indices stay.
+abbrev pub discarded : StoreRecord → List ℕ → StoreRecord
+discarded store time = record store { entries = filter (λ stored. not (is_covered time (interval_of stored))) store.entries }
 
 -- ---- what is asked of it
 

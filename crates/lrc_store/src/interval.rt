@@ -1,24 +1,21 @@
 // Interval records.
 
-ghost use Rattle.std.specs.Prelude.{◌≡◌, ◌<◌, ◌≤◌, All, IfOk, length};
-ghost use Rattle.std.specs.List.Sorted.{IsStrictlyIncreasing};
+ghost use Rattle.std.specs.Prelude.{◌≡◌, ◌<◌, ◌≤◌, IfOk, length};
 ghost use Rattle.lrc_time.specs.Time.{entry};
 
+use lrc_page::Pages;
 use lrc_time::Time;
 use std::alloc::AllocError;
 use std::marker::Model;
 
-/// The largest number of pages.
-pub const MOST_PAGES: u16 = 64;
-
 /// One interval of a node, as other nodes learn of it: the node (below the number of the stamp's entries), its time
 /// just after it closed the interval (its own entry is the interval's index, at least 1), and the pages that it wrote
-/// in it, strictly ascending, each below `MOST_PAGES`.
-#[derive(Debug, Drop)]
+/// in it.
+#[derive(Drop)]
 pub struct Interval {
     pub node: u8,
     pub stamp: Time,
-    pub pages: Vec<u16>,
+    pub pages: Pages,
 }
 
 impl Model for Interval {
@@ -26,10 +23,10 @@ impl Model for Interval {
 
     ghost Value = { IntervalRecord };
 
-    ghost view = { λ i. record { node = i.node; stamp = i.stamp; pages = i.pages.items } };
+    ghost view = { λ i. record { node = i.node; stamp = i.stamp; pages = i.pages } };
 
     ghost invariant = { λ i.
-        IsInterval (record { node = i.node; stamp = i.stamp; pages = i.pages.items }) };
+        IsInterval (record { node = i.node; stamp = i.stamp; pages = i.pages }) };
 }
 
 impl PartialEq for Interval {
@@ -46,9 +43,7 @@ impl PartialEq for Interval {
         ensures eq { result ≡ same_interval self.now other.now }
         ensures same { IsTrue result ↔ (self.now ≡ other.now) }
     {
-        self.node == other.node
-            && self.stamp == other.stamp
-            && self.pages.as_slice() == other.pages.as_slice()
+        self.node == other.node && self.stamp == other.stamp && self.pages == other.pages
     }
 }
 
@@ -63,13 +58,12 @@ impl Interval {
     ghost use Rattle.lrc_store.specs.Interval.{IsInterval, index_of};
 
     /// The interval with this node, stamp and pages.
-    pub fn new(node: u8, stamp: Time, pages: Vec<u16>) -> Self
+    pub fn new(node: u8, stamp: Time, pages: Pages) -> Self
         requires counted { node < length stamp }
         requires begun { 1 ≤ entry stamp node }
-        requires ascending { IsStrictlyIncreasing pages.items }
-        requires in_range { All (λ page. page < MOST_PAGES) pages.items }
-        ensures { result ≡ record { node = node; stamp = stamp; pages = pages.items } }
+        ensures { result ≡ record { node = node; stamp = stamp; pages = pages } }
     {
+        let _few = pages.len();
         Interval { node, stamp, pages }
     }
 
@@ -88,7 +82,7 @@ impl Interval {
         Ok(Interval {
             node: self.node,
             stamp: self.stamp.copy(),
-            pages: self.pages.clone()?,
+            pages: self.pages.duplicate()?,
         })
     }
 }

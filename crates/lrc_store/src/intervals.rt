@@ -11,7 +11,7 @@ use std::alloc::{AllocError, Global};
 use std::marker::Model;
 
 /// Intervals strictly ascending by node and index, so that none is there twice: as one node sends them to another.
-#[derive(Debug, Drop)]
+#[derive(Drop)]
 pub struct Intervals {
     list: Vec<Interval>,
 }

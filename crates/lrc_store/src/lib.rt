@@ -8,8 +8,6 @@ pub mod key;
 pub mod laws;
 pub mod store;
 mod stored;
-#[cfg(test)]
-mod tests;
 
 pub use interval::Interval;
 pub use intervals::Intervals;

@@ -5,11 +5,11 @@ ghost use Rattle.std.specs.Option.{option_copied};
 ghost use Rattle.lrc_time.specs.Time.{entry};
 ghost use Rattle.lrc_store.specs.Store.{is_at};
 
-use crate::interval::{Interval, MOST_PAGES};
+use crate::interval::Interval;
 use crate::intervals::Intervals;
 use crate::key::Key;
 use crate::stored::Stored;
-use lrc_page::Changes;
+use lrc_page::{Changes, MOST_PAGES};
 use lrc_time::Time;
 use std::alloc::{AllocError, Global};
 use std::marker::Model;
@@ -17,7 +17,7 @@ use std::marker::Model;
 /// The intervals that a node knows, each with its write notices, and the changes that came for some of these.
 ///
 /// The intervals stand in one list in the order of adding, so a look-up takes time linear in their number.
-#[derive(Debug, Drop)]
+#[derive(Drop)]
 pub struct Store {
     pages: u16,
     last: Time,
@@ -37,7 +37,7 @@ impl Model for Store {
 
 impl Store {
     ghost use Rattle.lrc_store.specs.Interval.{index_of};
-    ghost use Rattle.lrc_store.specs.Store.{IsStore, empty_store, added, attached, notice_at, changes_at};
+    ghost use Rattle.lrc_store.specs.Store.{IsStore, empty_store, added, attached, discarded, notice_at, changes_at};
     ghost use Rattle.lrc_store.specs.Store.{IsMissing, IsNewer, missing_of, newer_of};
 
     /// A store that knows no interval, for this many nodes, 1 to 16, and pages, at most `MOST_PAGES`.
@@ -109,6 +109,14 @@ impl Store {
         if let Some(place) = place_of(&self.entries, key.node, key.index) {
             self.entries[place].attach(key.page, changes);
         }
+    }
+
+    /// Takes out the intervals that this time knows, with their notices. What was added last of each node stays known.
+    pub fn discard(&mut self, time: &Time)
+        requires { length time.now ≡ length self.old.last }
+        ensures { self.new ≡ discarded self.old time.now }
+    {
+        self.entries.retain(|stored| !stored.is_known(time));
     }
 
     /// The intervals that `upto` knows and `since` does not, ascending by node and index.

@@ -1,20 +1,21 @@
 // One interval in a store.
 
-ghost use Rattle.std.specs.Prelude.{◌≡◌, ◌==◌, IfOk, length, map, option_and_then, position};
+ghost use Rattle.std.specs.Prelude.{◌≡◌, ◌<◌, ◌==◌, All, IfOk, map, option_and_then, position};
 ghost use Rattle.std.specs.List.{list_any};
 ghost use Rattle.std.specs.Option.{option_copied};
 ghost use Rattle.lrc_time.specs.Time.{knows, weight_of};
+ghost use Rattle.lrc_page.specs.Pages.{IsRising};
 ghost use Rattle.lrc_store.specs.Store.{unread};
 
 use crate::interval::Interval;
 use crate::key::Key;
-use lrc_page::Changes;
+use lrc_page::{Changes, MOST_PAGES, Pages};
 use lrc_time::Time;
 use std::alloc::{AllocError, Global};
 use std::marker::Model;
 
 /// That a page was written, and what was changed in it once that is known.
-#[derive(Debug, Drop)]
+#[derive(Drop)]
 pub(crate) struct Notice {
     page: u16,
     changes: Option<Changes>,
@@ -38,7 +39,7 @@ impl Notice {
 }
 
 /// An interval with its notices, ascending by page.
-#[derive(Debug, Drop)]
+#[derive(Drop)]
 pub(crate) struct Stored {
     node: u8,
     stamp: Time,
@@ -68,7 +69,7 @@ impl Stored {
         Ok(Stored {
             node: interval.node,
             stamp: interval.stamp.copy(),
-            notices: notices_of(alloc, &interval.pages)?,
+            notices: notices_of(alloc, interval.pages.as_slice())?,
         })
     }
 
@@ -116,12 +117,11 @@ impl Stored {
         self.node == node && self.index() == index
     }
 
-    /// Whether the interval is one of those that this time knows.
+    /// Whether the interval is one of those that this time knows. A node that the time does not count has none.
     pub(crate) fn is_known(&self, time: &Time) -> bool
-        requires { length self.now.stamp ≡ length time.now }
         ensures { result ≡ knows time.now self.now.node (index_of (interval_of self.now)) }
     {
-        self.index() <= time.at(self.node)
+        self.node < time.nodes() && self.index() <= time.at(self.node)
     }
 
     /// Whether the interval names this page.
@@ -165,11 +165,17 @@ fn notices_of(alloc: Global, pages: &[u16]) -> Result<Vec<Notice>, AllocError>
         .collect(alloc)
 }
 
-/// The page of each notice.
-fn pages_of(alloc: Global, notices: &[Notice]) -> Result<Vec<u16>, AllocError>
-    ensures { IfOk result (λ pages. pages.items ≡ map (λ notice. notice.page) notices.now) }
+/// The page of each notice. The pages ascend.
+fn pages_of(alloc: Global, notices: &[Notice]) -> Result<Pages, AllocError>
+    requires ascending { IsRising (map (λ notice. notice.page) notices.now) }
+    requires in_range { All (λ page. page < MOST_PAGES) (map (λ notice. notice.page) notices.now) }
+    ensures { IfOk result (λ pages. pages ≡ map (λ notice. notice.page) notices.now) }
 {
-    notices.iter().map(|notice| notice.page).collect(alloc)
+    let mut pages = Pages::empty(alloc);
+    for notice in notices {
+        pages.push(notice.page)?;
+    }
+    Ok(pages)
 }
 
 /// Where the notice of this page stands.

@@ -1,4 +1,4 @@
-use Rattle.std.proofs.Common.{◌≡◌, ◌<◌, ℕ, ◌+◌, Bool, true, false, cond, not, ◌&&◌, List, [], ◌∷◌, ◌++◌, length, get_or, map, take, ap, sym, subst, ◌∙◌, arith, refl, Vec, Global}
+use Rattle.std.proofs.Common.{◌≡◌, ℕ, ◌+◌, Bool, true, false, cond, not, ◌&&◌, List, [], ◌∷◌, ◌++◌, map, take, ap, sym, subst, ◌∙◌, refl, Vec, Global}
 use Rattle.std.specs.List.{filter}
 use Rattle.std.proofs.lemmas.List.{take_all, append-nil}
 use Rattle.std.proofs.lemmas.Result.{IfOk-weaker}
@@ -7,7 +7,6 @@ use Rattle.lrc_store.specs.Interval.{index_of}
 use Rattle.lrc_time.specs.Time.{knows}
 use Rattle.lrc_store.specs.Store.{StoreRecord, StoredRecord, IsMissing, IsStore, interval_of, intervals_of, is_missing}
 use Rattle.lrc_store.proofs.Ranks.{ranked, IsMissing-from_sort, IsMissing-missing_of, IsMissing-only, gathered_more}
-use Rattle.lrc_store.proofs.Stores.{stamp_length}
 use Rattle.lrc_store.proofs.store.Store.missing.Goals as goal
 use Rattle.lrc_store.proofs.store.Store.missing.Goals.{After-keys_of, After-stored-item, then-names+then-not-is_known+in_ok-push, else-names, else-names-via-then-names+else-not-is_known, else-names-via-else-names}
 
@@ -46,19 +45,6 @@ returns-clause-value c =
     (λ keys same.
     same ∙ IsMissing-only store a.args.page a.args.since.now _ _ (missing a) (IsMissing-missing_of store a.args.page a.args.since.now sound))
     a.keys_of.ensures
-
--- the stamp has an entry for each node
-stamp_is_long : (c : After-stored-item) → length c.stored-item.result.stamp ≡ length c.args.self.now.last
-stamp_is_long c =
-    let store : StoreRecord = record { pages = c.self.inside.pages; last = c.self.inside.last; entries = c.self.inside.entries.items } in
-    let items = c.deref-stored-items.ensures.value in
-    let within : c.loop-stored.stored-index < length store.entries = omega (arith, ap length items) in
-    stamp_length store c.loop-stored.stored-index c.stored-item.result c.self.invariant within
-    (c.stored-item.is ∙ ap (λ (l : List StoredRecord). get_or l c.loop-stored.stored-index c.stored-item.result) items)
-    ∙ ap (λ (s : StoreRecord). length s.last) c.self.view_is
-
-pub is_known-requires : goal.is_known-requires
-is_known-requires c = stamp_is_long (goal.at.is_known-requires c).After-stored-item ∙ sym c.requires
 
 -- what was gathered so far
 abbrev so_far : After-stored-item → List (ℕ × Key)

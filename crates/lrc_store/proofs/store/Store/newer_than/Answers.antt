@@ -1,4 +1,4 @@
-use Rattle.std.proofs.Common.{◌≡◌, ◌<◌, List, length, get_or, map, take, ap, sym, subst, ◌∙◌, arith, rules}
+use Rattle.std.proofs.Common.{◌≡◌, List, map, take, ap, sym, subst, ◌∙◌, rules}
 use Rattle.std.specs.List.{filter}
 use Rattle.std.specs.List.Sorted.{IsSortedBy}
 use Rattle.std.proofs.lemmas.List.{take_all}
@@ -6,7 +6,6 @@ use Rattle.std.proofs.lemmas.List.Sorted.{answers_always}
 use Rattle.lrc_store.specs.Interval.{IntervalRecord, index_of, by_node}
 use Rattle.lrc_store.specs.Store.{StoreRecord, StoredRecord, IsNewer, interval_of, is_newer, newer_of}
 use Rattle.lrc_store.proofs.Ranks.{IsSortedBy-by_node, IsNewer-from_sort, IsNewer-newer_of, IsNewer-only}
-use Rattle.lrc_store.proofs.Stores.{stamp_length}
 use Rattle.lrc_store.proofs.store.Store.newer_than.Goals as goal
 use Rattle.lrc_store.proofs.store.Store.newer_than.Goals.{After-sort_unstable_by_key, After-stored-item}
 
@@ -45,23 +44,6 @@ returns-clause-value c =
     (newer_of (store_of a) c.args.since.now c.args.upto.now) (newer a)
     (IsNewer-newer_of (store_of a) c.args.since.now c.args.upto.now c.self.invariant)
     ∙ ap (λ (store : StoreRecord). newer_of store c.args.since.now c.args.upto.now) c.self.view_is
-
--- the stamp has an entry for each node
-stamp_is_long : (c : After-stored-item) → length c.stored-item.result.stamp ≡ length c.args.self.now.last
-stamp_is_long c =
-    let store : StoreRecord = record { pages = c.self.inside.pages; last = c.self.inside.last; entries = c.self.inside.entries.items } in
-    let items = c.deref-stored-items.ensures.value in
-    let within : c.loop-stored.stored-index < length store.entries = omega (arith, ap length items) in
-    stamp_length store c.loop-stored.stored-index c.stored-item.result c.self.invariant within
-    (c.stored-item.is ∙ ap (λ (l : List StoredRecord). get_or l c.loop-stored.stored-index c.stored-item.result) items)
-    ∙ ap (λ (s : StoreRecord). length s.last) c.self.view_is
-
-pub is_known-requires : goal.is_known-requires
-is_known-requires c = stamp_is_long c ∙ sym c.requires.since
-
-pub is_known-requires-then-not-is_known : goal.is_known-requires-then-not-is_known
-is_known-requires-then-not-is_known c =
-    stamp_is_long (goal.at.is_known-requires-then-not-is_known c).After-stored-item ∙ sym c.requires.upto
 
 pub from_ascending-requires : goal.from_ascending-requires
 from_ascending-requires c = (newer c).ascending
