@@ -1,5 +1,5 @@
 -- Changes of a page cut into runs: changes of neighbouring offsets, which the bytes of a message give one header.
-use Rattle.std.specs.Prelude.{◌≡◌, ℕ, ◌+◌, ◌-◌, ◌<◌, ◌≤◌, ◌==◌, List, [], ◌∷◌, length, map, All, AllPairs, if◌then◌else◌}
+use Rattle.std.specs.Prelude.{◌≡◌, ℕ, suc, ◌+◌, ◌<◌, ◌≤◌, ◌==◌, List, [], ◌∷◌, length, take, map, All, AllPairs, if◌then◌else◌}
 use Rattle.std.specs.List.{enumerate_from, flat_map}
 use Rattle.lrc_page.specs.declared.changes.Change.{Change}
 
@@ -38,3 +38,14 @@ in_front c (run ∷ runs) =
 abbrev pub runs_of : List Change → List Run
 runs_of [] = []
 runs_of (c ∷ cs) = in_front c (runs_of cs)
+
+-- how many changes at the front have neighbouring offsets
+abbrev pub lead : List Change → ℕ
+lead [] = 0
+lead (c ∷ []) = 1
+lead (c ∷ d ∷ cs) = if d.offset == c.offset + 1 then suc (lead (d ∷ cs)) else 1
+
+-- the run at the front
+abbrev pub first_run : List Change → Run
+first_run [] = record { first = 0; values = [] }
+first_run (c ∷ cs) = record { first = c.offset; values = map (λ x. x.value) (take (lead (c ∷ cs)) (c ∷ cs)) }
