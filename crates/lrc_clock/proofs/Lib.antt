@@ -11,3 +11,4 @@ pub mod Epochs
 pub mod Racing
 pub mod Prefixes
 pub mod Computing
+pub mod Deciding

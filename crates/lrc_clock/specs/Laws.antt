@@ -273,3 +273,18 @@ abbrev pub KeepsByOneMore : Type 0
 KeepsByOneMore = (nodes : ℕ) (run : List Act) (times : List (List ℕ)) (act : Act) (time : List ℕ) → KeepsTime nodes run times
     → KeepsTime nodes (run ++ act ∷ []) (times ++ time ∷ [])
     ↔ ((act.node < nodes) × (time ≡ next_time nodes run times act.node act.deed))
+
+-- ---- the rule determines the times
+
+-- Every run of these nodes has times that keep time,
+abbrev pub TimesExist : Type 0
+TimesExist = (nodes : ℕ) (run : List Act) → ((j node : ℕ) (deed : Deed) → Does run j node deed → node < nodes)
+    → (times : List (List ℕ)) × KeepsTime nodes run times
+
+-- one list of them alone,
+abbrev pub TimesAreOne : Type 0
+TimesAreOne = (nodes : ℕ) (run : List Act) (times others : List (List ℕ)) → KeepsTime nodes run times → KeepsTime nodes run others → times ≡ others
+
+-- and whether a list keeps time is decided.
+abbrev pub KeepingIsDecided : Type 0
+KeepingIsDecided = (nodes : ℕ) (run : List Act) (times : List (List ℕ)) → KeepsTime nodes run times ⊎ (¬ KeepsTime nodes run times)

@@ -1,7 +1,7 @@
 // Laws of timed runs that keep time. Each function is a theorem: its body is empty, and its clauses are the law. The
 // statements stand in specs/, so that others can cite them.
 
-ghost use Rattle.lrc_clock.specs.Laws.{ArrivedCoversArrives, ArrivedIsCover, ArrivedIsLeast, ArrivedOnPrefix, CloserCoversStamp, CloserHasIndex, CoveredDoesNotCover, CoveredIsLighter, CutAt, CutBefore, CutOfStamp, EarlierEpochHappensBefore, EarlierEpochIsCovered, EntryBound, EntryBoundBefore, EntryIsCover, IntervalBetween, IntervalOfClosing, IntervalOfOther, IntervalOfStamp, IntervalOrderIsCover, KeepsByOneMore, KeepsOnPrefix, LengthAt, LengthBefore, LengthOfStamp, NamedRaceIsOfSegments, NamedRaceIsUnknown, OrderIsCover, OtherEntryIsHappensBefore, OwnEntryAt, PresentIsCover, ReleasedIsCover, ReleasedOnPrefix, SegmentTime, StampHasIndex, StampIsTimeBefore, StampOfInterval, StampOnPrefix, StampsRise, TimeBeforeOnPrefix, TimeOnPrefix, TimeStandsStill, TimesRise, UnorderedIsUnknown, WaitingIsCover};
+ghost use Rattle.lrc_clock.specs.Laws.{ArrivedCoversArrives, ArrivedIsCover, ArrivedIsLeast, ArrivedOnPrefix, CloserCoversStamp, CloserHasIndex, CoveredDoesNotCover, CoveredIsLighter, CutAt, CutBefore, CutOfStamp, EarlierEpochHappensBefore, EarlierEpochIsCovered, EntryBound, EntryBoundBefore, EntryIsCover, IntervalBetween, IntervalOfClosing, IntervalOfOther, IntervalOfStamp, IntervalOrderIsCover, KeepingIsDecided, KeepsByOneMore, KeepsOnPrefix, LengthAt, LengthBefore, LengthOfStamp, NamedRaceIsOfSegments, NamedRaceIsUnknown, OrderIsCover, OtherEntryIsHappensBefore, OwnEntryAt, PresentIsCover, ReleasedIsCover, ReleasedOnPrefix, SegmentTime, StampHasIndex, StampIsTimeBefore, StampOfInterval, StampOnPrefix, StampsRise, TimeBeforeOnPrefix, TimeOnPrefix, TimeStandsStill, TimesAreOne, TimesExist, TimesRise, UnorderedIsUnknown, WaitingIsCover};
 
 /// Every time has an entry for each node.
 pub fn every_time_has_an_entry_for_each_node()
@@ -136,4 +136,11 @@ pub fn times_on_a_prefix()
 pub fn keeping_time_on_a_prefix()
     ensures prefix { KeepsOnPrefix }
     ensures one_more { KeepsByOneMore }
+{}
+
+/// A run of these nodes has exactly one list of times that keeps time, so whether a list does is decided.
+pub fn the_rule_determines_the_times()
+    ensures exist { TimesExist }
+    ensures one { TimesAreOne }
+    ensures decided { KeepingIsDecided }
 {}
