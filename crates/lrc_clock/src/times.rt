@@ -1,5 +1,5 @@
 // The times of a run, by the rule.
-ghost use Rattle.std.specs.Prelude.{◌≡◌, ◌+◌, ◌<◌, ◌≤◌, ◌^◌, All, IfOk, IfSome, MatchOption, length};
+ghost use Rattle.std.specs.Prelude.{◌≡◌, ◌+◌, ◌<◌, ◌≤◌, ◌^◌, ◌↔◌, All, IfOk, IfSome, IsTrue, MatchOption, length};
 ghost use Rattle.lrc_trace.specs.Run.{departs_before};
 ghost use Rattle.lrc_trace.specs.Synchronization.{IsWellSynchronized};
 ghost use Rattle.lrc_clock.specs.Times.{time_before, released_time, arrived_time, time_or_zeros};
@@ -115,6 +115,13 @@ fn time_after(acts: &[Act], times: &[Time], act: Act, nodes: u8) -> Time
         _ => {}
     }
     time
+}
+
+/// Whether every act is of one of so many nodes, as `times_of` asks.
+pub fn are_of(acts: &[Act], nodes: u8) -> bool
+    ensures { IsTrue result ↔ All (λ act. act.node < nodes) acts.now }
+{
+    acts.iter().all(|act| act.node < nodes)
 }
 
 /// The times of a run of so many nodes, 1 to 16, each act of one of them: for each position that of the acting node just
