@@ -1,5 +1,5 @@
 -- What the call that computes times reads and joins.
-use Rattle.std.proofs.Common.{◌≡◌, ℕ, ◌+◌, ◌<◌, ◌≤◌, Bool, true, false, List, [], ◌∷◌, ◌++◌, length, get_or, take, inl, inr, refl, sym, ap, ◌∙◌, arith, add-one}
+use Rattle.std.proofs.Common.{◌≡◌, ℕ, ◌+◌, ◌<◌, ◌≤◌, true, false, List, [], ◌∷◌, ◌++◌, length, get_or, take, inl, inr, refl, ap, ◌∙◌, arith, add-one}
 use Rattle.std.proofs.lemmas.Bool.{cases_Bool, cond-true, cond-false, true≢false, false≢true}
 use Rattle.std.proofs.lemmas.List.{get_or_default, length-take-le, take_more}
 use Rattle.std.proofs.lemmas.List.Sums.{count_by-le-length}
@@ -19,7 +19,7 @@ use Rattle.lrc_clock.specs.Times.{time_at, releases_at, arrives_at, time_before,
 use Rattle.lrc_clock.specs.Keeping.{KeepsTime, next_time}
 use Rattle.lrc_clock.proofs.Passing.{releases_at-act, arrives_at-true, arrives_at-act}
 use Rattle.lrc_clock.proofs.Lasting.{last-length, join-length}
-use Rattle.lrc_clock.proofs.Rules.{long, long-before}
+use Rattle.lrc_clock.proofs.Rules.{long}
 use Rattle.lrc_clock.proofs.Counting.{own_entry_before}
 use Rattle.lrc_clock.proofs.Prefixes.{keeps-more}
 

@@ -1,13 +1,12 @@
 -- The own entry of a node's time is the number of its closing acts, and no time has more of a node.
-use Rattle.std.proofs.Common.{◌≡◌, ℕ, zero, suc, add-one, ◌+◌, ◌<◌, ◌≤◌, Bool, true, false, List, length, take, inl, inr, refl, sym, subst, ap, ◌∙◌, arith}
+use Rattle.std.proofs.Common.{◌≡◌, ℕ, zero, suc, add-one, ◌+◌, ◌<◌, ◌≤◌, List, length, take, inl, inr, sym, subst, ap, ◌∙◌, arith}
 use Rattle.std.proofs.lemmas.Bool.{cases_Bool, cases_eq, cond-true, cond-false, both_ways}
 use Rattle.lrc_trace.specs.declared.act.Act.{Act}
 use Rattle.lrc_trace.specs.declared.act.Deed.{Deed}
 use Rattle.lrc_trace.specs.Run.{Does, count_of}
-use Rattle.lrc_trace.specs.Order.{Precedes}
 use Rattle.lrc_trace.specs.Interval.{closes, interval_at}
 use Rattle.lrc_trace.proofs.Positions.{Does-node, Does-within}
-use Rattle.lrc_trace.proofs.HappensBefore.{Precedes-forward, Precedes-within}
+use Rattle.lrc_trace.proofs.HappensBefore.{Precedes-forward}
 use Rattle.lrc_trace.proofs.Intervals.{act_at, count_of-rises, count_of-more, count_of-same}
 use Rattle.lrc_time.specs.Time.{entry}
 use Rattle.lrc_time.proofs.Times.{entry-zeros}

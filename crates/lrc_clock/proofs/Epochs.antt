@@ -1,21 +1,20 @@
 -- Where every node waits at its barriers: an act of an earlier epoch happens before one of a later, and within an interval a
 -- node's time stands still.
-use Rattle.std.proofs.Common.{◌≡◌, ℕ, zero, suc, ◌+◌, ◌<◌, ◌≤◌, Bool, true, false, List, length, take, inl, inr, refl, sym, subst, ap, ◌∙◌, arith}
+use Rattle.std.proofs.Common.{◌≡◌, ℕ, zero, suc, ◌+◌, ◌<◌, ◌≤◌, true, false, List, inl, inr, refl, sym, subst, ap, ◌∙◌, arith}
 use Rattle.std.proofs.lemmas.Bool.{cases_Bool, cases_eq, cases_lt, cond-true, cond-false, both_ways, false≢true}
 use Rattle.lrc_trace.specs.declared.act.Act.{Act}
 use Rattle.lrc_trace.specs.declared.act.Deed.{Deed}
 use Rattle.lrc_trace.specs.declared.act.Deed.TheVariants.{Acquire, Release, Arrive, Depart}
-use Rattle.lrc_trace.specs.Run.{Does, is_arrive, is_depart, count_of, arrives_before, departs_before}
-use Rattle.lrc_trace.specs.Order.{program, barrier, HappensBefore, base, further, Reaches}
+use Rattle.lrc_trace.specs.Run.{Does, is_arrive, is_depart, arrives_before, departs_before}
+use Rattle.lrc_trace.specs.Order.{program, barrier, HappensBefore, base, further}
 use Rattle.lrc_trace.specs.Interval.{closes, interval_at}
 use Rattle.lrc_trace.specs.Synchronization.{IsWellSynchronized, WaitsAtBarriers}
-use Rattle.lrc_trace.proofs.Positions.{Does-deed, Does-node, Does-within}
+use Rattle.lrc_trace.proofs.Positions.{Does-deed, Does-within}
 use Rattle.lrc_trace.proofs.HappensBefore.{Reaches-extends}
-use Rattle.lrc_trace.proofs.Intervals.{act_at, count_of-more, count_of-rises, counted_in, numbered_arrive, numbered_depart, never_fall}
+use Rattle.lrc_trace.proofs.Intervals.{count_of-more, count_of-rises, counted_in, numbered_arrive, numbered_depart, never_fall}
 use Rattle.lrc_time.specs.Time.{entry}
 use Rattle.lrc_clock.specs.Times.{time_at, acts_at, raised, time_before, stamp_at}
 use Rattle.lrc_clock.specs.Keeping.{KeepsTime, leaves_time}
-use Rattle.lrc_clock.specs.Cover.{ClosesAt}
 use Rattle.lrc_clock.proofs.Passing.{acts_at-true, acts_at-act}
 use Rattle.lrc_clock.proofs.Covering.{complete}
 use Rattle.lrc_clock.proofs.Ordering.{closer_from, own_reaches}

@@ -1,8 +1,8 @@
 -- The last of the times that pass, and the join of them, from one position to the next.
-use Rattle.std.proofs.Common.{◌≡◌, ℕ, zero, suc, add-one, ◌+◌, ◌<◌, ◌≤◌, ◌⊎◌, max, Bool, true, false, List, length, inl, inr, refl, sym, subst, ap, ◌∙◌, arith}
+use Rattle.std.proofs.Common.{◌≡◌, ℕ, zero, suc, add-one, ◌+◌, ◌<◌, ◌≤◌, ◌⊎◌, Bool, true, false, List, length, inl, inr, refl, sym, subst, ap, ◌∙◌, arith}
 use Rattle.std.proofs.lemmas.Bool.{cases_Bool, cases_eq, cases_lt, cond-true, cond-false}
 use Rattle.lrc_time.specs.Time.{zeros, entry, Covers, joined}
-use Rattle.lrc_time.proofs.Times.{length-zeros, length-joined, entry-zeros, entry-joined, covers-refl, covers-trans, covers-zeros, covers-joined_first, covers-joined_second, covers-joined_least}
+use Rattle.lrc_time.proofs.Times.{length-zeros, length-joined, entry-zeros, entry-joined, covers-trans, covers-joined_first, covers-joined_second}
 use Rattle.lrc_clock.specs.Times.{time_at, last_time, joined_times}
 
 module _ (nodes : ℕ) (passes : ℕ → Bool) (times : List (List ℕ)) where

@@ -1,7 +1,6 @@
 -- What the last release of a lock, and the arrives of an episode, hand on.
 use Rattle.std.proofs.Common.{◌≡◌, ℕ, ◌<◌, ◌≤◌, List, arith}
 use Rattle.lrc_trace.specs.declared.act.Act.{Act}
-use Rattle.lrc_trace.specs.declared.act.Deed.{Deed}
 use Rattle.lrc_trace.specs.declared.act.Deed.TheVariants.{Release, Arrive}
 use Rattle.lrc_trace.specs.Run.{Does, arrives_before}
 use Rattle.lrc_trace.specs.Synchronization.{IsWellSynchronized}

@@ -1,6 +1,5 @@
 -- An act happens before one of another node exactly where the other's time covers its interval.
-use Rattle.std.proofs.Common.{◌≡◌, ℕ, ◌+◌, ◌-◌, ◌<◌, ◌≤◌, ◌⊎◌, true, List, length, inl, inr, refl, sym, subst, ap, ◌∙◌, arith}
-use Rattle.std.specs.Prelude.{◌↔◌}
+use Rattle.std.proofs.Common.{◌≡◌, ℕ, ◌+◌, ◌<◌, ◌≤◌, ◌⊎◌, true, List, inl, inr, refl, subst, arith}
 use Rattle.std.proofs.lemmas.Bool.{cases_eq, cases_lt}
 use Rattle.lrc_trace.specs.declared.act.Act.{Act}
 use Rattle.lrc_trace.specs.declared.act.Deed.{Deed}
@@ -10,7 +9,7 @@ use Rattle.lrc_trace.specs.Order.{Precedes, program, lock, barrier, HappensBefor
 use Rattle.lrc_trace.specs.Interval.{closes, interval_at}
 use Rattle.lrc_trace.specs.Synchronization.{IsWellSynchronized}
 use Rattle.lrc_trace.proofs.Positions.{Does-node, Does-one_node, Does-within}
-use Rattle.lrc_trace.proofs.HappensBefore.{transitive, Reaches-extends}
+use Rattle.lrc_trace.proofs.HappensBefore.{Reaches-extends}
 use Rattle.lrc_trace.proofs.Intervals.{count_of-more, never_fall, closed_between}
 use Rattle.lrc_time.specs.Time.{entry}
 use Rattle.lrc_clock.specs.Times.{time_at}

@@ -1,12 +1,12 @@
 -- Times on a prefix of a timed run, and by one act more.
-use Rattle.std.proofs.Common.{◌≡◌, ℕ, zero, suc, ◌+◌, ◌<◌, ◌≤◌, ◌&&◌, Bool, true, false, cond, List, [], ◌∷◌, ◌++◌, length, get_or, inl, inr, refl, sym, subst, ◌∙◌, ap, arith}
+use Rattle.std.proofs.Common.{◌≡◌, ℕ, zero, suc, ◌<◌, ◌≤◌, ◌&&◌, Bool, true, cond, List, [], ◌∷◌, ◌++◌, length, inl, inr, refl, sym, subst, ◌∙◌, ap, arith}
 use Rattle.std.specs.Prelude.{◌==◌, Option, Some, None, slice_get}
 use Rattle.std.proofs.lemmas.List.{get_or_append_left, get_or_push, length_push}
 use Rattle.lrc_trace.specs.declared.act.Act.{Act}
 use Rattle.lrc_trace.specs.declared.act.Deed.{Deed}
 use Rattle.lrc_trace.specs.declared.act.Deed.TheVariants.{Acquire, Release, Arrive, Depart}
 use Rattle.lrc_trace.specs.Run.{Does, is_arrive, arrives_before, departs_before}
-use Rattle.lrc_trace.proofs.Positions.{slice_get-front, Does-within, Does-longer, Does-node, Does-deed, Does-last, Does-cases, arrives_before-prefix, departs_before-prefix}
+use Rattle.lrc_trace.proofs.Positions.{slice_get-front, Does-within, Does-longer, Does-last, Does-cases, arrives_before-prefix, departs_before-prefix}
 use Rattle.lrc_time.specs.Time.{joined}
 use Rattle.lrc_clock.specs.Times.{time_at, raised, last_time, joined_times, is_act, is_release, acts_at, releases_at, arrives_at, time_before, stamp_at, released_time, arrived_time}
 use Rattle.lrc_clock.specs.Keeping.{KeepsTime, leaves_time, next_time}

@@ -9,7 +9,7 @@ use Rattle.lrc_trace.specs.declared.race.Race.{Race}
 use Rattle.lrc_trace.specs.Run.{Does}
 use Rattle.lrc_trace.specs.Order.{HappensBefore}
 use Rattle.lrc_trace.specs.Conflict.{Writes, Accesses, ConflictAt, Races}
-use Rattle.lrc_trace.specs.Interval.{interval_at, Names, IsNamedRace}
+use Rattle.lrc_trace.specs.Interval.{interval_at, IsNamedRace}
 use Rattle.lrc_trace.specs.Synchronization.{IsWellSynchronized, WaitsAtBarriers}
 use Rattle.lrc_trace.proofs.Positions.{Does-one_node}
 use Rattle.lrc_trace.proofs.HappensBefore.{forward}
@@ -18,7 +18,7 @@ use Rattle.lrc_time.specs.Time.{entry}
 use Rattle.lrc_time.proofs.Times.{entry-set_other}
 use Rattle.lrc_clock.specs.Times.{time_at, raised, stamp_at}
 use Rattle.lrc_clock.specs.Keeping.{KeepsTime, leaves_time}
-use Rattle.lrc_clock.specs.Races.{AreUnknown, NamesUnknown, WritesIn, AccessesIn, IsSegment, IsRaceOfSegments}
+use Rattle.lrc_clock.specs.Races.{AreUnknown, NamesUnknown, IsSegment, IsRaceOfSegments}
 use Rattle.lrc_clock.proofs.Ordering.{order_to_cover, cover_to_order}
 use Rattle.lrc_clock.proofs.Epochs.{same_interval_same_time, stamp_of_interval}
 
@@ -35,8 +35,7 @@ module _ {nodes : ℕ} {run : List Act} {times : List (List ℕ)} (keeps : Keeps
     pub unknown_unordered : AreUnknown run times i p j q → (HappensBefore run i j → ⊥) × (HappensBefore run j i → ⊥)
     unknown_unordered unknown =
         let (d, a, still) = access-does first in
-        let (e, b, still') = access-does second in
-        (
+        let (e, b, still') = access-does second in (
           λ h. let known = order_to_cover keeps ws i j p q d e apart a b h in let lt = unknown.first in omega arith,
           λ h. let known = order_to_cover keeps ws j i q p e d (λ same. apart (sym same)) b a h in let lt = unknown.second in omega arith,
         )
@@ -77,8 +76,7 @@ module _ {nodes : ℕ} {run : List Act} {times : List (List ℕ)} (keeps : Keeps
 
   pub named_unknown : (race : Race) → IsNamedRace run race → (i : ℕ) × (j : ℕ) × NamesUnknown run times race i j
   named_unknown race (i, j, n) =
-      let c = n.conflict in
-      (
+      let c = n.conflict in (
         i,
         j,
         record {
@@ -92,8 +90,7 @@ module _ {nodes : ℕ} {run : List Act} {times : List (List ℕ)} (keeps : Keeps
 
   pub unknown_named : (race : Race) → (i : ℕ) × (j : ℕ) × NamesUnknown run times race i j → IsNamedRace run race
   unknown_named race (i, j, n) =
-      let c = n.conflict in
-      (
+      let c = n.conflict in (
         i,
         j,
         record {
@@ -146,8 +143,7 @@ module _ {nodes : ℕ} {run : List Act} {times : List (List ℕ)} (keeps : Keeps
     -- so the stamp of its interval decides what happens before an access
     pub interval_order : (i j p q c : ℕ) (d e : Deed) → (p ≡ q → ⊥) → Does run i p d → Does run j q e → leaves_time e ≡ true → j < c → interval_at run q j ≡ interval_at run q c → HappensBefore run i j ↔ (interval_at run p i ≤ entry (stamp_at nodes run times q c) p)
     interval_order i j p q c d e apart first second still lt same =
-        let is : entry (stamp_at nodes run times q c) p ≡ entry (time_at times j) p = ap (λ t. entry t p) (stamp_of_interval ws waits keeps j c q e second still lt same) ∙ raised-other (time_at times j) q p apart in
-        (
+        let is : entry (stamp_at nodes run times q c) p ≡ entry (time_at times j) p = ap (λ t. entry t p) (stamp_of_interval ws waits keeps j c q e second still lt same) ∙ raised-other (time_at times j) q p apart in (
           λ h. let known = order_to_cover keeps ws i j p q d e apart first second h in omega arith,
           λ known. cover_to_order keeps ws i j p q d e apart first second (omega arith),
         )

@@ -1,5 +1,5 @@
 -- The rule at a position: where the entries of a time come from, and what the time covers.
-use Rattle.std.proofs.Common.{◌≡◌, ◌≢◌, ℕ, zero, suc, ◌+◌, ◌<◌, ◌≤◌, max, Bool, true, false, List, length, set, inl, inr, refl, sym, subst, ap, ◌∙◌, arith, length-set}
+use Rattle.std.proofs.Common.{◌≡◌, ◌≢◌, ℕ, zero, suc, ◌+◌, ◌<◌, true, false, List, length, inl, inr, refl, sym, subst, ap, ◌∙◌, arith, length-set}
 use Rattle.std.proofs.lemmas.Bool.{cases_lt}
 use Rattle.lrc_trace.specs.declared.act.Act.{Act}
 use Rattle.lrc_trace.specs.declared.act.Deed.{Deed}
@@ -9,8 +9,8 @@ use Rattle.lrc_trace.specs.Order.{Precedes, program, lock, barrier}
 use Rattle.lrc_trace.specs.Interval.{closes}
 use Rattle.lrc_trace.proofs.Positions.{Does-deed}
 use Rattle.lrc_time.specs.Time.{entry, Covers, joined}
-use Rattle.lrc_time.proofs.Times.{entry-set_same, entry-set_other, entry-joined, length-joined, covers-refl, covers-trans, covers-raised, covers-joined_first, covers-joined_second}
-use Rattle.lrc_clock.specs.Times.{time_at, raised, acts_at, releases_at, arrives_at, time_before, stamp_at, released_time, arrived_time}
+use Rattle.lrc_time.proofs.Times.{entry-set_same, entry-set_other, entry-joined, length-joined, covers-refl, covers-trans, covers-raised, covers-joined_first}
+use Rattle.lrc_clock.specs.Times.{time_at, acts_at, releases_at, arrives_at, time_before, stamp_at, released_time, arrived_time}
 use Rattle.lrc_clock.specs.Keeping.{KeepsTime}
 use Rattle.lrc_clock.proofs.Passing.{acts_at-act, releases_at-act, arrives_at-act}
 use Rattle.lrc_clock.proofs.Lasting.{last-entry, last-length, join-entry, join-length}

@@ -1,5 +1,5 @@
 -- The stamps of closed intervals: closed downward, rising, and heavier where they cover.
-use Rattle.std.proofs.Common.{◌≡◌, ◌≢◌, ℕ, ◌+◌, ◌<◌, ◌≤◌, ◌⊎◌, true, List, length, inl, inr, refl, sym, subst, ap, ◌∙◌, arith, length-set}
+use Rattle.std.proofs.Common.{◌≡◌, ◌≢◌, ℕ, ◌+◌, ◌<◌, ◌≤◌, ◌⊎◌, List, length, inl, inr, sym, subst, ap, ◌∙◌, arith, length-set}
 use Rattle.std.proofs.lemmas.Bool.{cases_eq, cases_lt}
 use Rattle.lrc_trace.specs.declared.act.Act.{Act}
 use Rattle.lrc_trace.specs.declared.act.Deed.{Deed}
@@ -13,7 +13,7 @@ use Rattle.lrc_time.specs.Time.{entry, Covers, weight_of}
 use Rattle.lrc_time.proofs.Times.{covers-trans, weight-covers_strictly}
 use Rattle.lrc_clock.specs.Times.{time_at, time_before, stamp_at}
 use Rattle.lrc_clock.specs.Keeping.{KeepsTime}
-use Rattle.lrc_clock.specs.Cover.{ClosesAt, IsClosedBy, IsClosedBefore}
+use Rattle.lrc_clock.specs.Cover.{ClosesAt, IsClosedBefore}
 use Rattle.lrc_clock.proofs.Rules.{long-before, stamp-own, stamp-other, stamp-covers, at-covers_stamp}
 use Rattle.lrc_clock.proofs.Counting.{own_entry_before, entry_before_bound, own_stamp}
 use Rattle.lrc_clock.proofs.Covering.{sound, reached-covers, sound-before, complete-before, before-covers}

@@ -127,11 +127,7 @@ pub fn are_of(acts: &[Act], nodes: u8) -> bool
 /// The times of a run of so many nodes, 1 to 16, each act of one of them: for each position that of the acting node just
 /// after the act. None exactly where the run is not well synchronized. A run has fewer than 2^32 acts. It takes time that
 /// grows with the square of the run's length.
-pub fn times_of(
-    alloc: Global,
-    acts: &[Act],
-    nodes: u8,
-) -> Result<Option<Vec<Time>>, AllocError>
+pub fn times_of(alloc: Global, acts: &[Act], nodes: u8) -> Result<Option<Vec<Time>>, AllocError>
     requires some { 1 ≤ nodes }
     requires few { nodes ≤ 16 }
     requires in_range { All (λ act. act.node < nodes) acts.now }

@@ -1,4 +1,4 @@
-use Rattle.std.proofs.Common.{◌≡◌, ℕ, ◌+◌, ◌<◌, ◌≤◌, length, set, sym, ap, ◌∙◌, arith, length-set, Fits, w32}
+use Rattle.std.proofs.Common.{◌≡◌, ◌+◌, length, sym, ap, ◌∙◌, arith, length-set}
 use Rattle.lrc_time.specs.Time.{entry}
 use Rattle.lrc_clock.specs.Times.{time_before}
 use Rattle.lrc_clock.proofs.Rules.{long-before}

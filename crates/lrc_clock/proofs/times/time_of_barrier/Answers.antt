@@ -6,7 +6,6 @@ use Rattle.lrc_trace.specs.Run.{Does, is_arrive, arrives_before}
 use Rattle.lrc_trace.proofs.Positions.{Does-read, Does-node, Does-deed}
 use Rattle.lrc_trace.proofs.Counts.{counts_same, counts_next, no_arrive}
 use Rattle.lrc_time.specs.Time.{joined}
-use Rattle.lrc_clock.specs.Times.{time_at}
 use Rattle.lrc_clock.proofs.Computing.{acting, read-length, arrived-length, arrived-here, arrived-other}
 use Rattle.lrc_clock.proofs.times.time_of_barrier.Goals as goal
 use Rattle.lrc_clock.proofs.times.time_of_barrier.Goals.{in-Arrive, then-arrives-node, else-arrives-node, in_default}
