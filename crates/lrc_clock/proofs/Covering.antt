@@ -51,7 +51,8 @@ module _ {nodes : ℕ} {run : List Act} {times : List (List ℕ)} (keeps : Keeps
 
   pub program-covers : (i j node : ℕ) (d e : Deed) → i < j → Does run i node d → Does run j node e → Covers (time_at times j) (time_at times i)
   program-covers i j node d e lt a b =
-      covers-trans (time_at times j) (time_before nodes run times node j) (time_at times i) (at-covers_before keeps j node e b) (before-covers i j node d lt a)
+      covers-trans (time_at times j) (time_before nodes run times node j) (time_at times i) (at-covers_before keeps j node e b)
+      (before-covers i j node d lt a)
 
   acquire-covers : (j node l : ℕ) → Does run j node (Acquire l) → Covers (time_at times j) (released_time nodes run times l j)
   acquire-covers j node l h =

@@ -103,7 +103,8 @@ same_lists_of (x ∷ xs) (y ∷ ys) =
     ]
 
 -- whether every act is of one of the nodes
-in_range_to : (nodes : ℕ) (run : List Act) (n : ℕ) → n ≤ length run → ((j node : ℕ) (deed : Deed) → j < n → Does run j node deed → node < nodes) ⊎ (((j node : ℕ) (deed : Deed) → Does run j node deed → node < nodes) → ⊥)
+in_range_to : (nodes : ℕ) (run : List Act) (n : ℕ) → n ≤ length run → ((j node : ℕ) (deed : Deed) → j < n → Does run j node deed
+    → node < nodes) ⊎ (((j node : ℕ) (deed : Deed) → Does run j node deed → node < nodes) → ⊥)
 in_range_to nodes run zero le = inl (λ j node deed lt h. absurd (omega arith))
 in_range_to nodes run (suc n) le =
     let (act, does) = act_at run n (omega arith) in

@@ -10,10 +10,12 @@ use Rattle.lrc_trace.proofs.Positions.{Does-node, Does-deed}
 use Rattle.lrc_clock.specs.Times.{is_act, is_release, acts_at, releases_at, arrives_at}
 
 -- the act that stands there decides
-pub at_act : (run : List Act) (passes : Act → Bool) (k node : ℕ) (deed : Deed) → Does run k node deed → is_act passes (slice_get run k) ≡ passes (act_of node deed)
+pub at_act : (run : List Act) (passes : Act → Bool) (k node : ℕ) (deed : Deed) → Does run k node deed
+    → is_act passes (slice_get run k) ≡ passes (act_of node deed)
 at_act run passes k node deed h = ap (is_act passes) h.stands
 
-pub act_of_passing : (run : List Act) (passes : Act → Bool) (k : ℕ) → is_act passes (slice_get run k) ≡ true → (a : Act) × Does run k a.node a.deed × (passes a ≡ true)
+pub act_of_passing : (run : List Act) (passes : Act → Bool) (k : ℕ) → is_act passes (slice_get run k) ≡ true
+    → (a : Act) × Does run k a.node a.deed × (passes a ≡ true)
 act_of_passing run passes k h = go (slice_get run k) refl
   where
     go : (o : Option Act) → slice_get run k ≡ o → (a : Act) × Does run k a.node a.deed × (passes a ≡ true)

@@ -1,7 +1,18 @@
 // Laws of timed runs that keep time. Each function is a theorem: its body is empty, and its clauses are the law. The
 // statements stand in specs/, so that others can cite them.
 
-ghost use Rattle.lrc_clock.specs.Laws.{ArrivedCoversArrives, ArrivedIsCover, ArrivedIsLeast, ArrivedOnPrefix, CloserCoversStamp, CloserHasIndex, CoveredDoesNotCover, CoveredIsLighter, CutAt, CutBefore, CutOfStamp, EarlierEpochHappensBefore, EarlierEpochIsCovered, EntryBound, EntryBoundBefore, EntryIsCover, IntervalBetween, IntervalOfClosing, IntervalOfOther, IntervalOfStamp, IntervalOrderIsCover, KeepingIsDecided, KeepsByOneMore, KeepsOnPrefix, LengthAt, LengthBefore, LengthOfStamp, NamedRaceIsOfSegments, NamedRaceIsUnknown, OrderIsCover, OtherEntryIsHappensBefore, OwnEntryAt, PresentIsCover, ReleasedIsCover, ReleasedOnPrefix, SegmentTime, StampHasIndex, StampIsTimeBefore, StampOfInterval, StampOnPrefix, StampsRise, TimeBeforeOnPrefix, TimeOnPrefix, TimeStandsStill, TimesAreOne, TimesExist, TimesRise, UnorderedIsUnknown, WaitingIsCover};
+ghost use Rattle.lrc_clock.specs.Laws.{ArrivedCoversArrives, ArrivedIsCover, ArrivedIsLeast, ArrivedOnPrefix};
+ghost use Rattle.lrc_clock.specs.Laws.{CloserCoversStamp, CloserHasIndex, CoveredDoesNotCover, CoveredIsLighter};
+ghost use Rattle.lrc_clock.specs.Laws.{CutAt, CutBefore, CutOfStamp, EarlierEpochHappensBefore};
+ghost use Rattle.lrc_clock.specs.Laws.{EarlierEpochIsCovered, EntryBound, EntryBoundBefore, EntryIsCover};
+ghost use Rattle.lrc_clock.specs.Laws.{IntervalBetween, IntervalOfClosing, IntervalOfOther, IntervalOfStamp};
+ghost use Rattle.lrc_clock.specs.Laws.{IntervalOrderIsCover, KeepingIsDecided, KeepsByOneMore, KeepsOnPrefix};
+ghost use Rattle.lrc_clock.specs.Laws.{LengthAt, LengthBefore, LengthOfStamp, NamedRaceIsOfSegments};
+ghost use Rattle.lrc_clock.specs.Laws.{NamedRaceIsUnknown, OrderIsCover, OtherEntryIsHappensBefore, OwnEntryAt};
+ghost use Rattle.lrc_clock.specs.Laws.{PresentIsCover, ReleasedIsCover, ReleasedOnPrefix, SegmentTime, StampHasIndex};
+ghost use Rattle.lrc_clock.specs.Laws.{StampIsTimeBefore, StampOfInterval, StampOnPrefix, StampsRise};
+ghost use Rattle.lrc_clock.specs.Laws.{TimeBeforeOnPrefix, TimeOnPrefix, TimeStandsStill, TimesAreOne, TimesExist};
+ghost use Rattle.lrc_clock.specs.Laws.{TimesRise, UnorderedIsUnknown, WaitingIsCover};
 
 /// Every time has an entry for each node.
 pub fn every_time_has_an_entry_for_each_node()

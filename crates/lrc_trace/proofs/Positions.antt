@@ -62,7 +62,8 @@ departs_before-prefix run more node i h = ap (count_of is_depart node) (take-app
 pub Does-last : (run : List Act) (act : Act) → Does (run ++ act ∷ []) (length run) act.node act.deed
 Does-last run act = record { stands = slice_get-seam run act [] }
 
-pub Does-cases : {run : List Act} {act : Act} {i node : ℕ} {d : Deed} → Does (run ++ act ∷ []) i node d → ((i < length run) × Does run i node d) ⊎ ((i ≡ length run) × (act.node ≡ node) × (act.deed ≡ d))
+pub Does-cases : {run : List Act} {act : Act} {i node : ℕ} {d : Deed} → Does (run ++ act ∷ []) i node d
+    → ((i < length run) × Does run i node d) ⊎ ((i ≡ length run) × (act.node ≡ node) × (act.deed ≡ d))
 Does-cases {run} {act} {i} {node} {d} h =
     let within = Does-within h in
     let long = length_push run act in

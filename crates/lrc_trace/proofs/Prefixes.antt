@@ -168,7 +168,8 @@ module _ (run : List Act) (act : Act) where
             let above = ws.departs (length run) act.node (Does-deed is last) other less in omega arith;
       }
 
-  pub ReadsLazily-more : ReadsLazily run → ((word value : ℕ) → act.deed ≡ Read word value → MayRead longer_run (length run) word value) → ReadsLazily longer_run
+  pub ReadsLazily-more : ReadsLazily run → ((word value : ℕ) → act.deed ≡ Read word value → MayRead longer_run (length run) word value)
+      → ReadsLazily longer_run
   ReadsLazily-more lazily may j word value (p, h) =
       elim (Does-cases h) [
         | inl (lt, h') ↦ MayRead-longer run (act ∷ []) lt (lazily j word value (p, h'))
