@@ -95,7 +95,11 @@ module _ (nodes : ℕ) (passes : ℕ → Bool) (times : List (List ℕ)) where
             subst (λ t. P (entry t q)) (sym (join-here j holds)) (
             elim (cases_lt (entry (join j) q) (entry (time_at times j) q)) [
               | inl less ↦
-                  let e : entry (joined (join j) (time_at times j)) q ≡ entry (time_at times j) q = omega (arith, entry-joined (join j) (time_at times j) q) in
+                  let e : entry (joined (join j) (time_at times j)) q ≡ entry (time_at times j) q = omega (
+                    arith,
+                    entry-joined (join j)
+                        (time_at times j) q,
+                  ) in
                   subst P (sym e) (some j (omega arith) holds)
               | inr most ↦
                   let e : entry (joined (join j) (time_at times j)) q ≡ entry (join j) q = omega (arith, entry-joined (join j) (time_at times j) q) in

@@ -12,3 +12,4 @@ pub mod Racing
 pub mod Prefixes
 pub mod Computing
 pub mod Deciding
+pub mod Present
