@@ -1,26 +1,25 @@
 -- The time of a node, a lock and a barrier, as of a position: where it is taken from, when it stands still, and that it knows
 -- of no interval that is open there.
-use Rattle.std.proofs.Common.{◌≡◌, ℕ, zero, suc, ◌+◌, ◌<◌, ◌≤◌, ◌⊎◌, true, false, List, length, inl, inr, refl, sym, subst, ap, ◌∙◌, arith}
+use Rattle.std.proofs.Common.{◌≡◌, ℕ, zero, suc, ◌+◌, ◌<◌, ◌≤◌, ◌⊎◌, true, false, List, length, inl, inr, refl, sym, ap, ◌∙◌, arith}
 use Rattle.std.proofs.lemmas.Bool.{cases_Bool, cases_eq, cases_lt, cond-false, false≢true}
 use Rattle.lrc_trace.specs.declared.act.Act.{Act}
 use Rattle.lrc_trace.specs.declared.act.Deed.{Deed}
 use Rattle.lrc_trace.specs.declared.act.Deed.TheVariants.{Release, Arrive, Depart}
-use Rattle.lrc_trace.specs.Run.{Does, is_arrive, is_depart, arrives_before, departs_before}
+use Rattle.lrc_trace.specs.Run.{Does, is_arrive, is_depart, arrives_before}
 use Rattle.lrc_trace.specs.Interval.{closes, interval_at}
 use Rattle.lrc_trace.specs.Synchronization.{IsWellSynchronized, WaitsAtBarriers}
 use Rattle.lrc_trace.proofs.Positions.{Does-within}
 use Rattle.lrc_trace.proofs.HappensBefore.{Reaches-forward}
-use Rattle.lrc_trace.proofs.Intervals.{count_of-rises, count_of-more, never_fall, numbered_arrive, numbered_depart}
+use Rattle.lrc_trace.proofs.Intervals.{count_of-rises, count_of-more, numbered_arrive, numbered_depart}
 use Rattle.lrc_time.specs.Time.{zeros, entry, Covers, joined}
-use Rattle.lrc_time.proofs.Times.{entry-joined, covers-trans, covers-antisym}
-use Rattle.lrc_clock.specs.Times.{time_at, last_time, joined_times, acts_at, releases_at, arrives_at, time_before, released_time, arrived_time}
+use Rattle.lrc_time.proofs.Times.{entry-joined, covers-trans}
+use Rattle.lrc_clock.specs.Times.{time_at, acts_at, releases_at, arrives_at, time_before, released_time, arrived_time}
 use Rattle.lrc_clock.specs.Keeping.{KeepsTime}
 use Rattle.lrc_clock.specs.Cover.{ClosesAt, IsClosedBefore, IsClosedAtArrive}
 use Rattle.lrc_clock.proofs.Passing.{acts_at-true, acts_at-act, releases_at-true, releases_at-act, arrives_at-act}
-use Rattle.lrc_clock.proofs.Lasting.{last-is, last-stays, last-entry, join-entry, join-least}
+use Rattle.lrc_clock.proofs.Lasting.{last-is, last-stays, last-entry, join-entry}
 use Rattle.lrc_clock.proofs.Counting.{own_entry, entry_bound, entry_before_bound}
 use Rattle.lrc_clock.proofs.Covering.{sound, closing-entry, sound-before, complete-before, program-covers}
-use Rattle.lrc_clock.proofs.Ordering.{next_interval}
 use Rattle.lrc_clock.proofs.Learning.{sound-arrived, complete-arrived, arrived-covers, arrived-least}
 
 -- a closing act is no depart
