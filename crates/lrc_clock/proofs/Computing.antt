@@ -1,5 +1,5 @@
 -- What the call that computes times reads and joins.
-use Rattle.std.proofs.Common.{◌≡◌, ℕ, ◌+◌, ◌<◌, ◌≤◌, Bool, true, false, List, [], ◌∷◌, ◌++◌, length, get_or, take, inl, inr, refl, sym, ap, ◌∙◌, arith, add-one}
+use Rattle.std.proofs.Common.{◌≡◌, ℕ, ◌+◌, ◌<◌, ◌≤◌, true, false, List, [], ◌∷◌, ◌++◌, length, get_or, take, inl, inr, refl, ap, ◌∙◌, arith, add-one}
 use Rattle.std.proofs.lemmas.Bool.{cases_Bool, cond-true, cond-false, true≢false, false≢true}
 use Rattle.std.proofs.lemmas.List.{get_or_default, length-take-le, take_more}
 use Rattle.std.proofs.lemmas.List.Sums.{count_by-le-length}
@@ -19,7 +19,7 @@ use Rattle.lrc_clock.specs.Times.{time_at, releases_at, arrives_at, time_before,
 use Rattle.lrc_clock.specs.Keeping.{KeepsTime, next_time}
 use Rattle.lrc_clock.proofs.Passing.{releases_at-act, arrives_at-true, arrives_at-act}
 use Rattle.lrc_clock.proofs.Lasting.{last-length, join-length}
-use Rattle.lrc_clock.proofs.Rules.{long, long-before}
+use Rattle.lrc_clock.proofs.Rules.{long}
 use Rattle.lrc_clock.proofs.Counting.{own_entry_before}
 use Rattle.lrc_clock.proofs.Prefixes.{keeps-more}
 
@@ -36,10 +36,12 @@ module _ {nodes : ℕ} {run : List Act} {times : List (List ℕ)} (keeps : Keeps
       ap length (is ∙ get_or_default times position time [] (omega arith)) ∙ long keeps position a.node a.deed does
 
   pub arrived-length : (number j : ℕ) → length (arrived_time nodes run times number j) ≡ nodes
-  arrived-length number j = join-length nodes (arrives_at run number) times j (λ i lt holds. let (p, does, same) = arrives_at-act run i number holds in long keeps i p Arrive does)
+  arrived-length number j = join-length nodes (arrives_at run number) times j
+      (λ i lt holds. let (p, does, same) = arrives_at-act run i number holds in long keeps i p Arrive does)
 
   pub released-length : (l j : ℕ) → length (released_time nodes run times l j) ≡ nodes
-  released-length l j = last-length nodes (releases_at run l) times j (λ i lt holds. let (p, does) = releases_at-act run i l holds in long keeps i p (Release l) does)
+  released-length l j = last-length nodes (releases_at run l) times j
+      (λ i lt holds. let (p, does) = releases_at-act run i l holds in long keeps i p (Release l) does)
 
   -- a node's own entry is at most the number of acts
   pub own-few : (node : ℕ) → entry (time_before nodes run times node (length run)) node ≤ length run
@@ -51,27 +53,33 @@ module _ {nodes : ℕ} {run : List Act} {times : List (List ℕ)} (keeps : Keeps
 
 -- the join of a barrier, one position further
 module _ (nodes : ℕ) (run : List Act) (times : List (List ℕ)) (number position node : ℕ) where
-  pub arrived-here : Does run position node Arrive → arrives_before run node position ≡ number → arrived_time nodes run times number (position + 1) ≡ joined (arrived_time nodes run times number position) (time_at times position)
+  pub arrived-here : Does run position node Arrive → arrives_before run node position ≡ number
+      → arrived_time nodes run times number (position + 1) ≡ joined (arrived_time nodes run times number position) (time_at times position)
   arrived-here h same =
       ap (λ j. arrived_time nodes run times number j) (add-one position)
-      ∙ cond-true (arrives_at run number position) (joined (arrived_time nodes run times number position) (time_at times position)) (arrived_time nodes run times number position) (arrives_at-true run position node number h same)
+      ∙ cond-true (arrives_at run number position) (joined (arrived_time nodes run times number position) (time_at times position))
+      (arrived_time nodes run times number position) (arrives_at-true run position node number h same)
 
-  pub arrived-other : (deed : Deed) → Does run position node deed → (deed ≡ Arrive → arrives_before run node position ≡ number → ⊥) → arrived_time nodes run times number (position + 1) ≡ arrived_time nodes run times number position
+  pub arrived-other : (deed : Deed) → Does run position node deed → (deed ≡ Arrive → arrives_before run node position ≡ number → ⊥)
+      → arrived_time nodes run times number (position + 1) ≡ arrived_time nodes run times number position
   arrived-other deed h other =
       ap (λ j. arrived_time nodes run times number j) (add-one position)
       ∙ elim (cases_Bool (arrives_at run number position)) [
-        | inr fails ↦ cond-false (arrives_at run number position) (joined (arrived_time nodes run times number position) (time_at times position)) (arrived_time nodes run times number position) fails
+        | inr fails ↦ cond-false (arrives_at run number position) (joined (arrived_time nodes run times number position) (time_at times position))
+            (arrived_time nodes run times number position) fails
         | inl holds ↦
             let (p, does, same) = arrives_at-act run position number holds in
             absurd (other (Does-one_deed h does) (ap (λ q. arrives_before run q position) (Does-one_node h does) ∙ same))
       ]
 
 -- a first break is a break
-pub fault-breaks : {nodes : ℕ} {run : List Act} (first : Option ℕ) → MatchOption first (IsWellSynchronized nodes run) (IsFirstBreak nodes run) → true ≡ is_some first → IsWellSynchronized nodes run → ⊥
+pub fault-breaks : {nodes : ℕ} {run : List Act} (first : Option ℕ) → MatchOption first (IsWellSynchronized nodes run) (IsFirstBreak nodes run)
+    → true ≡ is_some first → IsWellSynchronized nodes run → ⊥
 fault-breaks {nodes} {run} (Some p) first is ws = (no_break nodes run).1 ws p first.broken
 fault-breaks None first is ws = absurd (true≢false is)
 
-pub no_fault : {nodes : ℕ} {run : List Act} (first : Option ℕ) → MatchOption first (IsWellSynchronized nodes run) (IsFirstBreak nodes run) → false ≡ is_some first → IsWellSynchronized nodes run
+pub no_fault : {nodes : ℕ} {run : List Act} (first : Option ℕ) → MatchOption first (IsWellSynchronized nodes run) (IsFirstBreak nodes run)
+    → false ≡ is_some first → IsWellSynchronized nodes run
 no_fault None first is = first
 no_fault (Some p) first is = absurd (false≢true is)
 
@@ -88,8 +96,12 @@ keeps-none nodes = record {
 }
 
 -- an act more is timed
-pub keeps-step : (nodes : ℕ) (run : List Act) (times seen all : List (List ℕ)) (position : ℕ) (d : Act) (time : List ℕ) → position < length run → (get_or run position d).node < nodes → KeepsTime nodes (take position run) times → seen ≡ times → time ≡ next_time nodes (take position run) seen (get_or run position d).node (get_or run position d).deed → all ≡ times ++ time ∷ [] → KeepsTime nodes (take (position + 1) run) all
+pub keeps-step : (nodes : ℕ) (run : List Act) (times seen all : List (List ℕ)) (position : ℕ) (d : Act) (time : List ℕ) → position < length run
+    → (get_or run position d).node < nodes → KeepsTime nodes (take position run) times → seen ≡ times
+    → time ≡ next_time nodes (take position run) seen (get_or run position d).node (get_or run position d).deed → all ≡ times ++ time ∷ []
+    → KeepsTime nodes (take (position + 1) run) all
 keeps-step nodes run times seen all position d time lt in_range keeps same is grown =
     let act = get_or run position d in
-    let is' : time ≡ next_time nodes (take position run) times act.node act.deed = is ∙ ap (λ ts. next_time nodes (take position run) ts act.node act.deed) same in
+    let is' : time ≡ next_time nodes (take position run) times act.node act.deed = is
+    ∙ ap (λ ts. next_time nodes (take position run) ts act.node act.deed) same in
     rw (take_more run position d lt, grown) (keeps-more nodes (take position run) times act time keeps in_range is')

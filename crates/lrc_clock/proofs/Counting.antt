@@ -1,13 +1,12 @@
 -- The own entry of a node's time is the number of its closing acts, and no time has more of a node.
-use Rattle.std.proofs.Common.{◌≡◌, ℕ, zero, suc, add-one, ◌+◌, ◌<◌, ◌≤◌, Bool, true, false, List, length, take, inl, inr, refl, sym, subst, ap, ◌∙◌, arith}
+use Rattle.std.proofs.Common.{◌≡◌, ℕ, zero, suc, add-one, ◌+◌, ◌<◌, ◌≤◌, List, length, take, inl, inr, sym, subst, ap, ◌∙◌, arith}
 use Rattle.std.proofs.lemmas.Bool.{cases_Bool, cases_eq, cond-true, cond-false, both_ways}
 use Rattle.lrc_trace.specs.declared.act.Act.{Act}
 use Rattle.lrc_trace.specs.declared.act.Deed.{Deed}
 use Rattle.lrc_trace.specs.Run.{Does, count_of}
-use Rattle.lrc_trace.specs.Order.{Precedes}
 use Rattle.lrc_trace.specs.Interval.{closes, interval_at}
 use Rattle.lrc_trace.proofs.Positions.{Does-node, Does-within}
-use Rattle.lrc_trace.proofs.HappensBefore.{Precedes-forward, Precedes-within}
+use Rattle.lrc_trace.proofs.HappensBefore.{Precedes-forward}
 use Rattle.lrc_trace.proofs.Intervals.{act_at, count_of-rises, count_of-more, count_of-same}
 use Rattle.lrc_time.specs.Time.{entry}
 use Rattle.lrc_time.proofs.Times.{entry-zeros}
@@ -21,10 +20,12 @@ abbrev pub closed_before : List Act → ℕ → ℕ → ℕ
 closed_before run node j = count_of closes node (take j run)
 
 -- the node's own entry before a position, where it is right at each position of its own
-own_before : (nodes : ℕ) (run : List Act) (times : List (List ℕ)) (node j : ℕ) → j ≤ length run → ((i : ℕ) (d : Deed) → i < j → Does run i node d → entry (time_at times i) node ≡ closed_before run node (i + 1)) → entry (time_before nodes run times node j) node ≡ closed_before run node j
+own_before : (nodes : ℕ) (run : List Act) (times : List (List ℕ)) (node j : ℕ) → j ≤ length run → ((i : ℕ) (d : Deed) → i < j → Does run i node d
+    → entry (time_at times i) node ≡ closed_before run node (i + 1)) → entry (time_before nodes run times node j) node ≡ closed_before run node j
 own_before nodes run times node zero within each = entry-zeros nodes node
 own_before nodes run times node (suc j) within each =
-    let old : entry (time_before nodes run times node j) node ≡ closed_before run node j = own_before nodes run times node j (omega arith) (λ i d lt. each i d (omega arith)) in
+    let old : entry (time_before nodes run times node j) node ≡ closed_before run node j = own_before nodes run times node j (omega arith)
+    (λ i d lt. each i d (omega arith)) in
     let next : closed_before run node (j + 1) ≡ closed_before run node (suc j) = ap (λ k. closed_before run node k) (add-one j) in
     elim (cases_Bool (acts_at run node j)) [
       | inl holds ↦
@@ -34,7 +35,8 @@ own_before nodes run times node (suc j) within each =
           ∙ next
       | inr fails ↦
           let (a, does) = act_at run j (omega arith) in
-          let same = count_of-same closes run node j a.node a.deed does (λ e k. both_ways (acts_at run node j) fails (acts_at-true run j node a.deed (Does-node e does))) in
+          let same = count_of-same closes run node j a.node a.deed does
+          (λ e k. both_ways (acts_at run node j) fails (acts_at-true run j node a.deed (Does-node e does))) in
           ap (λ t. entry t node) (cond-false (acts_at run node j) (time_at times j) (time_before nodes run times node j) fails)
           ∙ old
           ∙ sym same

@@ -1,5 +1,5 @@
 -- Times rise along happens before, and an entry of a time is the last interval of that node that happens before.
-use Rattle.std.proofs.Common.{◌≡◌, ℕ, zero, suc, ◌+◌, ◌<◌, ◌≤◌, ◌⊎◌, Bool, true, false, List, length, inl, inr, refl, sym, subst, ap, ◌∙◌, arith}
+use Rattle.std.proofs.Common.{◌≡◌, ℕ, zero, suc, ◌+◌, ◌<◌, ◌≤◌, List, inl, inr, refl, sym, subst, arith}
 use Rattle.std.proofs.lemmas.Bool.{cases_Bool, cases_eq, cases_lt, cond-true, cond-false, both_ways}
 use Rattle.lrc_trace.specs.declared.act.Act.{Act}
 use Rattle.lrc_trace.specs.declared.act.Deed.{Deed}
@@ -8,19 +8,19 @@ use Rattle.lrc_trace.specs.Run.{Does, departs_before}
 use Rattle.lrc_trace.specs.Order.{Precedes, program, lock, barrier, HappensBefore, base, further, Reaches}
 use Rattle.lrc_trace.specs.Interval.{closes, interval_at}
 use Rattle.lrc_trace.specs.Synchronization.{Holds, IsWellSynchronized}
-use Rattle.lrc_trace.proofs.Positions.{Does-node, Does-within}
-use Rattle.lrc_trace.proofs.HappensBefore.{Precedes-forward, Precedes-within, within, Reaches-extends}
+use Rattle.lrc_trace.proofs.Positions.{Does-within}
+use Rattle.lrc_trace.proofs.HappensBefore.{Precedes-forward, Reaches-extends}
 use Rattle.lrc_trace.proofs.Intervals.{act_at, count_of-more}
 use Rattle.lrc_trace.proofs.Holding.{holder_alone}
-use Rattle.lrc_time.specs.Time.{entry, Covers, joined}
+use Rattle.lrc_time.specs.Time.{entry, Covers}
 use Rattle.lrc_time.proofs.Times.{covers-refl, covers-trans, covers-joined_second}
 use Rattle.lrc_clock.specs.Times.{time_at, acts_at, releases_at, arrives_at, time_before, stamp_at, released_time, arrived_time}
 use Rattle.lrc_clock.specs.Keeping.{KeepsTime}
 use Rattle.lrc_clock.specs.Cover.{ClosesAt, IsClosedBy, IsClosedBefore}
 use Rattle.lrc_clock.proofs.Passing.{acts_at-true, acts_at-act, releases_at-true, releases_at-act, arrives_at-true}
 use Rattle.lrc_clock.proofs.Lasting.{last-stays, join-covers}
-use Rattle.lrc_clock.proofs.Rules.{stamp-own, stamp-other, stamp-covers, before-entry, at-entry, at-covers_before}
-use Rattle.lrc_clock.proofs.Counting.{closed_before, own_entry, own_entry_before}
+use Rattle.lrc_clock.proofs.Rules.{stamp-own, stamp-other, before-entry, at-entry, at-covers_before}
+use Rattle.lrc_clock.proofs.Counting.{own_entry, own_entry_before}
 
 module _ {nodes : ℕ} {run : List Act} {times : List (List ℕ)} (keeps : KeepsTime nodes run times) where
   -- a node's time before a position covers that at each position of its own before
@@ -51,7 +51,8 @@ module _ {nodes : ℕ} {run : List Act} {times : List (List ℕ)} (keeps : Keeps
 
   pub program-covers : (i j node : ℕ) (d e : Deed) → i < j → Does run i node d → Does run j node e → Covers (time_at times j) (time_at times i)
   program-covers i j node d e lt a b =
-      covers-trans (time_at times j) (time_before nodes run times node j) (time_at times i) (at-covers_before keeps j node e b) (before-covers i j node d lt a)
+      covers-trans (time_at times j) (time_before nodes run times node j) (time_at times i) (at-covers_before keeps j node e b)
+      (before-covers i j node d lt a)
 
   acquire-covers : (j node l : ℕ) → Does run j node (Acquire l) → Covers (time_at times j) (released_time nodes run times l j)
   acquire-covers j node l h =

@@ -1,5 +1,5 @@
 -- The interval of a position by the own entry, and the cover of another node's interval.
-use Rattle.std.proofs.Common.{◌≡◌, ◌≢◌, ℕ, ◌+◌, ◌<◌, ◌≤◌, true, false, List, length, inl, inr, sym, subst, arith}
+use Rattle.std.proofs.Common.{◌≡◌, ◌≢◌, ℕ, ◌+◌, ◌≤◌, true, false, List, length, inl, inr, subst, arith}
 use Rattle.std.proofs.lemmas.Bool.{both_ways}
 use Rattle.lrc_trace.specs.declared.act.Act.{Act}
 use Rattle.lrc_trace.specs.declared.act.Deed.{Deed}
@@ -38,7 +38,8 @@ module _ {nodes : ℕ} {run : List Act} {times : List (List ℕ)} (keeps : Keeps
       let bound = entry_before_bound keeps j node q in
       omega arith
 
-  pub other_sound : (j node : ℕ) (deed : Deed) (q k : ℕ) → Does run j node deed → q ≢ node → 1 ≤ k → k ≤ entry (time_at times j) q → (i : ℕ) × ClosesAt run q k i × HappensBefore run i j
+  pub other_sound : (j node : ℕ) (deed : Deed) (q k : ℕ) → Does run j node deed → q ≢ node → 1 ≤ k → k ≤ entry (time_at times j) q
+      → (i : ℕ) × ClosesAt run q k i × HappensBefore run i j
   other_sound j node deed q k h apart some known =
       let (c, closer, reaches) = sound keeps j node deed q k h some known in
       elim reaches [

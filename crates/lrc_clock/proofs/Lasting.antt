@@ -1,8 +1,8 @@
 -- The last of the times that pass, and the join of them, from one position to the next.
-use Rattle.std.proofs.Common.{◌≡◌, ℕ, zero, suc, add-one, ◌+◌, ◌<◌, ◌≤◌, ◌⊎◌, max, Bool, true, false, List, length, inl, inr, refl, sym, subst, ap, ◌∙◌, arith}
+use Rattle.std.proofs.Common.{◌≡◌, ℕ, zero, suc, add-one, ◌+◌, ◌<◌, ◌≤◌, ◌⊎◌, Bool, true, false, List, length, inl, inr, refl, sym, subst, ap, ◌∙◌, arith}
 use Rattle.std.proofs.lemmas.Bool.{cases_Bool, cases_eq, cases_lt, cond-true, cond-false}
 use Rattle.lrc_time.specs.Time.{zeros, entry, Covers, joined}
-use Rattle.lrc_time.proofs.Times.{length-zeros, length-joined, entry-zeros, entry-joined, covers-refl, covers-trans, covers-zeros, covers-joined_first, covers-joined_second, covers-joined_least}
+use Rattle.lrc_time.proofs.Times.{length-zeros, length-joined, entry-zeros, entry-joined, covers-trans, covers-joined_first, covers-joined_second}
 use Rattle.lrc_clock.specs.Times.{time_at, last_time, joined_times}
 
 module _ (nodes : ℕ) (passes : ℕ → Bool) (times : List (List ℕ)) where
@@ -88,20 +88,25 @@ module _ (nodes : ℕ) (passes : ℕ → Bool) (times : List (List ℕ)) where
   -- an entry of the join is that of zeros, or of a time that passes
   pub join-entry : (P : ℕ → Type 0) (q j : ℕ) → P 0 → ((i : ℕ) → i < j → passes i ≡ true → P (entry (time_at times i) q)) → P (entry (join j) q)
   join-entry P q zero none some = subst P (sym (entry-zeros nodes q)) none
-  join-entry P q (suc j) none some = let before : P (entry (join j) q) = join-entry P q j none (λ i lt. some i (omega arith)) in elim (cases_Bool (passes j)) [
-    | inr fails ↦ subst (λ t. P (entry t q)) (sym (join-not_here j fails)) before
-    | inl holds ↦
-        subst (λ t. P (entry t q)) (sym (join-here j holds)) (
-        elim (cases_lt (entry (join j) q) (entry (time_at times j) q)) [
-          | inl less ↦
-              let e : entry (joined (join j) (time_at times j)) q ≡ entry (time_at times j) q = omega (arith, entry-joined (join j) (time_at times j) q) in
-              subst P (sym e) (some j (omega arith) holds)
-          | inr most ↦
-              let e : entry (joined (join j) (time_at times j)) q ≡ entry (join j) q = omega (arith, entry-joined (join j) (time_at times j) q) in
-              subst P (sym e) before
-        ]
-        )
-  ]
+  join-entry P q (suc j) none some = let before : P (entry (join j) q) = join-entry P q j none
+      (λ i lt. some i (omega arith)) in elim (cases_Bool (passes j)) [
+        | inr fails ↦ subst (λ t. P (entry t q)) (sym (join-not_here j fails)) before
+        | inl holds ↦
+            subst (λ t. P (entry t q)) (sym (join-here j holds)) (
+            elim (cases_lt (entry (join j) q) (entry (time_at times j) q)) [
+              | inl less ↦
+                  let e : entry (joined (join j) (time_at times j)) q ≡ entry (time_at times j) q = omega (
+                    arith,
+                    entry-joined (join j)
+                        (time_at times j) q,
+                  ) in
+                  subst P (sym e) (some j (omega arith) holds)
+              | inr most ↦
+                  let e : entry (joined (join j) (time_at times j)) q ≡ entry (join j) q = omega (arith, entry-joined (join j) (time_at times j) q) in
+                  subst P (sym e) before
+            ]
+            )
+      ]
 
   pub join-length : (j : ℕ) → ((i : ℕ) → i < j → passes i ≡ true → length (time_at times i) ≡ nodes) → length (join j) ≡ nodes
   join-length zero all = length-zeros nodes

@@ -1,7 +1,6 @@
 -- What the last release of a lock, and the arrives of an episode, hand on.
 use Rattle.std.proofs.Common.{◌≡◌, ℕ, ◌<◌, ◌≤◌, List, arith}
 use Rattle.lrc_trace.specs.declared.act.Act.{Act}
-use Rattle.lrc_trace.specs.declared.act.Deed.{Deed}
 use Rattle.lrc_trace.specs.declared.act.Deed.TheVariants.{Release, Arrive}
 use Rattle.lrc_trace.specs.Run.{Does, arrives_before}
 use Rattle.lrc_trace.specs.Synchronization.{IsWellSynchronized}
@@ -39,11 +38,14 @@ module _ {nodes : ℕ} {run : List Act} {times : List (List ℕ)} (keeps : Keeps
       })
 
   -- the join of an episode covers each arrive's time, and is the least that does
-  pub arrived-covers : (i j p number : ℕ) → i < j → Does run i p Arrive → arrives_before run p i ≡ number → Covers (arrived_time nodes run times number j) (time_at times i)
+  pub arrived-covers : (i j p number : ℕ) → i < j → Does run i p Arrive → arrives_before run p i ≡ number
+      → Covers (arrived_time nodes run times number j) (time_at times i)
   arrived-covers i j p number lt h same = join-covers nodes (arrives_at run number) times i j lt (arrives_at-true run i p number h same)
 
-  pub arrived-least : (u : List ℕ) (j number : ℕ) → ((i p : ℕ) → i < j → Does run i p Arrive → arrives_before run p i ≡ number → Covers u (time_at times i)) → Covers u (arrived_time nodes run times number j)
-  arrived-least u j number all = join-least nodes (arrives_at run number) times u j (λ i lt holds. let (p, does, same) = arrives_at-act run i number holds in all i p lt does same)
+  pub arrived-least : (u : List ℕ) (j number : ℕ) → ((i p : ℕ) → i < j → Does run i p Arrive → arrives_before run p i ≡ number
+      → Covers u (time_at times i)) → Covers u (arrived_time nodes run times number j)
+  arrived-least u j number all = join-least nodes (arrives_at run number) times u j
+      (λ i lt holds. let (p, does, same) = arrives_at-act run i number holds in all i p lt does same)
 
   module _ (ws : IsWellSynchronized nodes run) where
     pub complete-released : (j l q k : ℕ) → IsClosedAtRelease run q k l j → k ≤ entry (released_time nodes run times l j) q

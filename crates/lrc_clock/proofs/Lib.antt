@@ -11,3 +11,5 @@ pub mod Epochs
 pub mod Racing
 pub mod Prefixes
 pub mod Computing
+pub mod Deciding
+pub mod Present

@@ -1,6 +1,5 @@
 -- An act happens before one of another node exactly where the other's time covers its interval.
-use Rattle.std.proofs.Common.{◌≡◌, ℕ, ◌+◌, ◌-◌, ◌<◌, ◌≤◌, ◌⊎◌, true, List, length, inl, inr, refl, sym, subst, ap, ◌∙◌, arith}
-use Rattle.std.specs.Prelude.{◌↔◌}
+use Rattle.std.proofs.Common.{◌≡◌, ℕ, ◌+◌, ◌<◌, ◌≤◌, ◌⊎◌, true, List, inl, inr, refl, subst, arith}
 use Rattle.std.proofs.lemmas.Bool.{cases_eq, cases_lt}
 use Rattle.lrc_trace.specs.declared.act.Act.{Act}
 use Rattle.lrc_trace.specs.declared.act.Deed.{Deed}
@@ -10,7 +9,7 @@ use Rattle.lrc_trace.specs.Order.{Precedes, program, lock, barrier, HappensBefor
 use Rattle.lrc_trace.specs.Interval.{closes, interval_at}
 use Rattle.lrc_trace.specs.Synchronization.{IsWellSynchronized}
 use Rattle.lrc_trace.proofs.Positions.{Does-node, Does-one_node, Does-within}
-use Rattle.lrc_trace.proofs.HappensBefore.{transitive, Reaches-extends}
+use Rattle.lrc_trace.proofs.HappensBefore.{Reaches-extends}
 use Rattle.lrc_trace.proofs.Intervals.{count_of-more, never_fall, closed_between}
 use Rattle.lrc_time.specs.Time.{entry}
 use Rattle.lrc_clock.specs.Times.{time_at}
@@ -53,12 +52,14 @@ module _ (run : List Act) where
       ]
 
   -- where a closing act of the node stands from i on, i's interval is closed there or before
-  pub closer_from : (i m node : ℕ) (e : Deed) → i ≤ m → Does run m node e → closes e ≡ true → (c : ℕ) × (i ≤ c) × (c ≤ m) × ClosesAt run node (interval_at run node i) c
+  pub closer_from : (i m node : ℕ) (e : Deed) → i ≤ m → Does run m node e → closes e ≡ true
+      → (c : ℕ) × (i ≤ c) × (c ≤ m) × ClosesAt run node (interval_at run node i) c
   closer_from i m node e le h closing =
       let within = Does-within h in
       let more = count_of-more closes run node m e h closing in
       let rise = never_fall run node i m le in
-      let (c, least, most, (d, does, ends, index)) = closed_between run node i (m + 1) (interval_at run node i) (omega arith) (omega arith) (omega arith) (omega arith) in
+      let (c, least, most, (d, does, ends, index)) = closed_between run node i (m + 1) (interval_at run node i) (omega arith) (omega arith) (omega arith)
+      (omega arith) in
       (c, least, omega arith, record { deed = d; does = does; closing = ends; interval = index })
 
   -- a node's own acts reach its later ones
@@ -113,10 +114,12 @@ module _ (run : List Act) where
     through_closer c j closer h = Reaches-extends run (own_reaches i c p d closer.deed (before_closer c closer) first closer.does) h
 
 module _ {nodes : ℕ} {run : List Act} {times : List (List ℕ)} (keeps : KeepsTime nodes run times) (ws : IsWellSynchronized nodes run) where
-  pub order_to_cover : (i j p q : ℕ) (d e : Deed) → (p ≡ q → ⊥) → Does run i p d → Does run j q e → HappensBefore run i j → interval_at run p i ≤ entry (time_at times j) p
+  pub order_to_cover : (i j p q : ℕ) (d e : Deed) → (p ≡ q → ⊥) → Does run i p d → Does run j q e → HappensBefore run i j
+      → interval_at run p i ≤ entry (time_at times j) p
   order_to_cover i j p q d e apart first second h = complete keeps ws j p (interval_at run p i) (crossing run i p d first j q e second apart h)
 
-  pub cover_to_order : (i j p q : ℕ) (d e : Deed) → (p ≡ q → ⊥) → Does run i p d → Does run j q e → interval_at run p i ≤ entry (time_at times j) p → HappensBefore run i j
+  pub cover_to_order : (i j p q : ℕ) (d e : Deed) → (p ≡ q → ⊥) → Does run i p d → Does run j q e → interval_at run p i ≤ entry (time_at times j) p
+      → HappensBefore run i j
   cover_to_order i j p q d e apart first second known =
       let (c, closer, reaches) = sound keeps j q e p (interval_at run p i) second (omega arith) known in
       elim reaches [

@@ -1,7 +1,7 @@
 -- Which positions pass: where a node acts, where a lock is released, and where nodes arrive with a number.
-use Rattle.std.proofs.Common.{◌≡◌, ℕ, ◌<◌, ◌&&◌, Bool, true, false, List, refl, sym, ap, ◌∙◌, eq-eqb}
+use Rattle.std.proofs.Common.{◌≡◌, ℕ, ◌&&◌, Bool, true, List, refl, sym, ap, ◌∙◌, eq-eqb}
 use Rattle.std.specs.Prelude.{◌==◌, Option, Some, None, slice_get}
-use Rattle.std.proofs.lemmas.Bool.{eqb-true, and_parts, and_from, false≢true}
+use Rattle.std.proofs.lemmas.Bool.{eqb-true, and_parts, false≢true}
 use Rattle.lrc_trace.specs.declared.act.Act.{Act}
 use Rattle.lrc_trace.specs.declared.act.Deed.{Deed}
 use Rattle.lrc_trace.specs.declared.act.Deed.TheVariants.{Release, Arrive}
@@ -10,10 +10,12 @@ use Rattle.lrc_trace.proofs.Positions.{Does-node, Does-deed}
 use Rattle.lrc_clock.specs.Times.{is_act, is_release, acts_at, releases_at, arrives_at}
 
 -- the act that stands there decides
-pub at_act : (run : List Act) (passes : Act → Bool) (k node : ℕ) (deed : Deed) → Does run k node deed → is_act passes (slice_get run k) ≡ passes (act_of node deed)
+pub at_act : (run : List Act) (passes : Act → Bool) (k node : ℕ) (deed : Deed) → Does run k node deed
+    → is_act passes (slice_get run k) ≡ passes (act_of node deed)
 at_act run passes k node deed h = ap (is_act passes) h.stands
 
-pub act_of_passing : (run : List Act) (passes : Act → Bool) (k : ℕ) → is_act passes (slice_get run k) ≡ true → (a : Act) × Does run k a.node a.deed × (passes a ≡ true)
+pub act_of_passing : (run : List Act) (passes : Act → Bool) (k : ℕ) → is_act passes (slice_get run k) ≡ true
+    → (a : Act) × Does run k a.node a.deed × (passes a ≡ true)
 act_of_passing run passes k h = go (slice_get run k) refl
   where
     go : (o : Option Act) → slice_get run k ≡ o → (a : Act) × Does run k a.node a.deed × (passes a ≡ true)

@@ -9,7 +9,7 @@ use Rattle.lrc_trace.specs.declared.race.Race.{Race}
 use Rattle.lrc_trace.specs.Run.{Does}
 use Rattle.lrc_trace.specs.Order.{HappensBefore}
 use Rattle.lrc_trace.specs.Conflict.{Writes, Accesses, ConflictAt, Races}
-use Rattle.lrc_trace.specs.Interval.{interval_at, Names, IsNamedRace}
+use Rattle.lrc_trace.specs.Interval.{interval_at, IsNamedRace}
 use Rattle.lrc_trace.specs.Synchronization.{IsWellSynchronized, WaitsAtBarriers}
 use Rattle.lrc_trace.proofs.Positions.{Does-one_node}
 use Rattle.lrc_trace.proofs.HappensBefore.{forward}
@@ -18,7 +18,7 @@ use Rattle.lrc_time.specs.Time.{entry}
 use Rattle.lrc_time.proofs.Times.{entry-set_other}
 use Rattle.lrc_clock.specs.Times.{time_at, raised, stamp_at}
 use Rattle.lrc_clock.specs.Keeping.{KeepsTime, leaves_time}
-use Rattle.lrc_clock.specs.Races.{AreUnknown, NamesUnknown, WritesIn, AccessesIn, IsSegment, IsRaceOfSegments}
+use Rattle.lrc_clock.specs.Races.{AreUnknown, NamesUnknown, IsSegment, IsRaceOfSegments}
 use Rattle.lrc_clock.proofs.Ordering.{order_to_cover, cover_to_order}
 use Rattle.lrc_clock.proofs.Epochs.{same_interval_same_time, stamp_of_interval}
 
@@ -35,8 +35,7 @@ module _ {nodes : ℕ} {run : List Act} {times : List (List ℕ)} (keeps : Keeps
     pub unknown_unordered : AreUnknown run times i p j q → (HappensBefore run i j → ⊥) × (HappensBefore run j i → ⊥)
     unknown_unordered unknown =
         let (d, a, still) = access-does first in
-        let (e, b, still') = access-does second in
-        (
+        let (e, b, still') = access-does second in (
           λ h. let known = order_to_cover keeps ws i j p q d e apart a b h in let lt = unknown.first in omega arith,
           λ h. let known = order_to_cover keeps ws j i q p e d (λ same. apart (sym same)) b a h in let lt = unknown.second in omega arith,
         )
@@ -61,7 +60,8 @@ module _ {nodes : ℕ} {run : List Act} {times : List (List ℕ)} (keeps : Keeps
   races-unordered i j (inl r) = (r.unordered, λ h. let lt = forward h in let lt' = r.earlier in omega arith)
   races-unordered i j (inr r) = (λ h. let lt = forward h in let lt' = r.earlier in omega arith, r.unordered)
 
-  unordered-races : (i p j q word : ℕ) → ConflictAt run i p j q word → (HappensBefore run i j → ⊥) × (HappensBefore run j i → ⊥) → Races run i j ⊎ Races run j i
+  unordered-races : (i p j q word : ℕ) → ConflictAt run i p j q word → (HappensBefore run i j → ⊥) × (HappensBefore run j i → ⊥)
+      → Races run i j ⊎ Races run j i
   unordered-races i p j q word c (not_before, not_after) =
       elim (cases_eq i j) [
         | inl same ↦
@@ -77,8 +77,7 @@ module _ {nodes : ℕ} {run : List Act} {times : List (List ℕ)} (keeps : Keeps
 
   pub named_unknown : (race : Race) → IsNamedRace run race → (i : ℕ) × (j : ℕ) × NamesUnknown run times race i j
   named_unknown race (i, j, n) =
-      let c = n.conflict in
-      (
+      let c = n.conflict in (
         i,
         j,
         record {
@@ -92,14 +91,14 @@ module _ {nodes : ℕ} {run : List Act} {times : List (List ℕ)} (keeps : Keeps
 
   pub unknown_named : (race : Race) → (i : ℕ) × (j : ℕ) × NamesUnknown run times race i j → IsNamedRace run race
   unknown_named race (i, j, n) =
-      let c = n.conflict in
-      (
+      let c = n.conflict in (
         i,
         j,
         record {
           ascending = n.ascending;
           conflict = c;
-          races = unordered-races i race.node_a j race.node_b race.word c (unknown_unordered i race.node_a j race.node_b race.word race.word c.apart c.first c.second n.unknown);
+          races = unordered-races i race.node_a j race.node_b race.word c
+              (unknown_unordered i race.node_a j race.node_b race.word race.word c.apart c.first c.second n.unknown);
           interval_a = n.interval_a;
           interval_b = n.interval_b;
         },
@@ -137,17 +136,19 @@ module _ {nodes : ℕ} {run : List Act} {times : List (List ℕ)} (keeps : Keeps
 
   module _ (waits : WaitsAtBarriers run) where
     -- the time of a segment is that at each access of its interval, with the own entry one greater
-    pub segment_time : (node index i word : ℕ) (time : List ℕ) → IsSegment run times node index time → Accesses run i node word → interval_at run node i ≡ index → time ≡ raised (time_at times i) node
+    pub segment_time : (node index i word : ℕ) (time : List ℕ) → IsSegment run times node index time → Accesses run i node word
+        → interval_at run node i ≡ index → time ≡ raised (time_at times i) node
     segment_time node index i word time s a same =
         let (d, first, still) = access-does s.access in
         let (e, second, still') = access-does a in
         s.stamp ∙ ap (λ t. raised t node) (same_interval_same_time ws waits keeps s.position i node d e first still second still' (s.interval ∙ sym same))
 
     -- so the stamp of its interval decides what happens before an access
-    pub interval_order : (i j p q c : ℕ) (d e : Deed) → (p ≡ q → ⊥) → Does run i p d → Does run j q e → leaves_time e ≡ true → j < c → interval_at run q j ≡ interval_at run q c → HappensBefore run i j ↔ (interval_at run p i ≤ entry (stamp_at nodes run times q c) p)
+    pub interval_order : (i j p q c : ℕ) (d e : Deed) → (p ≡ q → ⊥) → Does run i p d → Does run j q e → leaves_time e ≡ true → j < c
+        → interval_at run q j ≡ interval_at run q c → HappensBefore run i j ↔ (interval_at run p i ≤ entry (stamp_at nodes run times q c) p)
     interval_order i j p q c d e apart first second still lt same =
-        let is : entry (stamp_at nodes run times q c) p ≡ entry (time_at times j) p = ap (λ t. entry t p) (stamp_of_interval ws waits keeps j c q e second still lt same) ∙ raised-other (time_at times j) q p apart in
-        (
+        let is : entry (stamp_at nodes run times q c) p ≡ entry (time_at times j) p = ap
+        (λ t. entry t p) (stamp_of_interval ws waits keeps j c q e second still lt same) ∙ raised-other (time_at times j) q p apart in (
           λ h. let known = order_to_cover keeps ws i j p q d e apart first second h in omega arith,
           λ known. cover_to_order keeps ws i j p q d e apart first second (omega arith),
         )
@@ -159,7 +160,9 @@ module _ {nodes : ℕ} {run : List Act} {times : List (List ℕ)} (keeps : Keeps
           | inr ((i, a, is_a), (j, w, is_b)) ↦ named i j a (inr w) (inr w) is_a is_b
         ]
       where
-        named : (i j : ℕ) → Accesses run i race.node_a race.word → Accesses run j race.node_b race.word → Writes run i race.node_a race.word ⊎ Writes run j race.node_b race.word → interval_at run race.node_a i ≡ race.interval_a → interval_at run race.node_b j ≡ race.interval_b → IsNamedRace run race
+        named : (i j : ℕ) → Accesses run i race.node_a race.word → Accesses run j race.node_b race.word
+            → Writes run i race.node_a race.word ⊎ Writes run j race.node_b race.word → interval_at run race.node_a i ≡ race.interval_a
+            → interval_at run race.node_b j ≡ race.interval_b → IsNamedRace run race
         named i j a b writes is_a is_b =
             let p = race.node_a in
             let q = race.node_b in

@@ -1,5 +1,5 @@
 -- The rule at a position: where the entries of a time come from, and what the time covers.
-use Rattle.std.proofs.Common.{◌≡◌, ◌≢◌, ℕ, zero, suc, ◌+◌, ◌<◌, ◌≤◌, max, Bool, true, false, List, length, set, inl, inr, refl, sym, subst, ap, ◌∙◌, arith, length-set}
+use Rattle.std.proofs.Common.{◌≡◌, ◌≢◌, ℕ, zero, suc, ◌+◌, ◌<◌, true, false, List, length, inl, inr, refl, sym, subst, ap, ◌∙◌, arith, length-set}
 use Rattle.std.proofs.lemmas.Bool.{cases_lt}
 use Rattle.lrc_trace.specs.declared.act.Act.{Act}
 use Rattle.lrc_trace.specs.declared.act.Deed.{Deed}
@@ -9,8 +9,8 @@ use Rattle.lrc_trace.specs.Order.{Precedes, program, lock, barrier}
 use Rattle.lrc_trace.specs.Interval.{closes}
 use Rattle.lrc_trace.proofs.Positions.{Does-deed}
 use Rattle.lrc_time.specs.Time.{entry, Covers, joined}
-use Rattle.lrc_time.proofs.Times.{entry-set_same, entry-set_other, entry-joined, length-joined, covers-refl, covers-trans, covers-raised, covers-joined_first, covers-joined_second}
-use Rattle.lrc_clock.specs.Times.{time_at, raised, acts_at, releases_at, arrives_at, time_before, stamp_at, released_time, arrived_time}
+use Rattle.lrc_time.proofs.Times.{entry-set_same, entry-set_other, entry-joined, length-joined, covers-refl, covers-trans, covers-raised, covers-joined_first}
+use Rattle.lrc_clock.specs.Times.{time_at, acts_at, releases_at, arrives_at, time_before, stamp_at, released_time, arrived_time}
 use Rattle.lrc_clock.specs.Keeping.{KeepsTime}
 use Rattle.lrc_clock.proofs.Passing.{acts_at-act, releases_at-act, arrives_at-act}
 use Rattle.lrc_clock.proofs.Lasting.{last-entry, last-length, join-entry, join-length}
@@ -46,7 +46,8 @@ module _ {nodes : ℕ} {run : List Act} {times : List (List ℕ)} (keeps : Keeps
   long_below : (n j node : ℕ) (deed : Deed) → j < n → Does run j node deed → length (time_at times j) ≡ nodes
   long_below zero j node deed lt h = absurd (omega arith)
   long_below (suc n) j node deed lt h =
-      let earlier : (i p : ℕ) (d : Deed) → i < j → Does run i p d → length (time_at times i) ≡ nodes = λ i p d less does. long_below n i p d (omega arith) does in
+      let earlier : (i p : ℕ) (d : Deed) → i < j → Does run i p d → length (time_at times i) ≡ nodes = λ i p d less does. long_below n i p d
+      (omega arith) does in
       let before : length (time_before nodes run times node j) ≡ nodes =
       last-length nodes (acts_at run node) times j (λ i less holds. let (d, does) = acts_at-act run i node holds in earlier i node d less does) in
       let stamp : length (stamp_at nodes run times node j) ≡ nodes =
@@ -56,12 +57,14 @@ module _ {nodes : ℕ} {run : List Act} {times : List (List ℕ)} (keeps : Keeps
         | raising c e ↦ ap length e ∙ stamp
         | learning l is e ↦
             let released : length (released_time nodes run times l j) ≡ nodes =
-            last-length nodes (releases_at run l) times j (λ i less holds. let (p, does) = releases_at-act run i l holds in earlier i p (Release l) less does) in
+            last-length nodes (releases_at run l) times j
+            (λ i less holds. let (p, does) = releases_at-act run i l holds in earlier i p (Release l) less does) in
             ap length e ∙ omega (arith, length-joined (stamp_at nodes run times node j) (released_time nodes run times l j), stamp, released)
         | meeting is e ↦
             let number = departs_before run node j in
             let arrived : length (arrived_time nodes run times number j) ≡ nodes =
-            join-length nodes (arrives_at run number) times j (λ i less holds. let (p, does, same) = arrives_at-act run i number holds in earlier i p Arrive less does) in
+            join-length nodes (arrives_at run number) times j
+            (λ i less holds. let (p, does, same) = arrives_at-act run i number holds in earlier i p Arrive less does) in
             ap length e ∙ omega (arith, length-joined (time_before nodes run times node j) (arrived_time nodes run times number j), before, arrived)
       ]
 
@@ -84,11 +87,14 @@ module _ {nodes : ℕ} {run : List Act} {times : List (List ℕ)} (keeps : Keeps
   stamp-covers node j = covers-raised (time_before nodes run times node j) node (entry (time_before nodes run times node j) node + 1) (omega arith)
 
   -- an entry of the node's time before a position is 0, or that at a position of its own before
-  pub before-entry : (P : ℕ → Type 0) (q node j : ℕ) → P 0 → ((i : ℕ) (d : Deed) → i < j → Does run i node d → P (entry (time_at times i) q)) → P (entry (time_before nodes run times node j) q)
-  before-entry P q node j none some = last-entry nodes (acts_at run node) times P q j none (λ i lt holds. let (d, does) = acts_at-act run i node holds in some i d lt does)
+  pub before-entry : (P : ℕ → Type 0) (q node j : ℕ) → P 0 → ((i : ℕ) (d : Deed) → i < j → Does run i node d → P (entry (time_at times i) q))
+      → P (entry (time_before nodes run times node j) q)
+  before-entry P q node j none some = last-entry nodes (acts_at run node) times P q j none
+      (λ i lt holds. let (d, does) = acts_at-act run i node holds in some i d lt does)
 
   -- an entry of the time at a position is 0, or that of the stamp of a closing act, or that at a position that comes right before
-  pub at-entry : (P : ℕ → Type 0) (q j node : ℕ) (deed : Deed) → Does run j node deed → P 0 → (closes deed ≡ true → P (entry (stamp_at nodes run times node j) q)) → ((i : ℕ) → Precedes run i j → P (entry (time_at times i) q)) → P (entry (time_at times j) q)
+  pub at-entry : (P : ℕ → Type 0) (q j node : ℕ) (deed : Deed) → Does run j node deed → P 0 → (closes deed ≡ true
+      → P (entry (stamp_at nodes run times node j) q)) → ((i : ℕ) → Precedes run i j → P (entry (time_at times i) q)) → P (entry (time_at times j) q)
   at-entry P q j node deed h none closing some =
       let before : P (entry (time_before nodes run times node j) q) = before-entry P q node j none (λ i d lt does. some i (program lt does h)) in
       elim (rule_at j node deed h) [

@@ -1,5 +1,5 @@
 -- The stamps of closed intervals: closed downward, rising, and heavier where they cover.
-use Rattle.std.proofs.Common.{◌≡◌, ◌≢◌, ℕ, ◌+◌, ◌<◌, ◌≤◌, ◌⊎◌, true, List, length, inl, inr, refl, sym, subst, ap, ◌∙◌, arith, length-set}
+use Rattle.std.proofs.Common.{◌≡◌, ◌≢◌, ℕ, ◌+◌, ◌<◌, ◌≤◌, ◌⊎◌, List, length, inl, inr, sym, subst, ap, ◌∙◌, arith, length-set}
 use Rattle.std.proofs.lemmas.Bool.{cases_eq, cases_lt}
 use Rattle.lrc_trace.specs.declared.act.Act.{Act}
 use Rattle.lrc_trace.specs.declared.act.Deed.{Deed}
@@ -13,7 +13,7 @@ use Rattle.lrc_time.specs.Time.{entry, Covers, weight_of}
 use Rattle.lrc_time.proofs.Times.{covers-trans, weight-covers_strictly}
 use Rattle.lrc_clock.specs.Times.{time_at, time_before, stamp_at}
 use Rattle.lrc_clock.specs.Keeping.{KeepsTime}
-use Rattle.lrc_clock.specs.Cover.{ClosesAt, IsClosedBy, IsClosedBefore}
+use Rattle.lrc_clock.specs.Cover.{ClosesAt, IsClosedBefore}
 use Rattle.lrc_clock.proofs.Rules.{long-before, stamp-own, stamp-other, stamp-covers, at-covers_stamp}
 use Rattle.lrc_clock.proofs.Counting.{own_entry_before, entry_before_bound, own_stamp}
 use Rattle.lrc_clock.proofs.Covering.{sound, reached-covers, sound-before, complete-before, before-covers}
@@ -36,17 +36,25 @@ module _ {nodes : ℕ} {run : List Act} {times : List (List ℕ)} (keeps : Keeps
   pub stamps_rise : (q k c j : ℕ) → ClosesAt run q k c → c < j → Covers (stamp_at nodes run times q j) (stamp_at nodes run times q c)
   stamps_rise q k c j closer lt =
       covers-trans (stamp_at nodes run times q j) (time_before nodes run times q j) (stamp_at nodes run times q c) (stamp-covers keeps q j)
-      (covers-trans (time_before nodes run times q j) (time_at times c) (stamp_at nodes run times q c) (before-covers keeps c j q closer.deed lt closer.does) (closer-covers q k c closer))
+      (covers-trans (time_before nodes run times q j) (time_at times c) (stamp_at nodes run times q c)
+      (before-covers keeps c j q closer.deed lt closer.does) (closer-covers q k c closer))
 
   module _ (ws : IsWellSynchronized nodes run) where
     -- what a time covers was closed, and the time covers its stamp: at a position,
-    pub cut_at : (j node : ℕ) (deed : Deed) (q k : ℕ) → Does run j node deed → 1 ≤ k → k ≤ entry (time_at times j) q → (c : ℕ) × ClosesAt run q k c × (c ≤ j) × Covers (time_at times j) (stamp_at nodes run times q c)
+    pub cut_at : (j node : ℕ) (deed : Deed) (q k : ℕ) → Does run j node deed → 1 ≤ k → k ≤ entry (time_at times j) q
+        → (c : ℕ) × ClosesAt run q k c × (c ≤ j) × Covers (time_at times j) (stamp_at nodes run times q c)
     cut_at j node deed q k h some known =
-        let (c, closer, reaches) = sound keeps j node deed q k h some known in
-        (c, closer, Reaches-forward run reaches, covers-trans (time_at times j) (time_at times c) (stamp_at nodes run times q c) (reached-covers keeps ws c j reaches) (closer-covers q k c closer))
+        let (c, closer, reaches) = sound keeps j node deed q k h some known in (
+          c,
+          closer,
+          Reaches-forward run reaches,
+          covers-trans (time_at times j) (time_at times c) (stamp_at nodes run times q c)
+              (reached-covers keeps ws c j reaches) (closer-covers q k c closer),
+        )
 
     -- before a position,
-    pub cut_before : (j node q k : ℕ) → 1 ≤ k → k ≤ entry (time_before nodes run times node j) q → (c : ℕ) × ClosesAt run q k c × (c < j) × Covers (time_before nodes run times node j) (stamp_at nodes run times q c)
+    pub cut_before : (j node q k : ℕ) → 1 ≤ k → k ≤ entry (time_before nodes run times node j) q
+        → (c : ℕ) × ClosesAt run q k c × (c < j) × Covers (time_before nodes run times node j) (stamp_at nodes run times q c)
     cut_before j node q k some known =
         let h : IsClosedBefore run q k node j = sound-before keeps j node q k some known in
         let (c, closer, reaches) = h.closed in
@@ -57,11 +65,13 @@ module _ {nodes : ℕ} {run : List Act} {times : List (List ℕ)} (keeps : Keeps
           omega arith,
           covers-trans (time_before nodes run times node j) (time_at times h.last) (stamp_at nodes run times q c)
               (before-covers keeps h.last j node h.deed h.earlier h.acts)
-              (covers-trans (time_at times h.last) (time_at times c) (stamp_at nodes run times q c) (reached-covers keeps ws c h.last reaches) (closer-covers q k c closer)),
+              (covers-trans (time_at times h.last) (time_at times c) (stamp_at nodes run times q c) (reached-covers keeps ws c h.last reaches)
+              (closer-covers q k c closer)),
         )
 
     -- and in a stamp, but for the interval that it is the stamp of
-    pub stamp_covers_closed : (j node q k : ℕ) → j ≤ length run → node < nodes → 1 ≤ k → k ≤ entry (stamp_at nodes run times node j) q → IsClosedBefore run q k node j ⊎ ((q ≡ node) × (k ≡ interval_at run node j))
+    pub stamp_covers_closed : (j node q k : ℕ) → j ≤ length run → node < nodes → 1 ≤ k → k ≤ entry (stamp_at nodes run times node j) q
+        → IsClosedBefore run q k node j ⊎ ((q ≡ node) × (k ≡ interval_at run node j))
     stamp_covers_closed j node q k within lt some known =
         elim (cases_eq q node) [
           | inr other ↦ let same = stamp-other keeps node j q other in inl (sound-before keeps j node q k some (omega arith))
@@ -75,7 +85,8 @@ module _ {nodes : ℕ} {run : List Act} {times : List (List ℕ)} (keeps : Keeps
               ]
         ]
 
-    pub stamp_covers_back : (j node q k : ℕ) → j ≤ length run → node < nodes → IsClosedBefore run q k node j ⊎ ((q ≡ node) × (k ≡ interval_at run node j)) → k ≤ entry (stamp_at nodes run times node j) q
+    pub stamp_covers_back : (j node q k : ℕ) → j ≤ length run → node < nodes → IsClosedBefore run q k node j ⊎ ((q ≡ node) × (k ≡ interval_at run node j))
+        → k ≤ entry (stamp_at nodes run times node j) q
     stamp_covers_back j node q k within lt (inl h) =
         let known = complete-before keeps ws j node q k h in
         let above = stamp-covers keeps node j q in
@@ -84,17 +95,26 @@ module _ {nodes : ℕ} {run : List Act} {times : List (List ℕ)} (keeps : Keeps
         let is = own_stamp keeps j node within lt in
         subst (λ p. k ≤ entry (stamp_at nodes run times node j) p) (sym own) (omega arith)
 
-    pub cut_stamp : (j node q k : ℕ) → j ≤ length run → node < nodes → 1 ≤ k → k ≤ entry (stamp_at nodes run times node j) q → ((c : ℕ) × ClosesAt run q k c × (c < j) × Covers (stamp_at nodes run times node j) (stamp_at nodes run times q c)) ⊎ ((q ≡ node) × (k ≡ interval_at run node j))
+    pub cut_stamp : (j node q k : ℕ) → j ≤ length run → node < nodes → 1 ≤ k → k ≤ entry (stamp_at nodes run times node j) q
+        → ((c : ℕ) × ClosesAt run q k c × (c < j) × Covers (stamp_at nodes run times node j) (stamp_at nodes run times q c)) ⊎ ((q ≡ node) × (k ≡ interval_at
+        run node j))
     cut_stamp j node q k within lt some known =
         elim (stamp_covers_closed j node q k within lt some known) [
           | inr own ↦ inr own
           | inl h ↦
               let (c, closer, less, above) = cut_before j node q k some (complete-before keeps ws j node q k h) in
-              inl (c, closer, less, covers-trans (stamp_at nodes run times node j) (time_before nodes run times node j) (stamp_at nodes run times q c) (stamp-covers keeps node j) above)
+              inl (
+                c,
+                closer,
+                less,
+                covers-trans (stamp_at nodes run times node j) (time_before nodes run times node j) (stamp_at nodes run times q c)
+                    (stamp-covers keeps node j) above,
+              )
         ]
 
     -- the stamp of an interval that another stamp covers lacks that other's interval, and weighs less
-    module _ (j node q k c : ℕ) (in_run : j ≤ length run) (lt : node < nodes) (closer : ClosesAt run q k c) (other : q ≡ node → k ≢ interval_at run node j) (known : k ≤ entry (stamp_at nodes run times node j) q) where
+    module _ (j node q k c : ℕ) (in_run : j ≤ length run) (lt : node < nodes) (closer : ClosesAt run q k c) (other : q ≡ node → k ≢ interval_at run node j)
+        (known : k ≤ entry (stamp_at nodes run times node j) q) where
       covered : (c < j) × Covers (stamp_at nodes run times node j) (stamp_at nodes run times q c)
       covered =
           let index = closer.interval in

@@ -4,7 +4,7 @@ use Rattle.lrc_trace.specs.declared.act.Act.{Act}
 use Rattle.lrc_trace.specs.declared.act.Deed.{Deed}
 use Rattle.lrc_trace.specs.declared.act.Deed.TheVariants.{Release, Arrive}
 use Rattle.lrc_trace.specs.Run.{Does, IsDone, arrives_before}
-use Rattle.lrc_trace.specs.Order.{HappensBefore, Reaches}
+use Rattle.lrc_trace.specs.Order.{Reaches}
 use Rattle.lrc_trace.specs.Interval.{closes, interval_at}
 
 -- at position i the node closes its interval with this index, by an acquire, a release or an arrive

@@ -2,14 +2,14 @@
 use Rattle.std.specs.Prelude.{◌≡◌, ◌≢◌, ℕ, ◌+◌, ◌<◌, ◌≤◌, ◌⊎◌, ◌↔◌, true, false, List, [], ◌∷◌, ◌++◌, length, take}
 use Rattle.lrc_trace.specs.declared.act.Act.{Act}
 use Rattle.lrc_trace.specs.declared.act.Deed.{Deed}
-use Rattle.lrc_trace.specs.declared.act.Deed.TheVariants.{Arrive}
+use Rattle.lrc_trace.specs.declared.act.Deed.TheVariants.{Release, Arrive}
 use Rattle.lrc_trace.specs.declared.race.Race.{Race}
 use Rattle.lrc_trace.specs.Run.{Does, is_depart, count_of, arrives_before, departs_before}
 use Rattle.lrc_trace.specs.Order.{HappensBefore}
 use Rattle.lrc_trace.specs.Conflict.{Accesses}
 use Rattle.lrc_trace.specs.Interval.{closes, interval_at, IsNamedRace}
 use Rattle.lrc_trace.specs.Synchronization.{IsWellSynchronized, WaitsAtBarriers}
-use Rattle.lrc_time.specs.Time.{entry, Covers, weight_of}
+use Rattle.lrc_time.specs.Time.{zeros, entry, Covers, joined, weight_of}
 use Rattle.lrc_clock.specs.Times.{time_at, raised, time_before, stamp_at, released_time, arrived_time}
 use Rattle.lrc_clock.specs.Keeping.{KeepsTime, leaves_time, next_time}
 use Rattle.lrc_clock.specs.Cover.{ClosesAt, IsClosedBy, IsClosedBefore, IsClosedAtRelease, IsClosedAtArrive}
@@ -273,3 +273,79 @@ abbrev pub KeepsByOneMore : Type 0
 KeepsByOneMore = (nodes : ℕ) (run : List Act) (times : List (List ℕ)) (act : Act) (time : List ℕ) → KeepsTime nodes run times
     → KeepsTime nodes (run ++ act ∷ []) (times ++ time ∷ [])
     ↔ ((act.node < nodes) × (time ≡ next_time nodes run times act.node act.deed))
+
+-- ---- the rule determines the times
+
+-- Every run of these nodes has times that keep time,
+abbrev pub TimesExist : Type 0
+TimesExist = (nodes : ℕ) (run : List Act) → ((j node : ℕ) (deed : Deed) → Does run j node deed → node < nodes)
+    → (times : List (List ℕ)) × KeepsTime nodes run times
+
+-- one list of them alone,
+abbrev pub TimesAreOne : Type 0
+TimesAreOne = (nodes : ℕ) (run : List Act) (times others : List (List ℕ)) → KeepsTime nodes run times → KeepsTime nodes run others → times ≡ others
+
+-- and whether a list keeps time is decided.
+abbrev pub KeepingIsDecided : Type 0
+KeepingIsDecided = (nodes : ℕ) (run : List Act) (times : List (List ℕ)) → KeepsTime nodes run times ⊎ (¬ KeepsTime nodes run times)
+
+-- ---- where the times of nodes, locks and barriers come from
+
+-- A node's time before a position is that at its last position before,
+abbrev pub BeforeIsLast : Type 0
+BeforeIsLast = (nodes : ℕ) (run : List Act) (times : List (List ℕ)) (i j node : ℕ) (deed : Deed) → i < j → Does run i node deed
+    → ((k : ℕ) (d : Deed) → i < k → k < j → ¬ Does run k node d) → time_before nodes run times node j ≡ time_at times i
+
+-- or zeros.
+abbrev pub BeforeIsZeros : Type 0
+BeforeIsZeros = (nodes : ℕ) (run : List Act) (times : List (List ℕ)) (j node : ℕ)
+    → ((k : ℕ) (d : Deed) → k < j → ¬ Does run k node d) → time_before nodes run times node j ≡ zeros nodes
+
+-- The time of a lock is that at its last release,
+abbrev pub ReleasedIsLast : Type 0
+ReleasedIsLast = (nodes : ℕ) (run : List Act) (times : List (List ℕ)) (i j p l : ℕ) → i < j → Does run i p (Release l)
+    → ((k q : ℕ) → i < k → k < j → ¬ Does run k q (Release l)) → released_time nodes run times l j ≡ time_at times i
+
+-- or zeros.
+abbrev pub ReleasedIsZeros : Type 0
+ReleasedIsZeros = (nodes : ℕ) (run : List Act) (times : List (List ℕ)) (j l : ℕ)
+    → ((k q : ℕ) → k < j → ¬ Does run k q (Release l)) → released_time nodes run times l j ≡ zeros nodes
+
+-- The time of a barrier is settled once every node has made its arrive,
+abbrev pub ArrivedIsSettled : Type 0
+ArrivedIsSettled = OfTimedRuns (λ nodes run times. (number i j : ℕ) → i ≤ j → ((p : ℕ) → p < nodes → number < arrives_before run p i)
+    → arrived_time nodes run times number j ≡ arrived_time nodes run times number i)
+
+-- covers that of the barrier before,
+abbrev pub BarriersRise : Type 0
+BarriersRise = OfTimedRuns (λ nodes run times. (number j : ℕ) → j ≤ length run
+    → ((p : ℕ) → p < nodes → number + 1 < arrives_before run p j)
+    → Covers (arrived_time nodes run times (number + 1) j) (arrived_time nodes run times number j))
+
+-- and has for each node the node's own entry at its arrive.
+abbrev pub BarrierHasOwn : Type 0
+BarrierHasOwn = OfOrderlyRuns (λ nodes run times. (j number i node : ℕ) → i < j → Does run i node Arrive → arrives_before run node i ≡ number
+    → entry (arrived_time nodes run times number j) node ≡ entry (time_at times i) node)
+
+-- What a node covers that has taken the time of a barrier and has not departed yet.
+abbrev pub MeetingIsCover : Type 0
+MeetingIsCover = OfSynchronizedRuns (λ nodes run times. (j node number q k : ℕ) → 1 ≤ k
+    → k ≤ entry (joined (time_before nodes run times node j) (arrived_time nodes run times number j)) q
+    ↔ (IsClosedBefore run q k node j ⊎ IsClosedAtArrive run q k number j))
+
+-- No time knows of an interval that is open at its position or later: at a position,
+abbrev pub OpenAtPosition : Type 0
+OpenAtPosition = OfTimedRuns (λ nodes run times. (j m node : ℕ) (deed : Deed) (q : ℕ) → j < m → Does run j node deed
+    → entry (time_at times j) q < interval_at run q m)
+
+-- of a node,
+abbrev pub OpenToNode : Type 0
+OpenToNode = OfTimedRuns (λ nodes run times. (j m node q : ℕ) → j ≤ m → entry (time_before nodes run times node j) q < interval_at run q m)
+
+-- of a lock,
+abbrev pub OpenToLock : Type 0
+OpenToLock = OfTimedRuns (λ nodes run times. (j m l q : ℕ) → j ≤ m → entry (released_time nodes run times l j) q < interval_at run q m)
+
+-- and of a barrier.
+abbrev pub OpenToBarrier : Type 0
+OpenToBarrier = OfTimedRuns (λ nodes run times. (j m number q : ℕ) → j ≤ m → entry (arrived_time nodes run times number j) q < interval_at run q m)

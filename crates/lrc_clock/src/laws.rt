@@ -1,7 +1,20 @@
 // Laws of timed runs that keep time. Each function is a theorem: its body is empty, and its clauses are the law. The
 // statements stand in specs/, so that others can cite them.
 
-ghost use Rattle.lrc_clock.specs.Laws.{ArrivedCoversArrives, ArrivedIsCover, ArrivedIsLeast, ArrivedOnPrefix, CloserCoversStamp, CloserHasIndex, CoveredDoesNotCover, CoveredIsLighter, CutAt, CutBefore, CutOfStamp, EarlierEpochHappensBefore, EarlierEpochIsCovered, EntryBound, EntryBoundBefore, EntryIsCover, IntervalBetween, IntervalOfClosing, IntervalOfOther, IntervalOfStamp, IntervalOrderIsCover, KeepsByOneMore, KeepsOnPrefix, LengthAt, LengthBefore, LengthOfStamp, NamedRaceIsOfSegments, NamedRaceIsUnknown, OrderIsCover, OtherEntryIsHappensBefore, OwnEntryAt, PresentIsCover, ReleasedIsCover, ReleasedOnPrefix, SegmentTime, StampHasIndex, StampIsTimeBefore, StampOfInterval, StampOnPrefix, StampsRise, TimeBeforeOnPrefix, TimeOnPrefix, TimeStandsStill, TimesRise, UnorderedIsUnknown, WaitingIsCover};
+ghost use Rattle.lrc_clock.specs.Laws.{ArrivedCoversArrives, ArrivedIsCover, ArrivedIsLeast, ArrivedIsSettled};
+ghost use Rattle.lrc_clock.specs.Laws.{ArrivedOnPrefix, BarrierHasOwn, BarriersRise, BeforeIsLast, BeforeIsZeros};
+ghost use Rattle.lrc_clock.specs.Laws.{CloserCoversStamp, CloserHasIndex, CoveredDoesNotCover, CoveredIsLighter};
+ghost use Rattle.lrc_clock.specs.Laws.{CutAt, CutBefore, CutOfStamp, EarlierEpochHappensBefore};
+ghost use Rattle.lrc_clock.specs.Laws.{EarlierEpochIsCovered, EntryBound, EntryBoundBefore, EntryIsCover};
+ghost use Rattle.lrc_clock.specs.Laws.{IntervalBetween, IntervalOfClosing, IntervalOfOther, IntervalOfStamp};
+ghost use Rattle.lrc_clock.specs.Laws.{IntervalOrderIsCover, KeepingIsDecided, KeepsByOneMore, KeepsOnPrefix};
+ghost use Rattle.lrc_clock.specs.Laws.{LengthAt, LengthBefore, LengthOfStamp, MeetingIsCover, NamedRaceIsOfSegments};
+ghost use Rattle.lrc_clock.specs.Laws.{NamedRaceIsUnknown, OpenAtPosition, OpenToBarrier, OpenToLock, OpenToNode};
+ghost use Rattle.lrc_clock.specs.Laws.{OrderIsCover, OtherEntryIsHappensBefore, OwnEntryAt, PresentIsCover};
+ghost use Rattle.lrc_clock.specs.Laws.{ReleasedIsCover, ReleasedIsLast, ReleasedIsZeros, ReleasedOnPrefix};
+ghost use Rattle.lrc_clock.specs.Laws.{SegmentTime, StampHasIndex, StampIsTimeBefore, StampOfInterval, StampOnPrefix};
+ghost use Rattle.lrc_clock.specs.Laws.{StampsRise, TimeBeforeOnPrefix, TimeOnPrefix, TimeStandsStill, TimesAreOne};
+ghost use Rattle.lrc_clock.specs.Laws.{TimesExist, TimesRise, UnorderedIsUnknown, WaitingIsCover};
 
 /// Every time has an entry for each node.
 pub fn every_time_has_an_entry_for_each_node()
@@ -41,10 +54,11 @@ pub fn entry_is_cover()
     ensures other { OtherEntryIsHappensBefore }
 {}
 
-/// What the present time of a node covers: between its acts, after its last, and while it waits for a lock with its interval
-/// closed.
+/// What the present time of a node covers: between its acts, after its last, while it waits for a lock with its interval
+/// closed, and where it has taken the time of a barrier and not departed yet.
 pub fn present_time_is_cover()
     ensures between { PresentIsCover }
+    ensures meeting { MeetingIsCover }
     ensures waiting { WaitingIsCover }
 {}
 
@@ -136,4 +150,34 @@ pub fn times_on_a_prefix()
 pub fn keeping_time_on_a_prefix()
     ensures prefix { KeepsOnPrefix }
     ensures one_more { KeepsByOneMore }
+{}
+
+/// A run of these nodes has exactly one list of times that keeps time, so whether a list does is decided.
+pub fn the_rule_determines_the_times()
+    ensures exist { TimesExist }
+    ensures one { TimesAreOne }
+    ensures decided { KeepingIsDecided }
+{}
+
+/// Where the times of nodes and locks are taken from.
+pub fn times_are_those_of_the_last()
+    ensures before { BeforeIsLast }
+    ensures zeros { BeforeIsZeros }
+    ensures released { ReleasedIsLast }
+    ensures released_zeros { ReleasedIsZeros }
+{}
+
+/// The times of barriers: settled once every node has arrived, rising, and of each node what it knew of itself.
+pub fn barrier_times_are_settled()
+    ensures settled { ArrivedIsSettled }
+    ensures rise { BarriersRise }
+    ensures own { BarrierHasOwn }
+{}
+
+/// No time knows of an interval that is open at its position or later.
+pub fn open_intervals_are_unknown()
+    ensures at { OpenAtPosition }
+    ensures node { OpenToNode }
+    ensures lock { OpenToLock }
+    ensures barrier { OpenToBarrier }
 {}

@@ -1,5 +1,5 @@
 // The times of a run, by the rule.
-ghost use Rattle.std.specs.Prelude.{◌≡◌, ◌+◌, ◌<◌, ◌≤◌, ◌^◌, All, IfOk, IfSome, MatchOption, length};
+ghost use Rattle.std.specs.Prelude.{◌≡◌, ◌+◌, ◌<◌, ◌≤◌, ◌^◌, ◌↔◌, All, IfOk, IfSome, IsTrue, MatchOption, length};
 ghost use Rattle.lrc_trace.specs.Run.{departs_before};
 ghost use Rattle.lrc_trace.specs.Synchronization.{IsWellSynchronized};
 ghost use Rattle.lrc_clock.specs.Times.{time_before, released_time, arrived_time, time_or_zeros};
@@ -117,14 +117,17 @@ fn time_after(acts: &[Act], times: &[Time], act: Act, nodes: u8) -> Time
     time
 }
 
+/// Whether every act is of one of so many nodes, as `times_of` asks.
+pub fn are_of(acts: &[Act], nodes: u8) -> bool
+    ensures { IsTrue result ↔ All (λ act. act.node < nodes) acts.now }
+{
+    acts.iter().all(|act| act.node < nodes)
+}
+
 /// The times of a run of so many nodes, 1 to 16, each act of one of them: for each position that of the acting node just
 /// after the act. None exactly where the run is not well synchronized. A run has fewer than 2^32 acts. It takes time that
 /// grows with the square of the run's length.
-pub fn times_of(
-    alloc: Global,
-    acts: &[Act],
-    nodes: u8,
-) -> Result<Option<Vec<Time>>, AllocError>
+pub fn times_of(alloc: Global, acts: &[Act], nodes: u8) -> Result<Option<Vec<Time>>, AllocError>
     requires some { 1 ≤ nodes }
     requires few { nodes ≤ 16 }
     requires in_range { All (λ act. act.node < nodes) acts.now }

@@ -43,7 +43,8 @@ module _ (run : List Act) (n node : ℕ) (deed : Deed) (here : Does run n node d
         let same = count_of-same kind run q n node deed here (λ e. both_ways (kind deed) fails) in
         omega arith
 
-    pub bound_next : (m m' : ℕ) → kind deed ≡ true → m ≤ m' → count_of kind node (take n run) < m' → ((q : ℕ) → count_of kind q (take n run) ≤ m) → (q : ℕ) → count_of kind q (take (n + 1) run) ≤ m'
+    pub bound_next : (m m' : ℕ) → kind deed ≡ true → m ≤ m' → count_of kind node (take n run) < m' → ((q : ℕ) → count_of kind q (take n run) ≤ m) → (q : ℕ)
+        → count_of kind q (take (n + 1) run) ≤ m'
     bound_next m m' passes le lt bound q =
         let old = bound q in
         elim (cases_eq node q) [
@@ -56,23 +57,32 @@ module _ (run : List Act) (n node : ℕ) (deed : Deed) (here : Does run n node d
               omega arith
         ]
 
-    pub counts_same : (counts : List ℕ) → kind deed ≡ false → ((q : ℕ) → q < length counts → get_or counts q 0 ≡ count_of kind q (take n run)) → (q : ℕ) → q < length counts → get_or counts q 0 ≡ count_of kind q (take (n + 1) run)
+    pub counts_same : (counts : List ℕ) → kind deed ≡ false → ((q : ℕ) → q < length counts → get_or counts q 0 ≡ count_of kind q (take n run)) → (q : ℕ)
+        → q < length counts → get_or counts q 0 ≡ count_of kind q (take (n + 1) run)
     counts_same counts fails old q within = old q within ∙ sym (count_of-same kind run q n node deed here (λ e. both_ways (kind deed) fails))
 
-    pub counts_next : (counts : List ℕ) → kind deed ≡ true → node < length counts → ((q : ℕ) → q < length counts → get_or counts q 0 ≡ count_of kind q (take n run)) → (q : ℕ) → q < length (set counts node (get_or counts node 0 + 1)) → get_or (set counts node (get_or counts node 0 + 1)) q 0 ≡ count_of kind q (take (n + 1) run)
+    pub counts_next : (counts : List ℕ) → kind deed ≡ true → node < length counts → ((q : ℕ) → q < length counts
+        → get_or counts q 0 ≡ count_of kind q (take n run)) → (q : ℕ) → q < length (set counts node (get_or counts node 0 + 1))
+        → get_or (set counts node (get_or counts node 0 + 1)) q 0 ≡ count_of kind q (take (n + 1) run)
     counts_next counts passes long old q within =
         elim (cases_eq q node) [
-          | inl same ↦ rw (same, get_or-set_same counts node (get_or counts node 0 + 1) 0 long) (ap (λ m. m + 1) (old node long) ∙ sym (count_of-more kind run node n deed here passes))
+          | inl same ↦ rw (same, get_or-set_same counts node (get_or counts node 0 + 1) 0 long) (ap (λ m. m + 1) (old node long)
+              ∙ sym (count_of-more kind run node n deed here passes))
           | inr other ↦
               let lt : q < length counts = rw (← length-set counts node (get_or counts node 0 + 1)) within in
-              rw (get_or-set_other counts node q (get_or counts node 0 + 1) 0 other) (old q lt ∙ sym (count_of-same kind run q n node deed here (λ e. absurd (other (sym e)))))
+              rw (get_or-set_other counts node q (get_or counts node 0 + 1) 0 other) (old q lt
+              ∙ sym (count_of-same kind run q n node deed here (λ e. absurd (other (sym e)))))
         ]
 
   -- the intervals that the nodes have reached
-  pub intervals_same : (intervals : List ℕ) → closes deed ≡ false → ((q : ℕ) → q < length intervals → get_or intervals q 0 ≡ interval_at run q n) → (q : ℕ) → q < length intervals → get_or intervals q 0 ≡ interval_at run q (n + 1)
-  intervals_same intervals fails old q within = old q within ∙ ap (λ m. 1 + m) (sym (count_of-same closes run q n node deed here (λ e. both_ways (closes deed) fails)))
+  pub intervals_same : (intervals : List ℕ) → closes deed ≡ false → ((q : ℕ) → q < length intervals → get_or intervals q 0 ≡ interval_at run q n) → (q : ℕ)
+      → q < length intervals → get_or intervals q 0 ≡ interval_at run q (n + 1)
+  intervals_same intervals fails old q within = old q within
+      ∙ ap (λ m. 1 + m) (sym (count_of-same closes run q n node deed here (λ e. both_ways (closes deed) fails)))
 
-  pub intervals_next : (intervals : List ℕ) (interval : ℕ) → closes deed ≡ true → node < length intervals → interval ≡ interval_at run node n → ((q : ℕ) → q < length intervals → get_or intervals q 0 ≡ interval_at run q n) → (q : ℕ) → q < length (set intervals node (interval + 1)) → get_or (set intervals node (interval + 1)) q 0 ≡ interval_at run q (n + 1)
+  pub intervals_next : (intervals : List ℕ) (interval : ℕ) → closes deed ≡ true → node < length intervals → interval ≡ interval_at run node n → ((q : ℕ)
+      → q < length intervals → get_or intervals q 0 ≡ interval_at run q n) → (q : ℕ) → q < length (set intervals node (interval + 1))
+      → get_or (set intervals node (interval + 1)) q 0 ≡ interval_at run q (n + 1)
   intervals_next intervals interval passes long is old q h =
       elim (cases_eq q node) [
         | inl same ↦
@@ -80,5 +90,6 @@ module _ (run : List Act) (n node : ℕ) (deed : Deed) (here : Does run n node d
             rw (same, get_or-set_same intervals node (interval + 1) 0 long) (omega arith)
         | inr other ↦
             let lt : q < length intervals = rw (← length-set intervals node (interval + 1)) h in
-            rw (get_or-set_other intervals node q (interval + 1) 0 other) (old q lt ∙ ap (λ m. 1 + m) (sym (count_of-same closes run q n node deed here (λ e. absurd (other (sym e))))))
+            rw (get_or-set_other intervals node q (interval + 1) 0 other) (old q lt
+            ∙ ap (λ m. 1 + m) (sym (count_of-same closes run q n node deed here (λ e. absurd (other (sym e))))))
       ]

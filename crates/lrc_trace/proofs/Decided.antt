@@ -30,14 +30,20 @@ search_below P (suc n) decided =
 
 -- what the base order says of two acts
 Links : List Act → ℕ → ℕ → Deed → ℕ → ℕ → Deed → Type 0
-Links run k p d j q e = (p ≡ q) ⊎ (((l : ℕ) × (d ≡ Release l) × (e ≡ Acquire l)) ⊎ ((d ≡ Arrive) × (e ≡ Depart) × (arrives_before run p k ≡ departs_before run q j)))
+Links run k p d j q e = (p ≡ q) ⊎ (((l : ℕ) × (d ≡ Release l) × (e ≡ Acquire l)) ⊎ ((d ≡ Arrive) × (e ≡ Depart) ×
+    (arrives_before run p k ≡ departs_before run q j)))
 
 module _ {run : List Act} {k j p q : ℕ} {d e : Deed} (first : Does run k p d) (second : Does run j q e) where
   Links-from : Precedes run k j → Links run k p d j q e
   unfolding Links
   Links-from (program lt a b) = inl (Does-one_node first a ∙ Does-one_node b second)
   Links-from (lock {l = l} lt a b) = inr (inl (l, Does-one_deed first a, Does-one_deed second b))
-  Links-from (barrier lt a b number) = inr (inr (Does-one_deed first a, Does-one_deed second b, ap (λ m. arrives_before run m k) (Does-one_node first a) ∙ number ∙ ap (λ m. departs_before run m j) (Does-one_node b second)))
+  Links-from (barrier lt a b number) = inr (inr (
+    Does-one_deed first a,
+    Does-one_deed second b,
+    ap (λ m. arrives_before run m k) (Does-one_node first a)
+        ∙ number ∙ ap (λ m. departs_before run m j) (Does-one_node b second),
+  ))
 
   from_Links : k < j → Links run k p d j q e → Precedes run k j
   unfolding Links
@@ -70,7 +76,8 @@ linked run k p Arrive j q Depart apart =
             | inr (inr (a, b, n)) ↦ other n
           ])
     ]
-linked run k p d j q e apart = inr (λ h. elim h [ inl same ↦ apart same | inr (inl (x, a, b)) ↦ let never : ⊥ = cc in never | inr (inr (a, b, n)) ↦ let never : ⊥ = cc in never ])
+linked run k p d j q e apart = inr
+    (λ h. elim h [ inl same ↦ apart same | inr (inl (x, a, b)) ↦ let never : ⊥ = cc in never | inr (inr (a, b, n)) ↦ let never : ⊥ = cc in never ])
 
 pub Precedes-decided : (run : List Act) (k j : ℕ) → Precedes run k j ⊎ (Precedes run k j → ⊥)
 Precedes-decided run k j =

@@ -1,5 +1,5 @@
 -- Happens before goes forward, is transitive, and is the same on a prefix.
-use Rattle.std.proofs.Common.{◌≡◌, ℕ, ◌<◌, ◌≤◌, ◌⊎◌, List, ◌++◌, length, inl, inr, refl, sym, subst, ◌∙◌, arith}
+use Rattle.std.proofs.Common.{ℕ, ◌<◌, ◌≤◌, List, ◌++◌, length, inl, inr, refl, sym, subst, ◌∙◌, arith}
 use Rattle.lrc_trace.specs.declared.act.Act.{Act}
 use Rattle.lrc_trace.specs.Order.{Precedes, program, lock, barrier, HappensBefore, base, further, Reaches}
 use Rattle.lrc_trace.proofs.Positions.{Does-within, Does-longer, Does-shorter, arrives_before-prefix, departs_before-prefix}

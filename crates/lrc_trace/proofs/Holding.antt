@@ -174,7 +174,8 @@ one_holder {run = run} ws n p q l a b =
     ]
 
 -- nobody releases a lock while another holds it
-pub holder_alone : {nodes : ℕ} {run : List Act} → IsWellSynchronized nodes run → (n p l : ℕ) (h : Holds run n p l) (k q : ℕ) → h.since ≤ k → k < n → Does run k q (Release l) → ⊥
+pub holder_alone : {nodes : ℕ} {run : List Act} → IsWellSynchronized nodes run → (n p l : ℕ) (h : Holds run n p l) (k q : ℕ) → h.since ≤ k → k < n
+    → Does run k q (Release l) → ⊥
 holder_alone {run = run} ws n p l h k q least most r =
     elim (cases_eq k h.since) [
       | inl there ↦

@@ -23,14 +23,16 @@ module _ (kind : Deed → Bool) (run : List Act) where
   count_of-rises node i j le = rw (← take-take i j run le) (sum_by-take-le (λ (a : Act). cond (is_of kind node a) 1 0) (take j run) i)
 
   -- it rises by one at an act of this kind and of this node
-  pub count_of-more : (node i : ℕ) (d : Deed) → Does run i node d → kind d ≡ true → count_of kind node (take (i + 1) run) ≡ count_of kind node (take i run) + 1
+  pub count_of-more : (node i : ℕ) (d : Deed) → Does run i node d → kind d ≡ true
+      → count_of kind node (take (i + 1) run) ≡ count_of kind node (take i run) + 1
   count_of-more node i d h k =
       let a = act_of node d in
       let at : get_or run i a ≡ a = get_or_from_slice_get run i a a h.stands in
       count_by_more_yes (is_of kind node) run i a (Does-within h) (ap (is_of kind node) at ∙ and_from (node == node) (kind d) (eq-eqb node node refl) k)
 
   -- and stays at any other act
-  pub count_of-same : (node i other : ℕ) (d : Deed) → Does run i other d → ((other ≡ node) → kind d ≡ true → ⊥) → count_of kind node (take (i + 1) run) ≡ count_of kind node (take i run)
+  pub count_of-same : (node i other : ℕ) (d : Deed) → Does run i other d → ((other ≡ node) → kind d ≡ true → ⊥)
+      → count_of kind node (take (i + 1) run) ≡ count_of kind node (take i run)
   count_of-same node i other d h k =
       let a = act_of other d in
       let at : get_or run i a ≡ a = get_or_from_slice_get run i a a h.stands in
@@ -50,22 +52,26 @@ pub never_fall : (run : List Act) (node i j : ℕ) → i ≤ j → interval_at r
 never_fall run node i j le = let h = count_of-rises closes run node i j le in omega arith
 
 -- where no closing act of the node stands between, the count stays
-stays : (run : List Act) (node i n : ℕ) → i + n ≤ length run → ((k : ℕ) (d : Deed) → i ≤ k → k < i + n → Does run k node d → IsTrue (closes d) → ⊥) → count_of closes node (take (i + n) run) ≡ count_of closes node (take i run)
+stays : (run : List Act) (node i n : ℕ) → i + n ≤ length run → ((k : ℕ) (d : Deed) → i ≤ k → k < i + n → Does run k node d → IsTrue (closes d) → ⊥)
+    → count_of closes node (take (i + n) run) ≡ count_of closes node (take i run)
 stays run node i zero h none = ap (λ k. count_of closes node (take k run)) (add-zero i)
 stays run node i (suc n) h none =
     let found = act_at run (i + n) (omega arith) in
-    let same = count_of-same closes run node (i + n) found.0.node found.0.deed found.1 (λ e t. none (i + n) found.0.deed (omega arith) (omega arith) (subst (λ m. Does run (i + n) m found.0.deed) e found.1) t) in
+    let same = count_of-same closes run node (i + n) found.0.node found.0.deed found.1 (λ e t. none (i + n) found.0.deed (omega arith) (omega arith) (subst
+    (λ m. Does run (i + n) m found.0.deed) e found.1) t) in
     let step : i + suc n ≡ i + n + 1 = omega arith in
     ap (λ k. count_of closes node (take k run)) step ∙ same ∙ stays run node i n (omega arith) (λ k d le lt. none k d le (omega arith))
 
-pub same_then_none : (run : List Act) (node i j : ℕ) → interval_at run node i ≡ interval_at run node j → (k : ℕ) (d : Deed) → i ≤ k → k < j → Does run k node d → IsTrue (closes d) → ⊥
+pub same_then_none : (run : List Act) (node i j : ℕ) → interval_at run node i ≡ interval_at run node j → (k : ℕ) (d : Deed) → i ≤ k → k < j
+    → Does run k node d → IsTrue (closes d) → ⊥
 same_then_none run node i j e k d le lt h t =
     let more = count_of-more closes run node k d h t in
     let before = count_of-rises closes run node i k le in
     let after = count_of-rises closes run node (k + 1) j (omega arith) in
     omega arith
 
-pub none_then_same : (run : List Act) (node i j : ℕ) → i < j → j ≤ length run → ((k : ℕ) (d : Deed) → i ≤ k → k < j → Does run k node d → IsTrue (closes d) → ⊥) → interval_at run node i ≡ interval_at run node j
+pub none_then_same : (run : List Act) (node i j : ℕ) → i < j → j ≤ length run → ((k : ℕ) (d : Deed) → i ≤ k → k < j → Does run k node d → IsTrue (closes d)
+    → ⊥) → interval_at run node i ≡ interval_at run node j
 none_then_same run node i j lt in_run none =
     let e : i + (j - i) ≡ j = omega arith in
     let h = stays run node i (j - i) (omega arith) (λ k d le lt'. none k d le (omega arith)) in
@@ -75,15 +81,19 @@ Accesses-within : {run : List Act} {i node word : ℕ} → Accesses run i node w
 Accesses-within (inl (value, h)) = Does-within h
 Accesses-within (inr (value, h)) = Does-within h
 
-pub same_interval : (run : List Act) (node i j v w : ℕ) → i < j → Accesses run i node v → Accesses run j node w → (interval_at run node i ≡ interval_at run node j) ↔ ((k : ℕ) (d : Deed) → i ≤ k → k < j → Does run k node d → IsTrue (closes d) → ⊥)
+pub same_interval : (run : List Act) (node i j v w : ℕ) → i < j → Accesses run i node v → Accesses run j node w
+    → (interval_at run node i ≡ interval_at run node j) ↔ ((k : ℕ) (d : Deed) → i ≤ k → k < j → Does run k node d → IsTrue (closes d) → ⊥)
 same_interval run node i j v w lt a b =
     let in_run = Accesses-within b in
     (same_then_none run node i j, none_then_same run node i j lt (omega arith))
 
 -- Where a count has passed c from a on, it did so at a deed of this kind that has c before it.
-counted_between : (kind : Deed → Bool) (run : List Act) (node a n c : ℕ) → a + n ≤ length run → count_of kind node (take a run) ≤ c → c < count_of kind node (take (a + n) run) → (i : ℕ) × (a ≤ i) × (i < a + n) × ((d : Deed) × Does run i node d × (kind d ≡ true) × (count_of kind node (take i run) ≡ c))
+counted_between : (kind : Deed → Bool) (run : List Act) (node a n c : ℕ) → a + n ≤ length run → count_of kind node (take a run) ≤ c
+    → c < count_of kind node (take (a + n) run)
+    → (i : ℕ) × (a ≤ i) × (i < a + n) × ((d : Deed) × Does run i node d × (kind d ≡ true) × (count_of kind node (take i run) ≡ c))
 counted_between kind run node a zero c within from to =
-    let e : count_of kind node (take (a + zero) run) ≡ count_of kind node (take a run) = ap (λ k. count_of kind node (take k run)) (add-zero a) in absurd (omega arith)
+    let e : count_of kind node (take (a + zero) run) ≡ count_of kind node (take a run) = ap
+    (λ k. count_of kind node (take k run)) (add-zero a) in absurd (omega arith)
 counted_between kind run node a (suc n) c within from to =
     let step : a + suc n ≡ a + n + 1 = omega arith in
     let to' : c < count_of kind node (take (a + n + 1) run) = subst (λ k. c < count_of kind node (take k run)) step to in
@@ -110,7 +120,9 @@ counted_between kind run node a (suc n) c within from to =
           ]
     ]
 
-pub counted_in : (kind : Deed → Bool) (run : List Act) (node a b c : ℕ) → a ≤ b → b ≤ length run → count_of kind node (take a run) ≤ c → c < count_of kind node (take b run) → (i : ℕ) × (a ≤ i) × (i < b) × ((d : Deed) × Does run i node d × (kind d ≡ true) × (count_of kind node (take i run) ≡ c))
+pub counted_in : (kind : Deed → Bool) (run : List Act) (node a b c : ℕ) → a ≤ b → b ≤ length run → count_of kind node (take a run) ≤ c
+    → c < count_of kind node (take b run)
+    → (i : ℕ) × (a ≤ i) × (i < b) × ((d : Deed) × Does run i node d × (kind d ≡ true) × (count_of kind node (take i run) ≡ c))
 counted_in kind run node a b c le within from to =
     let long : a + (b - a) ≡ b = omega arith in
     let to' : c < count_of kind node (take (a + (b - a)) run) = subst (λ k. c < count_of kind node (take k run)) (sym long) to in
@@ -118,7 +130,8 @@ counted_in kind run node a b c le within from to =
     (i, least, omega arith, found)
 
 -- so each arrive and each depart that was made before a position stands somewhere before
-pub numbered_arrive : (run : List Act) (node j number : ℕ) → j ≤ length run → number < arrives_before run node j → (i : ℕ) × (i < j) × Does run i node Arrive × (arrives_before run node i ≡ number)
+pub numbered_arrive : (run : List Act) (node j number : ℕ) → j ≤ length run → number < arrives_before run node j
+    → (i : ℕ) × (i < j) × Does run i node Arrive × (arrives_before run node i ≡ number)
 numbered_arrive run node j number within few =
     let (i, least, most, (d, does, is, count)) = counted_in is_arrive run node 0 j number (omega arith) within (omega arith) few in
     (i, most, Does-deed (is_arrive-deed d is) does, count)
@@ -127,7 +140,8 @@ numbered_arrive run node j number within few =
     is_arrive-deed Arrive h = refl
     is_arrive-deed _ h = absurd (false≢true h)
 
-pub numbered_depart : (run : List Act) (node j number : ℕ) → j ≤ length run → number < departs_before run node j → (i : ℕ) × (i < j) × Does run i node Depart × (departs_before run node i ≡ number)
+pub numbered_depart : (run : List Act) (node j number : ℕ) → j ≤ length run → number < departs_before run node j
+    → (i : ℕ) × (i < j) × Does run i node Depart × (departs_before run node i ≡ number)
 numbered_depart run node j number within few =
     let (i, least, most, (d, does, is, count)) = counted_in is_depart run node 0 j number (omega arith) within (omega arith) few in
     (i, most, Does-deed (is_depart-deed d is) does, count)
@@ -137,7 +151,8 @@ numbered_depart run node j number within few =
     is_depart-deed _ h = absurd (false≢true h)
 
 -- An interval that the node is in at a, or comes to later, and that is over at b, was closed between.
-pub closed_between : (run : List Act) (node a b index : ℕ) → a ≤ b → b ≤ length run → interval_at run node a ≤ index → index < interval_at run node b → (i : ℕ) × (a ≤ i) × (i < b) × ((d : Deed) × Does run i node d × (closes d ≡ true) × (interval_at run node i ≡ index))
+pub closed_between : (run : List Act) (node a b index : ℕ) → a ≤ b → b ≤ length run → interval_at run node a ≤ index → index < interval_at run node b
+    → (i : ℕ) × (a ≤ i) × (i < b) × ((d : Deed) × Does run i node d × (closes d ≡ true) × (interval_at run node i ≡ index))
 closed_between run node a b index le within from to =
     let (i, least, most, (d, does, closing, count)) = counted_in closes run node a b (index - 1) le within (omega arith) (omega arith) in
     (i, least, most, (d, does, closing, omega arith))

@@ -1,5 +1,5 @@
 -- Positions of a run and of what it grows to.
-use Rattle.std.proofs.Common.{◌≡◌, ℕ, zero, suc, ◌+◌, ◌<◌, ◌≤◌, ◌⊎◌, inl, inr, List, [], ◌∷◌, ◌++◌, length, get_or, sym, subst, ◌∙◌, ap, refl, arith}
+use Rattle.std.proofs.Common.{◌≡◌, ℕ, zero, suc, ◌<◌, ◌≤◌, ◌⊎◌, inl, inr, List, [], ◌∷◌, ◌++◌, length, get_or, sym, subst, ◌∙◌, ap, refl, arith}
 use Rattle.std.specs.Prelude.{Some, slice_get}
 use Rattle.std.proofs.lemmas.Bool.{cases_lt}
 use Rattle.std.proofs.lemmas.List.{take-append-le, length_push}
@@ -62,7 +62,8 @@ departs_before-prefix run more node i h = ap (count_of is_depart node) (take-app
 pub Does-last : (run : List Act) (act : Act) → Does (run ++ act ∷ []) (length run) act.node act.deed
 Does-last run act = record { stands = slice_get-seam run act [] }
 
-pub Does-cases : {run : List Act} {act : Act} {i node : ℕ} {d : Deed} → Does (run ++ act ∷ []) i node d → ((i < length run) × Does run i node d) ⊎ ((i ≡ length run) × (act.node ≡ node) × (act.deed ≡ d))
+pub Does-cases : {run : List Act} {act : Act} {i node : ℕ} {d : Deed} → Does (run ++ act ∷ []) i node d
+    → ((i < length run) × Does run i node d) ⊎ ((i ≡ length run) × (act.node ≡ node) × (act.deed ≡ d))
 Does-cases {run} {act} {i} {node} {d} h =
     let within = Does-within h in
     let long = length_push run act in

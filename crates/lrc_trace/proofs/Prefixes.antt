@@ -1,17 +1,14 @@
 -- Intervals, holders, races and what may be read, on a prefix of a run and by one act more.
-use Rattle.std.proofs.Common.{◌≡◌, ℕ, ◌+◌, ◌<◌, ◌≤◌, ◌⊎◌, List, [], ◌∷◌, ◌++◌, length, take, inl, inr, refl, sym, subst, ◌∙◌, ap, arith}
-use Rattle.std.specs.Prelude.{◌↔◌}
-use Rattle.std.proofs.lemmas.List.{take-append-le, length_push}
+use Rattle.std.proofs.Common.{◌≡◌, ℕ, ◌+◌, ◌<◌, ◌≤◌, ◌⊎◌, List, [], ◌∷◌, ◌++◌, length, inl, inr, sym, subst, ap, arith}
+use Rattle.std.proofs.lemmas.List.{take-append-le}
 use Rattle.lrc_trace.specs.declared.act.Act.{Act}
-use Rattle.lrc_trace.specs.declared.act.Deed.{Deed}
-use Rattle.lrc_trace.specs.declared.act.Deed.TheVariants.{Read, Acquire, Release, Depart}
-use Rattle.lrc_trace.specs.Run.{Does, IsDone, count_of, arrives_before, departs_before}
-use Rattle.lrc_trace.specs.Order.{HappensBefore}
-use Rattle.lrc_trace.specs.Conflict.{Writes, Accesses, ConflictAt, Conflict, Races}
-use Rattle.lrc_trace.specs.Reading.{WrittenBefore, IsSomeWrite, AreOrdered, IsLastWrite, IsLatest, MayRead, ReadsLazily}
+use Rattle.lrc_trace.specs.declared.act.Deed.TheVariants.{Read}
+use Rattle.lrc_trace.specs.Run.{count_of, arrives_before, departs_before}
+use Rattle.lrc_trace.specs.Conflict.{Writes, Accesses, Races}
+use Rattle.lrc_trace.specs.Reading.{WrittenBefore, AreOrdered, MayRead, ReadsLazily}
 use Rattle.lrc_trace.specs.Interval.{closes, interval_at}
 use Rattle.lrc_trace.specs.Synchronization.{Holds, IsWellSynchronized, MayGoOn}
-use Rattle.lrc_trace.proofs.Positions.{Does-within, Does-longer, Does-shorter, Does-node, Does-deed, Does-last, Does-cases, arrives_before-prefix, departs_before-prefix}
+use Rattle.lrc_trace.proofs.Positions.{Does-within, Does-longer, Does-shorter, Does-deed, Does-last, Does-cases, arrives_before-prefix, departs_before-prefix}
 use Rattle.lrc_trace.proofs.HappensBefore.{forward, longer, shorter}
 
 module _ (run more : List Act) where
@@ -171,7 +168,8 @@ module _ (run : List Act) (act : Act) where
             let above = ws.departs (length run) act.node (Does-deed is last) other less in omega arith;
       }
 
-  pub ReadsLazily-more : ReadsLazily run → ((word value : ℕ) → act.deed ≡ Read word value → MayRead longer_run (length run) word value) → ReadsLazily longer_run
+  pub ReadsLazily-more : ReadsLazily run → ((word value : ℕ) → act.deed ≡ Read word value → MayRead longer_run (length run) word value)
+      → ReadsLazily longer_run
   ReadsLazily-more lazily may j word value (p, h) =
       elim (Does-cases h) [
         | inl (lt, h') ↦ MayRead-longer run (act ∷ []) lt (lazily j word value (p, h'))

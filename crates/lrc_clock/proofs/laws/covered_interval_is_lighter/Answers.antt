@@ -5,4 +5,5 @@ pub returns-clause-lighter : goal.returns-clause-lighter
 returns-clause-lighter c = λ nodes run times keeps ws. λ j node q k i within lt closer other known. lighter keeps ws j node q k i within lt closer other known
 
 pub returns-clause-one_way : goal.returns-clause-one_way
-returns-clause-one_way c = λ nodes run times keeps ws. λ j node q k i within lt closer other known. lacks_later keeps ws j node q k i within lt closer other known
+returns-clause-one_way c
+    = λ nodes run times keeps ws. λ j node q k i within lt closer other known. lacks_later keeps ws j node q k i within lt closer other known

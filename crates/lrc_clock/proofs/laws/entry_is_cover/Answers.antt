@@ -6,4 +6,5 @@ pub returns-clause-any : goal.returns-clause-any
 returns-clause-any c = λ nodes run times keeps ws. λ j node deed q k h some. (sound keeps j node deed q k h some, complete keeps ws j q k)
 
 pub returns-clause-other : goal.returns-clause-other
-returns-clause-other c = λ nodes run times keeps ws. λ j node deed q k h apart some. (other_sound keeps j node deed q k h apart some, other_complete keeps ws j q k)
+returns-clause-other c = λ nodes run times keeps ws. λ j node deed q k h apart some.
+    (other_sound keeps j node deed q k h apart some, other_complete keeps ws j q k)

@@ -6,7 +6,6 @@ use Rattle.lrc_trace.specs.Run.{Does, is_arrive, arrives_before}
 use Rattle.lrc_trace.proofs.Positions.{Does-read, Does-node, Does-deed}
 use Rattle.lrc_trace.proofs.Counts.{counts_same, counts_next, no_arrive}
 use Rattle.lrc_time.specs.Time.{joined}
-use Rattle.lrc_clock.specs.Times.{time_at}
 use Rattle.lrc_clock.proofs.Computing.{acting, read-length, arrived-length, arrived-here, arrived-other}
 use Rattle.lrc_clock.proofs.times.time_of_barrier.Goals as goal
 use Rattle.lrc_clock.proofs.times.time_of_barrier.Goals.{in-Arrive, then-arrives-node, else-arrives-node, in_default}
@@ -19,13 +18,15 @@ join-requires c =
 
 pub bounds-arrives-node-in-Arrive : goal.bounds-arrives-node-in-Arrive
 bounds-arrives-node-in-Arrive c =
-    let within : c.from-node.result < c.args.nodes = acting c.requires.keeps c.loop-position.position c.from-node.result _ c.loop-position-test.true c.from-node.ensures in
+    let within : c.from-node.result < c.args.nodes
+    = acting c.requires.keeps c.loop-position.position c.from-node.result _ c.loop-position-test.true c.from-node.ensures in
     let few = c.requires.few in
     omega arith
 
 pub bounds-arrives-node-in-Arrive-2 : goal.bounds-arrives-node-in-Arrive-2
 bounds-arrives-node-in-Arrive-2 c =
-    let within : c.from-node.result < c.args.nodes = acting c.requires.keeps c.loop-position.position c.from-node.result _ c.loop-position-test.true c.from-node.ensures in
+    let within : c.from-node.result < c.args.nodes
+    = acting c.requires.keeps c.loop-position.position c.from-node.result _ c.loop-position-test.true c.from-node.ensures in
     let few = c.requires.few in
     omega arith
 
@@ -47,9 +48,11 @@ loop-position-preserved c =
           let within : node < length c.loop-position.arrives =
           let less : node < c.args.nodes = acting c.requires.keeps position node _ lt c.from-node.ensures in let few = c.requires.few in omega arith in
           let count : get_or c.loop-position.arrives node 0 ≡ arrives_before run node position = old node within in
-          let counts : (q : ℕ) → q < length c.match-acts-position.arrives → slice_index c.match-acts-position.arrives q ≡ arrives_before run q (position + 1) =
+          let counts : (q : ℕ) → q < length c.match-acts-position.arrives → slice_index c.match-acts-position.arrives q ≡ arrives_before run q
+          (position + 1) =
           rw w.arrives-is (counts_next run position node Arrive here is_arrive c.loop-position.arrives refl within old) in
-          let long' : length c.match-acts-position.arrives ≡ 16 = ap length w.arrives-is ∙ length-set c.loop-position.arrives node (get_or c.loop-position.arrives node 0 + 1) ∙ long in
+          let long' : length c.match-acts-position.arrives ≡ 16 = ap length w.arrives-is
+          ∙ length-set c.loop-position.arrives node (get_or c.loop-position.arrives node 0 + 1) ∙ long in
           elim w.if-arrives-node.branch [
             | then-arrives-node w' ↦ record {
               time = w.time-is
