@@ -10,10 +10,10 @@ use Rattle.lrc_page.specs.Changes.{applied, change_at, changes_between}
 use Rattle.lrc_page.proofs.ChangeLists.{length-fold-applied, get_or-fold-applied, change_at-between_same, change_at-between_differs}
 use Rattle.lrc_copies.specs.Word.{IsWriter, Fits, AgreeOn}
 use Rattle.lrc_copies.specs.Sound.{IsAddedLast, difference, AreNext, repaired_value}
-use Rattle.lrc_copies.specs.Page.{PageHistory, at_word, PageFits, IsPageSound, IsUntouchedBy, IsMoreUntouched, IsWrittenOnce, IsMadeOf, IsClosedWith, page_below, ArePageNext}
+use Rattle.lrc_copies.specs.Page.{PageHistory, AgreeOnPage, AgreeOnChanges, at_word, PageFits, IsPageSound, IsUntouchedBy, IsMoreUntouched, IsWrittenOnce, IsMadeOf, IsClosedWith, page_below, ArePageNext}
 use Rattle.lrc_copies.proofs.Members.{Contains-first}
 use Rattle.lrc_copies.proofs.Fitting.{fits_open, zero_fits, fits_writers, fits_agreed, newest_fits}
-use Rattle.lrc_copies.proofs.Closing.{difference-same, difference-differs, sound_closed, sound_unwritten}
+use Rattle.lrc_copies.proofs.Closing.{difference-same, difference-differs, sound_closed, sound_unwritten, sound_agreed}
 use Rattle.lrc_copies.proofs.Repairing.{fits_all_next}
 
 -- a list of zeros has zero everywhere
@@ -109,6 +109,21 @@ module _ {A : Type 0} (h : PageHistory A) where
       subst (λ v. Fits (at_word h offset) v (x ∷ xs)) (sym (made.has offset within))
       (fits_open (at_word h offset) (get_or twin offset 0) x xs (λ a v g. newest a g.member)
       (fits offset (let long = made.long in omega arith)))
+
+-- ---- only what the members did counts
+
+module _ {A : Type 0} (h h' : PageHistory A) where
+  at_word_agree : (xs : List A) (offset : ℕ) → AgreeOnPage xs h h' → AgreeOn xs (at_word h offset) (at_word h' offset)
+  at_word_agree xs offset agree = record { wrote = λ a a_in. agree.wrote a offset a_in; below = agree.below }
+
+  pub page_fits_agreed : (copy : List ℕ) (xs : List A) → AgreeOnPage xs h h' → PageFits h copy xs → PageFits h' copy xs
+  page_fits_agreed copy xs agree fits offset within =
+      fits_agreed (at_word h offset) (at_word h' offset) xs (at_word_agree xs offset agree) (get_or copy offset 0) (fits offset within)
+
+  pub page_sound_agreed : (words : ℕ) (all : List A) → AgreeOnChanges all h h' → IsPageSound h words all → IsPageSound h' words all
+  page_sound_agreed words all agree sound offset within =
+      sound_agreed (at_word h offset) (at_word h' offset) all (at_word_agree all offset agree.page)
+      (λ a a_in. ap (λ cs. change_at cs offset) (agree.changes a a_in)) agree.weight (sound offset within)
 
 -- ---- one write more
 

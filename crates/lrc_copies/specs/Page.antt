@@ -41,6 +41,17 @@ pub record IsMoreUntouched {A : Type 0} (h : PageHistory A) (xs ys : List A) : T
   pub kept : (a : A) → Contains xs a → Contains ys a
   pub more : (a : A) → Contains ys a → Contains xs a ⊎ IsUntouchedBy h a
 
+-- two histories say the same of what the members of the list wrote, and of which is below which;
+pub record AgreeOnPage {A : Type 0} (xs : List A) (h h' : PageHistory A) : Type 0 where
+  pub wrote : (a : A) (offset : ℕ) → Contains xs a → h.wrote a offset ≡ h'.wrote a offset
+  pub below : (a b : A) → Contains xs a → Contains xs b → h.below a b ≡ h'.below a b
+
+-- and of their changes and weights
+pub record AgreeOnChanges {A : Type 0} (xs : List A) (h h' : PageHistory A) : Type 0 where
+  pub page : AgreeOnPage xs h h'
+  pub changes : (a : A) → Contains xs a → h.changes a ≡ h'.changes a
+  pub weight : (a : A) → Contains xs a → h.weight a ≡ h'.weight a
+
 -- In an interval that is below none of the list, one more word of the page is written:
 pub record IsWrittenOnce {A : Type 0} (before after : PageHistory A) (xs : List A) (x : A) (offset value : ℕ) : Type 0 where
   -- it wrote this value last,

@@ -4,7 +4,7 @@ use Rattle.lrc_page.specs.declared.size.Size.{Size}
 use Rattle.lrc_page.specs.Page.{zero_page}
 use Rattle.lrc_page.specs.Changes.{applied}
 use Rattle.lrc_copies.specs.Sound.{IsAddedLast}
-use Rattle.lrc_copies.specs.Page.{PageHistory, page_below, PageFits, IsPageSound, IsUntouchedBy, IsMoreUntouched, IsWrittenOnce, IsMadeOf, IsClosedWith, ArePageNext}
+use Rattle.lrc_copies.specs.Page.{PageHistory, AgreeOnPage, AgreeOnChanges, page_below, PageFits, IsPageSound, IsUntouchedBy, IsMoreUntouched, IsWrittenOnce, IsMadeOf, IsClosedWith, ArePageNext}
 
 -- Before the first write a page is zero.
 abbrev pub ZeroPageFitsNothing : Type 0 → Type 0
@@ -17,6 +17,17 @@ ZeroPageOfASizeFitsNothing A = (h : PageHistory A) (size : Size) → PageFits h 
 abbrev pub UntouchedPageKeepsFitting : Type 0 → Type 0
 UntouchedPageKeepsFitting A = (h : PageHistory A) (copy : List ℕ) (xs ys : List A) → IsMoreUntouched h xs ys → PageFits h copy xs
     → PageFits h copy ys
+
+-- Nothing counts for the fit but what the members wrote and which of them is below which, as where a node writes in an
+-- interval that is no member,
+abbrev pub OnlyMembersCountForThePage : Type 0 → Type 0
+OnlyMembersCountForThePage A = (h h' : PageHistory A) (copy : List ℕ) (xs : List A) → AgreeOnPage xs h h' → PageFits h copy xs
+    → PageFits h' copy xs
+
+-- and for soundness their changes and weights besides.
+abbrev pub OnlyMembersCountForSoundness : Type 0 → Type 0
+OnlyMembersCountForSoundness A = (h h' : PageHistory A) (words : ℕ) (all : List A) → AgreeOnChanges all h h'
+    → IsPageSound h words all → IsPageSound h' words all
 
 -- A write in an interval that is below none of the list keeps the fit with the list and the interval.
 abbrev pub WritingKeepsThePageFitting : Type 0 → Type 0
