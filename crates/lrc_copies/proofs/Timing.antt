@@ -8,7 +8,7 @@ use Rattle.lrc_page.specs.declared.changes.Change.{Change}
 use Rattle.lrc_page.specs.Changes.{applied}
 use Rattle.lrc_copies.specs.Page.{PageHistory, PageFits, IsPageSound, IsUntouchedBy, IsMoreUntouched, IsClosedWith, page_below, ArePageNext}
 use Rattle.lrc_copies.specs.Stamps.{Stamps, stamp_weight, is_covered, covered, is_below, comes_before, page_of_stamps, IsCut, AreStamped, IsClosedAt, IsBetween, AreLacking}
-use Rattle.lrc_copies.proofs.Members.{Contains-filter, Contains-from_filter}
+use Rattle.lrc_copies.proofs.Members.{Contains-later, cases_Contains, Contains-filter, Contains-from_filter}
 use Rattle.lrc_copies.proofs.Paging.{page_fits_more, page_closed, page_open, page_repaired}
 use Rattle.lrc_copies.proofs.Stamping.{test_cases, not_from, covered-up, below-covered, added_last, below_none, into_stamp, from_stamp, covered_below, below_covered}
 
@@ -40,6 +40,16 @@ module _ {A : Type 0} (s : Stamps A) (wrote : A → ℕ → Option ℕ) (changes
         → PageFits h copy (covered s (s.stamp x) (all ++ x ∷ []))
     open_fits_closed copy fits =
         same_fits copy _ _ (into_stamp s nodes all time x closed) (from_stamp s nodes all time x closed) fits
+
+    pub untouched_fits_closed : (copy : List ℕ) → IsUntouchedBy h x → PageFits h copy (covered s time all)
+        → PageFits h copy (covered s (s.stamp x) (all ++ x ∷ []))
+    untouched_fits_closed copy untouched fits =
+        open_fits_closed copy (page_fits_more h copy (covered s time all) (x ∷ covered s time all)
+        (record {
+          kept = λ a a_in. Contains-later x (covered s time all) a a_in;
+          more = λ a a_in. ⊎_elim (λ (same : x ≡ a). inr (subst (IsUntouchedBy h) same untouched)) inl
+              (cases_Contains x (covered s time all) a a_in);
+        }) fits)
 
     pub closed_fits : (twin copy : List ℕ) → IsClosedWith h x twin copy → PageFits h twin (covered s time all)
         → PageFits h copy (covered s (s.stamp x) (all ++ x ∷ []))

@@ -1,6 +1,6 @@
 -- Intervals with stamps, as nodes tell one another of them: which are below which, and in which order their changes are
 -- applied.
-use Rattle.std.specs.Prelude.{◌≡◌, ℕ, ◌+◌, ◌<◌, ◌⊎◌, ◌==◌, ◌&&◌, ◌||◌, Bool, IsTrue, not, nat_lt, Option, None, List, length, filter, slice_set, Contains, AllPairs}
+use Rattle.std.specs.Prelude.{◌≡◌, ℕ, ◌≤◌, ◌+◌, ◌<◌, ◌⊎◌, ◌==◌, ◌&&◌, ◌||◌, Bool, IsTrue, not, nat_lt, Option, None, List, length, filter, slice_set, Contains, AllPairs}
 use Rattle.lrc_time.specs.Time.{entry, knows, Covers, weight_of}
 use Rattle.lrc_page.specs.declared.changes.Change.{Change}
 use Rattle.lrc_copies.specs.Page.{PageHistory}
@@ -52,6 +52,8 @@ IsCut {A} s all time = (a : A) → Contains all a → IsTrue (is_covered s time 
 pub record AreStamped {A : Type 0} (s : Stamps A) (nodes : ℕ) (all : List A) : Type 0 where
   -- every stamp has an entry for each node,
   pub long : (a : A) → Contains all a → length (s.stamp a) ≡ nodes
+  -- and counts its own interval,
+  pub begun : (a : A) → Contains all a → 1 ≤ number_of s a
   -- and is a cut,
   pub cuts : (a : A) → Contains all a → IsCut s all (s.stamp a)
   -- and none covers an interval that was closed later.

@@ -1,6 +1,6 @@
 -- What holds of copies by times.
-use Rattle.std.specs.Prelude.{◌≡◌, ℕ, ◌<◌, ◌↔◌, ◌&&◌, Bool, not, Option, None, AllPairs, IsTrue, List, [], ◌∷◌, ◌++◌, length, map, fold, Contains}
-use Rattle.lrc_time.specs.Time.{Covers}
+use Rattle.std.specs.Prelude.{◌≡◌, ℕ, ◌<◌, ◌↔◌, ◌⊎◌, ◌&&◌, Bool, not, Option, None, AllPairs, IsTrue, List, [], ◌∷◌, ◌++◌, length, map, fold, Contains}
+use Rattle.lrc_time.specs.Time.{Covers, zeros, joined}
 use Rattle.lrc_page.specs.declared.changes.Change.{Change}
 use Rattle.lrc_page.specs.Changes.{applied}
 use Rattle.lrc_copies.specs.Sound.{IsAddedLast}
@@ -26,6 +26,17 @@ abbrev pub ClosingKeepsCuts : Type 0 → Type 0
 ClosingKeepsCuts A = (s : Stamps A) (all : List A) (time : List ℕ) (x : A) → IsCut s all time → ¬ IsTrue (is_covered s time x)
     → IsCut s (all ++ x ∷ []) time
 
+-- The time that covers nothing is a cut, and so is the join of two cuts, which covers what one of the two does.
+abbrev pub ZerosAreACut : Type 0 → Type 0
+ZerosAreACut A = (s : Stamps A) (nodes count : ℕ) (all : List A) → AreStamped s nodes all → IsCut s all (zeros count)
+
+abbrev pub JoinsAreCuts : Type 0 → Type 0
+JoinsAreCuts A = (s : Stamps A) (all : List A) (t u : List ℕ) → IsCut s all t → IsCut s all u → IsCut s all (joined t u)
+
+abbrev pub JoinsCoverEither : Type 0 → Type 0
+JoinsCoverEither A = (s : Stamps A) (t u : List ℕ) (a : A) → IsTrue (is_covered s (joined t u) a)
+    ↔ (IsTrue (is_covered s t a) ⊎ IsTrue (is_covered s u a))
+
 -- Where a node closes an interval at a time that its twin fits, the interval is sound with the changes between twin and
 -- copy, and the copy fits the interval's stamp.
 abbrev pub ClosingAtATimeStaysSound : Type 0 → Type 0
@@ -48,6 +59,14 @@ abbrev pub ClosingKeepsThePageFitting : Type 0 → Type 0
 ClosingKeepsThePageFitting A = (s : Stamps A) (wrote : A → ℕ → Option ℕ) (changes : A → List Change) (nodes : ℕ) (all : List A)
     (time : List ℕ) (x : A) (copy : List ℕ) → IsClosedAt s nodes all time x
     → PageFits (page_of_stamps s wrote changes) copy (x ∷ covered s time all)
+    → PageFits (page_of_stamps s wrote changes) copy (covered s (s.stamp x) (all ++ x ∷ []))
+
+-- So does one that fits the time, where the interval did not write the page.
+abbrev pub ClosingUntouchedKeepsThePageFitting : Type 0 → Type 0
+ClosingUntouchedKeepsThePageFitting A = (s : Stamps A) (wrote : A → ℕ → Option ℕ) (changes : A → List Change) (nodes : ℕ)
+    (all : List A) (time : List ℕ) (x : A) (copy : List ℕ) → IsClosedAt s nodes all time x
+    → IsUntouchedBy (page_of_stamps s wrote changes) x
+    → PageFits (page_of_stamps s wrote changes) copy (covered s time all)
     → PageFits (page_of_stamps s wrote changes) copy (covered s (s.stamp x) (all ++ x ∷ []))
 
 -- What a time does not cover makes no difference to a copy that fits the time.
