@@ -66,7 +66,7 @@ module _ (stamped : AreStamped four_stamps 3 four) where
 abbrev lacking_list : List ℕ
 lacking_list = 0 ∷ 2 ∷ 3 ∷ []
 
-pub between : (a : ℕ) → Contains lacking_list a → IsBetween four_stamps four (0 ∷ 0 ∷ 1 ∷ []) (2 ∷ 1 ∷ 1 ∷ []) a
+pub between : (a : ℕ) → Contains lacking_list a → IsBetween four_stamps four (0 ∷ 0 ∷ 1 ∷ []) (4 ∷ 2 ∷ 1 ∷ []) a
 between a there =
     ⊎_elim (λ (same : 0 ≡ a). subst P same (record { member = (0, omega arith, refl); later = false≢true; known = refl }))
     (λ (after : Contains (2 ∷ 3 ∷ []) a). ⊎_elim (λ (same : 2 ≡ a). subst P same (record { member = (2, omega arith, refl); later = false≢true; known = refl }))
@@ -77,10 +77,10 @@ between a there =
     (cases_Contains 0 (2 ∷ 3 ∷ []) a there)
   where
     P : ℕ → Type 0
-    P b = IsBetween four_stamps four (0 ∷ 0 ∷ 1 ∷ []) (2 ∷ 1 ∷ 1 ∷ []) b
+    P b = IsBetween four_stamps four (0 ∷ 0 ∷ 1 ∷ []) (4 ∷ 2 ∷ 1 ∷ []) b
 
-pub among : (a : ℕ) → IsBetween four_stamps four (0 ∷ 0 ∷ 1 ∷ []) (2 ∷ 1 ∷ 1 ∷ []) a → Contains lacking_list a
+pub among : (a : ℕ) → IsBetween four_stamps four (0 ∷ 0 ∷ 1 ∷ []) (4 ∷ 2 ∷ 1 ∷ []) a → Contains lacking_list a
 among a h =
-    each_of_four (λ b. IsBetween four_stamps four (0 ∷ 0 ∷ 1 ∷ []) (2 ∷ 1 ∷ 1 ∷ []) b → Contains lacking_list b)
+    each_of_four (λ b. IsBetween four_stamps four (0 ∷ 0 ∷ 1 ∷ []) (4 ∷ 2 ∷ 1 ∷ []) b → Contains lacking_list b)
     (λ g. (0, omega arith, refl)) (λ g. absurd (g.later refl)) (λ g. (1, omega arith, refl)) (λ g. (2, omega arith, refl))
     a h.member h

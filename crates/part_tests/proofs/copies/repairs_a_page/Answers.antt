@@ -28,6 +28,6 @@ returns-clause-before c = fits_before
 
 pub returns-clause-after : goal.returns-clause-after
 returns-clause-after c =
-    repaired_fits four_stamps four_wrote four_changes four (0 ∷ 0 ∷ 1 ∷ []) (2 ∷ 1 ∷ 1 ∷ []) (search rules) 3
+    repaired_fits four_stamps four_wrote four_changes four (0 ∷ 0 ∷ 1 ∷ []) (4 ∷ 2 ∷ 1 ∷ []) (search rules) 3
     (returns-clause-stamped c) (returns-clause-since c) (returns-clause-upto c) (0 ∷ 2 ∷ 3 ∷ []) (returns-clause-lacking c)
     (0 ∷ 7 ∷ []) (returns-clause-sound c) fits_before
