@@ -1,18 +1,20 @@
 -- A repair of a page of two words, by hand.
-use Rattle.std.proofs.Common.{◌≡◌, ℕ, zero, suc, List, [], ◌∷◌, Some, None, subst, refl, ⊎_elim, arith}
-use Rattle.std.specs.Prelude.{Contains}
+use Rattle.std.proofs.Common.{◌≡◌, ℕ, zero, suc, IsTrue, List, [], ◌∷◌, Some, None, subst, refl, inl, ⊎_elim, arith, rules}
+use Rattle.std.specs.Prelude.{Contains, AllPairs}
 use Rattle.std.proofs.lemmas.Bool.{false≢true}
 use Rattle.lrc_copies.specs.Word.{Fits}
 use Rattle.lrc_copies.specs.Sound.{those_below, IsSound}
 use Rattle.lrc_copies.specs.Page.{at_word, IsPageSound, PageFits}
-use Rattle.lrc_copies.specs.Stamps.{AreStamped, IsBetween}
+use Rattle.lrc_time.specs.Time.{Covers}
+use Rattle.lrc_copies.specs.Stamps.{comes_before, IsCut, AreStamped, IsBetween, AreLacking, covered}
+use Rattle.lrc_copies.proofs.Timing.{repaired_fits}
 use Rattle.lrc_copies.proofs.Members.{cases_Contains, none_Contains}
 use Rattle.lrc_copies.proofs.Deciding.{fits_true}
 use Rattle.lrc_copies.proofs.Stamping.{lighter_below}
-use Rattle.part_tests.specs.Copies.{four, four_stamps, four_wrote, four_page}
+use Rattle.part_tests.specs.Copies.{four_changes, four, four_stamps, four_wrote, four_page}
 
 -- what holds of each of four holds of every member of their list
-each_of_four : (P : ℕ → Type 0) → P 0 → P 1 → P 2 → P 3 → (a : ℕ) → Contains four a → P a
+pub each_of_four : (P : ℕ → Type 0) → P 0 → P 1 → P 2 → P 3 → (a : ℕ) → Contains four a → P a
 each_of_four P first second third last a there =
     ⊎_elim (λ (same : 0 ≡ a). subst P same first)
     (λ (after : Contains (1 ∷ 2 ∷ 3 ∷ []) a). ⊎_elim (λ (same : 1 ≡ a). subst P same second)
@@ -84,3 +86,32 @@ among a h =
     each_of_four (λ b. IsBetween four_stamps four (0 ∷ 0 ∷ 1 ∷ []) (4 ∷ 2 ∷ 1 ∷ []) b → Contains lacking_list b)
     (λ g. (0, omega arith, refl)) (λ g. absurd (g.later refl)) (λ g. (1, omega arith, refl)) (λ g. (2, omega arith, refl))
     a h.member h
+
+-- ---- the repair
+
+pub stamped : AreStamped four_stamps 3 four
+stamped = search rules
+
+since_cut : IsCut four_stamps four (0 ∷ 0 ∷ 1 ∷ [])
+since_cut = search rules
+
+upto_cut : IsCut four_stamps four (4 ∷ 2 ∷ 1 ∷ [])
+upto_cut = search rules
+
+later : Covers (4 ∷ 2 ∷ 1 ∷ []) (0 ∷ 0 ∷ 1 ∷ [])
+later = search rules
+
+in_order : AllPairs (λ a b. IsTrue (comes_before four_stamps a b)) lacking_list
+in_order = search rules
+
+pub lacking : AreLacking four_stamps four_wrote four (0 ∷ 0 ∷ 1 ∷ []) (4 ∷ 2 ∷ 1 ∷ []) lacking_list
+lacking = record {
+  members = between;
+  complete = λ a h. inl (among a h);
+  ascending = in_order;
+}
+
+pub repaired_by_hand : PageFits four_page (9 ∷ 7 ∷ []) (covered four_stamps (4 ∷ 2 ∷ 1 ∷ []) four)
+repaired_by_hand =
+    repaired_fits four_stamps four_wrote four_changes four (0 ∷ 0 ∷ 1 ∷ []) (4 ∷ 2 ∷ 1 ∷ []) later 3 stamped since_cut upto_cut
+    lacking_list lacking (0 ∷ 7 ∷ []) (four_sound stamped) fits_before
