@@ -1,6 +1,6 @@
 -- A run by hand: what its reader's time covers, and that it may read what the repair made.
 use Rattle.std.proofs.Common.{◌≡◌, ℕ, zero, suc, ◌<◌, ◌≤◌, ◌⊎◌, ◌∙◌, IsTrue, List, [], ◌∷◌, Some, None, ap, sym, subst, refl, inl, inr, ⊎_elim, arith}
-use Rattle.std.specs.Prelude.{Contains}
+use Rattle.std.specs.Prelude.{Contains, nat_le}
 use Rattle.std.proofs.lemmas.Bool.{leb-true}
 use Rattle.lrc_time.specs.Time.{entry}
 use Rattle.lrc_trace.specs.declared.act.Deed.{Deed}
@@ -90,25 +90,29 @@ from_5 = further (base (lock (omega arith) here_5 here_10)) (program (omega arit
 abbrev IsSeen : ℕ → ℕ → Type 0
 IsSeen i node = HappensBefore four_run i 11 × (interval_at four_run node i ≤ entry reads_at node)
 
+by_8 : {i : ℕ} {d : Deed} → i < 8 → Does four_run i 0 d → HappensBefore four_run i 11
+by_8 before does = transitive (base (program before does here_8)) from_8
+
+by_5 : {i : ℕ} {d : Deed} → i < 5 → Does four_run i 1 d → HappensBefore four_run i 11
+by_5 before does = transitive (base (program before does here_5)) from_5
+
+also_of : {i n node : ℕ} {d e : Deed} → Does four_run i n d → Does four_run i node e → IsSeen i n → IsSeen i node
+also_of {i} here does here_seen = subst (IsSeen i) (Does-one_node here does) here_seen
+
+known : (i node : ℕ) → IsTrue (nat_le (interval_at four_run node i) (entry reads_at node))
+    → interval_at four_run node i ≤ entry reads_at node
+known i node holds = leb-true (interval_at four_run node i) (entry reads_at node) holds
+
 seen : (i node : ℕ) (d : Deed) → (node ≡ 2 → ⊥) → Does four_run i node d → IsSeen i node
-seen zero node d other h =
-    subst (IsSeen 0) (Does-one_node here_0 h) (transitive (base (program (omega arith) here_0 here_8)) from_8, leb-true (interval_at four_run 0 0) (entry reads_at 0) refl)
-seen (suc zero) node d other h =
-    subst (IsSeen 1) (Does-one_node here_1 h) (transitive (base (program (omega arith) here_1 here_8)) from_8, leb-true (interval_at four_run 0 1) (entry reads_at 0) refl)
-seen (suc (suc zero)) node d other h =
-    subst (IsSeen 2) (Does-one_node here_2 h) (transitive (base (program (omega arith) here_2 here_8)) from_8, leb-true (interval_at four_run 0 2) (entry reads_at 0) refl)
-seen (suc (suc (suc zero))) node d other h =
-    subst (IsSeen 3) (Does-one_node here_3 h) (transitive (base (program (omega arith) here_3 here_5)) from_5, leb-true (interval_at four_run 1 3) (entry reads_at 1) refl)
-seen (suc (suc (suc (suc zero)))) node d other h =
-    subst (IsSeen 4) (Does-one_node here_4 h) (transitive (base (program (omega arith) here_4 here_5)) from_5, leb-true (interval_at four_run 1 4) (entry reads_at 1) refl)
-seen (suc (suc (suc (suc (suc zero))))) node d other h =
-    subst (IsSeen 5) (Does-one_node here_5 h) (from_5, leb-true (interval_at four_run 1 5) (entry reads_at 1) refl)
-seen (suc (suc (suc (suc (suc (suc zero)))))) node d other h =
-    subst (IsSeen 6) (Does-one_node here_6 h) (transitive (base (program (omega arith) here_6 here_8)) from_8, leb-true (interval_at four_run 0 6) (entry reads_at 0) refl)
-seen (suc (suc (suc (suc (suc (suc (suc zero))))))) node d other h =
-    subst (IsSeen 7) (Does-one_node here_7 h) (transitive (base (program (omega arith) here_7 here_8)) from_8, leb-true (interval_at four_run 0 7) (entry reads_at 0) refl)
-seen (suc (suc (suc (suc (suc (suc (suc (suc zero)))))))) node d other h =
-    subst (IsSeen 8) (Does-one_node here_8 h) (from_8, leb-true (interval_at four_run 0 8) (entry reads_at 0) refl)
+seen zero node d other h = also_of here_0 h (by_8 (omega arith) here_0, known 0 0 refl)
+seen (suc zero) node d other h = also_of here_1 h (by_8 (omega arith) here_1, known 1 0 refl)
+seen (suc (suc zero)) node d other h = also_of here_2 h (by_8 (omega arith) here_2, known 2 0 refl)
+seen (suc (suc (suc zero))) node d other h = also_of here_3 h (by_5 (omega arith) here_3, known 3 1 refl)
+seen (suc (suc (suc (suc zero)))) node d other h = also_of here_4 h (by_5 (omega arith) here_4, known 4 1 refl)
+seen (suc (suc (suc (suc (suc zero))))) node d other h = also_of here_5 h (from_5, known 5 1 refl)
+seen (suc (suc (suc (suc (suc (suc zero)))))) node d other h = also_of here_6 h (by_8 (omega arith) here_6, known 6 0 refl)
+seen (suc (suc (suc (suc (suc (suc (suc zero))))))) node d other h = also_of here_7 h (by_8 (omega arith) here_7, known 7 0 refl)
+seen (suc (suc (suc (suc (suc (suc (suc (suc zero)))))))) node d other h = also_of here_8 h (from_8, known 8 0 refl)
 seen (suc (suc (suc (suc (suc (suc (suc (suc (suc zero))))))))) node d other h = absurd (other (Does-one_node h here_9))
 seen (suc (suc (suc (suc (suc (suc (suc (suc (suc (suc zero)))))))))) node d other h = absurd (other (Does-one_node h here_10))
 seen (suc (suc (suc (suc (suc (suc (suc (suc (suc (suc (suc zero))))))))))) node d other h = absurd (other (Does-one_node h here_11))

@@ -39,7 +39,8 @@ module _ (stamped : AreStamped four_stamps 3 four) where
         each_of_four (λ b. (at_word four_page 0).change b ≡ Some v → four_wrote b 0 ≡ Some v)
         (λ given. given) (λ given. given) (λ given. given) (λ given. absurd (cc)) a a_in;
     silent = λ a v a_in.
-        each_of_four (λ b. four_wrote b 0 ≡ Some v → (at_word four_page 0).change b ≡ None → Fits (at_word four_page 0) v (those_below (at_word four_page 0) four b))
+        each_of_four (λ b. four_wrote b 0 ≡ Some v → (at_word four_page 0).change b ≡ None
+        → Fits (at_word four_page 0) v (those_below (at_word four_page 0) four b))
         (λ wrote none. absurd (cc)) (λ wrote none. absurd (cc)) (λ wrote none. absurd (cc))
         (λ wrote none.
         let value : 9 ≡ v = cc in
@@ -55,7 +56,8 @@ module _ (stamped : AreStamped four_stamps 3 four) where
         each_of_four (λ b. (at_word four_page 1).change b ≡ Some v → four_wrote b 1 ≡ Some v)
         (λ given. given) (λ given. given) (λ given. given) (λ given. given) a a_in;
     silent = λ a v a_in.
-        each_of_four (λ b. four_wrote b 1 ≡ Some v → (at_word four_page 1).change b ≡ None → Fits (at_word four_page 1) v (those_below (at_word four_page 1) four b))
+        each_of_four (λ b. four_wrote b 1 ≡ Some v → (at_word four_page 1).change b ≡ None
+        → Fits (at_word four_page 1) v (those_below (at_word four_page 1) four b))
         (λ wrote none. absurd (cc)) (λ wrote none. absurd (cc)) (λ wrote none. absurd (cc)) (λ wrote none. absurd (cc)) a a_in;
   }
 
