@@ -70,18 +70,27 @@ module _ (stamped : AreStamped four_stamps 3 four) where
 abbrev lacking_list : List ℕ
 lacking_list = 0 ∷ 2 ∷ 3 ∷ []
 
-pub between : (a : ℕ) → Contains lacking_list a → IsBetween four_stamps four (0 ∷ 0 ∷ 1 ∷ []) (4 ∷ 2 ∷ 1 ∷ []) a
+abbrev IsBetweenThem : ℕ → Type 0
+IsBetweenThem a = IsBetween four_stamps four (0 ∷ 0 ∷ 1 ∷ []) (4 ∷ 2 ∷ 1 ∷ []) a
+
+between_0 : IsBetweenThem 0
+between_0 = record { member = (0, omega arith, refl); later = false≢true; known = refl }
+
+between_2 : IsBetweenThem 2
+between_2 = record { member = (2, omega arith, refl); later = false≢true; known = refl }
+
+between_3 : IsBetweenThem 3
+between_3 = record { member = (3, omega arith, refl); later = false≢true; known = refl }
+
+between : (a : ℕ) → Contains lacking_list a → IsBetweenThem a
 between a there =
-    ⊎_elim (λ (same : 0 ≡ a). subst P same (record { member = (0, omega arith, refl); later = false≢true; known = refl }))
-    (λ (after : Contains (2 ∷ 3 ∷ []) a). ⊎_elim (λ (same : 2 ≡ a). subst P same (record { member = (2, omega arith, refl); later = false≢true; known = refl }))
-    (λ (after : Contains (3 ∷ []) a). ⊎_elim (λ (same : 3 ≡ a). subst P same (record { member = (3, omega arith, refl); later = false≢true; known = refl }))
+    ⊎_elim (λ (same : 0 ≡ a). subst IsBetweenThem same between_0)
+    (λ (after : Contains (2 ∷ 3 ∷ []) a). ⊎_elim (λ (same : 2 ≡ a). subst IsBetweenThem same between_2)
+    (λ (after : Contains (3 ∷ []) a). ⊎_elim (λ (same : 3 ≡ a). subst IsBetweenThem same between_3)
     (λ (after : Contains [] a). absurd (none_Contains a after))
     (cases_Contains 3 [] a after))
     (cases_Contains 2 (3 ∷ []) a after))
     (cases_Contains 0 (2 ∷ 3 ∷ []) a there)
-  where
-    P : ℕ → Type 0
-    P b = IsBetween four_stamps four (0 ∷ 0 ∷ 1 ∷ []) (4 ∷ 2 ∷ 1 ∷ []) b
 
 pub among : (a : ℕ) → IsBetween four_stamps four (0 ∷ 0 ∷ 1 ∷ []) (4 ∷ 2 ∷ 1 ∷ []) a → Contains lacking_list a
 among a h =
