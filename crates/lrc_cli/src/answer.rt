@@ -14,12 +14,13 @@ use lrc_lang::parse;
 use lrc_lang::program::Program;
 use lrc_trace::act::Act;
 use lrc_world::ends::ends;
-use lrc_world::report::{End, Options, Picker, Report};
+use lrc_world::picker::Picker;
+use lrc_world::report::{End, Options, Report};
 use lrc_world::simulate::{drive, simulate};
 use std::alloc::{AllocError, Global};
 
 /// What is printed, and the status with which the program ends after it.
-#[derive(Debug, Drop)]
+#[derive(Drop)]
 pub struct Printout {
     /// The parts of the text.
     pub parts: Vec<Vec<u8>>,

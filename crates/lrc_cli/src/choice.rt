@@ -5,7 +5,7 @@ ghost use Rattle.std.specs.Prelude.{◌≡◌, ◌≤◌};
 use thiserror::Error;
 
 /// How many nodes a run has, 1 to 16.
-#[derive(Clone, Copy, Debug)]
+#[derive(Clone, Copy)]
 pub struct Nodes {
     pub count: u32,
     pub ghost some: { 1 ≤ count },
@@ -13,7 +13,7 @@ pub struct Nodes {
 }
 
 /// How many statements each node may begin, 1 to 1,000,000.
-#[derive(Clone, Copy, Debug)]
+#[derive(Clone, Copy)]
 pub struct Steps {
     pub count: u32,
     pub ghost some: { 1 ≤ count },
@@ -21,7 +21,7 @@ pub struct Steps {
 }
 
 /// The options of `plain`.
-#[derive(Clone, Copy, Debug)]
+#[derive(Clone, Copy)]
 pub struct PlainRun<'w> {
     /// The file of the program's text; `-` is standard input.
     pub file: &'w str,
@@ -30,7 +30,7 @@ pub struct PlainRun<'w> {
 }
 
 /// The options of `sim`.
-#[derive(Clone, Copy, Debug)]
+#[derive(Clone, Copy)]
 pub struct Simulation<'w> {
     /// The file of the program's text; `-` is standard input.
     pub file: &'w str,
@@ -43,7 +43,7 @@ pub struct Simulation<'w> {
 }
 
 /// What the words ask for.
-#[derive(Clone, Copy, Debug)]
+#[derive(Clone, Copy)]
 pub enum Choice<'w> {
     /// Whether the text in this file is a program; `-` is standard input.
     Check(&'w str),

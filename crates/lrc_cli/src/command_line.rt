@@ -7,7 +7,7 @@ ghost use Rattle.clap.specs.Words.{subcommand_rows_of};
 ghost use Rattle.clap.specs.declared.builder.command.Command.TheViews.{out-Command as fields_of};
 ghost use Rattle.lrc_cli.specs.CommandLine.{Chooses, HasBadCount, HasBadNumber, HasFile, IsFound, IsFoundFault};
 ghost use Rattle.lrc_cli.specs.CommandLine.{IsNumberOption, IsPlainRun, IsRunTaken, IsSimulation, IsTaken, check, fault_from};
-ghost use Rattle.lrc_cli.specs.CommandLine.{file, number, nodes_in, number_in, plain, sim, steps_in, treadmarks, words_meant};
+ghost use Rattle.lrc_cli.specs.CommandLine.{file, number, nodes_in, number_in, option, plain, sim, steps_in, treadmarks, words_meant};
 ghost use Rattle.lrc_cli.specs.declared.choice.ChooseFault.TheVariants.{BadNumber, NoMemory};
 
 use crate::choice::{Choice, ChooseFault, Nodes, PlainRun, Simulation, Steps};
@@ -18,6 +18,10 @@ use std::convert::AsStr;
 
 // What the program does where it gets no words.
 static NO_WORDS: [&str; 2] = ["sim", "-"];
+
+const PLAIN_NODES_HELP: &str = "How many nodes run the program: 1 to 16 [default: 1]";
+
+const SIM_NODES_HELP: &str = "How many nodes run the program: 1 [default: 1]";
 
 const STEPS_HELP: &str = "How many statements each node may begin: 1 to 1000000 [default: 1000000]";
 
@@ -180,17 +184,12 @@ fn plain_command<'w>(alloc: Global) -> Result<Command<'w>, AllocError>
     ensures app { IfOk result (λ command. app_of command ≡ plain) }
     ensures local { IfOk result (λ command. (fields_of command).has_globals ≡ false) }
 {
-    let nodes = number(
-        alloc,
-        "nodes",
-        "How many nodes run the program: 1 to 16 [default: 1]",
-    );
     Command::new(alloc, "plain")
         .about(
             "Runs the program of FILE over one flat memory, each node in turn, and looks for no race",
         )
         .arg(file(alloc))?
-        .arg(nodes)?
+        .arg(number(alloc, "nodes", PLAIN_NODES_HELP))?
         .arg(number(alloc, "steps", STEPS_HELP))
 }
 
@@ -198,24 +197,12 @@ fn sim_command<'w>(alloc: Global) -> Result<Command<'w>, AllocError>
     ensures app { IfOk result (λ command. app_of command ≡ sim) }
     ensures local { IfOk result (λ command. (fields_of command).has_globals ≡ false) }
 {
-    let nodes = number(
-        alloc,
-        "nodes",
-        "How many nodes run the program: 1 [default: 1]",
-    );
-    let steps = number(alloc, "steps", STEPS_HELP);
-    let events = Arg::new(alloc, "events")
-        .long("events")
-        .value_name("EVENTS")
-        .help(
-            "A file of events to play, `run N` or `deliver I` on each line [default: all nodes in turn]",
-        );
     Command::new(alloc, "sim")
         .about("Runs the program of FILE, one event after the other")
         .arg(file(alloc))?
-        .arg(nodes)?
-        .arg(steps)?
-        .arg(events)
+        .arg(number(alloc, "nodes", SIM_NODES_HELP))?
+        .arg(number(alloc, "steps", STEPS_HELP))?
+        .arg(events(alloc))
 }
 
 fn file<'w>(alloc: Global) -> Arg<'w>
@@ -225,6 +212,18 @@ fn file<'w>(alloc: Global) -> Arg<'w>
     Arg::new(alloc, "FILE")
         .required(true)
         .help("The program's text; `-` is standard input")
+}
+
+fn events<'w>(alloc: Global) -> Arg<'w>
+    ensures rule { rule_of result ≡ option (codes "events") }
+    ensures local { result.global ≡ false }
+{
+    Arg::new(alloc, "events")
+        .long("events")
+        .value_name("EVENTS")
+        .help(
+            "A file of events to play, `run N` or `deliver I` on each line [default: all nodes in turn]",
+        )
 }
 
 fn number<'w>(alloc: Global, name: &'w str, help: &'w str) -> Arg<'w>

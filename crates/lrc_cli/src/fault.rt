@@ -1,7 +1,7 @@
 // Why nothing is printed, and the line that says so.
 
-ghost use Rattle.std.specs.Prelude.{◌≡◌, ◌≢◌, IfOk};
-ghost use Rattle.lrc_cli.specs.FaultLine.{fault_line, fault_of_events, fault_of_run, fault_of_text, kind_words};
+ghost use Rattle.std.specs.Prelude.{◌≡◌, ◌≢◌, ◌++◌, IfOk, OnOk, codes, decimal};
+ghost use Rattle.lrc_cli.specs.FaultLine.{fault_line, fault_of_events, fault_of_run, fault_of_text, fault_words, kind_words};
 ghost use Rattle.lrc_cli.specs.declared.fault.Fault.TheVariants.{NoMemory};
 
 use crate::events::EventsFault;
@@ -86,25 +86,40 @@ pub(crate) const NO_MEMORY_LINE: &[u8] = b"treadmarks: out of memory\n";
 pub(crate) fn line_of(alloc: Global, fault: Fault) -> Result<Vec<u8>, AllocError>
     ensures { IfOk result (λ line. line.items ≡ fault_line fault) }
 {
-    let mut digits = Buffer::new();
     let mut line = Vec::from_slice(alloc, b"treadmarks: ")?;
+    push_fault(&mut line, fault)?;
+    Ok(line)
+}
+
+// Adds the words of a fault, and the end of the line.
+fn push_fault(line: &mut Vec<u8>, fault: Fault) -> Result<(), AllocError>
+    ensures { OnOk result (line.new.items ≡ line.old.items ++ fault_words fault ++ codes "\n") }
+{
     match fault {
         Fault::Text(number, kind) => {
-            line.extend_from_slice(b"line ")?;
-            line.extend_from_slice(digits.format(number).as_bytes())?;
-            line.extend_from_slice(b": ")?;
+            push_numbered(line, b"line ", number, b": ")?;
             line.extend_from_slice(words_of(kind))?;
         }
-        Fault::Events(number) => {
-            line.extend_from_slice(b"events line ")?;
-            line.extend_from_slice(digits.format(number).as_bytes())?;
-            line.extend_from_slice(b": bad event")?;
-        }
+        Fault::Events(number) => push_numbered(line, b"events line ", number, b": bad event")?,
         Fault::Worn => line.extend_from_slice(b"message numbers used up")?,
         Fault::NoMemory => line.extend_from_slice(b"out of memory")?,
     }
-    line.extend_from_slice(b"\n")?;
-    Ok(line)
+    line.extend_from_slice(b"\n")
+}
+
+// Adds a number between words.
+fn push_numbered(
+    line: &mut Vec<u8>,
+    before: &[u8],
+    number: u32,
+    after: &[u8],
+) -> Result<(), AllocError>
+    ensures { OnOk result (line.new.items ≡ line.old.items ++ before.now ++ decimal number ++ after.now) }
+{
+    let mut digits = Buffer::new();
+    line.extend_from_slice(before)?;
+    line.extend_from_slice(digits.format(number).as_bytes())?;
+    line.extend_from_slice(after)
 }
 
 fn words_of(kind: FaultKind) -> &'static [u8]

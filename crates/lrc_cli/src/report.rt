@@ -1,6 +1,6 @@
 // What a run prints.
 
-ghost use Rattle.std.specs.Prelude.{◌≡◌, ◌++◌, [], IfOk, OnOk, replicate};
+ghost use Rattle.std.specs.Prelude.{◌≡◌, ◌++◌, [], IfOk, OnOk, decimal, replicate};
 ghost use Rattle.lrc_trace.specs.declared.act.Deed.TheVariants.{Print};
 ghost use Rattle.lrc_cli.specs.ReportText.{deed_line, end_words, line_on, report_text, status_of, texts_of, whole_text};
 
@@ -53,27 +53,28 @@ pub fn status_after(ends: &[End]) -> u8
 fn push_print(text: &mut Vec<u8>, node: usize, value: u64) -> Result<(), AllocError>
     ensures { OnOk result (text.new.items ≡ text.old.items ++ deed_line node (Print value)) }
 {
-    let mut digits = Buffer::new();
-    text.extend_from_slice(b"node ")?;
-    text.extend_from_slice(digits.format(node).as_bytes())?;
-    text.extend_from_slice(b" prints ")?;
-    text.extend_from_slice(digits.format(value).as_bytes())?;
+    push_number(text, b"node ", node as u64)?;
+    push_number(text, b" prints ", value)?;
     text.extend_from_slice(b"\n")
 }
 
 fn push_end(text: &mut Vec<u8>, node: usize, end: End) -> Result<(), AllocError>
     ensures { OnOk result (text.new.items ≡ text.old.items ++ line_on node (end_words end)) }
 {
-    let mut digits = Buffer::new();
-    text.extend_from_slice(b"node ")?;
-    text.extend_from_slice(digits.format(node).as_bytes())?;
+    push_number(text, b"node ", node as u64)?;
     match end {
         End::Ended => text.extend_from_slice(b" ended")?,
-        End::Trapped(cause) => {
-            text.extend_from_slice(b" trapped ")?;
-            text.extend_from_slice(digits.format(cause as u8).as_bytes())?;
-        }
+        End::Trapped(cause) => push_number(text, b" trapped ", u64::from(cause as u8))?,
         End::Unfinished => text.extend_from_slice(b" unfinished")?,
     }
     text.extend_from_slice(b"\n")
+}
+
+// Adds a word and the number behind it.
+fn push_number(text: &mut Vec<u8>, word: &[u8], number: u64) -> Result<(), AllocError>
+    ensures { OnOk result (text.new.items ≡ text.old.items ++ word.now ++ decimal number) }
+{
+    let mut digits = Buffer::new();
+    text.extend_from_slice(word)?;
+    text.extend_from_slice(digits.format(number).as_bytes())
 }

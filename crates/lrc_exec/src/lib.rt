@@ -7,6 +7,4 @@ pub mod laws;
 pub mod machine;
 pub mod plain;
 pub mod rounds;
-#[cfg(test)]
-mod tests;
 mod value;

@@ -13,7 +13,7 @@ use lrc_trace::act::Cause;
 use std::marker::Model;
 
 /// What a thread asks for next.
-#[derive(Clone, Copy, Debug, PartialEq, Eq)]
+#[derive(Clone, Copy, PartialEq, Eq)]
 pub enum Ask {
     /// Nothing: a step that only this thread sees, an assignment or a condition.
     Quiet,

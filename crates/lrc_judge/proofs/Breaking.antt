@@ -13,7 +13,7 @@ use Rattle.lrc_trace.specs.Synchronization.{Holds, IsWellSynchronized}
 use Rattle.lrc_trace.proofs.Positions.{Does-deed, Does-one_node, Does-one_deed, Does-within}
 use Rattle.lrc_trace.proofs.Holding.{Holds-decided}
 use Rattle.lrc_judge.specs.Synchronization.{Breaks, acquire, release, depart}
-use Rattle.lrc_judge.proofs.Locks.{AreHolders}
+use Rattle.lrc_trace.proofs.Locks.{AreHolders}
 
 -- each count is above the bound, or one isn't
 above_or_one : (bound : ℕ) (counts : List ℕ) → All (λ c. bound < c) counts ⊎ ((q : ℕ) × (q < length counts) × (get_or counts q 0 ≤ bound))

@@ -4,23 +4,13 @@ use Rattle.std.proofs.lemmas.Bool.{cases_eq, cases_lt}
 use Rattle.lrc_trace.specs.declared.act.Act.{Act}
 use Rattle.lrc_trace.specs.declared.act.Deed.{Deed}
 use Rattle.lrc_trace.specs.Run.{Does}
-use Rattle.lrc_trace.specs.Order.{Precedes, program, HappensBefore, base, further}
+use Rattle.lrc_trace.specs.Order.{Precedes, program, base, Reaches}
 use Rattle.lrc_trace.proofs.Positions.{Does-one_node}
-use Rattle.lrc_trace.proofs.HappensBefore.{forward, transitive}
+use Rattle.lrc_trace.proofs.HappensBefore.{forward, Reaches-extends, Reaches-last}
 use Rattle.lrc_judge.specs.declared.reach.Reach.{Reach}
-use Rattle.lrc_judge.specs.Past.{Reaches, Gathers}
+use Rattle.lrc_judge.specs.Past.{Gathers}
 
 module _ (run : List Act) where
-  -- what reaches a position that comes before n happens before n
-  pub Reaches-extends : {i k n : ℕ} → Reaches run i k → HappensBefore run k n → HappensBefore run i n
-  Reaches-extends {i} {k} {n} (inl e) h = let P : ℕ → Type 0 = λ m. HappensBefore run m n in subst P (sym e) h
-  Reaches-extends (inr g) h = transitive g h
-
-  -- what happens before n reaches what comes right before it
-  pub Reaches-last : {i n : ℕ} → HappensBefore run i n → (k : ℕ) × Reaches run i k × Precedes run k n
-  Reaches-last {i} (base p) = (i, inl refl, p)
-  Reaches-last (further {j = k} h p) = (k, inr h, p)
-
   -- nothing reaches a position of none
   pub Gathers-none : (these : ℕ → Type 0) (reach : Reach) → ((p : ℕ) → get_or reach.latest p 0 ≡ 0) → ((k : ℕ) → these k → ⊥) → Gathers run these reach
   Gathers-none these reach zeros none = record {
@@ -66,7 +56,7 @@ module _ (run : List Act) where
           | inr apart ↦
               let at : get_or after.latest p 0 ≡ get_or before.latest p 0 = rw (e, get_or-set_other before.latest node p (n + 1) 0 apart) in
               let (k, t, r) = g.sound i p d act (omega arith) in
-              (n, refl, inr (Reaches-extends r (base t)))
+              (n, refl, inr (Reaches-extends run r (base t)))
         ];
     complete = λ i k p d act t r.
         let r' : Reaches run i n = subst (λ m. Reaches run i m) t r in
@@ -82,7 +72,7 @@ module _ (run : List Act) where
               elim r' [
                 | inl there ↦ absurd (apart (Does-one_node (subst (λ m. Does run m p d) there act) here))
                 | inr h ↦
-                    let (m, reaches, last) = Reaches-last h in
+                    let (m, reaches, last) = Reaches-last run h in
                     let below = g.complete i m p d act last reaches in omega arith
               ]
         ];

@@ -8,10 +8,11 @@ use Rattle.lrc_trace.specs.declared.act.Deed.TheVariants.{Acquire, Arrive, Depar
 use Rattle.lrc_trace.specs.Run.{Does, is_arrive, arrives_before, departs_before}
 use Rattle.lrc_trace.specs.Order.{Precedes, program, lock, barrier, HappensBefore}
 use Rattle.lrc_trace.proofs.Positions.{Does-node, Does-deed, Does-one_node, Does-one_deed}
+use Rattle.lrc_trace.proofs.HappensBefore.{Reaches-extends}
 use Rattle.lrc_trace.proofs.Intervals.{count_of-rises, count_of-more}
 use Rattle.lrc_judge.specs.declared.reach.Reach.{Reach}
 use Rattle.lrc_judge.specs.Past.{Gathers, EachGathers, Acted, Released, Arrived}
-use Rattle.lrc_judge.proofs.Gathering.{Reaches-extends, Gathers-same, Gathers-joined}
+use Rattle.lrc_judge.proofs.Gathering.{Gathers-same, Gathers-joined}
 
 -- what comes right before an act: its node's earlier acts, and for an acquire the releases of the lock, for a depart the
 -- arrives with its number

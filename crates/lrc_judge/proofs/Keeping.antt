@@ -166,32 +166,3 @@ module _ (run : List Act) (n node : ℕ) (deed : Deed) (here : Does run n node d
           ],
     );
   }
-
-  -- the intervals that the nodes have reached
-  pub intervals_same : (intervals : List ℕ) → closes deed ≡ false → ((q : ℕ) → q < length intervals → get_or intervals q 0 ≡ interval_at run q n) → (q : ℕ) → q < length intervals → get_or intervals q 0 ≡ interval_at run q (n + 1)
-  intervals_same intervals fails old q within = old q within ∙ ap (λ m. 1 + m) (sym (count_of-same closes run q n node deed here (λ e. both_ways (closes deed) fails)))
-
-  pub intervals_next : (intervals : List ℕ) (interval : ℕ) → closes deed ≡ true → node < length intervals → interval ≡ interval_at run node n → ((q : ℕ) → q < length intervals → get_or intervals q 0 ≡ interval_at run q n) → (q : ℕ) → q < length (set intervals node (interval + 1)) → get_or (set intervals node (interval + 1)) q 0 ≡ interval_at run q (n + 1)
-  intervals_next intervals interval passes long is old q h =
-      elim (cases_eq q node) [
-        | inl same ↦
-            let more = count_of-more closes run node n deed here passes in
-            rw (same, get_or-set_same intervals node (interval + 1) 0 long) (omega arith)
-        | inr other ↦
-            let lt : q < length intervals = rw (← length-set intervals node (interval + 1)) h in
-            rw (get_or-set_other intervals node q (interval + 1) 0 other) (old q lt ∙ ap (λ m. 1 + m) (sym (count_of-same closes run q n node deed here (λ e. absurd (other (sym e))))))
-      ]
-
--- an interval that is reached is at most one more than the position
-pub interval_at-bound : (run : List Act) (node n : ℕ) → n ≤ length run → interval_at run node n ≤ n + 1
-interval_at-bound run node n within =
-    let few = count_by-le-length (λ (a : Act). a.node == node && closes a.deed) (take n run) in
-    let short = length-take-le n run within in
-    omega arith
-
--- a deed that closes no interval
-pub no_close : (d : Deed) → ((l : ℕ) → d ≡ Acquire l → ⊥) → ((l : ℕ) → d ≡ Release l → ⊥) → (d ≡ Arrive → ⊥) → closes d ≡ false
-no_close (Acquire l) a r b = absurd (a l refl)
-no_close (Release l) a r b = absurd (r l refl)
-no_close Arrive a r b = absurd (b refl)
-no_close _ a r b = refl

@@ -14,15 +14,6 @@ use Rattle.lrc_judge.specs.declared.reach.Reach.{Reach}
 use Rattle.lrc_judge.specs.Past.{Gathers, EachGathers, Acted, Released, Arrived}
 use Rattle.lrc_judge.proofs.HandedOn.{next-joined, next-only, each-same, each-set, each-push}
 
--- a deed that is neither
-pub no_arrive : (d : Deed) → (d ≡ Arrive → ⊥) → is_arrive d ≡ false
-no_arrive Arrive h = absurd (h refl)
-no_arrive _ h = refl
-
-pub no_depart : (d : Deed) → (d ≡ Depart → ⊥) → is_depart d ≡ false
-no_depart Depart h = absurd (h refl)
-no_depart _ h = refl
-
 module _ (run : List Act) (n node : ℕ) (deed : Deed) (here : Does run n node deed) where
   pub acted_next : (table : List Reach) (reach : Reach) → EachGathers run (Acted run n) table → Gathers run (λ k. k ≡ n) reach → EachGathers run (Acted run (n + 1)) (set table node reach)
   acted_next table reach old g =
@@ -58,36 +49,3 @@ module _ (run : List Act) (n node : ℕ) (deed : Deed) (here : Does run n node d
 
   pub arrived_same : (table : List Reach) → (deed ≡ Arrive → ⊥) → EachGathers run (Arrived run n) table → EachGathers run (Arrived run (n + 1)) table
   arrived_same table other old = each-same run n (λ x k. (p : ℕ) × Does run k p Arrive × (arrives_before run p k ≡ x)) table old (λ x (p, h, at). other (Does-one_deed here h))
-
-  module _ (kind : Deed → Bool) where
-    -- a bound on the counts of all nodes
-    pub bound_same : (m : ℕ) → kind deed ≡ false → ((q : ℕ) → count_of kind q (take n run) ≤ m) → (q : ℕ) → count_of kind q (take (n + 1) run) ≤ m
-    bound_same m fails bound q =
-        let old = bound q in
-        let same = count_of-same kind run q n node deed here (λ e. both_ways (kind deed) fails) in
-        omega arith
-
-    pub bound_next : (m m' : ℕ) → kind deed ≡ true → m ≤ m' → count_of kind node (take n run) < m' → ((q : ℕ) → count_of kind q (take n run) ≤ m) → (q : ℕ) → count_of kind q (take (n + 1) run) ≤ m'
-    bound_next m m' passes le lt bound q =
-        let old = bound q in
-        elim (cases_eq node q) [
-          | inl same ↦
-              let more = count_of-more kind run node n deed here passes in
-              let P : ℕ → Type 0 = λ x. count_of kind x (take (n + 1) run) ≤ m' in
-              subst P same (omega arith)
-          | inr other ↦
-              let same = count_of-same kind run q n node deed here (λ e. absurd (other e)) in
-              omega arith
-        ]
-
-    pub counts_same : (counts : List ℕ) → kind deed ≡ false → ((q : ℕ) → q < length counts → get_or counts q 0 ≡ count_of kind q (take n run)) → (q : ℕ) → q < length counts → get_or counts q 0 ≡ count_of kind q (take (n + 1) run)
-    counts_same counts fails old q within = old q within ∙ sym (count_of-same kind run q n node deed here (λ e. both_ways (kind deed) fails))
-
-    pub counts_next : (counts : List ℕ) → kind deed ≡ true → node < length counts → ((q : ℕ) → q < length counts → get_or counts q 0 ≡ count_of kind q (take n run)) → (q : ℕ) → q < length (set counts node (get_or counts node 0 + 1)) → get_or (set counts node (get_or counts node 0 + 1)) q 0 ≡ count_of kind q (take (n + 1) run)
-    counts_next counts passes long old q within =
-        elim (cases_eq q node) [
-          | inl same ↦ rw (same, get_or-set_same counts node (get_or counts node 0 + 1) 0 long) (ap (λ m. m + 1) (old node long) ∙ sym (count_of-more kind run node n deed here passes))
-          | inr other ↦
-              let lt : q < length counts = rw (← length-set counts node (get_or counts node 0 + 1)) within in
-              rw (get_or-set_other counts node q (get_or counts node 0 + 1) 0 other) (old q lt ∙ sym (count_of-same kind run q n node deed here (λ e. absurd (other (sym e)))))
-        ]

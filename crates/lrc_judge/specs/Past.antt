@@ -4,13 +4,9 @@ use Rattle.lrc_trace.specs.declared.act.Act.{Act}
 use Rattle.lrc_trace.specs.declared.act.Deed.{Deed}
 use Rattle.lrc_trace.specs.declared.act.Deed.TheVariants.{Release, Arrive}
 use Rattle.lrc_trace.specs.Run.{Does, IsDone, arrives_before, departs_before}
-use Rattle.lrc_trace.specs.Order.{HappensBefore}
+use Rattle.lrc_trace.specs.Order.{Reaches}
 use Rattle.lrc_judge.specs.declared.reach.Reach.{Reach}
 use Rattle.lrc_judge.specs.declared.past.Past.{Past}
-
--- position i is position k, or happens before it
-abbrev pub Reaches : List Act → ℕ → ℕ → Type 0
-Reaches run i k = (i ≡ k) ⊎ HappensBefore run i k
 
 -- For each node one more than the latest of its positions that reach one of these positions, or 0 where none does.
 pub record Gathers (run : List Act) (these : ℕ → Type 0) (reach : Reach) : Type 0 where

@@ -16,8 +16,6 @@ mod reach;
 pub mod reading;
 mod segments;
 pub mod synchronization;
-#[cfg(test)]
-mod tests;
 
 /// How many nodes a run has at most.
 pub const NODES: usize = 16;

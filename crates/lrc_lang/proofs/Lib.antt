@@ -1,6 +1,7 @@
 pub mod Behind
 pub mod Expressions
 pub mod Foreign
+mod Keywords
 pub mod LexemesExist
 pub mod LexemesLines
 pub mod LexemesNumbers

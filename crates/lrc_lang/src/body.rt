@@ -3,7 +3,8 @@
 ghost use Rattle.std.specs.Prelude.{◌≡◌, option_map};
 ghost use Rattle.lrc_lang.specs.Body.{start, holding, in_expression, body_with, whole_of};
 ghost use Rattle.lrc_lang.specs.Body.{is_ending, ending_of, ended, done, opened, close, close_for};
-ghost use Rattle.lrc_lang.specs.Body.{begin, go_on, behind_equals, behind_then};
+ghost use Rattle.lrc_lang.specs.Body.{begin, go_on, behind_name, behind_equals, behind_word};
+ghost use Rattle.lrc_lang.specs.Body.{at_end, behind_then, behind_else};
 ghost use Rattle.lrc_lang.specs.Partial.{nothing};
 ghost use Rattle.lrc_lang.specs.Seen.{symbol_seen, partial_seen, Gives, GivesNew};
 ghost use Rattle.lrc_lang.specs.SeenBody.{IsExpected, Steps, purpose_seen, owner_seen, body_seen};
@@ -18,7 +19,7 @@ use std::alloc::Global;
 use std::mem;
 
 /// What an expression stands in a statement for.
-#[derive(Debug, Drop)]
+#[derive(Drop)]
 enum Purpose {
     /// The value of a private name.
     Assigned(u8),
@@ -39,7 +40,7 @@ enum Purpose {
 }
 
 /// Where the last symbol has led to.
-#[derive(Debug, Drop)]
+#[derive(Drop)]
 enum Place {
     /// A statement may begin, and a block may end.
     AtStatement,
@@ -60,7 +61,7 @@ enum Place {
 }
 
 /// What an open block belongs to.
-#[derive(Debug, Drop)]
+#[derive(Drop)]
 enum Owner {
     /// The first block of an `if` with this condition.
     Then(Expression),
@@ -71,14 +72,14 @@ enum Owner {
 }
 
 /// What stands around an open block: the statements in front of the one that the block belongs to, and its owner.
-#[derive(Debug, Drop)]
+#[derive(Drop)]
 struct Around {
     before: Vec<Statement>,
     owner: Owner,
 }
 
 /// Statements of which some symbols have come.
-#[derive(Debug, Drop)]
+#[derive(Drop)]
 pub struct Body {
     alloc: Global,
     /// What stands around each open block, outermost first.
@@ -145,27 +146,13 @@ impl Body {
     {
         match mem::replace(&mut self.place, Place::AtStatement) {
             Place::AtStatement => self.begin(symbol),
-            Place::AfterName(name) => {
-                expect(symbol, Sign::Assign)?;
-                self.place = Place::AfterEquals(name);
-                Ok(())
-            }
+            Place::AfterName(name) => self.behind_name(name, symbol),
             Place::AfterEquals(name) => self.behind_equals(name, symbol),
             Place::InExpression(purpose) => self.go_on(purpose, symbol),
-            Place::AfterWord(word) => {
-                expect(symbol, Sign::Assign)?;
-                self.express(Purpose::Written(word));
-                Ok(())
-            }
-            Place::BeforeEnd(statement) => {
-                expect(symbol, Sign::Semicolon)?;
-                self.done(statement)
-            }
+            Place::AfterWord(word) => self.behind_word(word, symbol),
+            Place::BeforeEnd(statement) => self.at_end(statement, symbol),
             Place::AfterThen(condition, first) => self.behind_then(condition, first, symbol),
-            Place::AfterElse(condition, first) => {
-                expect(symbol, Sign::OpenBrace)?;
-                self.open(Owner::Else(condition, first))
-            }
+            Place::AfterElse(condition, first) => self.behind_else(condition, first, symbol),
         }
     }
 
@@ -191,17 +178,27 @@ impl Body {
         self.before
     }
 
+    /// The last symbol has led here.
+    fn go_to(&mut self, place: Place)
+        ensures outer { self.new.outer ≡ self.old.outer }
+        ensures before { self.new.before ≡ self.old.before }
+        ensures expression { self.new.expression ≡ self.old.expression }
+        ensures place { self.new.place ≡ place }
+    {
+        self.place = place;
+    }
+
     /// Where a statement may begin and a block may end.
     fn begin(&mut self, symbol: Symbol) -> Result<(), FaultKind>
         ensures { Steps result self.old self.new
             (λ outer before. begin outer before (symbol_seen symbol)) }
     {
         match symbol {
-            Symbol::Name(name) => self.place = Place::AfterName(name),
+            Symbol::Name(name) => self.go_to(Place::AfterName(name)),
             Symbol::Sign(Sign::OpenBracket) => self.express(Purpose::WordWritten),
             Symbol::Keyword(Keyword::Acquire) => self.express(Purpose::Acquired),
             Symbol::Keyword(Keyword::Release) => self.express(Purpose::Released),
-            Symbol::Keyword(Keyword::Barrier) => self.place = Place::BeforeEnd(Statement::Barrier),
+            Symbol::Keyword(Keyword::Barrier) => self.go_to(Place::BeforeEnd(Statement::Barrier)),
             Symbol::Keyword(Keyword::Print) => self.express(Purpose::Printed),
             Symbol::Keyword(Keyword::If) => self.express(Purpose::IfCondition),
             Symbol::Keyword(Keyword::While) => self.express(Purpose::WhileCondition),
@@ -217,8 +214,52 @@ impl Body {
         ensures before { self.new.before ≡ self.old.before }
         ensures place { (body_seen self.new).place ≡ in_expression (purpose_seen purpose) nothing }
     {
-        self.expression = Partial::nothing(self.alloc);
-        self.place = Place::InExpression(purpose);
+        self.expression.clear(self.alloc);
+        self.go_to(Place::InExpression(purpose));
+    }
+
+    /// Behind the name at the beginning of a statement.
+    fn behind_name(&mut self, name: u8, symbol: Symbol) -> Result<(), FaultKind>
+        ensures { Steps result self.old self.new
+            (λ outer before. behind_name outer before name (symbol_seen symbol)) }
+    {
+        expect(symbol, Sign::Assign)?;
+        self.go_to(Place::AfterEquals(name));
+        Ok(())
+    }
+
+    /// Behind the `[word]` at the beginning of a statement.
+    fn behind_word(&mut self, word: Expression, symbol: Symbol) -> Result<(), FaultKind>
+        ensures { Steps result self.old self.new
+            (λ outer before. behind_word outer before (expression_of word) (symbol_seen symbol)) }
+    {
+        expect(symbol, Sign::Assign)?;
+        self.express(Purpose::Written(word));
+        Ok(())
+    }
+
+    /// In front of the `;` that ends a statement.
+    fn at_end(&mut self, statement: Statement, symbol: Symbol) -> Result<(), FaultKind>
+        ensures { Steps result self.old self.new
+            (λ outer before. at_end outer before (statement_of statement) (symbol_seen symbol)) }
+    {
+        expect(symbol, Sign::Semicolon)?;
+        self.done(statement)
+    }
+
+    /// Behind `else`.
+    fn behind_else(
+        &mut self,
+        condition: Expression,
+        first: Vec<Statement>,
+        symbol: Symbol,
+    ) -> Result<(), FaultKind>
+        ensures { Steps result self.old self.new
+            (λ outer before. behind_else outer before (expression_of condition)
+            (block_of first.items) (symbol_seen symbol)) }
+    {
+        expect(symbol, Sign::OpenBrace)?;
+        self.open(Owner::Else(condition, first))
     }
 
     /// Behind a name and `=`.
@@ -226,10 +267,10 @@ impl Body {
         ensures { Steps result self.old self.new
             (λ outer before. behind_equals outer before name (symbol_seen symbol)) }
     {
-        self.expression = Partial::nothing(self.alloc);
+        self.expression.clear(self.alloc);
         match symbol {
             Symbol::Sign(Sign::OpenBracket) => {
-                self.place = Place::InExpression(Purpose::WordRead(name));
+                self.go_to(Place::InExpression(Purpose::WordRead(name)));
                 Ok(())
             }
             _ => self.go_on(Purpose::Assigned(name), symbol),
@@ -247,7 +288,7 @@ impl Body {
             return self.end(purpose, value);
         }
         self.expression.take(self.alloc, symbol)?;
-        self.place = Place::InExpression(purpose);
+        self.go_to(Place::InExpression(purpose));
         Ok(())
     }
 
@@ -259,11 +300,11 @@ impl Body {
         match purpose {
             Purpose::Assigned(name) => self.done(Statement::Assign(name, value)),
             Purpose::WordRead(name) => {
-                self.place = Place::BeforeEnd(Statement::Read(name, value));
+                self.go_to(Place::BeforeEnd(Statement::Read(name, value)));
                 Ok(())
             }
             Purpose::WordWritten => {
-                self.place = Place::AfterWord(value);
+                self.go_to(Place::AfterWord(value));
                 Ok(())
             }
             Purpose::Written(word) => self.done(Statement::Write(word, value)),
@@ -282,7 +323,7 @@ impl Body {
         ensures outer { self.new.outer ≡ self.old.outer }
     {
         self.before.push(statement)?;
-        self.place = Place::AtStatement;
+        self.go_to(Place::AtStatement);
         Ok(())
     }
 
@@ -293,7 +334,7 @@ impl Body {
     {
         let before = mem::replace(&mut self.before, Vec::new(self.alloc));
         self.outer.push(Around { before, owner })?;
-        self.place = Place::AtStatement;
+        self.go_to(Place::AtStatement);
         Ok(())
     }
 
@@ -315,7 +356,7 @@ impl Body {
     {
         match owner {
             Owner::Then(condition) => {
-                self.place = Place::AfterThen(condition, inside);
+                self.go_to(Place::AfterThen(condition, inside));
                 Ok(())
             }
             Owner::Else(condition, first) => self.done(Statement::If(condition, first, inside)),
@@ -336,7 +377,7 @@ impl Body {
     {
         match symbol {
             Symbol::Keyword(Keyword::Else) => {
-                self.place = Place::AfterElse(condition, first);
+                self.go_to(Place::AfterElse(condition, first));
                 Ok(())
             }
             _ => {

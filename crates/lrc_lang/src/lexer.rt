@@ -9,8 +9,23 @@ ghost use Rattle.lrc_lang.specs.View.{lexeme_of, placed_of};
 
 use crate::token::{Keyword, Lexeme, Placed, Sign, Token};
 
+/// Every keyword.
+const KEYWORDS: [Keyword; 11] = [
+    Keyword::Words,
+    Keyword::Locks,
+    Keyword::Acquire,
+    Keyword::Release,
+    Keyword::Barrier,
+    Keyword::Print,
+    Keyword::If,
+    Keyword::Else,
+    Keyword::While,
+    Keyword::Me,
+    Keyword::Nodes,
+];
+
 /// A text that is read from the left.
-#[derive(Debug, Drop)]
+#[derive(Drop)]
 pub struct Lexer<'t> {
     /// What is left of the text.
     pub rest: &'t [u8],
@@ -21,7 +36,7 @@ pub struct Lexer<'t> {
 }
 
 /// Bytes that stand together.
-#[derive(Clone, Copy, Debug)]
+#[derive(Clone, Copy)]
 enum Class {
     Digit,
     /// Letters, digits and `_`.
@@ -189,19 +204,28 @@ fn short_sign(first: u8) -> Option<Sign>
 fn keyword_of(word: &[u8]) -> Option<Keyword>
     ensures { MatchOption result (¬ IsKeyword word.now) (λ keyword. word.now ≡ keyword_text keyword) }
 {
-    match word {
-        b"words" => Some(Keyword::Words),
-        b"locks" => Some(Keyword::Locks),
-        b"acquire" => Some(Keyword::Acquire),
-        b"release" => Some(Keyword::Release),
-        b"barrier" => Some(Keyword::Barrier),
-        b"print" => Some(Keyword::Print),
-        b"if" => Some(Keyword::If),
-        b"else" => Some(Keyword::Else),
-        b"while" => Some(Keyword::While),
-        b"me" => Some(Keyword::Me),
-        b"nodes" => Some(Keyword::Nodes),
-        _ => None,
+    KEYWORDS
+        .iter()
+        .find(|keyword| spelling_of(**keyword) == word)
+        .copied()
+}
+
+/// How a keyword is spelled.
+fn spelling_of(keyword: Keyword) -> &'static [u8]
+    ensures { result.now ≡ keyword_text keyword }
+{
+    match keyword {
+        Keyword::Words => b"words",
+        Keyword::Locks => b"locks",
+        Keyword::Acquire => b"acquire",
+        Keyword::Release => b"release",
+        Keyword::Barrier => b"barrier",
+        Keyword::Print => b"print",
+        Keyword::If => b"if",
+        Keyword::Else => b"else",
+        Keyword::While => b"while",
+        Keyword::Me => b"me",
+        Keyword::Nodes => b"nodes",
     }
 }
 
@@ -253,55 +277,5 @@ fn begins_with_letter(text: &[u8]) -> bool
     match text {
         [byte, ..] => is_letter(*byte),
         [] => false,
-    }
-}
-
-#[cfg(test)]
-mod tests {
-    use super::*;
-
-    fn token(line: u32, token: Token<'_>) -> Placed<'_> {
-        Placed {
-            line,
-            lexeme: Lexeme::Token(token),
-        }
-    }
-
-    #[test]
-    fn reads_a_text(rt: HostRuntime) {
-        let text = b"words 007;\t# a comment\r\xff # \n\r\nwhile Me<=_x1!= 18446744073709551615\n";
-        let mut lexer = Lexer::new(text);
-        let expected = [
-            token(1, Token::Keyword(Keyword::Words)),
-            token(1, Token::Number(7)),
-            token(1, Token::Sign(Sign::Semicolon)),
-            token(3, Token::Keyword(Keyword::While)),
-            token(3, Token::Name(b"Me")),
-            token(3, Token::Sign(Sign::LessOrEqual)),
-            token(3, Token::Name(b"_x1")),
-            token(3, Token::Sign(Sign::NotEqual)),
-            token(3, Token::Number(18446744073709551615)),
-            token(4, Token::End),
-        ];
-        for placed in expected {
-            assert_eq!(rt; lexer.next_lexeme(), placed);
-        }
-    }
-
-    #[test]
-    fn finds_faults(rt: HostRuntime) {
-        let table: [(&[u8], Lexeme<'_>); 6] = [
-            (b"\n# !\n 18446744073709551616", Lexeme::BadNumber),
-            (b"\n\n1a", Lexeme::BadNumber),
-            (b"\r\n\n0_", Lexeme::BadNumber),
-            (b"\n\n! =", Lexeme::BadByte),
-            (b"\n#\n\xc3\xa9", Lexeme::BadByte),
-            (b"\n\n\x0b", Lexeme::BadByte),
-        ];
-        for (text, lexeme) in table {
-            assert!(rt; text.len() < 100);
-            let found = Lexer::new(text).next_lexeme();
-            assert_eq!(rt; found, Placed { line: 3, lexeme });
-        }
     }
 }

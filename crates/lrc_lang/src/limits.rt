@@ -22,7 +22,7 @@ const MOST_OPEN: u32 = 32;
 const MOST_OPERATORS: u32 = 256;
 
 /// What the limits count, over the tokens so far.
-#[derive(Debug, Drop)]
+#[derive(Drop)]
 pub struct Limits<'t> {
     /// The different names, in the order in which they first came.
     names: Vec<&'t [u8]>,

@@ -1,12 +1,14 @@
 // The parser: from a text to its trees.
 
 ghost use Rattle.std.specs.Prelude.{◌≡◌, ◌≢◌, ◌≤◌, ◌⊎◌, ◌↔◌, ℕ, List, length, IsTrue};
-ghost use Rattle.std.specs.Prelude.{IfOk, IfErr, MatchResult};
+ghost use Rattle.std.specs.Prelude.{IfOk, IfErr, OnOk, MatchResult};
 ghost use Rattle.lrc_lang.specs.declared.fault.FaultKind.{FaultKind};
 ghost use Rattle.lrc_lang.specs.declared.fault.FaultKind.TheVariants.{NoMemory};
 ghost use Rattle.lrc_lang.specs.Faults.{IsText, HasFirstFault};
 ghost use Rattle.lrc_lang.specs.Grammar.{IsProgram};
 ghost use Rattle.lrc_lang.specs.SeenParser.{IsOutOfMemory, TakesLexeme};
+ghost use Rattle.lrc_lang.specs.SeenState.{state_seen};
+ghost use Rattle.lrc_lang.specs.State.{start, program_in};
 ghost use Rattle.lrc_lang.specs.Token.{Token as TokenSeen, token, finish};
 ghost use Rattle.lrc_lang.specs.Tree.{ProgramTree, program_of};
 ghost use Rattle.lrc_lang.specs.View.{lexeme_of};
@@ -51,16 +53,29 @@ fn read(alloc: Global, text: &[u8]) -> Result<Program, ParseFault>
     ensures program { IfOk result (λ p. IsText text.now (program_of p)) }
     ensures fault { IfErr result (λ e. IsOutOfMemory e ⊎ HasFirstFault text.now e.line e.kind) }
 {
+    let mut state = State::start(alloc);
+    let read = read_into(&mut state, alloc, text);
+    let program = state.into_program();
+    read?;
+    Ok(program)
+}
+
+/// Takes all that stands in a text that is not too long.
+fn read_into(state: &mut State, alloc: Global, text: &[u8]) -> Result<(), ParseFault>
+    requires start { state_seen state.old ≡ start }
+    requires short { length text.now ≤ 65536 }
+    ensures program { OnOk result (IsText text.now (program_in (state_seen state.new))) }
+    ensures fault { IfErr result (λ e. IsOutOfMemory e ⊎ HasFirstFault text.now e.line e.kind) }
+{
     let mut lexer = Lexer::new(text);
     let mut limits = Limits::nothing(alloc);
-    let mut state = State::start(alloc);
     loop {
         let found = lexer.next_lexeme();
-        if let Err(kind) = take(&mut state, &mut limits, found.lexeme) {
+        if let Err(kind) = take(state, &mut limits, found.lexeme) {
             return Err(fault(found.line, kind));
         }
         if is_end(found.lexeme) {
-            return Ok(state.into_program());
+            return Ok(());
         }
     }
 }
@@ -103,6 +118,3 @@ pub fn tokens_are_of_one_program()
     ensures { (tokens : List TokenSeen) (p q : ProgramTree) →
         IsProgram p tokens → IsProgram q tokens → p ≡ q }
 {}
-
-#[cfg(test)]
-mod tests;

@@ -3,7 +3,7 @@
 ghost use Rattle.std.specs.Prelude.{◌≡◌, Some, None, option_map, IfOk, IsOk};
 ghost use Rattle.lrc_lang.specs.Grammar.{joins};
 ghost use Rattle.lrc_lang.specs.Partial.{joined, no_pending, level_with, whole_of};
-ghost use Rattle.lrc_lang.specs.Partial.{nothing, go_on, partial_with, value_of};
+ghost use Rattle.lrc_lang.specs.Partial.{nothing, close, go_on, partial_with, value_of, waiting};
 ghost use Rattle.lrc_lang.specs.Seen.{joins_seen, pending_seen, level_seen, partial_seen};
 ghost use Rattle.lrc_lang.specs.Seen.{symbol_seen, Gives, GivesNew};
 ghost use Rattle.lrc_lang.specs.Tree.{expression_of};
@@ -16,7 +16,7 @@ use std::alloc::{AllocError, Global};
 use std::mem;
 
 /// What an operator joins.
-#[derive(Clone, Copy, Debug)]
+#[derive(Clone, Copy)]
 enum Joins {
     /// Two factors, to a term.
     Factors,
@@ -27,14 +27,14 @@ enum Joins {
 }
 
 /// A left side, and the operator behind it.
-#[derive(Debug, Drop)]
+#[derive(Drop)]
 pub struct Pending {
     left: Expression,
     operator: Operator,
 }
 
 /// What waits for its right side, outside of all parentheses or inside of one.
-#[derive(Debug, Drop)]
+#[derive(Drop)]
 pub struct Level {
     /// A sum that is compared.
     compared: Option<Pending>,
@@ -45,7 +45,7 @@ pub struct Level {
 }
 
 /// An expression of which some symbols have come.
-#[derive(Debug, Drop)]
+#[derive(Drop)]
 pub struct Partial {
     /// What waits around each open parenthesis, outermost first.
     outer: Vec<Level>,
@@ -114,58 +114,40 @@ impl Level {
         joined(alloc, compared, sum)
     }
 
-    /// What waits behind an operand and an operator.
-    fn with(
-        self,
+    /// Takes an operand and the operator behind it.
+    fn take(
+        &mut self,
         alloc: Global,
         operand: Expression,
         operator: Operator,
-    ) -> Result<Level, FaultKind>
-        ensures { Gives level_seen result
-            (level_with (joins operator) (level_seen self) (expression_of operand) operator) }
+    ) -> Result<(), FaultKind>
+        ensures { GivesNew result (level_seen self.new)
+            (level_with (joins operator) (level_seen self.old) (expression_of operand) operator) }
     {
-        let Level {
-            compared,
-            added,
-            multiplied,
-        } = self;
-        let term = joined(alloc, multiplied, operand)?;
+        let term = joined(alloc, self.multiplied.take(), operand)?;
         match joined_by(operator) {
-            Joins::Factors => Ok(Level {
-                compared,
-                added,
-                multiplied: Some(Pending {
-                    left: term,
-                    operator,
-                }),
-            }),
+            Joins::Factors => self.multiplied = waiting(term, operator),
             Joins::Terms => {
-                let sum = joined(alloc, added, term)?;
-                Ok(Level {
-                    compared,
-                    added: Some(Pending {
-                        left: sum,
-                        operator,
-                    }),
-                    multiplied: None,
-                })
+                let sum = joined(alloc, self.added.take(), term)?;
+                self.added = waiting(sum, operator);
             }
             Joins::Sums => {
-                if compared.is_some() {
+                if self.compared.is_some() {
                     return Err(FaultKind::Unexpected);
                 }
-                let sum = joined(alloc, added, term)?;
-                Ok(Level {
-                    compared: Some(Pending {
-                        left: sum,
-                        operator,
-                    }),
-                    added: None,
-                    multiplied: None,
-                })
+                let sum = joined(alloc, self.added.take(), term)?;
+                self.compared = waiting(sum, operator);
             }
         }
+        Ok(())
     }
+}
+
+/// What waits for a right side.
+fn waiting(left: Expression, operator: Operator) -> Option<Pending>
+    ensures { option_map pending_seen result ≡ waiting (expression_of left) operator }
+{
+    Some(Pending { left, operator })
 }
 
 impl Partial {
@@ -178,6 +160,13 @@ impl Partial {
             level: Level::nothing(),
             operand: None,
         }
+    }
+
+    /// Nothing has come from now on.
+    pub fn clear(&mut self, alloc: Global)
+        ensures { partial_seen self.new ≡ nothing }
+    {
+        *self = Partial::nothing(alloc);
     }
 
     /// Takes one more symbol, if it can stand here.
@@ -218,18 +207,24 @@ impl Partial {
             (go_on (partial_seen self.old).outer (level_seen self.old.level)
             (expression_of operand) (symbol_seen symbol)) }
     {
-        let level = mem::replace(&mut self.level, Level::nothing());
         match symbol {
-            Symbol::Operator(operator) => self.level = level.with(alloc, operand, operator)?,
-            Symbol::Sign(Sign::CloseParenthesis) => {
-                let Some(around) = self.outer.pop() else {
-                    return Err(FaultKind::Unexpected);
-                };
-                self.level = around;
-                self.operand = Some(level.whole(alloc, operand)?);
-            }
-            _ => return Err(FaultKind::Unexpected),
+            Symbol::Operator(operator) => self.level.take(alloc, operand, operator),
+            Symbol::Sign(Sign::CloseParenthesis) => self.close(alloc, operand),
+            _ => Err(FaultKind::Unexpected),
         }
+    }
+
+    /// A parenthesis ends.
+    fn close(&mut self, alloc: Global, operand: Expression) -> Result<(), FaultKind>
+        requires { self.old.operand ≡ None }
+        ensures { GivesNew result (partial_seen self.new)
+            (close (partial_seen self.old).outer (level_seen self.old.level) (expression_of operand)) }
+    {
+        let Some(around) = self.outer.pop() else {
+            return Err(FaultKind::Unexpected);
+        };
+        let level = mem::replace(&mut self.level, around);
+        self.operand = Some(level.whole(alloc, operand)?);
         Ok(())
     }
 

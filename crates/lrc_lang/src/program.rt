@@ -3,7 +3,7 @@
 ghost use Rattle.std.specs.Prelude.{◌≡◌, ◌≤◌};
 
 /// An operator. Numbers are u64, and sums, differences and products wrap. A comparison gives 1 or 0.
-#[derive(Clone, Copy, Debug, PartialEq, Eq)]
+#[derive(Clone, Copy, PartialEq, Eq)]
 pub enum Operator {
     Add,
     Subtract,
@@ -20,7 +20,7 @@ pub enum Operator {
 
 /// An expression. A private name is its number in the text: 0 for the name that comes first, 1 for the next
 /// different one, and so on to 31.
-#[derive(Debug, Drop)]
+#[derive(Drop)]
 pub enum Expression {
     /// A number of the text.
     Number(u64),
@@ -35,7 +35,7 @@ pub enum Expression {
 }
 
 /// A statement.
-#[derive(Debug, Drop)]
+#[derive(Drop)]
 pub enum Statement {
     /// `name = value;`
     Assign(u8, Expression),
@@ -58,7 +58,7 @@ pub enum Statement {
 }
 
 /// A program: how many words of shared memory and how many locks it has, and its statements.
-#[derive(Debug, Drop)]
+#[derive(Drop)]
 pub struct Program {
     pub words: u32,
     pub locks: u8,

@@ -10,7 +10,7 @@ use crate::token::{Keyword, Sign};
 use std::alloc::Global;
 
 /// What has to come next.
-#[derive(Clone, Copy, Debug)]
+#[derive(Clone, Copy)]
 enum Stage {
     Words,
     WordsNumber,
@@ -24,7 +24,7 @@ enum Stage {
 }
 
 /// A text of which some symbols have come.
-#[derive(Debug, Drop)]
+#[derive(Drop)]
 pub struct State {
     stage: Stage,
     words: u32,

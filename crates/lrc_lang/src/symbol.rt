@@ -8,7 +8,7 @@ use crate::program::Operator;
 use crate::token::{Keyword, Sign};
 
 /// A token as the grammar sees it.
-#[derive(Clone, Copy, Debug)]
+#[derive(Clone, Copy)]
 pub enum Symbol {
     Number(u64),
     /// A private name, by its number.

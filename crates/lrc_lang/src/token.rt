@@ -1,7 +1,7 @@
 // Tokens: what a text is made of, once spaces and comments are left out.
 
 /// A word that no private name may be.
-#[derive(Clone, Copy, Debug, PartialEq, Eq)]
+#[derive(Clone, Copy)]
 pub enum Keyword {
     Words,
     Locks,
@@ -17,7 +17,7 @@ pub enum Keyword {
 }
 
 /// A sign.
-#[derive(Clone, Copy, Debug, PartialEq, Eq)]
+#[derive(Clone, Copy, PartialEq, Eq)]
 pub enum Sign {
     /// `;`
     Semicolon,
@@ -60,7 +60,7 @@ pub enum Sign {
 }
 
 /// A token of a text. A name is the bytes of the text that spell it.
-#[derive(Clone, Copy, Debug, PartialEq, Eq)]
+#[derive(Clone, Copy)]
 pub enum Token<'t> {
     Number(u64),
     Name(&'t [u8]),
@@ -71,7 +71,7 @@ pub enum Token<'t> {
 }
 
 /// What stands next in a text: a token, or what is none.
-#[derive(Clone, Copy, Debug, PartialEq, Eq)]
+#[derive(Clone, Copy)]
 pub enum Lexeme<'t> {
     Token(Token<'t>),
     /// A byte that begins no token.
@@ -81,7 +81,7 @@ pub enum Lexeme<'t> {
 }
 
 /// What stands next in a text, and the line of its first byte. Lines are counted from 1, by line feeds.
-#[derive(Clone, Copy, Debug, PartialEq, Eq)]
+#[derive(Clone, Copy)]
 pub struct Placed<'t> {
     pub line: u32,
     pub lexeme: Lexeme<'t>,

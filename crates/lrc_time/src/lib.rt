@@ -6,8 +6,6 @@ ghost use Rattle.std.specs.Prelude.{◌≡◌, ◌<◌, ◌≤◌, ◌↔◌, Is
 ghost use Rattle.lrc_time.specs.Time.{zeros, entry, Covers, joined, weight_of};
 
 pub mod laws;
-#[cfg(test)]
-mod tests;
 
 use arrayvec::ArrayVec;
 use std::marker::Model;

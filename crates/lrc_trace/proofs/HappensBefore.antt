@@ -1,7 +1,7 @@
 -- Happens before goes forward, is transitive, and is the same on a prefix.
-use Rattle.std.proofs.Common.{ℕ, ◌<◌, List, ◌++◌, length, sym, ◌∙◌, arith}
+use Rattle.std.proofs.Common.{◌≡◌, ℕ, ◌<◌, ◌≤◌, ◌⊎◌, List, ◌++◌, length, inl, inr, refl, sym, subst, ◌∙◌, arith}
 use Rattle.lrc_trace.specs.declared.act.Act.{Act}
-use Rattle.lrc_trace.specs.Order.{Precedes, program, lock, barrier, HappensBefore, base, further}
+use Rattle.lrc_trace.specs.Order.{Precedes, program, lock, barrier, HappensBefore, base, further, Reaches}
 use Rattle.lrc_trace.proofs.Positions.{Does-within, Does-longer, Does-shorter, arrives_before-prefix, departs_before-prefix}
 
 pub Precedes-forward : {run : List Act} {i j : ℕ} → Precedes run i j → i < j
@@ -25,6 +25,21 @@ within (further h p) = Precedes-within p
 pub transitive : {run : List Act} {i j k : ℕ} → HappensBefore run i j → HappensBefore run j k → HappensBefore run i k
 transitive h (base p) = further h p
 transitive h (further l p) = further (transitive h l) p
+
+module _ (run : List Act) where
+  -- what reaches a position that comes before n happens before n
+  pub Reaches-extends : {i k n : ℕ} → Reaches run i k → HappensBefore run k n → HappensBefore run i n
+  Reaches-extends {i} {k} {n} (inl e) h = let P : ℕ → Type 0 = λ m. HappensBefore run m n in subst P (sym e) h
+  Reaches-extends (inr g) h = transitive g h
+
+  -- what happens before n reaches what comes right before it
+  pub Reaches-last : {i n : ℕ} → HappensBefore run i n → (k : ℕ) × Reaches run i k × Precedes run k n
+  Reaches-last {i} (base p) = (i, inl refl, p)
+  Reaches-last (further {j = k} h p) = (k, inr h, p)
+
+  pub Reaches-forward : {i j : ℕ} → Reaches run i j → i ≤ j
+  Reaches-forward (inl e) = omega arith
+  Reaches-forward (inr h) = let lt = forward h in omega arith
 
 module _ (run more : List Act) where
   -- the base order of a prefix holds in the whole run

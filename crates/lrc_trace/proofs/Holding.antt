@@ -1,12 +1,12 @@
 -- Who holds a lock, from one position to the next.
-use Rattle.std.proofs.Common.{◌≡◌, ℕ, zero, suc, add-one, ◌+◌, ◌≤◌, ◌⊎◌, List, length, inl, inr, sym, subst, ap, refl, arith}
+use Rattle.std.proofs.Common.{◌≡◌, ℕ, zero, suc, add-one, ◌+◌, ◌<◌, ◌≤◌, ◌⊎◌, List, length, inl, inr, sym, subst, ap, refl, arith}
 use Rattle.std.specs.Prelude.{◌↔◌}
 use Rattle.std.proofs.lemmas.Bool.{cases_eq, cases_lt}
 use Rattle.lrc_trace.specs.declared.act.Act.{Act}
 use Rattle.lrc_trace.specs.declared.act.Deed.{Deed}
 use Rattle.lrc_trace.specs.declared.act.Deed.TheVariants.{Acquire, Release}
 use Rattle.lrc_trace.specs.Run.{Does}
-use Rattle.lrc_trace.specs.Synchronization.{Holds}
+use Rattle.lrc_trace.specs.Synchronization.{Holds, IsWellSynchronized}
 use Rattle.lrc_trace.proofs.Positions.{Does-node, Does-deed, Does-one_node, Does-one_deed, Does-within}
 use Rattle.lrc_trace.proofs.Intervals.{act_at}
 
@@ -147,3 +147,40 @@ Holds-decided run (suc n) q l = rw (← add-one n) (elim (cases_lt n (length run
             ]
       ]
 ])
+
+-- who has held a lock since a position holds it at each position from there on, as far as he has kept it
+pub Holds-until : {run : List Act} {n p l : ℕ} (h : Holds run n p l) (k : ℕ) → h.since < k → k ≤ n → Holds run k p l
+Holds-until h k after before = record {
+  since = h.since;
+  earlier = after;
+  acquired = h.acquired;
+  kept = λ m least most. h.kept m least (omega arith);
+}
+
+-- where no lock is acquired that somebody holds, a lock has one holder
+pub one_holder : {nodes : ℕ} {run : List Act} → IsWellSynchronized nodes run → (n p q l : ℕ) → Holds run n p l → Holds run n q l → p ≡ q
+one_holder {run = run} ws n p q l a b =
+    let before = a.earlier in
+    let before' = b.earlier in
+    elim (cases_lt a.since b.since) [
+      | inl lt ↦ absurd (ws.acquires b.since q l b.acquired p (Holds-until a b.since lt (omega arith)))
+      | inr le ↦
+          elim (cases_lt b.since a.since) [
+            | inl lt ↦ absurd (ws.acquires a.since p l a.acquired q (Holds-until b a.since lt (omega arith)))
+            | inr le' ↦
+                let same : a.since ≡ b.since = omega arith in
+                Does-one_node (subst (λ m. Does run m p (Acquire l)) same a.acquired) b.acquired
+          ]
+    ]
+
+-- nobody releases a lock while another holds it
+pub holder_alone : {nodes : ℕ} {run : List Act} → IsWellSynchronized nodes run → (n p l : ℕ) (h : Holds run n p l) (k q : ℕ) → h.since ≤ k → k < n → Does run k q (Release l) → ⊥
+holder_alone {run = run} ws n p l h k q least most r =
+    elim (cases_eq k h.since) [
+      | inl there ↦
+          let other = Does-one_deed (subst (λ m. Does run m q (Release l)) there r) h.acquired in
+          let never : ⊥ = cc in never
+      | inr after ↦
+          let same = one_holder ws k q p l (ws.releases k q l r) (Holds-until h k (omega arith) (omega arith)) in
+          h.kept k (omega arith) most (Does-node same r)
+    ]

@@ -1,16 +1,17 @@
 -- Intervals never fall, and rise exactly at an acquire, a release or an arrive.
 use Rattle.std.proofs.Common.{◌≡◌, ℕ, zero, suc, ◌+◌, ◌<◌, ◌≤◌, List, Bool, true, false, ◌&&◌, inl, inr, length, get_or, take, sym, subst, ◌∙◌, ap, refl, arith, eq-eqb, add-zero, ◌∷◌, [], ◌-◌, cond}
 use Rattle.std.specs.Prelude.{IsTrue, ◌==◌, ◌↔◌}
-use Rattle.std.proofs.lemmas.Bool.{cases_Bool, and_parts, and_from, eqb-true}
+use Rattle.std.proofs.lemmas.Bool.{cases_Bool, cases_eq, cases_lt, both_ways, false≢true, and_parts, and_from, eqb-true}
 use Rattle.std.proofs.lemmas.List.{take-take}
 use Rattle.std.proofs.lemmas.List.Sums.{sum_by-take-le, count_by_more_yes, count_by_more_no}
 use Rattle.std.proofs.lemmas.Option.{get_or_from_slice_get}
 use Rattle.lrc_trace.specs.declared.act.Act.{Act}
 use Rattle.lrc_trace.specs.declared.act.Deed.{Deed}
-use Rattle.lrc_trace.specs.Run.{Does, act_of, count_of}
+use Rattle.lrc_trace.specs.declared.act.Deed.TheVariants.{Arrive, Depart}
+use Rattle.lrc_trace.specs.Run.{Does, act_of, is_arrive, is_depart, count_of, arrives_before, departs_before}
 use Rattle.lrc_trace.specs.Conflict.{Accesses}
 use Rattle.lrc_trace.specs.Interval.{closes, interval_at}
-use Rattle.lrc_trace.proofs.Positions.{Does-within}
+use Rattle.lrc_trace.proofs.Positions.{Does-deed, Does-within}
 
 -- whether an act is of this kind and of this node
 abbrev is_of : (Deed → Bool) → ℕ → Act → Bool
@@ -78,3 +79,65 @@ pub same_interval : (run : List Act) (node i j v w : ℕ) → i < j → Accesses
 same_interval run node i j v w lt a b =
     let in_run = Accesses-within b in
     (same_then_none run node i j, none_then_same run node i j lt (omega arith))
+
+-- Where a count has passed c from a on, it did so at a deed of this kind that has c before it.
+counted_between : (kind : Deed → Bool) (run : List Act) (node a n c : ℕ) → a + n ≤ length run → count_of kind node (take a run) ≤ c → c < count_of kind node (take (a + n) run) → (i : ℕ) × (a ≤ i) × (i < a + n) × ((d : Deed) × Does run i node d × (kind d ≡ true) × (count_of kind node (take i run) ≡ c))
+counted_between kind run node a zero c within from to =
+    let e : count_of kind node (take (a + zero) run) ≡ count_of kind node (take a run) = ap (λ k. count_of kind node (take k run)) (add-zero a) in absurd (omega arith)
+counted_between kind run node a (suc n) c within from to =
+    let step : a + suc n ≡ a + n + 1 = omega arith in
+    let to' : c < count_of kind node (take (a + n + 1) run) = subst (λ k. c < count_of kind node (take k run)) step to in
+    elim (cases_lt c (count_of kind node (take (a + n) run))) [
+      | inl below ↦
+          let (i, least, most, found) = counted_between kind run node a n c (omega arith) from below in
+          (i, least, omega arith, found)
+      | inr reached ↦
+          let (act, does) = act_at run (a + n) (omega arith) in
+          elim (cases_eq act.node node) [
+            | inr other ↦
+                let same = count_of-same kind run node (a + n) act.node act.deed does (λ e k. other e) in
+                absurd (omega arith)
+            | inl own ↦
+                let does' : Does run (a + n) node act.deed = subst (λ m. Does run (a + n) m act.deed) own does in
+                elim (cases_Bool (kind act.deed)) [
+                  | inl passes ↦
+                      let more = count_of-more kind run node (a + n) act.deed does' passes in
+                      (a + n, omega arith, omega arith, (act.deed, does', passes, omega arith))
+                  | inr fails ↦
+                      let same = count_of-same kind run node (a + n) node act.deed does' (λ e. both_ways (kind act.deed) fails) in
+                      absurd (omega arith)
+                ]
+          ]
+    ]
+
+pub counted_in : (kind : Deed → Bool) (run : List Act) (node a b c : ℕ) → a ≤ b → b ≤ length run → count_of kind node (take a run) ≤ c → c < count_of kind node (take b run) → (i : ℕ) × (a ≤ i) × (i < b) × ((d : Deed) × Does run i node d × (kind d ≡ true) × (count_of kind node (take i run) ≡ c))
+counted_in kind run node a b c le within from to =
+    let long : a + (b - a) ≡ b = omega arith in
+    let to' : c < count_of kind node (take (a + (b - a)) run) = subst (λ k. c < count_of kind node (take k run)) (sym long) to in
+    let (i, least, most, found) = counted_between kind run node a (b - a) c (omega arith) from to' in
+    (i, least, omega arith, found)
+
+-- so each arrive and each depart that was made before a position stands somewhere before
+pub numbered_arrive : (run : List Act) (node j number : ℕ) → j ≤ length run → number < arrives_before run node j → (i : ℕ) × (i < j) × Does run i node Arrive × (arrives_before run node i ≡ number)
+numbered_arrive run node j number within few =
+    let (i, least, most, (d, does, is, count)) = counted_in is_arrive run node 0 j number (omega arith) within (omega arith) few in
+    (i, most, Does-deed (is_arrive-deed d is) does, count)
+  where
+    is_arrive-deed : (d : Deed) → is_arrive d ≡ true → d ≡ Arrive
+    is_arrive-deed Arrive h = refl
+    is_arrive-deed _ h = absurd (false≢true h)
+
+pub numbered_depart : (run : List Act) (node j number : ℕ) → j ≤ length run → number < departs_before run node j → (i : ℕ) × (i < j) × Does run i node Depart × (departs_before run node i ≡ number)
+numbered_depart run node j number within few =
+    let (i, least, most, (d, does, is, count)) = counted_in is_depart run node 0 j number (omega arith) within (omega arith) few in
+    (i, most, Does-deed (is_depart-deed d is) does, count)
+  where
+    is_depart-deed : (d : Deed) → is_depart d ≡ true → d ≡ Depart
+    is_depart-deed Depart h = refl
+    is_depart-deed _ h = absurd (false≢true h)
+
+-- An interval that the node is in at a, or comes to later, and that is over at b, was closed between.
+pub closed_between : (run : List Act) (node a b index : ℕ) → a ≤ b → b ≤ length run → interval_at run node a ≤ index → index < interval_at run node b → (i : ℕ) × (a ≤ i) × (i < b) × ((d : Deed) × Does run i node d × (closes d ≡ true) × (interval_at run node i ≡ index))
+closed_between run node a b index le within from to =
+    let (i, least, most, (d, does, closing, count)) = counted_in closes run node a b (index - 1) le within (omega arith) (omega arith) in
+    (i, least, most, (d, does, closing, omega arith))

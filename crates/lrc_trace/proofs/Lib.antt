@@ -5,3 +5,6 @@ pub mod Latest
 pub mod Intervals
 pub mod Decided
 pub mod Holding
+pub mod Prefixes
+pub mod Locks
+pub mod Counts

@@ -1,7 +1,8 @@
 -- Positions of a run and of what it grows to.
-use Rattle.std.proofs.Common.{◌≡◌, ℕ, zero, suc, ◌<◌, ◌≤◌, List, [], ◌∷◌, ◌++◌, length, get_or, sym, subst, ◌∙◌, ap, refl, arith}
+use Rattle.std.proofs.Common.{◌≡◌, ℕ, zero, suc, ◌+◌, ◌<◌, ◌≤◌, ◌⊎◌, inl, inr, List, [], ◌∷◌, ◌++◌, length, get_or, sym, subst, ◌∙◌, ap, refl, arith}
 use Rattle.std.specs.Prelude.{Some, slice_get}
-use Rattle.std.proofs.lemmas.List.{take-append-le}
+use Rattle.std.proofs.lemmas.Bool.{cases_lt}
+use Rattle.std.proofs.lemmas.List.{take-append-le, length_push}
 use Rattle.std.proofs.lemmas.Option.{slice_get_within, slice_get-get_or, same_Some}
 use Rattle.lrc_trace.specs.declared.act.Act.{Act}
 use Rattle.lrc_trace.specs.declared.act.Deed.{Deed}
@@ -56,3 +57,19 @@ arrives_before-prefix run more node i h = ap (count_of is_arrive node) (take-app
 
 pub departs_before-prefix : (run more : List Act) (node i : ℕ) → i ≤ length run → departs_before (run ++ more) node i ≡ departs_before run node i
 departs_before-prefix run more node i h = ap (count_of is_depart node) (take-append-le i run more h)
+
+-- one act more: what is done stands in the run before, or is that act
+pub Does-last : (run : List Act) (act : Act) → Does (run ++ act ∷ []) (length run) act.node act.deed
+Does-last run act = record { stands = slice_get-seam run act [] }
+
+pub Does-cases : {run : List Act} {act : Act} {i node : ℕ} {d : Deed} → Does (run ++ act ∷ []) i node d → ((i < length run) × Does run i node d) ⊎ ((i ≡ length run) × (act.node ≡ node) × (act.deed ≡ d))
+Does-cases {run} {act} {i} {node} {d} h =
+    let within = Does-within h in
+    let long = length_push run act in
+    elim (cases_lt i (length run)) [
+      | inl lt ↦ inl (lt, Does-shorter (act ∷ []) lt h)
+      | inr le ↦
+          let here : i ≡ length run = omega arith in
+          let h' : Does (run ++ act ∷ []) (length run) node d = subst (λ k. Does (run ++ act ∷ []) k node d) here h in
+          inr (here, Does-one_node (Does-last run act) h', Does-one_deed (Does-last run act) h')
+    ]

@@ -1,5 +1,5 @@
 -- The order of a run: program order, lock order and barrier order, and what follows from them.
-use Rattle.std.specs.Prelude.{◌≡◌, ℕ, ◌<◌, List}
+use Rattle.std.specs.Prelude.{◌≡◌, ℕ, ◌<◌, ◌⊎◌, List}
 use Rattle.lrc_trace.specs.declared.act.Act.{Act}
 use Rattle.lrc_trace.specs.declared.act.Deed.{Deed}
 use Rattle.lrc_trace.specs.declared.act.Deed.TheVariants.{Acquire, Release, Arrive, Depart}
@@ -19,3 +19,7 @@ pub data Precedes (run : List Act) : ℕ → ℕ → Type 0 where
 pub data HappensBefore (run : List Act) : ℕ → ℕ → Type 0 where
   base : {i j : ℕ} → Precedes run i j → HappensBefore run i j
   further : {i j k : ℕ} → HappensBefore run i j → Precedes run j k → HappensBefore run i k
+
+-- position i is position j, or happens before it
+abbrev pub Reaches : List Act → ℕ → ℕ → Type 0
+Reaches run i j = (i ≡ j) ⊎ HappensBefore run i j

@@ -1,14 +1,16 @@
 // Laws of the definitions on runs. Each function is a theorem: its body is empty, and its clause is the law.
 
-ghost use Rattle.std.specs.Prelude.{◌≡◌, ◌≢◌, ℕ, ◌<◌, ◌≤◌, ◌++◌, ◌↔◌, ◌⊎◌, List, IsTrue, length};
+ghost use Rattle.std.specs.Prelude.{◌≡◌, ◌≢◌, ℕ, ◌<◌, ◌≤◌, ◌++◌, ◌↔◌, ◌⊎◌, List, [], ◌∷◌, IsTrue, length};
 ghost use Rattle.lrc_trace.specs.declared.act.Act.{Act};
 ghost use Rattle.lrc_trace.specs.declared.act.Deed.{Deed};
+ghost use Rattle.lrc_trace.specs.declared.act.Deed.TheVariants.{Read};
 ghost use Rattle.lrc_trace.specs.declared.race.Race.{Race};
 ghost use Rattle.lrc_trace.specs.Run.{Does};
 ghost use Rattle.lrc_trace.specs.Order.{HappensBefore};
 ghost use Rattle.lrc_trace.specs.Conflict.{Accesses, Conflict, Races};
-ghost use Rattle.lrc_trace.specs.Reading.{AreOrdered, MayRead};
+ghost use Rattle.lrc_trace.specs.Reading.{AreOrdered, MayRead, ReadsLazily};
 ghost use Rattle.lrc_trace.specs.Interval.{closes, interval_at, IsNamedRace};
+ghost use Rattle.lrc_trace.specs.Synchronization.{Holds, IsWellSynchronized, MayGoOn};
 
 /// Happens before goes forward in the run.
 pub fn happens_before_goes_forward()
@@ -54,4 +56,29 @@ pub fn same_interval_has_no_close_between()
     ensures { (run : List Act) (node i j v w : ℕ) → i < j → Accesses run i node v → Accesses run j node w
         → ((interval_at run node i ≡ interval_at run node j)
         ↔ ((k : ℕ) (d : Deed) → i ≤ k → k < j → Does run k node d → IsTrue (closes d) → ⊥)) }
+{}
+
+/// Intervals, holders of locks, races, and what a read may give, are on a prefix what they are on the whole run.
+pub fn definitions_on_a_prefix()
+    ensures intervals { (run more : List Act) (node i : ℕ) → i ≤ length run
+        → interval_at (run ++ more) node i ≡ interval_at run node i }
+    ensures holders { (run more : List Act) (n node l : ℕ) → n ≤ length run
+        → (Holds run n node l ↔ Holds (run ++ more) n node l) }
+    ensures races { (run more : List Act) (i j : ℕ) → j < length run → (Races run i j ↔ Races (run ++ more) i j) }
+    ensures reads { (run more : List Act) (j word value : ℕ) → j < length run
+        → (MayRead run j word value ↔ MayRead (run ++ more) j word value) }
+{}
+
+/// A run with one act more is well synchronized exactly where the run is, and may go on with that act.
+pub fn well_synchronized_by_one_act_more()
+    ensures { (nodes : ℕ) (run : List Act) (act : Act)
+        → (IsWellSynchronized nodes (run ++ act ∷ []) ↔ (IsWellSynchronized nodes run × MayGoOn nodes run act)) }
+{}
+
+/// A run with one act more reads lazily exactly where the run does, and that act, if it is a read, gives a value that it
+/// may give.
+pub fn reads_lazily_by_one_act_more()
+    ensures { (run : List Act) (act : Act)
+        → (ReadsLazily (run ++ act ∷ []) ↔ (ReadsLazily run × ((word value : ℕ) → act.deed ≡ Read word value
+        → MayRead (run ++ act ∷ []) (length run) word value))) }
 {}

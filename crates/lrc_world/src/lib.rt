@@ -3,7 +3,6 @@
 
 mod alone;
 pub mod ends;
+pub mod picker;
 pub mod report;
 pub mod simulate;
-#[cfg(test)]
-mod tests;

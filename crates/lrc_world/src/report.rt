@@ -3,7 +3,6 @@
 ghost use Rattle.std.specs.Prelude.{◌≡◌};
 
 use lrc_trace::act::{Act, Cause};
-pub use lrc_wire::Picker;
 use std::alloc::{AllocError, AllocFailed};
 use thiserror::Error;
 
@@ -14,7 +13,7 @@ pub const MOST_EVENTS: usize = 100_000_000;
 pub const MOST_STEPS: u32 = 1_000_000;
 
 /// What a run may do.
-#[derive(Clone, Copy, Debug, PartialEq, Eq)]
+#[derive(Clone, Copy)]
 pub struct Options {
     /// How many statements each node may begin, 1 to 1,000,000.
     pub steps: u32,
@@ -25,7 +24,7 @@ pub struct Options {
 }
 
 /// What may happen next in a run.
-#[derive(Clone, Copy, Debug, PartialEq, Eq)]
+#[derive(Clone, Copy, PartialEq, Eq)]
 pub enum Event {
     /// This node goes on. Skipped where no node has this number, or it is not ready.
     Run(u32),
@@ -34,7 +33,7 @@ pub enum Event {
 }
 
 /// How a node's run ended.
-#[derive(Clone, Copy, Debug, PartialEq, Eq)]
+#[derive(Clone, Copy, PartialEq, Eq)]
 pub enum End {
     /// It came to the end of the text.
     Ended,
@@ -45,7 +44,7 @@ pub enum End {
 }
 
 /// What came of a run.
-#[derive(Debug, Drop)]
+#[derive(Drop)]
 pub struct Report {
     /// What the nodes did, in order.
     pub acts: Vec<Act>,

@@ -13,7 +13,8 @@ ghost use Rattle.lrc_world.specs.Range.{AreSteps};
 
 use crate::alone::Node;
 use crate::ends::ends;
-use crate::report::{Event, MOST_EVENTS, MOST_STEPS, Options, Picker, Report, SimFault};
+use crate::picker::Picker;
+use crate::report::{Event, MOST_EVENTS, MOST_STEPS, Options, Report, SimFault};
 use lrc_exec::code::Code;
 use lrc_lang::program::Program;
 use lrc_trace::act::Act;

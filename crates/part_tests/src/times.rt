@@ -1,1 +1,81 @@
 // Vector times.
+
+use lrc_time::Time;
+
+// Sets an entry, if it is there and rises.
+fn raise(time: &mut Time, node: u8, index: u32) {
+    if node < time.nodes() && time.at(node) < index {
+        time.raise(node, index);
+    }
+}
+
+fn of_three(entries: [u32; 3]) -> Time {
+    let mut time = Time::new(3);
+    for node in 0..3u8 {
+        raise(&mut time, node, entries[usize::from(node)]);
+    }
+    time
+}
+
+// Sixteen entries, each one more than the one before it up to the largest number.
+fn of_sixteen(first: u32) -> Time {
+    let mut time = Time::new(16);
+    for node in 0..16u8 {
+        raise(&mut time, node, first.saturating_add(u32::from(node)));
+    }
+    time
+}
+
+fn joined(one: &Time, other: &Time) -> Time {
+    let mut both = one.copy();
+    if both.nodes() == other.nodes() {
+        both.join(other);
+    }
+    both
+}
+
+fn covers(one: &Time, other: &Time) -> bool {
+    one.nodes() == other.nodes() && one.covers(other)
+}
+
+fn entry(time: &Time, node: u8) -> u32 {
+    if node < time.nodes() {
+        time.at(node)
+    } else {
+        u32::MAX
+    }
+}
+
+// Whether the entries of a time of sixteen nodes go up by one from the first.
+fn ascends_from(time: &Time, first: u32) -> bool {
+    (0..16u8).all(|node| entry(time, node) == first.saturating_add(u32::from(node)))
+}
+
+// A time by itself, the other, their join, and which of them covers which.
+fn are_joined(one: &Time, other: &Time, both: &Time) -> bool {
+    let covered = [
+        covers(one, other),
+        covers(other, one),
+        covers(both, one),
+        covers(both, other),
+    ];
+    let entries = [entry(both, 0), entry(both, 1), entry(both, 2)];
+    covered == [false, false, true, true] && entries == [3, 2, 1]
+}
+
+#[test]
+fn the_join_covers_both(rt: HostRuntime) {
+    let one = of_three([3, 0, 1]);
+    let other = of_three([1, 2, 1]);
+    let both = joined(&one, &other);
+    assert!(rt; are_joined(&one, &other, &both));
+    assert!(rt; [one.weight(), other.weight(), both.weight()] == [4, 4, 6]);
+}
+
+#[test]
+fn sixteen_entries_are_kept_apart(rt: HostRuntime) {
+    let time = of_sixteen(100);
+    assert!(rt; ascends_from(&time, 100) && time.copy() == time);
+    let weights = [time.weight(), of_sixteen(u32::MAX).weight()];
+    assert!(rt; weights == [1_720, 68_719_476_720]);
+}

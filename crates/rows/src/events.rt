@@ -1,25 +1,34 @@
 // Texts of events.
 
 use crate::shell::played;
-use std::test::Fail;
+use std::alloc::{AllocError, Global};
 
 const PROGRAM: &[u8] = b"words 1; locks 0; [0] = 7; x = [0]; print x + me;";
 
+// Whether the program with these events prints this.
+fn prints(alloc: Global, events: &[u8], out: &[u8], status: u8) -> bool {
+    played(alloc, PROGRAM, events).prints(out, status)
+}
+
+// Whether a text with these events is refused with this line.
+fn complains(alloc: Global, text: &[u8], events: &[u8], line: &[u8]) -> bool {
+    played(alloc, text, events).complains(line)
+}
+
 #[test]
 fn events_are_played(rt: HostRuntime) {
-    let run = played(
-        rt.alloc(),
-        PROGRAM,
-        b"run 0\nrun 1\n\ndeliver 0\nrun 0\nrun 4294967295\nrun 00\nrun 0",
+    let events = b"run 0\nrun 1\n\ndeliver 0\nrun 0\nrun 4294967295\nrun 00\nrun 0";
+    let ended = b"node 0 prints 7\nnode 0 ended\n";
+    assert!(rt; prints(rt.alloc(), events, ended, 0));
+    assert!(rt; prints(rt.alloc(), b"", b"node 0 unfinished\n", 4));
+    assert!(rt;
+        prints(
+            rt.alloc(),
+            b"run 0\ndeliver 0\nrun 1",
+            b"node 0 unfinished\n",
+            4
+        )
     );
-    assert_eq!(rt;
-        run.out.as_slice(),
-        b"node 0 prints 7\nnode 0 ended\n".as_slice()
-    );
-    assert_eq!(rt; run.status, 0);
-    let run = played(rt.alloc(), PROGRAM, b"");
-    assert_eq!(rt; run.out.as_slice(), b"node 0 unfinished\n".as_slice());
-    assert_eq!(rt; run.status, 4);
 }
 
 #[test]
@@ -36,33 +45,31 @@ fn the_first_bad_line_is_named(rt: HostRuntime) {
         (b"repeat 0", b"treadmarks: events line 1: bad event\n"),
     ];
     for (events, line) in cases {
-        let run = played(rt.alloc(), PROGRAM, events);
-        assert_eq!(rt; run.err.as_slice(), line);
-        assert_eq!(rt; run.out.len(), 0);
-        assert_eq!(rt; run.status, 1);
+        assert!(rt; complains(rt.alloc(), PROGRAM, events, line));
     }
+    let first = b"treadmarks: line 1: over a limit\n";
+    assert!(rt; complains(rt.alloc(), b"words 0;", b"run x", first));
+}
+
+// Whether so many line feeds as events are those of a run that does nothing.
+fn feeds_do_nothing(alloc: Global, count: usize) -> Result<bool, AllocError> {
+    let feeds = vec![in alloc; b'\n'; count]?;
+    Ok(prints(alloc, &feeds, b"node 0 unfinished\n", 4))
+}
+
+// Whether so many line feeds as events are too long.
+fn feeds_are_refused(alloc: Global, count: usize) -> Result<bool, AllocError> {
+    let feeds = vec![in alloc; b'\n'; count]?;
+    Ok(complains(
+        alloc,
+        PROGRAM,
+        &feeds,
+        b"treadmarks: events line 1: bad event\n",
+    ))
 }
 
 #[test]
-fn a_fault_of_the_text_comes_first(rt: HostRuntime) {
-    let run = played(rt.alloc(), b"words 0;", b"run x");
-    assert_eq!(rt;
-        run.err.as_slice(),
-        b"treadmarks: line 1: over a limit\n".as_slice()
-    );
-    assert_eq!(rt; run.status, 1);
-}
-
-#[test]
-fn too_long_a_text_is_wrong_in_its_first_line(rt: HostRuntime) -> Result<(), Fail> {
-    let longest = vec![in rt.alloc(); b'\n'; 16_777_216]?;
-    let run = played(rt.alloc(), PROGRAM, &longest);
-    assert_eq!(rt; run.out.as_slice(), b"node 0 unfinished\n".as_slice());
-    let longer = vec![in rt.alloc(); b'\n'; 16_777_217]?;
-    let run = played(rt.alloc(), PROGRAM, &longer);
-    assert_eq!(rt;
-        run.err.as_slice(),
-        b"treadmarks: events line 1: bad event\n".as_slice()
-    );
-    Ok(())
+fn too_long_a_text_is_wrong_in_its_first_line(rt: HostRuntime) {
+    assert!(rt; feeds_do_nothing(rt.alloc(), 16_777_216) == Ok(true));
+    assert!(rt; feeds_are_refused(rt.alloc(), 16_777_217) == Ok(true));
 }

@@ -1,28 +1,10 @@
-// Texts that are no program, and the line that each gives.
+// Texts that are no program, and the line that each gives. The limits are tested where the language is.
 
 use crate::shell::checked;
 use std::alloc::{AllocError, Global};
-use std::test::Fail;
 
-fn line_of(alloc: Global, text: &[u8]) -> Vec<u8> {
-    let outcome = checked(alloc, text);
-    outcome.err
-}
-
-// A text of so many copies of a piece, between a front and a back.
-fn repeated(
-    alloc: Global,
-    front: &[u8],
-    piece: &[u8],
-    count: u32,
-    back: &[u8],
-) -> Result<Vec<u8>, AllocError> {
-    let mut text = Vec::from_slice(alloc, front)?;
-    for _ in 0..count {
-        text.extend_from_slice(piece)?;
-    }
-    text.extend_from_slice(back)?;
-    Ok(text)
+fn complains(alloc: Global, text: &[u8], line: &[u8]) -> bool {
+    checked(alloc, text).complains(line)
 }
 
 #[test]
@@ -44,58 +26,33 @@ fn each_fault_has_its_line(rt: HostRuntime) {
         (b"words 4097;", b"treadmarks: line 1: over a limit\n"),
         (b"words 1; locks 65;", b"treadmarks: line 1: over a limit\n"),
         (
-            b"words 1; locks 0; x = 1a;",
-            b"treadmarks: line 1: bad number\n",
+            b"words 1; locks 0; x = ((((((((((((((((((((((((((((((((((",
+            b"treadmarks: line 1: nested too deep\n",
         ),
         (
-            b"words 1;\n\nlocks 0; x = !",
-            b"treadmarks: line 3: bad byte\n",
+            b"words 1;\n\nlocks 0; a=b+c+d+e+f+g+h+i+j+k+l+m+n+o+p+q+r+s+t+u+v+w+x+y+z+A+B+C+D+E+F+G;",
+            b"treadmarks: line 3: too many names\n",
         ),
     ];
     for (text, line) in cases {
-        assert_eq!(rt; line_of(rt.alloc(), text).as_slice(), line);
+        assert!(rt; complains(rt.alloc(), text, line));
     }
 }
 
-#[test]
-fn each_limit_is_the_greatest_number_allowed(rt: HostRuntime) -> Result<(), Fail> {
-    let alloc = rt.alloc();
-    let front = b"words 1; locks 0; x = ";
-    let deep = repeated(alloc, front, b"(", 33, b"")?;
-    assert_eq!(rt;
-        line_of(alloc, &deep).as_slice(),
-        b"treadmarks: line 1: nested too deep\n".as_slice()
-    );
-    let operators = repeated(alloc, front, b"1 + ", 257, b"1;")?;
-    assert_eq!(rt;
-        line_of(alloc, &operators).as_slice(),
-        b"treadmarks: line 1: over a limit\n".as_slice()
-    );
-    let fewer = repeated(alloc, front, b"1 + ", 256, b"1;")?;
-    assert_eq!(rt; checked(alloc, &fewer).out.as_slice(), b"ok\n".as_slice());
-    let long = repeated(alloc, b"", b" ", 65_537, b"")?;
-    assert_eq!(rt;
-        line_of(alloc, &long).as_slice(),
-        b"treadmarks: line 1: text too long\n".as_slice()
-    );
-    Ok(())
+// Whether the shortest program with so many line feeds behind it is a program.
+fn is_program(alloc: Global, feeds: usize) -> Result<bool, AllocError> {
+    let mut text = Vec::from_slice(alloc, b"words 1;locks 0;")?;
+    for _feed in 0..feeds {
+        text.push(b'\n')?;
+    }
+    Ok(checked(alloc, &text).prints(b"ok\n", 0))
 }
 
 #[test]
-fn a_thirty_third_name_is_too_many(rt: HostRuntime) -> Result<(), Fail> {
-    let alloc = rt.alloc();
-    let mut text = Vec::from_slice(alloc, b"words 1; locks 0;")?;
-    for letter in b'a'..=b'z' {
-        text.extend_from_slice(&[letter, b'=', b'0', b';'])?;
-    }
-    for letter in b'A'..=b'F' {
-        text.extend_from_slice(&[letter, b'=', b'0', b';'])?;
-    }
-    assert_eq!(rt; checked(alloc, &text).out.as_slice(), b"ok\n".as_slice());
-    text.extend_from_slice(b"G = 0;")?;
-    assert_eq!(rt;
-        line_of(alloc, &text).as_slice(),
-        b"treadmarks: line 1: too many names\n".as_slice()
-    );
-    Ok(())
+fn a_text_has_up_to_65536_bytes(rt: HostRuntime) {
+    let found = [
+        is_program(rt.alloc(), 65_520),
+        is_program(rt.alloc(), 65_521),
+    ];
+    assert!(rt; found == [Ok(true), Ok(false)]);
 }

@@ -1,61 +1,18 @@
 // Worked programs on the plain machine, in rounds.
 
-use crate::shell::{Outcome, in_rounds};
+use crate::shell::{ALL_STEPS, in_rounds};
 use lrc_cli::choice::{Nodes, Steps};
 use std::alloc::Global;
 
-fn on(alloc: Global, nodes: Nodes, text: &[u8]) -> Outcome {
-    in_rounds(alloc, nodes, Steps { count: 1_000_000 }, text)
+// Whether the text on these nodes prints this, and ends with this status.
+fn prints(alloc: Global, nodes: Nodes, text: &[u8], out: &[u8], status: u8) -> bool {
+    in_rounds(alloc, nodes, ALL_STEPS, text).prints(out, status)
 }
 
-#[test]
-fn each_of_four_nodes_counts(rt: HostRuntime) {
-    let text =
-        b"words 1; locks 1; acquire 0; x = [0]; [0] = x + 1; release 0; barrier; y = [0]; print y;";
-    let run = on(rt.alloc(), Nodes { count: 4 }, text);
-    assert_eq!(rt;
-        run.out.as_slice(),
-        b"node 0 prints 4\nnode 0 ended\nnode 1 prints 4\nnode 1 ended\nnode 2 prints 4\nnode 2 ended\nnode 3 prints 4\nnode 3 ended\n".as_slice()
-    );
-    assert_eq!(rt; run.err.len(), 0);
-    assert_eq!(rt; run.status, 0);
-}
-
-#[test]
-fn a_racing_read_sees_the_write_and_no_race_is_named(rt: HostRuntime) {
-    let text = b"words 1; locks 0; if me == 0 { [0] = 5; } else { x = [0]; print x; }";
-    let run = on(rt.alloc(), Nodes { count: 2 }, text);
-    assert_eq!(rt;
-        run.out.as_slice(),
-        b"node 0 ended\nnode 1 prints 5\nnode 1 ended\n".as_slice()
-    );
-    assert_eq!(rt; run.err.len(), 0);
-    assert_eq!(rt; run.status, 0);
-}
-
-#[test]
-fn a_loop_runs_out_of_steps(rt: HostRuntime) {
-    let text = b"words 1; locks 0; while 1 { x = x + 1; }";
-    let run = in_rounds(rt.alloc(), Nodes { count: 1 }, Steps { count: 3 }, text);
-    assert_eq!(rt; run.out.as_slice(), b"node 0 unfinished\n".as_slice());
-    assert_eq!(rt; run.status, 4);
-}
-
-#[test]
-fn arithmetic_wraps_and_groups(rt: HostRuntime) {
-    let text = b"words 1; locks 0; print 0 - 1; print 7 / 2 * 2 + 7 % 2 == 7;";
-    let run = on(rt.alloc(), Nodes { count: 1 }, text);
-    assert_eq!(rt;
-        run.out.as_slice(),
-        b"node 0 prints 18446744073709551615\nnode 0 prints 1\nnode 0 ended\n".as_slice()
-    );
-    assert_eq!(rt; run.status, 0);
-}
-
-// These programs print the same in every order.
+// All but the last of these programs print the same in every order.
 #[test]
 fn programs_without_a_race_print_what_they_always_do(rt: HostRuntime) {
-    let cases: [(Nodes, &[u8], &[u8]); 7] = [
+    let cases: [(Nodes, &[u8], &[u8]); 9] = [
         (
             Nodes { count: 3 },
             b"words 1; locks 0; print me;",
@@ -91,49 +48,63 @@ fn programs_without_a_race_print_what_they_always_do(rt: HostRuntime) {
             b"words 3; locks 2; if me == 1 { acquire 1; release 1; [0] = 4; } if me == 2 { [2] = 8; } barrier; if me == 0 { [1] = 6; } barrier; x = [0]; y = [1]; z = [2]; print x; print y; print z;",
             b"node 0 prints 4\nnode 0 prints 6\nnode 0 prints 8\nnode 0 ended\nnode 1 prints 4\nnode 1 prints 6\nnode 1 prints 8\nnode 1 ended\nnode 2 prints 4\nnode 2 prints 6\nnode 2 prints 8\nnode 2 ended\n",
         ),
+        (
+            Nodes { count: 4 },
+            b"words 1; locks 1; acquire 0; x = [0]; [0] = x + 1; release 0; barrier; y = [0]; print y;",
+            b"node 0 prints 4\nnode 0 ended\nnode 1 prints 4\nnode 1 ended\nnode 2 prints 4\nnode 2 ended\nnode 3 prints 4\nnode 3 ended\n",
+        ),
+        // A read that races sees the write, and no race is named.
+        (
+            Nodes { count: 2 },
+            b"words 1; locks 0; if me == 0 { [0] = 5; } else { x = [0]; print x; }",
+            b"node 0 ended\nnode 1 prints 5\nnode 1 ended\n",
+        ),
     ];
-    for (nodes, text, printed) in cases {
-        let run = on(rt.alloc(), nodes, text);
-        assert_eq!(rt; run.out.as_slice(), printed);
-        assert_eq!(rt; run.status, 0);
+    for (nodes, text, out) in cases {
+        assert!(rt; prints(rt.alloc(), nodes, text, out, 0));
     }
 }
 
 #[test]
-fn each_node_traps_by_itself(rt: HostRuntime) {
+fn a_loop_runs_out_of_steps(rt: HostRuntime) {
+    let text = b"words 1; locks 0; while 1 { x = x + 1; }";
+    let run = in_rounds(rt.alloc(), Nodes { count: 1 }, Steps { count: 3 }, text);
+    assert!(rt; run.prints(b"node 0 unfinished\n", 4));
+}
+
+#[test]
+fn each_node_traps_or_waits_by_itself(rt: HostRuntime) {
     let text =
         b"words 1; locks 1; if me == 0 { [1] = 1; } if me == 1 { release 0; } if me == 2 { x = 1 / 0; } print me;";
-    let run = on(rt.alloc(), Nodes { count: 4 }, text);
-    assert_eq!(rt;
-        run.out.as_slice(),
-        b"node 0 trapped 2\nnode 1 trapped 5\nnode 2 trapped 1\nnode 3 prints 3\nnode 3 ended\n".as_slice()
-    );
-    assert_eq!(rt; run.status, 4);
-}
-
-#[test]
-fn a_node_waits_for_good_for_a_lock_that_is_never_released(rt: HostRuntime) {
+    let out =
+        b"node 0 trapped 2\nnode 1 trapped 5\nnode 2 trapped 1\nnode 3 prints 3\nnode 3 ended\n";
+    assert!(rt; prints(rt.alloc(), Nodes { count: 4 }, text, out, 4));
+    // The lock is never given back.
     let text =
         b"words 1; locks 1; if me == 0 { acquire 0; } barrier; if me == 1 { acquire 0; } print me;";
-    let run = on(rt.alloc(), Nodes { count: 2 }, text);
-    assert_eq!(rt;
-        run.out.as_slice(),
-        b"node 0 prints 0\nnode 0 ended\nnode 1 unfinished\n".as_slice()
-    );
-    assert_eq!(rt; run.status, 4);
+    let out = b"node 0 prints 0\nnode 0 ended\nnode 1 unfinished\n";
+    assert!(rt; prints(rt.alloc(), Nodes { count: 2 }, text, out, 4));
 }
 
-#[test]
-fn sixteen_nodes_read_the_last_word(rt: HostRuntime) {
-    let text =
-        b"words 4096; locks 64; if me == 0 { acquire 63; [4095] = 18446744073709551615; release 63; } barrier; acquire 63; x = [4095]; release 63; print x;";
-    let run = on(rt.alloc(), Nodes { count: 16 }, text);
-    let mut lines: u32 = 0;
-    for line in run.out.split(|byte| *byte == b'\n') {
+// How many lines of a text print the largest number.
+fn largest_printed(out: &[u8]) -> usize {
+    let mut lines: usize = 0;
+    for line in out.split(|byte| *byte == b'\n') {
         if line.ends_with(b" prints 18446744073709551615") {
             lines = lines.saturating_add(1);
         }
     }
-    assert_eq!(rt; lines, 16);
-    assert_eq!(rt; run.status, 0);
+    lines
+}
+
+fn readers_of_the_last_word(alloc: Global) -> usize {
+    let text =
+        b"words 4096; locks 64; if me == 0 { acquire 63; [4095] = 18446744073709551615; release 63; } barrier; acquire 63; x = [4095]; release 63; print x;";
+    let run = in_rounds(alloc, Nodes { count: 16 }, ALL_STEPS, text);
+    largest_printed(&run.out)
+}
+
+#[test]
+fn sixteen_nodes_read_the_last_word(rt: HostRuntime) {
+    assert!(rt; readers_of_the_last_word(rt.alloc()) == 16);
 }

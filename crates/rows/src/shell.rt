@@ -7,12 +7,29 @@ use lrc_cli::choice::{Choice, Nodes, PlainRun, Simulation, Steps};
 use lrc_cli::perform;
 use std::alloc::Global;
 
+/// As many steps as a node may be given.
+pub const ALL_STEPS: Steps = Steps { count: 1_000_000 };
+
+const ALONE: Nodes = Nodes { count: 1 };
+
 /// What a command printed, what it wrote to standard error, and its status.
-#[derive(Debug, Drop)]
+#[derive(Drop)]
 pub struct Outcome {
     pub out: Vec<u8>,
     pub err: Vec<u8>,
     pub status: u8,
+}
+
+impl Outcome {
+    /// Whether this was printed, and no fault was named.
+    pub fn prints(&self, out: &[u8], status: u8) -> bool {
+        self.out.as_slice() == out && self.err.is_empty() && self.status == status
+    }
+
+    /// Whether this line of a fault was all.
+    pub fn complains(&self, line: &[u8]) -> bool {
+        self.out.is_empty() && self.err.as_slice() == line && self.status == 1
+    }
 }
 
 // What a command makes of a text, and of that of its events where it names them.
@@ -44,7 +61,7 @@ pub fn in_rounds(alloc: Global, nodes: Nodes, steps: Steps, text: &[u8]) -> Outc
 pub fn driven(alloc: Global, steps: Steps, text: &[u8]) -> Outcome {
     let choice = Choice::Simulate(Simulation {
         file: "-",
-        nodes: Nodes { count: 1 },
+        nodes: ALONE,
         steps,
         events: None,
     });
@@ -55,8 +72,8 @@ pub fn driven(alloc: Global, steps: Steps, text: &[u8]) -> Outcome {
 pub fn played(alloc: Global, text: &[u8], events: &[u8]) -> Outcome {
     let choice = Choice::Simulate(Simulation {
         file: "-",
-        nodes: Nodes { count: 1 },
-        steps: Steps { count: 1_000_000 },
+        nodes: ALONE,
+        steps: ALL_STEPS,
         events: Some("events"),
     });
     performed(alloc, &choice, text, Some(events))

@@ -2,30 +2,47 @@
 
 use lrc_cli::choice::{Choice, ChooseFault};
 use lrc_cli::choose;
+use std::alloc::Global;
+
+// Whether the words ask for the plain machine with this file, and so many nodes and steps.
+fn ask_for_plain(alloc: Global, words: &[&str], file: &str, nodes: u32, steps: u32) -> bool {
+    matches!(choose(alloc, words), Ok(Choice::Plain(run))
+        if run.file == file && run.nodes.count == nodes && run.steps.count == steps)
+}
+
+// Whether the words ask for a run of this file on one node, with these events.
+fn ask_for_run(alloc: Global, words: &[&str], file: &str, events: Option<&str>) -> bool {
+    matches!(choose(alloc, words), Ok(Choice::Simulate(run))
+        if run.file == file && run.events == events && run.nodes.count == 1)
+}
+
+fn ask_for_check(alloc: Global, words: &[&str]) -> bool {
+    matches!(choose(alloc, words), Ok(Choice::Check("a.tm")))
+}
 
 #[test]
 fn words_are_read(rt: HostRuntime) {
     let words = ["plain", "counter.tm", "--nodes", "16", "--steps", "+20"];
-    let choice = choose(rt.alloc(), words.as_slice());
+    assert!(rt; ask_for_plain(rt.alloc(), &words, "counter.tm", 16, 20));
+    assert!(rt; ask_for_plain(rt.alloc(), &["plain", "-"], "-", 1, 1_000_000));
     assert!(rt;
-        matches!(choice, Ok(Choice::Plain(run))
-        if run.file == "counter.tm" && run.nodes.count == 16 && run.steps.count == 20)
+        ask_for_run(
+            rt.alloc(),
+            &["sim", "a.tm", "--events", "-"],
+            "a.tm",
+            Some("-")
+        )
     );
-    let words = ["plain", "-"];
-    let choice = choose(rt.alloc(), words.as_slice());
-    assert!(rt;
-        matches!(choice, Ok(Choice::Plain(run))
-        if run.file == "-" && run.nodes.count == 1 && run.steps.count == 1_000_000)
-    );
-    let words = ["sim", "a.tm", "--events", "-"];
-    let choice = choose(rt.alloc(), words.as_slice());
-    assert!(rt;
-        matches!(choice, Ok(Choice::Simulate(run))
-        if run.file == "a.tm" && run.events == Some("-") && run.nodes.count == 1)
-    );
-    let words = ["check", "a.tm"];
-    let choice = choose(rt.alloc(), words.as_slice());
-    assert!(rt; matches!(choice, Ok(Choice::Check("a.tm"))));
+    assert!(rt; ask_for_run(rt.alloc(), &[], "-", None));
+    assert!(rt; ask_for_check(rt.alloc(), &["check", "a.tm"]));
+}
+
+fn are_out_of_range(alloc: Global, words: &[&str]) -> bool {
+    matches!(choose(alloc, words), Err(ChooseFault::BadNumber))
+}
+
+fn are_misused(alloc: Global, words: &[&str]) -> bool {
+    matches!(choose(alloc, words), Err(ChooseFault::Usage(_)))
 }
 
 #[test]
@@ -39,8 +56,7 @@ fn numbers_out_of_range_are_refused(rt: HostRuntime) {
         ["sim", "a.tm", "--nodes", "18446744073709551615"],
     ];
     for words in cases {
-        let choice = choose(rt.alloc(), words.as_slice());
-        assert!(rt; matches!(choice, Err(ChooseFault::BadNumber)));
+        assert!(rt; are_out_of_range(rt.alloc(), &words));
     }
 }
 
@@ -55,7 +71,6 @@ fn other_words_are_a_fault_of_usage(rt: HostRuntime) {
         ["plan", "a.tm", "--nodes", "1"],
     ];
     for words in cases {
-        let choice = choose(rt.alloc(), words.as_slice());
-        assert!(rt; matches!(choice, Err(ChooseFault::Usage(_))));
+        assert!(rt; are_misused(rt.alloc(), &words));
     }
 }

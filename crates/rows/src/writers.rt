@@ -1,7 +1,9 @@
 // A writer that refuses.
 
-use lrc_cli::choice::{Choice, Nodes, Simulation, Steps};
+use crate::shell::ALL_STEPS;
+use lrc_cli::choice::{Choice, Nodes, Simulation};
 use lrc_cli::perform;
+use std::alloc::Global;
 use std::io;
 use std::io::{ErrorKind, Write};
 
@@ -27,36 +29,39 @@ impl Write for Refusing {
     }
 }
 
-#[test]
-fn after_a_refused_write_nothing_more_is_written(rt: HostRuntime) {
-    let alloc = rt.alloc();
+// What came of a run whose writer refuses: the status, how many bytes and writes came to it, and how many bytes to
+// standard error.
+fn refused_out(alloc: Global) -> (u8, u64, u64, usize) {
+    let run = Choice::Simulate(Simulation {
+        file: "-",
+        nodes: Nodes { count: 1 },
+        steps: ALL_STEPS,
+        events: None,
+    });
+    let text = b"words 1; locks 0; print 1; print 2;";
     let mut out = Refusing {
         taken: 0,
         writes: 0,
     };
     let mut err = Vec::new(alloc);
-    let run = Choice::Simulate(Simulation {
-        file: "-",
-        nodes: Nodes { count: 1 },
-        steps: Steps { count: 1_000_000 },
-        events: None,
-    });
-    let text = b"words 1; locks 0; print 1; print 2;";
-    assert_eq!(rt; perform(alloc, &run, text, None, &mut out, &mut err), 1);
-    assert_eq!(rt; out.taken, 1);
-    assert_eq!(rt; out.writes, 2);
-    assert_eq!(rt; err.len(), 0);
+    let status = perform(alloc, &run, text, None, &mut out, &mut err);
+    (status, out.taken, out.writes, err.len())
+}
 
-    let mut refusing = Refusing {
+// The same of a text that is no program, where standard error refuses.
+fn refused_err(alloc: Global) -> (u8, u64, u64, usize) {
+    let mut out = Vec::new(alloc);
+    let mut err = Refusing {
         taken: 0,
         writes: 0,
     };
-    let mut printed = Vec::new(alloc);
     let check = Choice::Check("-");
-    assert_eq!(rt;
-        perform(alloc, &check, b"words", None, &mut printed, &mut refusing),
-        1
-    );
-    assert_eq!(rt; refusing.taken, 1);
-    assert_eq!(rt; printed.len(), 0);
+    let status = perform(alloc, &check, b"words", None, &mut out, &mut err);
+    (status, err.taken, err.writes, out.len())
+}
+
+#[test]
+fn after_a_refused_write_nothing_more_is_written(rt: HostRuntime) {
+    assert!(rt; refused_out(rt.alloc()) == (1, 1, 2, 0));
+    assert!(rt; refused_err(rt.alloc()) == (1, 1, 2, 0));
 }

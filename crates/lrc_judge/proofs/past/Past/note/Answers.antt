@@ -8,7 +8,8 @@ use Rattle.lrc_trace.specs.Run.{Does, is_arrive, is_depart, arrives_before, depa
 use Rattle.lrc_trace.proofs.Positions.{Does-read, Does-node}
 use Rattle.lrc_judge.specs.declared.reach.Reach.{Reach}
 use Rattle.lrc_judge.specs.Past.{EachGathers, Acted, Released, Arrived}
-use Rattle.lrc_judge.proofs.NextPast.{acted_next, released_next, released_same, arrived_next, arrived_push, arrived_same, bound_same, bound_next, counts_same, counts_next, no_arrive, no_depart}
+use Rattle.lrc_judge.proofs.NextPast.{acted_next, released_next, released_same, arrived_next, arrived_push, arrived_same}
+use Rattle.lrc_trace.proofs.Counts.{bound_same, bound_next, counts_same, counts_next, no_arrive, no_depart}
 use Rattle.lrc_judge.proofs.past.Past.note.Goals as goal
 use Rattle.lrc_judge.proofs.past.Past.note.Goals.{After-from-node}
 

@@ -7,7 +7,8 @@ use Rattle.lrc_trace.specs.declared.act.Deed.TheVariants.{Quiet}
 use Rattle.lrc_trace.specs.Run.{Does}
 use Rattle.lrc_trace.specs.Interval.{closes, interval_at}
 use Rattle.lrc_trace.proofs.Positions.{Does-read, Does-node, Does-deed}
-use Rattle.lrc_judge.proofs.Keeping.{AreSegments-same, AreSegments-more, intervals_same, intervals_next, no_close}
+use Rattle.lrc_judge.proofs.Keeping.{AreSegments-same, AreSegments-more}
+use Rattle.lrc_trace.proofs.Counts.{intervals_same, intervals_next, no_close}
 use Rattle.lrc_judge.proofs.segments.Log.note.Goals as goal
 use Rattle.lrc_judge.proofs.segments.Log.note.Goals.{After-from}
 

@@ -7,8 +7,8 @@ use Rattle.lrc_trace.specs.Run.{Does, is_arrive, is_depart, arrives_before, depa
 use Rattle.lrc_trace.specs.Synchronization.{Holds}
 use Rattle.lrc_trace.proofs.Positions.{Does-read, Does-node, Does-deed}
 use Rattle.lrc_judge.specs.Synchronization.{acquire, release}
-use Rattle.lrc_judge.proofs.NextPast.{counts_same, counts_next, no_arrive, no_depart}
-use Rattle.lrc_judge.proofs.Locks.{AreHolders, held, holders_same, holders_acquire, holders_release}
+use Rattle.lrc_trace.proofs.Counts.{counts_same, counts_next, no_arrive, no_depart}
+use Rattle.lrc_trace.proofs.Locks.{AreHolders, held, holders_same, holders_acquire, holders_release}
 use Rattle.lrc_judge.proofs.synchronization.Standing.note.Goals as goal
 use Rattle.lrc_judge.proofs.synchronization.Standing.note.Goals.{After-from-node}
 

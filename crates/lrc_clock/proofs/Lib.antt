@@ -1,0 +1,12 @@
+pub mod Passing
+pub mod Lasting
+pub mod Rules
+pub mod Counting
+pub mod Covering
+pub mod Ordering
+pub mod Stamps
+pub mod Learning
+pub mod Intervals
+pub mod Epochs
+pub mod Racing
+pub mod Prefixes

@@ -1,0 +1,5 @@
+pub mod Times
+pub mod Keeping
+pub mod Cover
+pub mod Races
+pub mod Laws

@@ -1,0 +1,10 @@
+// Which message comes next.
+
+/// Which of the messages in flight is delivered first.
+#[derive(Clone, Copy, PartialEq, Eq)]
+pub enum Picker {
+    /// The one that was sent first.
+    Oldest,
+    /// The one that was sent last.
+    Newest,
+}
