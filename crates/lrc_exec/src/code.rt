@@ -75,7 +75,7 @@ impl<'p> Code<'p> {
         })
     }
 
-    /// How many words the shared memory has, 1 to 4096.
+    /// How many words the shared memory has, 1 to 65,536.
     pub fn words(&self) -> u32
         ensures { result ≡ self.now.words }
     {

@@ -1,5 +1,6 @@
 -- What the last token was, by the stage behind it: only behind `words` and `locks` may a number pass its limit.
 use Rattle.std.proofs.Common.{◌≡◌, ◌<◌, ◌⊎◌, ℕ, Option, Some, None, refl, sym, ap, subst, ◌∙◌}
+use Rattle.lrc_lang.specs.declared.TheConstants.{MOST_WORDS}
 use Rattle.lrc_lang.specs.declared.token.Keyword.TheVariants.{Words, Locks}
 use Rattle.lrc_lang.specs.declared.token.Keyword.{Keyword}
 use Rattle.lrc_lang.specs.declared.token.Sign.{Sign}
@@ -154,7 +155,7 @@ next_says names s t {next} q = says_token names t next.stage (behind_symbol s (s
 
 -- ---- so a number passes its limit just where it is said to
 
-number_over : (stage : Stage) (n : ℕ) → Says stage (Some (Token.keyword Words)) → (n < 1) ⊎ (4096 < n) → IsOverNumber stage (number n)
+number_over : (stage : Stage) (n : ℕ) → Says stage (Some (Token.keyword Words)) → (n < 1) ⊎ (MOST_WORDS < n) → IsOverNumber stage (number n)
 number_over words n h o = absurd h
 number_over words_number n h o = o
 number_over words_end n h o = absurd h

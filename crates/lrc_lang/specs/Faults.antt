@@ -1,5 +1,6 @@
 -- The faults of a text, and which of them is the first.
 use Rattle.std.specs.Prelude.{◌≡◌, ◌<◌, ◌≤◌, ◌⊎◌, ℕ, List, [], ◌∷◌, ◌++◌, length, Option, Some}
+use Rattle.lrc_lang.specs.declared.TheConstants.{MOST_WORDS}
 use Rattle.lrc_lang.specs.declared.token.Keyword.TheVariants as keywords
 use Rattle.lrc_lang.specs.declared.fault.FaultKind.{FaultKind}
 use Rattle.lrc_lang.specs.declared.fault.FaultKind.TheVariants.{TooLong, BadByte, BadNumber, Unexpected, TooDeep, TooManyNames, OverLimit, NoMemory}
@@ -15,9 +16,9 @@ use Rattle.lrc_lang.specs.Grammar.{IsProgram}
 abbrev pub IsUnexpected : List Token → Token → Type 0
 IsUnexpected before t = (rest : List Token) (p : ProgramTree) → IsProgram p (before ++ t ∷ rest) → ⊥
 
--- it is the number behind `words` and not 1 to 4096, or the number behind `locks` and over 64
+-- it is the number behind `words` and not 1 to 65,536, or the number behind `locks` and over 64
 abbrev pub IsNumberTooLarge : Option Token → Token → Type 0
-IsNumberTooLarge (Some (keyword keywords.Words)) (number n) = (n < 1) ⊎ (4096 < n)
+IsNumberTooLarge (Some (keyword keywords.Words)) (number n) = (n < 1) ⊎ (MOST_WORDS < n)
 IsNumberTooLarge (Some (keyword keywords.Locks)) (number n) = 64 < n
 IsNumberTooLarge _ _ = ⊥
 

@@ -1,5 +1,6 @@
 -- The parser's state as the definitions see it, without where it lies in memory.
 use Rattle.std.specs.Prelude.{◌≡◌, ◌<◌, ◌⊎◌, Some, None, Result, Ok, Err}
+use Rattle.lrc_lang.specs.declared.TheConstants.{MOST_WORDS}
 use Rattle.lrc_lang.specs.declared.fault.FaultKind.{FaultKind}
 use Rattle.lrc_lang.specs.declared.fault.FaultKind.TheVariants as kinds
 use Rattle.lrc_lang.specs.declared.state.Stage as code_stage
@@ -24,7 +25,7 @@ state_seen s = record { stage = stage_seen s.stage; words = s.words; locks = s.l
 
 -- a number of words or of locks that passes its limit
 abbrev pub IsOverNumber : Stage → Symbol → Type 0
-IsOverNumber words_number (number n) = (n < 1) ⊎ (4096 < n)
+IsOverNumber words_number (number n) = (n < 1) ⊎ (MOST_WORDS < n)
 IsOverNumber locks_number (number n) = 64 < n
 IsOverNumber _ _ = ⊥
 

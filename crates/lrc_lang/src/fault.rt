@@ -27,7 +27,7 @@ pub enum FaultKind {
     /// A name that would be the 33rd different one.
     #[error("too many names")]
     TooManyNames,
-    /// The number of words is not 1 to 4096, the number of locks is over 64, or an expression has a 257th operator.
+    /// The number of words is not 1 to 65,536, the number of locks is over 64, or an expression has a 257th operator.
     #[error("over a limit")]
     OverLimit,
     /// Memory ran out. This may come in place of any other answer.

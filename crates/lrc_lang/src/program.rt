@@ -1,6 +1,9 @@
 // The trees of a program.
 
 ghost use Rattle.std.specs.Prelude.{◌≡◌, ◌≤◌};
+ghost use Rattle.lrc_lang.specs.declared.TheConstants.{MOST_WORDS};
+
+use crate::MOST_WORDS;
 
 /// An operator. Numbers are u64, and sums, differences and products wrap. A comparison gives 1 or 0.
 #[derive(Clone, Copy, PartialEq, Eq)]
@@ -63,15 +66,15 @@ pub struct Program {
     pub words: u32,
     pub locks: u8,
     pub statements: Vec<Statement>,
-    /// There are 1 to 4096 words.
+    /// There are 1 to 65,536 words.
     pub ghost some_words: { 1 ≤ words },
-    pub ghost few_words: { words ≤ 4096 },
+    pub ghost few_words: { words ≤ MOST_WORDS },
     /// There are at most 64 locks.
     pub ghost few_locks: { locks ≤ 64 },
 }
 
 impl Program {
-    /// How many words the shared memory has, 1 to 4096.
+    /// How many words the shared memory has, 1 to 65,536.
     pub fn words(&self) -> u32
         ensures { result ≡ self.now.words }
     {
@@ -85,3 +88,8 @@ impl Program {
         self.locks
     }
 }
+
+/// The limit of words as a number: 65,536.
+pub fn the_most_words()
+    ensures { MOST_WORDS ≡ 65536 }
+{}

@@ -1,7 +1,9 @@
 // A text of which some symbols have come.
 
 ghost use Rattle.std.specs.Prelude.{◌≡◌, ◌≤◌};
+ghost use Rattle.lrc_lang.specs.declared.TheConstants.{MOST_WORDS};
 
+use crate::MOST_WORDS;
 use crate::body::Body;
 use crate::fault::FaultKind;
 use crate::program::Program;
@@ -31,7 +33,7 @@ pub struct State {
     locks: u8,
     body: Body,
     ghost some_words: { 1 ≤ words },
-    ghost few_words: { words ≤ 4096 },
+    ghost few_words: { words ≤ MOST_WORDS },
     ghost few_locks: { locks ≤ 64 },
 }
 
@@ -60,7 +62,7 @@ impl State {
         match (self.stage, symbol) {
             (Stage::Words, Symbol::Keyword(Keyword::Words)) => self.stage = Stage::WordsNumber,
             (Stage::WordsNumber, Symbol::Number(words)) => {
-                if words < 1 || words > 4096 {
+                if words < 1 || words > u64::from(MOST_WORDS) {
                     return Err(FaultKind::OverLimit);
                 }
                 self.words = words as u32;

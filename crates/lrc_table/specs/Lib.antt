@@ -1,3 +1,2 @@
 pub mod PageCopy
 pub mod Table
-pub mod Inside

@@ -1,33 +1,43 @@
 -- The page table of one node.
-use Rattle.std.specs.Prelude.{ℕ, List, [], map, replicate, slice_index_or, slice_set}
-use Rattle.std.specs.Option.{option_map}
-use Rattle.std.specs.List.{enumerate_from, filter_map}
-use Rattle.lrc_page.specs.declared.changes.Change.{Change}
+use Rattle.std.specs.Prelude.{ℕ, ◌≡◌, ◌≤◌, All, List, [], length, map, filter, replicate, slice_index_or, slice_set}
+use Rattle.std.specs.List.{range_with_len}
+use Rattle.lrc_page.specs.declared.TheConstants.{MOST_PAGES}
+use Rattle.lrc_page.specs.declared.size.Size.{Size}
 use Rattle.lrc_page.specs.Page.{zero_page}
 use Rattle.lrc_page.specs.Place.{pages_of}
-use Rattle.lrc_table.specs.PageCopy.{PageCopy, valid, invalid, changes_of, closed}
+use Rattle.lrc_table.specs.PageCopy.{PageCopy, IsWhole, fresh, is_written}
 
--- the node's copies of the pages, in the order of the pages
+-- the size of the pages, and the node's copies of them, in their order
 pub record Table : Type 0 where
+  pub size : Size
   pub copies : List PageCopy
 
 -- the table at the start: every copy is valid, and every word zero
-abbrev pub fresh_table : ℕ → Table
-fresh_table words = record { copies = replicate (pages_of words) (valid zero_page) }
+abbrev pub fresh_table : ℕ → Size → Table
+fresh_table words size = record { size = size; copies = replicate (pages_of words size) (fresh (zero_page size)) }
 
 -- the copy of a page
 abbrev pub copy_at : Table → ℕ → PageCopy
-copy_at table page = slice_index_or table.copies page (invalid [])
+copy_at table page = slice_index_or table.copies page (fresh [])
 
 -- the table with another copy of one page
 abbrev pub with_copy : Table → ℕ → PageCopy → Table
 with_copy table page copy = record table { copies = slice_set table.copies page copy }
 
--- each written page with its changes, the pages ascending
-abbrev pub all_changes : Table → List (ℕ × List Change)
-all_changes table =
-    filter_map (λ place. option_map (λ changes. (place.0, changes)) (changes_of place.1)) (enumerate_from 0 table.copies)
+-- the table with each copy changed
+abbrev pub with_each : Table → (PageCopy → PageCopy) → Table
+with_each table change = record table { copies = map change table.copies }
 
--- the table once the interval is closed
-abbrev pub all_closed : Table → Table
-all_closed table = record table { copies = map closed table.copies }
+-- the written pages, ascending
+abbrev pub written_pages : Table → List ℕ
+written_pages table =
+    filter (λ page. is_written (copy_at table page).state) (range_with_len 0 (length table.copies))
+
+-- what holds of every table beside the list of its written pages: each copy is whole, the pages are at most as many as
+-- there may be, and the list is exact
+abbrev pub IsSound : Table → List ℕ → Type 0
+IsSound table written = record {
+  whole : All (IsWhole table.size) table.copies;
+  few : length table.copies ≤ MOST_PAGES;
+  listed : written ≡ written_pages table;
+}

@@ -1,12 +1,14 @@
-ghost use Rattle.std.specs.Prelude.{◌≡◌, ◌≢◌, ◌<◌, IfOk, OnOk, OnErr};
-ghost use Rattle.lrc_table.specs.PageCopy.{state_of, is_readable, read_at, after_write, changes_of, closed, invalidated, repaired};
+ghost use Rattle.std.specs.Prelude.{◌≡◌, ◌≢◌, ◌<◌, ◌≤◌, All, IfOk, OnOk, OnErr, MatchOption, Some, None, length};
+ghost use Rattle.std.specs.Option.{ForSome};
+ghost use Rattle.lrc_page.specs.Page.{words_of};
+ghost use Rattle.lrc_table.specs.PageCopy.{is_pending, pending_changes, read_at, opened, with_value, closed, settled, without_twin, invalidated, patched, repaired, installed, dropped, with_base, without_base};
 
-use lrc_page::{Changes, PAGE_WORDS, Page};
+use lrc_page::{Changes, MOST_PAGE_WORDS, Page, Size};
 use std::alloc::{AllocError, Global};
 use std::marker::Model;
 
 /// What a node may do with its copy of a page.
-#[derive(Clone, Copy, Debug, PartialEq, Eq, Hash)]
+#[derive(Clone, Copy, Debug, PartialEq, Eq)]
 pub enum State {
     /// It may read the copy. A write makes it `Written`.
     Valid,
@@ -14,127 +16,198 @@ pub enum State {
     Written,
     /// Other nodes have written the page, and this node lacks their changes.
     Invalid,
+    /// The node has no copy, and fetches one whole before it may read the page.
+    Absent,
 }
 
 /// A copy of a page.
-#[derive(Debug, Drop)]
+#[derive(Drop)]
 pub(crate) struct Slot {
-    copy: Page,
-    status: Status,
-}
-
-/// The state of a copy, with its twin where it has one.
-#[derive(Debug, Drop)]
-enum Status {
-    Valid,
-    Written(Box<Page>),
-    Invalid,
+    state: State,
+    words: Vec<u64>,
+    twin: Option<Vec<u64>>,
+    base: Option<Box<Page>>,
 }
 
 impl Model for Slot {
+    ghost use Rattle.std.specs.Option.{option_map};
     ghost use Rattle.lrc_table.specs.PageCopy.{PageCopy};
 
     ghost Value = { PageCopy };
 
-    ghost use Rattle.lrc_table.specs.Inside.{copy_of};
-
-    ghost view = { copy_of };
+    ghost view = { λ slot. record {
+      state = slot.state;
+      values = slot.words.items;
+      twin = option_map (λ twin. twin.items) slot.twin;
+      base = option_map (λ base. base.value) slot.base;
+    } };
 }
 
 impl Slot {
     ghost use Rattle.lrc_page.specs.Page.{zero_page};
-    ghost use Rattle.lrc_table.specs.PageCopy.{valid};
+    ghost use Rattle.lrc_table.specs.PageCopy.{fresh};
 
     /// A valid copy of a page of zeros.
-    pub(crate) fn zero() -> Self
-        ensures { result ≡ valid zero_page }
+    pub(crate) fn zero(alloc: Global, size: Size) -> Result<Self, AllocError>
+        ensures { IfOk result (λ slot. slot ≡ fresh (zero_page size)) }
     {
-        Slot {
-            copy: Page::zero(),
-            status: Status::Valid,
-        }
+        Ok(Slot {
+            state: State::Valid,
+            words: vec![in alloc; 0; usize::from(size.words())]?,
+            twin: None,
+            base: None,
+        })
     }
 
     pub(crate) fn state(&self) -> State
-        ensures { result ≡ state_of self.now }
+        ensures { result ≡ self.now.state }
     {
-        match &self.status {
-            Status::Valid => State::Valid,
-            Status::Written(_) => State::Written,
-            Status::Invalid => State::Invalid,
-        }
+        self.state
+    }
+
+    /// Whether a twin is kept past a close.
+    pub(crate) fn is_pending(&self) -> bool
+        ensures { result ≡ is_pending self.now }
+    {
+        self.state == State::Valid && self.twin.is_some()
     }
 
     /// The value at an offset, if the copy may be read.
     pub(crate) fn read(&self, offset: u8) -> Option<u64>
-        requires { offset < PAGE_WORDS }
+        requires { offset < length self.now.values }
         ensures { result ≡ read_at self.now offset }
     {
-        match &self.status {
-            Status::Valid | Status::Written(_) => Some(self.copy.get(offset)),
-            Status::Invalid => None,
+        match self.state {
+            State::Valid | State::Written => Some(self.words[usize::from(offset)]),
+            State::Invalid | State::Absent => None,
         }
     }
 
-    /// Writes a value at an offset and answers `true`, or `false` if the copy may not be written. The first write
-    /// keeps a twin.
-    pub(crate) fn write(
-        &mut self,
-        alloc: Global,
-        offset: u8,
-        value: u64,
-    ) -> Result<bool, AllocError>
-        requires { offset < PAGE_WORDS }
-        ensures done { IfOk result (λ done. done ≡ is_readable self.old) }
-        ensures ok { OnOk result (self.new ≡ after_write self.old offset value) }
-        ensures err { OnErr result (self.new ≡ self.old) }
+    /// A list of the present values.
+    pub(crate) fn values(&self) -> Result<Vec<u64>, AllocError>
+        ensures { IfOk result (λ values. values.items ≡ self.now.values) }
     {
-        match &self.status {
-            Status::Valid => {
-                let twin = Box::new(alloc, self.copy.copy())?;
-                self.status = Status::Written(twin);
-            }
-            Status::Written(_) => {}
-            Status::Invalid => return Ok(false),
-        }
-        self.copy.set(offset, value);
-        Ok(true)
+        self.words.clone()
     }
 
-    /// The changes since the first write, if there was one.
-    pub(crate) fn changes(&self, alloc: Global) -> Result<Option<Changes>, AllocError>
-        ensures { IfOk result (λ changes. changes ≡ changes_of self.now) }
+    /// Begins to be written, with the present values as the twin.
+    pub(crate) fn open(&mut self, twin: Vec<u64>)
+        requires { twin.items ≡ self.old.values }
+        ensures { self.new ≡ opened self.old }
     {
-        match &self.status {
-            Status::Written(twin) => Ok(Some(Changes::between(alloc, twin, &self.copy)?)),
-            Status::Valid | Status::Invalid => Ok(None),
-        }
+        self.state = State::Written;
+        self.twin = Some(twin);
     }
 
-    /// Lets go of the twin.
+    pub(crate) fn set(&mut self, offset: u8, value: u64)
+        requires { offset < length self.old.values }
+        ensures { self.new ≡ with_value self.old offset value }
+    {
+        self.words[usize::from(offset)] = value;
+    }
+
+    /// Ends the writing, and keeps the twin.
     pub(crate) fn close(&mut self)
         ensures { self.new ≡ closed self.old }
     {
-        if let Status::Written(_) = &self.status {
-            self.status = Status::Valid;
+        if self.state == State::Written {
+            self.state = State::Valid;
         }
     }
 
+    /// Makes the pending changes, if there are any, and lets go of their twin. An error leaves the copy as it was.
+    pub(crate) fn settle(&mut self, alloc: Global) -> Result<Option<Changes>, AllocError>
+        requires same { ForSome self.old.twin (λ twin. length twin ≡ length self.old.values) }
+        requires few { length self.old.values ≤ MOST_PAGE_WORDS }
+        ensures changes { IfOk result (λ changes. changes ≡ pending_changes self.old) }
+        ensures ok { OnOk result (self.new ≡ settled self.old) }
+        ensures err { OnErr result (self.new ≡ self.old) }
+    {
+        let changes = match (&self.twin, self.state) {
+            (Some(twin), State::Valid) => Changes::between_words(
+                alloc,
+                twin.as_slice(),
+                self.words.as_slice(),
+            )?,
+            _ => return Ok(None),
+        };
+        self.twin = None;
+        Ok(Some(changes))
+    }
+
+    pub(crate) fn drop_twin(&mut self)
+        ensures { self.new ≡ without_twin self.old }
+    {
+        self.twin = None;
+    }
+
     pub(crate) fn invalidate(&mut self)
-        requires { state_of self.old ≢ State.Written }
         ensures { self.new ≡ invalidated self.old }
     {
-        self.status = Status::Invalid;
+        if self.state == State::Valid {
+            self.state = State::Invalid;
+        }
+    }
+
+    /// Writes changes of another node into the copy.
+    pub(crate) fn patch(&mut self, changes: &Changes)
+        requires { All (λ c. c.offset < length self.old.values) changes.now }
+        ensures { self.new ≡ patched self.old changes.now }
+    {
+        changes.apply_to_words(self.words.as_mut_slice());
     }
 
     /// Applies the changes in their order, and makes the copy valid.
     pub(crate) fn repair(&mut self, changes: &[Changes])
-        requires { state_of self.old ≡ State.Invalid }
+        requires { All (λ list. All (λ c. c.offset < length self.old.values) list) changes.now }
         ensures { self.new ≡ repaired self.old changes.now }
     {
         for list in changes {
-            list.apply(&mut self.copy);
+            self.patch(list);
         }
-        self.status = Status::Valid;
+        self.state = State::Valid;
+    }
+
+    /// Takes a copy that was fetched whole.
+    pub(crate) fn install(&mut self, page: &Page)
+        requires { length page.now ≡ length self.old.values }
+        ensures { self.new ≡ installed self.old page.now }
+    {
+        self.words.copy_from_slice(page.words());
+        self.state = State::Invalid;
+    }
+
+    /// Keeps the present values as the base copy. An error leaves the copy as it was.
+    pub(crate) fn keep_base(&mut self, alloc: Global, size: Size) -> Result<(), AllocError>
+        requires { length self.old.values ≡ words_of size }
+        ensures ok { OnOk result (self.new ≡ with_base self.old) }
+        ensures err { OnErr result (self.new ≡ self.old) }
+    {
+        let base = Box::new(alloc, Page::with_words(size, self.words.as_slice()))?;
+        self.base = Some(base);
+        Ok(())
+    }
+
+    pub(crate) fn base(&self) -> Option<&Page>
+        ensures { MatchOption result (self.now.base ≡ None) (λ page. self.now.base ≡ Some page.now) }
+    {
+        match &self.base {
+            Some(page) => Some(page),
+            None => None,
+        }
+    }
+
+    pub(crate) fn drop_base(&mut self)
+        ensures { self.new ≡ without_base self.old }
+    {
+        self.base = None;
+    }
+
+    pub(crate) fn drop_invalid(&mut self)
+        ensures { self.new ≡ dropped self.old }
+    {
+        if self.state == State::Invalid {
+            self.state = State::Absent;
+        }
     }
 }

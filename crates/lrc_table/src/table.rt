@@ -1,49 +1,66 @@
-ghost use Rattle.std.specs.Prelude.{◌≡◌, ◌≢◌, ◌<◌, ◌≤◌, IfOk, OnOk, OnErr, length};
+ghost use Rattle.std.specs.Prelude.{◌≡◌, ◌≢◌, ◌<◌, ◌≤◌, ℕ, All, IfOk, OnOk, OnErr, MatchOption, IsTrue, Some, None, false, length};
+ghost use Rattle.lrc_page.specs.Page.{words_of};
 ghost use Rattle.lrc_page.specs.Place.{page_of, offset_of};
-ghost use Rattle.lrc_table.specs.PageCopy.{state_of, is_readable, read_at, after_write, invalidated, repaired};
-ghost use Rattle.lrc_table.specs.Table.{fresh_table, copy_at, with_copy, all_changes, all_closed};
+ghost use Rattle.lrc_table.specs.PageCopy.{IsWhole, is_readable, is_pending, pending_changes, read_at, opened, after_write, with_value, closed, settled, without_twin, invalidated, patched, repaired, installed, dropped, with_base, without_base};
+ghost use Rattle.lrc_table.specs.Table.{fresh_table, copy_at, with_copy, with_each, written_pages};
 
 use crate::slot::{Slot, State};
-use lrc_page::{Changes, MOST_WORDS, offset_of, page_of, pages_of};
+use lrc_page::{Changes, MOST_PAGES, MOST_WORDS, Page, Pages, Size, offset_of, page_of, pages_of};
 use std::alloc::{AllocError, Global};
 use std::marker::Model;
 
-/// A node's copy of each page of a shared memory of 1 to 4096 words. Words count from 0 over all pages.
-#[derive(Debug, Drop)]
+/// A node's copy of each page of a shared memory. Words count from 0 over all pages.
+#[derive(Drop)]
 pub struct PageTable {
+    size: Size,
     slots: Vec<Slot>,
+    // The written pages, so that a close costs what was written.
+    written: Pages,
 }
 
 impl Model for PageTable {
-    ghost use Rattle.std.specs.Prelude.{◌≤◌, length};
-    ghost use Rattle.lrc_table.specs.Table.{Table};
+    ghost use Rattle.lrc_table.specs.Table.{Table, IsSound};
 
     ghost Value = { Table };
 
-    ghost view = { λ table. record { copies = table.slots.items } };
+    ghost view = { λ table. record { size = table.size; copies = table.slots.items } };
 
-    ghost invariant = { λ table. length table.slots.items ≤ 64 };
+    ghost invariant = { λ table. IsSound (record { size = table.size; copies = table.slots.items }) table.written };
 }
 
 impl PageTable {
-    /// A table for this many words, 1 to 4096, all zero, with every copy valid.
-    pub fn new(alloc: Global, words: u32) -> Result<Self, AllocError>
+    /// A table for this many words, 1 to 65,536, on pages of this size, all zero, with every copy valid.
+    pub fn new(alloc: Global, words: u32, size: Size) -> Result<Self, AllocError>
         requires some { 1 ≤ words }
         requires few { words ≤ MOST_WORDS }
-        ensures { IfOk result (λ table. table ≡ fresh_table words) }
+        ensures { IfOk result (λ table. table ≡ fresh_table words size) }
     {
-        let pages = pages_of(words);
+        let pages = pages_of(words, size);
         let mut slots = Vec::with_capacity(alloc, usize::from(pages))?;
         for _ in 0..pages {
-            slots.push(Slot::zero())?;
+            slots.push(Slot::zero(alloc, size)?)?;
         }
-        Ok(PageTable { slots })
+        Ok(PageTable {
+            size,
+            slots,
+            written: Pages::empty(alloc),
+        })
+    }
+
+    /// The size of the pages. Every copy has as many values, and so has each twin and each base copy. A written copy
+    /// has a twin, and one that may not be read has none.
+    pub fn size(&self) -> Size
+        ensures size { result ≡ self.now.size }
+        ensures whole { All (IsWhole self.now.size) self.now.copies }
+        ensures few { length self.now.copies ≤ MOST_PAGES }
+    {
+        self.size
     }
 
     /// The state of the copy of a page.
     pub fn state(&self, page: u16) -> State
         requires { page < length self.now.copies }
-        ensures { result ≡ state_of (copy_at self.now page) }
+        ensures { result ≡ (copy_at self.now page).state }
     {
         self.slots[usize::from(page)].state()
     }
@@ -51,63 +68,172 @@ impl PageTable {
     /// The value of a word, or `None` if the copy of its page may not be read.
     pub fn read(&self, word: u32) -> Option<u64>
         requires in_range { word < MOST_WORDS }
-        requires on_a_page { page_of word < length self.now.copies }
-        ensures { result ≡ read_at (copy_at self.now (page_of word)) (offset_of word) }
+        requires on_a_page { page_of word self.now.size < length self.now.copies }
+        ensures { result ≡ read_at (copy_at self.now (page_of word self.now.size)) (offset_of word self.now.size) }
     {
-        self.slots[usize::from(page_of(word))].read(offset_of(word))
+        let page = usize::from(page_of(word, self.size));
+        self.slots[page].read(offset_of(word, self.size))
     }
 
     /// Gives a word a value and answers `true`, or `false` if the copy of its page may not be written, which changes
     /// nothing. The first write to a valid copy keeps its values as a twin. An error leaves the table as it was.
     pub fn write(&mut self, word: u32, value: u64) -> Result<bool, AllocError>
         requires in_range { word < MOST_WORDS }
-        requires on_a_page { page_of word < length self.old.copies }
-        ensures done { IfOk result (λ done. done ≡ is_readable (copy_at self.old (page_of word))) }
-        ensures ok { OnOk result (self.new ≡ with_copy self.old (page_of word)
-            (after_write (copy_at self.old (page_of word)) (offset_of word) value)) }
+        requires on_a_page { page_of word self.old.size < length self.old.copies }
+        requires settled { is_pending (copy_at self.old (page_of word self.old.size)) ≡ false }
+        ensures done { IfOk result (λ done. done ≡ is_readable (copy_at self.old (page_of word self.old.size)).state) }
+        ensures ok { OnOk result (self.new ≡ with_copy self.old (page_of word self.old.size)
+            (after_write (copy_at self.old (page_of word self.old.size)) (offset_of word self.old.size) value)) }
         ensures err { OnErr result (self.new ≡ self.old) }
     {
-        let alloc = *self.slots.allocator();
-        self.slots[usize::from(page_of(word))].write(alloc, offset_of(word), value)
+        let page = page_of(word, self.size);
+        match self.state(page) {
+            State::Invalid | State::Absent => return Ok(false),
+            State::Valid => self.open(page)?,
+            State::Written => {}
+        }
+        let offset = offset_of(word, self.size);
+        self.slots[usize::from(page)].set(offset, value);
+        Ok(true)
     }
 
-    /// The pages written since the last close, ascending, each with its changes against its values before the first
-    /// write; the list of a page whose values are the same again is empty. All of them become valid. An error leaves
-    /// the table as it was.
-    pub fn close(&mut self) -> Result<Vec<(u16, Changes)>, AllocError>
-        ensures changes { IfOk result (λ closed. closed.items ≡ all_changes self.old) }
-        ensures ok { OnOk result (self.new ≡ all_closed self.old) }
+    /// Keeps the values of a valid copy as its twin, and lists its page as written. An error leaves the table as it was.
+    fn open(&mut self, page: u16) -> Result<(), AllocError>
+        requires in_range { page < length self.old.copies }
+        requires valid { (copy_at self.old page).state ≡ State.Valid }
+        ensures ok { OnOk result (self.new ≡ with_copy self.old page (opened (copy_at self.old page))) }
+        ensures err { OnErr result (self.new ≡ self.old) }
+    {
+        let place = usize::from(page);
+        let twin = self.slots[place].values()?;
+        self.written.insert(page)?;
+        self.slots[place].open(twin);
+        Ok(())
+    }
+
+    /// The pages written since the last close, ascending, also those whose values are the same again. All of them
+    /// become valid, and their twins stay: their changes are pending. An error leaves the table as it was.
+    pub fn close(&mut self) -> Result<Pages, AllocError>
+        ensures pages { IfOk result (λ pages. pages ≡ written_pages self.old) }
+        ensures ok { OnOk result (self.new ≡ with_each self.old closed) }
+        ensures err { OnErr result (self.new ≡ self.old) }
+    {
+        let pages = self.written.duplicate()?;
+        for page in pages.as_slice() {
+            self.slots[usize::from(*page)].close();
+        }
+        self.written.clear();
+        Ok(pages)
+    }
+
+    /// Whether a page was written before the last close and its changes are not made yet.
+    pub fn pending(&self, page: u16) -> bool
+        requires { page < length self.now.copies }
+        ensures { result ≡ is_pending (copy_at self.now page) }
+    {
+        self.slots[usize::from(page)].is_pending()
+    }
+
+    /// The changes of a pending page, from its values before it was written to its values at the close that named it
+    /// last, which it still has. Its twin is dropped. `None` if the page is not pending. An error leaves the table as
+    /// it was.
+    pub fn settle(&mut self, page: u16) -> Result<Option<Changes>, AllocError>
+        requires { page < length self.old.copies }
+        ensures changes { IfOk result (λ changes. changes ≡ pending_changes (copy_at self.old page)) }
+        ensures ok { OnOk result (self.new ≡ with_copy self.old page (settled (copy_at self.old page))) }
         ensures err { OnErr result (self.new ≡ self.old) }
     {
         let alloc = *self.slots.allocator();
-        let mut closed = Vec::new(alloc);
-        for (page, slot) in self.slots.iter().enumerate() {
-            if let Some(changes) = slot.changes(alloc)? {
-                closed.push((page as u16, changes))?;
-            }
-        }
+        self.slots[usize::from(page)].settle(alloc)
+    }
+
+    /// Drops the twins of all pending pages: nobody will ask for their changes. No page is written then.
+    pub fn drop_twins(&mut self)
+        requires { All (λ copy. copy.state ≢ State.Written) self.old.copies }
+        ensures { self.new ≡ with_each self.old without_twin }
+    {
         for slot in self.slots.iter_mut() {
-            slot.close();
+            slot.drop_twin();
         }
-        Ok(closed)
     }
 
-    /// Makes a valid copy of a page invalid; an invalid one stays so. The copy is not written.
+    /// Makes a valid copy of a page invalid. An invalid one and an absent one stay so. The copy is neither written nor
+    /// pending.
     pub fn invalidate(&mut self, page: u16)
         requires in_range { page < length self.old.copies }
-        requires settled { state_of (copy_at self.old page) ≢ State.Written }
+        requires closed { (copy_at self.old page).state ≢ State.Written }
+        requires settled { is_pending (copy_at self.old page) ≡ false }
         ensures { self.new ≡ with_copy self.old page (invalidated (copy_at self.old page)) }
     {
         self.slots[usize::from(page)].invalidate();
+    }
+
+    /// Writes changes that an invalid copy of a page lacks into it. It stays invalid, until `repair`.
+    pub fn patch(&mut self, page: u16, changes: &Changes)
+        requires in_range { page < length self.old.copies }
+        requires invalid { (copy_at self.old page).state ≡ State.Invalid }
+        requires sized { All (λ c. c.offset < words_of self.old.size) changes.now }
+        ensures { self.new ≡ with_copy self.old page (patched (copy_at self.old page) changes.now) }
+    {
+        self.slots[usize::from(page)].patch(changes);
     }
 
     /// Applies the changes that an invalid copy of a page lacks, in the order in which they are given, and makes the
     /// copy valid.
     pub fn repair(&mut self, page: u16, changes: &[Changes])
         requires in_range { page < length self.old.copies }
-        requires invalid { state_of (copy_at self.old page) ≡ State.Invalid }
+        requires invalid { (copy_at self.old page).state ≡ State.Invalid }
+        requires sized { All (λ list. All (λ c. c.offset < words_of self.old.size) list) changes.now }
         ensures { self.new ≡ with_copy self.old page (repaired (copy_at self.old page) changes.now) }
     {
         self.slots[usize::from(page)].repair(changes);
+    }
+
+    /// Gives an absent page a copy that was fetched whole. It is invalid: it lacks what was written since.
+    pub fn install(&mut self, page: u16, copy: Page)
+        requires in_range { page < length self.old.copies }
+        requires absent { (copy_at self.old page).state ≡ State.Absent }
+        requires sized { length copy ≡ words_of self.old.size }
+        ensures { self.new ≡ with_copy self.old page (installed (copy_at self.old page) copy) }
+    {
+        self.slots[usize::from(page)].install(&copy);
+    }
+
+    /// Keeps the values of a valid copy as the base copy of its page, in place of one that was kept before. Later
+    /// writes leave it as it is. An error leaves the table as it was.
+    pub fn keep_base(&mut self, page: u16) -> Result<(), AllocError>
+        requires in_range { page < length self.old.copies }
+        requires valid { (copy_at self.old page).state ≡ State.Valid }
+        ensures ok { OnOk result (self.new ≡ with_copy self.old page (with_base (copy_at self.old page))) }
+        ensures err { OnErr result (self.new ≡ self.old) }
+    {
+        let alloc = *self.slots.allocator();
+        let size = self.size;
+        self.slots[usize::from(page)].keep_base(alloc, size)
+    }
+
+    /// The base copy of a page, if one is kept.
+    pub fn base(&self, page: u16) -> Option<&Page>
+        requires { page < length self.now.copies }
+        ensures { MatchOption result ((copy_at self.now page).base ≡ None) (λ base. (copy_at self.now page).base ≡ Some base.now) }
+    {
+        self.slots[usize::from(page)].base()
+    }
+
+    /// Drops the base copy of a page, if one is kept.
+    pub fn drop_base(&mut self, page: u16)
+        requires { page < length self.old.copies }
+        ensures { self.new ≡ with_copy self.old page (without_base (copy_at self.old page)) }
+    {
+        self.slots[usize::from(page)].drop_base();
+    }
+
+    /// Makes each invalid copy absent.
+    pub fn drop_invalid(&mut self)
+        ensures { self.new ≡ with_each self.old dropped }
+    {
+        for slot in self.slots.iter_mut() {
+            slot.drop_invalid();
+        }
     }
 }

@@ -203,7 +203,7 @@ fn faults_have_their_kind_and_line(rt: HostRuntime) {
         ),
         (b"words 1; locks 0;\nx = $;", 2, FaultKind::BadByte),
         (b"words 1; locks 0; me = 1;", 1, FaultKind::Unexpected),
-        (b"words 4097;", 1, FaultKind::OverLimit),
+        (b"words 65537;", 1, FaultKind::OverLimit),
         (b"words 0;", 1, FaultKind::OverLimit),
         (b"words 1; locks 65;", 1, FaultKind::OverLimit),
         (

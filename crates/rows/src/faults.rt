@@ -23,7 +23,7 @@ fn each_fault_has_its_line(rt: HostRuntime) {
             b"words 1; locks 0; me = 1;",
             b"treadmarks: line 1: unexpected token\n",
         ),
-        (b"words 4097;", b"treadmarks: line 1: over a limit\n"),
+        (b"words 65537;", b"treadmarks: line 1: over a limit\n"),
         (b"words 1; locks 65;", b"treadmarks: line 1: over a limit\n"),
         (
             b"words 1; locks 0; x = ((((((((((((((((((((((((((((((((((",
