@@ -86,7 +86,7 @@ UntouchedPageFitsALaterTime A = (s : Stamps A) (wrote : A → ℕ → Option ℕ
 
 -- Repair. A copy that fits a time, an invalid one and the time that its node remembers of it or a base copy and the time up
 -- to which all was collected, fits a later time once the changes of all intervals between the two were applied, by weight,
--- node and number.
+-- node and index.
 abbrev pub RepairingReachesALaterTime : Type 0 → Type 0
 RepairingReachesALaterTime A = (s : Stamps A) (wrote : A → ℕ → Option ℕ) (changes : A → List Change) (nodes : ℕ) (all : List A)
     (since upto : List ℕ) (missing : List A) (copy : List ℕ) → AreStamped s nodes all

@@ -51,7 +51,7 @@ pub fn untouched_page_fits_a_later_time<A>()
 
 /// Repair. A copy that fits a time, an invalid one and the time that its node remembers of it or a base copy and the time up
 /// to which all was collected, fits a later time once the changes of all intervals between the two were applied, by weight,
-/// node and number.
+/// node and index.
 pub fn repairing_reaches_a_later_time<A>()
     ensures { RepairingReachesALaterTime A }
 {}
