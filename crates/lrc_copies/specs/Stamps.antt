@@ -80,11 +80,11 @@ pub record IsBetween {A : Type 0} (s : Stamps A) (all : List A) (since upto : Li
   pub known : IsTrue (is_covered s upto a)
 
 -- The intervals that a copy lacks, in the order in which their changes are applied:
-pub record AreLacking {A : Type 0} (s : Stamps A) (wrote : A → ℕ → Option ℕ) (all : List A) (since upto : List ℕ) (missing : List A)
+pub record AreLacking {A : Type 0} (s : Stamps A) (wrote : A → ℕ → Option ℕ) (words : ℕ) (all : List A) (since upto : List ℕ) (missing : List A)
     : Type 0 where
   -- each stands between the times,
   pub members : (a : A) → Contains missing a → IsBetween s all since upto a
   -- each that does is among them, or did not write the page,
-  pub complete : (a : A) → IsBetween s all since upto a → Contains missing a ⊎ ((offset : ℕ) → wrote a offset ≡ None)
+  pub complete : (a : A) → IsBetween s all since upto a → Contains missing a ⊎ ((offset : ℕ) → offset < words → wrote a offset ≡ None)
   -- and they ascend by weight, node and index.
   pub ascending : AllPairs (λ a b. IsTrue (comes_before s a b)) missing

@@ -65,7 +65,7 @@ ClosingKeepsThePageFitting A = (s : Stamps A) (wrote : A → ℕ → Option ℕ)
 abbrev pub ClosingUntouchedKeepsThePageFitting : Type 0 → Type 0
 ClosingUntouchedKeepsThePageFitting A = (s : Stamps A) (wrote : A → ℕ → Option ℕ) (changes : A → List Change) (nodes : ℕ)
     (all : List A) (time : List ℕ) (x : A) (copy : List ℕ) → IsClosedAt s nodes all time x
-    → IsUntouchedBy (page_of_stamps s wrote changes) x
+    → IsUntouchedBy (page_of_stamps s wrote changes) (length copy) x
     → PageFits (page_of_stamps s wrote changes) copy (covered s time all)
     → PageFits (page_of_stamps s wrote changes) copy (covered s (s.stamp x) (all ++ x ∷ []))
 
@@ -80,7 +80,7 @@ UncoveredIntervalsMakeNoDifference A = (s : Stamps A) (wrote : A → ℕ → Opt
 abbrev pub UntouchedPageFitsALaterTime : Type 0 → Type 0
 UntouchedPageFitsALaterTime A = (s : Stamps A) (wrote : A → ℕ → Option ℕ) (changes : A → List Change) (all : List A)
     (since upto copy : List ℕ) → Covers upto since
-    → ((a : A) → IsBetween s all since upto a → IsUntouchedBy (page_of_stamps s wrote changes) a)
+    → ((a : A) → IsBetween s all since upto a → IsUntouchedBy (page_of_stamps s wrote changes) (length copy) a)
     → PageFits (page_of_stamps s wrote changes) copy (covered s since all)
     → PageFits (page_of_stamps s wrote changes) copy (covered s upto all)
 
@@ -91,7 +91,7 @@ abbrev pub RepairingReachesALaterTime : Type 0 → Type 0
 RepairingReachesALaterTime A = (s : Stamps A) (wrote : A → ℕ → Option ℕ) (changes : A → List Change) (nodes : ℕ) (all : List A)
     (since upto : List ℕ) (missing : List A) (copy : List ℕ) → AreStamped s nodes all
     → IsPageSound (page_of_stamps s wrote changes) (length copy) all
-    → IsCut s all since → IsCut s all upto → Covers upto since → AreLacking s wrote all since upto missing
+    → IsCut s all since → IsCut s all upto → Covers upto since → AreLacking s wrote (length copy) all since upto missing
     → PageFits (page_of_stamps s wrote changes) copy (covered s since all)
     → PageFits (page_of_stamps s wrote changes) (fold applied copy (map changes missing)) (covered s upto all)
 
@@ -99,9 +99,9 @@ RepairingReachesALaterTime A = (s : Stamps A) (wrote : A → ℕ → Option ℕ)
 -- none that the later one does not cover, and those that do not name the page did not write it, the intervals that name it
 -- and that the earlier time does not cover, in order.
 abbrev pub MissingIntervalsAreLacking : Type 0 → Type 0
-MissingIntervalsAreLacking A = (s : Stamps A) (wrote : A → ℕ → Option ℕ) (all stored : List A) (since upto : List ℕ) (names : A → Bool)
+MissingIntervalsAreLacking A = (s : Stamps A) (wrote : A → ℕ → Option ℕ) (words : ℕ) (all stored : List A) (since upto : List ℕ) (names : A → Bool)
     (part : List A) → ((a : A) → IsBetween s all since upto a → Contains stored a)
     → ((a : A) → Contains stored a → Contains all a × IsTrue (is_covered s upto a))
-    → ((a : A) → Contains all a → ¬ IsTrue (names a) → (offset : ℕ) → wrote a offset ≡ None)
+    → ((a : A) → Contains all a → ¬ IsTrue (names a) → (offset : ℕ) → offset < words → wrote a offset ≡ None)
     → ((a : A) → Contains part a ↔ (Contains stored a × IsTrue (names a && not (is_covered s since a))))
-    → AllPairs (λ a b. IsTrue (comes_before s a b)) part → AreLacking s wrote all since upto part
+    → AllPairs (λ a b. IsTrue (comes_before s a b)) part → AreLacking s wrote words all since upto part

@@ -115,7 +115,7 @@ later = search rules
 in_order : AllPairs (λ a b. IsTrue (comes_before four_stamps a b)) lacking_list
 in_order = search rules
 
-pub lacking : AreLacking four_stamps four_wrote four (0 ∷ 0 ∷ 1 ∷ []) (4 ∷ 2 ∷ 1 ∷ []) lacking_list
+pub lacking : AreLacking four_stamps four_wrote 2 four (0 ∷ 0 ∷ 1 ∷ []) (4 ∷ 2 ∷ 1 ∷ []) lacking_list
 lacking = record {
   members = between;
   complete = λ a h. inl (among a h);
@@ -124,5 +124,5 @@ lacking = record {
 
 pub repaired_by_hand : PageFits four_page (9 ∷ 7 ∷ []) (covered four_stamps (4 ∷ 2 ∷ 1 ∷ []) four)
 repaired_by_hand =
-    repaired_fits four_stamps four_wrote four_changes four (0 ∷ 0 ∷ 1 ∷ []) (4 ∷ 2 ∷ 1 ∷ []) later 3 stamped since_cut upto_cut
-    lacking_list lacking (0 ∷ 7 ∷ []) (four_sound stamped) fits_before
+    repaired_fits four_stamps four_wrote four_changes four (0 ∷ 0 ∷ 1 ∷ []) (4 ∷ 2 ∷ 1 ∷ []) later 3 stamped since_cut upto_cut 2
+    lacking_list lacking (0 ∷ 7 ∷ []) refl (four_sound stamped) fits_before

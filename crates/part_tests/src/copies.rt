@@ -57,7 +57,7 @@ fn repairs_a_page()
     ensures sound { IsPageSound four_page 2 four }
     ensures since { IsCut four_stamps four (0 ∷ 0 ∷ 1 ∷ []) }
     ensures upto { IsCut four_stamps four (4 ∷ 2 ∷ 1 ∷ []) }
-    ensures lacking { AreLacking four_stamps four_wrote four (0 ∷ 0 ∷ 1 ∷ []) (4 ∷ 2 ∷ 1 ∷ []) (0 ∷ 2 ∷ 3 ∷ []) }
+    ensures lacking { AreLacking four_stamps four_wrote 2 four (0 ∷ 0 ∷ 1 ∷ []) (4 ∷ 2 ∷ 1 ∷ []) (0 ∷ 2 ∷ 3 ∷ []) }
     ensures before { PageFits four_page (0 ∷ 7 ∷ []) (covered four_stamps (0 ∷ 0 ∷ 1 ∷ []) four) }
     ensures changes { fold applied (0 ∷ 7 ∷ []) (map four_changes (0 ∷ 2 ∷ 3 ∷ [])) ≡ 9 ∷ 7 ∷ [] }
     ensures after { PageFits four_page (9 ∷ 7 ∷ []) (covered four_stamps (4 ∷ 2 ∷ 1 ∷ []) four) }
