@@ -3,10 +3,10 @@ use Rattle.std.proofs.Common.{◌≡◌, ℕ, ◌<◌, ◌∙◌, IsTrue, List, 
 use Rattle.std.specs.Prelude.{Contains, unwrap_or}
 use Rattle.std.proofs.lemmas.Bool.{cases_eq, eq-eqb, ne_eqb}
 use Rattle.std.proofs.lemmas.List.Elements.{Contains-append_left, Contains-push_cases}
-use Rattle.lrc_copies.specs.Word.{WordHistory, Fits}
+use Rattle.lrc_copies.specs.Word.{WordHistory, Fits, AgreeOn}
 use Rattle.lrc_copies.specs.Sound.{those_below, IsLighterBelow, IsSound, IsAddedLast, difference, IsClosed}
 use Rattle.lrc_copies.proofs.Members.{Contains-filter, Contains-from_filter}
-use Rattle.lrc_copies.proofs.Fitting.{option_cases, same_members, fits_writers}
+use Rattle.lrc_copies.proofs.Fitting.{option_cases, same_members, fits_writers, fits_agreed}
 
 module _ {A : Type 0} (w : WordHistory A) (all : List A) (x : A) (added : IsAddedLast w.weight w.below all x) where
   -- what was below a member still is, and the new one is below none
@@ -105,3 +105,39 @@ module _ {A : Type 0} (w : WordHistory A) (all : List A) (x : A) (twin value : �
   sound_closed added sound =
       sound_added w all x added sound new_change
       (λ v wrote none. subst (λ u. Fits w u (those_below w all x)) (new_silent v wrote none) closed.fits)
+
+-- ---- only what the members did counts
+
+module _ {A : Type 0} (w w' : WordHistory A) (all : List A) (agree : AgreeOn all w w')
+    (change : (a : A) → Contains all a → w.change a ≡ w'.change a) (weight : (a : A) → Contains all a → w.weight a ≡ w'.weight a) where
+  -- what is below a member is the same
+  those_below_there : (a b : A) → Contains all a → Contains (those_below w all a) b → Contains (those_below w' all a) b
+  those_below_there a b a_in there =
+      let parts = Contains-from_filter (λ c. w.below c a) all b there in
+      Contains-filter (λ c. w'.below c a) all b parts.0 (sym (agree.below b a parts.0 a_in) ∙ parts.1)
+
+  those_below_back : (a b : A) → Contains all a → Contains (those_below w' all a) b → Contains (those_below w all a) b
+  those_below_back a b a_in there =
+      let parts = Contains-from_filter (λ c. w'.below c a) all b there in
+      Contains-filter (λ c. w.below c a) all b parts.0 (agree.below b a parts.0 a_in ∙ parts.1)
+
+  agree_below : (a : A) → AgreeOn (those_below w all a) w w'
+  agree_below a = record {
+    wrote = λ b b_in. agree.wrote b (Contains-from_filter (λ c. w.below c a) all b b_in).0;
+    below = λ b c b_in c_in. agree.below b c (Contains-from_filter (λ d. w.below d a) all b b_in).0 (Contains-from_filter (λ d. w.below d a) all c c_in).0;
+  }
+
+  pub sound_agreed : IsSound w all → IsSound w' all
+  sound_agreed sound = record {
+    lighter = λ a b a_in b_in under.
+        let less = sound.lighter a b a_in b_in (agree.below a b a_in b_in ∙ under) in
+        let first = weight a a_in in
+        let second = weight b b_in in
+        omega arith;
+    change = λ a v a_in given. sym (agree.wrote a a_in) ∙ sound.change a v a_in (change a a_in ∙ given);
+    silent = λ a v a_in wrote none.
+        fits_writers w' v (those_below w all a) (those_below w' all a)
+        (same_members w' _ _ (λ b there. those_below_there a b a_in there) (λ b there. those_below_back a b a_in there))
+        (fits_agreed w w' (those_below w all a) (agree_below a) v
+        (sound.silent a v a_in (agree.wrote a a_in ∙ wrote) (change a a_in ∙ none)));
+  }

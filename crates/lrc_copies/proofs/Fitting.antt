@@ -1,7 +1,7 @@
 -- What a copy that fits goes on to fit.
 use Rattle.std.proofs.Common.{◌≡◌, ℕ, ◌⊎◌, ◌∙◌, IsTrue, List, [], ◌∷◌, Option, Some, None, refl, ap, sym, inl, inr, ⊎_elim}
 use Rattle.std.specs.Prelude.{unwrap_or, Contains}
-use Rattle.lrc_copies.specs.Word.{WordHistory, IsWriter, AreWritersOrdered, Fits, HaveSameWriters, AgreeOn, IsBelowNone}
+use Rattle.lrc_copies.specs.Word.{WordHistory, IsWriter, IsUnwritten, AreWritersOrdered, Fits, HaveSameWriters, AgreeOn, IsBelowNone}
 use Rattle.lrc_copies.proofs.Members.{Contains-first, Contains-later, cases_Contains, none_Contains}
 
 pub option_cases : (o : Option ℕ) → (o ≡ None) ⊎ ((v : ℕ) × (o ≡ Some v))
@@ -25,6 +25,10 @@ module _ {A : Type 0} (w : WordHistory A) where
       last = λ a v h. absurd (none_Contains a h.writer.member);
     };
   }
+
+  pub unwritten_zero : (value : ℕ) (xs : List A) → IsUnwritten w xs → Fits w value xs → value ≡ 0
+  unwritten_zero value xs none fits =
+      ⊎_elim (λ (zero : value ≡ 0). zero) (λ (h : (a : A) × IsWriter w xs a value). absurd (none h.0 value h.1)) fits.weak
 
   -- ---- only writers count
 

@@ -15,7 +15,7 @@ use Rattle.lrc_time.specs.Time.{entry}
 use Rattle.lrc_page.specs.declared.changes.Change.{Change}
 use Rattle.lrc_copies.specs.Word.{WordHistory, IsWriter, AreWritersOrdered, IsLastWriter, Fits}
 use Rattle.lrc_copies.specs.Page.{at_word, PageFits}
-use Rattle.lrc_copies.specs.Stamps.{Stamps, number_of, is_covered, page_of_stamps}
+use Rattle.lrc_copies.specs.Stamps.{Stamps, index_of, is_covered, page_of_stamps}
 use Rattle.lrc_copies.specs.Reading.{IsLastOf, HasWritesBefore, ListsWrites}
 use Rattle.lrc_copies.proofs.Fitting.{option_cases}
 use Rattle.lrc_copies.proofs.Stamping.{covered-le, le-covered, below-from}
@@ -88,9 +88,9 @@ module _ {A : Type 0} (run : List Act) (j node word : ℕ) (s : Stamps A) (wrote
   abbrev w : WordHistory A
   w = at_word (page_of_stamps s wrote changes) offset
 
-  -- a position is in an interval where its node acts there, in its interval with that number
+  -- a position is in an interval where its node acts there, in its interval with that index
   abbrev inside : A → ℕ → Type 0
-  inside a i = (value : ℕ) × Does run i (s.node a) (Write word value) × (interval_at run (s.node a) i ≡ number_of s a)
+  inside a i = (value : ℕ) × Does run i (s.node a) (Write word value) × (interval_at run (s.node a) i ≡ index_of s a)
 
   -- a write that happens before j is in a member
   in_member : (i value : ℕ) → WrittenBefore run j word i value → (a : A) × Contains xs a × inside a i
@@ -112,8 +112,8 @@ module _ {A : Type 0} (run : List Act) (j node word : ℕ) (s : Stamps A) (wrote
 
   -- what is written in a member before j happens before j
   before_read : (a : A) (i value : ℕ) → Contains xs a → i < j → Does run i (s.node a) (Write word value)
-      → interval_at run (s.node a) i ≡ number_of s a → HappensBefore run i j
-  before_read a i value a_in earlier does number =
+      → interval_at run (s.node a) i ≡ index_of s a → HappensBefore run i j
+  before_read a i value a_in earlier does inside =
       ⊎_elim
       (λ (own : s.node a ≡ node).
       base (program earlier does (subst (λ m. Does run j m lists.deed) (sym own) lists.acts)))
@@ -125,16 +125,16 @@ module _ {A : Type 0} (run : List Act) (j node word : ℕ) (s : Stamps A) (wrote
       (lists.known a a_in))
       (cases_eq (s.node a) node)
 
-  below_by_number : (a b : A) → Contains xs a → Contains xs b → s.node a ≡ s.node b → number_of s a ≤ number_of s b
+  below_by_index : (a b : A) → Contains xs a → Contains xs b → s.node a ≡ s.node b → index_of s a ≤ index_of s b
       → (a ≡ b) ⊎ IsTrue (w.below a b)
-  below_by_number a b a_in b_in nodes le =
+  below_by_index a b a_in b_in nodes le =
       ⊎_elim
-      (λ (same : number_of s a ≡ number_of s b). inl (lists.one a b a_in b_in nodes same))
-      (λ (differ : number_of s a ≡ number_of s b → ⊥).
+      (λ (same : index_of s a ≡ index_of s b). inl (lists.one a b a_in b_in nodes same))
+      (λ (differ : index_of s a ≡ index_of s b → ⊥).
       let entries : entry (s.stamp b) (s.node a) ≡ entry (s.stamp b) (s.node b) = ap (entry (s.stamp b)) nodes in
       inr (below-from s a b (le-covered s (s.stamp b) a (omega arith))
-      (λ same. differ (eqb-true (number_of s a) (number_of s b) (and_parts (eqb (s.node a) (s.node b)) (eqb (number_of s a) (number_of s b)) same).1))))
-      (cases_eq (number_of s a) (number_of s b))
+      (λ same. differ (eqb-true (index_of s a) (index_of s b) (and_parts (eqb (s.node a) (s.node b)) (eqb (index_of s a) (index_of s b)) same).1))))
+      (cases_eq (index_of s a) (index_of s b))
 
   has_writes : HasWritesBefore run j word w inside xs
   has_writes = record {
@@ -171,11 +171,11 @@ module _ {A : Type 0} (run : List Act) (j node word : ℕ) (s : Stamps A) (wrote
         let same : interval_at run (s.node a) k ≡ interval_at run (s.node b) k = ap (λ m. interval_at run m k) nodes in
         let e = in_a.2 in
         let f = in_b.2 in
-        below_by_number a b g.member h.member nodes (omega arith))
+        below_by_index a b g.member h.member nodes (omega arith))
         (λ (apart : s.node a ≡ s.node b → ⊥).
         inr (below-from s a b
         (lists.stamped a b i k in_a.0 in_b.0 g.member h.member apart in_a.1 in_a.2 in_b.1 in_b.2 order)
-        (λ same. apart (eqb-true (s.node a) (s.node b) (and_parts (eqb (s.node a) (s.node b)) (eqb (number_of s a) (number_of s b)) same).0))))
+        (λ same. apart (eqb-true (s.node a) (s.node b) (and_parts (eqb (s.node a) (s.node b)) (eqb (index_of s a) (index_of s b)) same).0))))
         (cases_eq (s.node a) (s.node b));
   }
 

@@ -10,10 +10,10 @@ use Rattle.lrc_page.specs.Changes.{applied, change_at, changes_between}
 use Rattle.lrc_page.proofs.ChangeLists.{length-fold-applied, get_or-fold-applied, change_at-between_same, change_at-between_differs}
 use Rattle.lrc_copies.specs.Word.{IsWriter, Fits, AgreeOn}
 use Rattle.lrc_copies.specs.Sound.{IsAddedLast, difference, AreNext, repaired_value}
-use Rattle.lrc_copies.specs.Page.{PageHistory, at_word, PageFits, IsPageSound, IsUntouchedBy, IsMoreUntouched, IsWrittenOnce, IsMadeOf, IsClosedWith, page_below, ArePageNext}
+use Rattle.lrc_copies.specs.Page.{PageHistory, AgreeOnPage, AgreeOnChanges, at_word, PageFits, IsPageSound, IsUntouchedBy, IsMoreUntouched, IsWrittenOnce, IsMadeOf, IsClosedWith, page_below, ArePageNext}
 use Rattle.lrc_copies.proofs.Members.{Contains-first}
 use Rattle.lrc_copies.proofs.Fitting.{fits_open, zero_fits, fits_writers, fits_agreed, newest_fits}
-use Rattle.lrc_copies.proofs.Closing.{difference-same, difference-differs, sound_closed, sound_unwritten}
+use Rattle.lrc_copies.proofs.Closing.{difference-same, difference-differs, sound_closed, sound_unwritten, sound_agreed}
 use Rattle.lrc_copies.proofs.Repairing.{fits_all_next}
 
 -- a list of zeros has zero everywhere
@@ -43,18 +43,19 @@ module _ {A : Type 0} (h : PageHistory A) where
   zero_page_of_size_fits size = zero_page_fits (words_of size)
 
   -- an interval that did not write the page is no writer of its words
-  untouched_no_writer : {xs : List A} {a : A} {offset value : ℕ} → IsUntouchedBy h a → IsWriter (at_word h offset) xs a value → ⊥
-  untouched_no_writer {offset = offset} untouched g =
-      let e = untouched offset in
+  untouched_no_writer : {words : ℕ} {xs : List A} {a : A} {offset value : ℕ} → IsUntouchedBy h words a → offset < words
+      → IsWriter (at_word h offset) xs a value → ⊥
+  untouched_no_writer {offset = offset} untouched within g =
+      let e = untouched offset within in
       let f = g.wrote in
       absurd (cc)
 
-  pub page_fits_more : (copy : List ℕ) (xs ys : List A) → IsMoreUntouched h xs ys → PageFits h copy xs → PageFits h copy ys
+  pub page_fits_more : (copy : List ℕ) (xs ys : List A) → IsMoreUntouched h (length copy) xs ys → PageFits h copy xs → PageFits h copy ys
   page_fits_more copy xs ys more fits offset within =
       fits_writers (at_word h offset) (get_or copy offset 0) xs ys
       (λ a v. (
         λ g. more.kept a g.member,
-        λ g. ⊎_elim (λ (old : Contains xs a). old) (λ (untouched : IsUntouchedBy h a). absurd (untouched_no_writer untouched g))
+        λ g. ⊎_elim (λ (old : Contains xs a). old) (λ (untouched : IsUntouchedBy h (length copy) a). absurd (untouched_no_writer untouched within g))
             (more.more a g.member),
       ))
       (fits offset within)
@@ -72,9 +73,9 @@ module _ {A : Type 0} (h : PageHistory A) where
       added (sound offset within)
 
   pub page_untouched : (all : List A) (x : A) (words : ℕ) → IsPageSound h words all → IsAddedLast h.weight h.below all x
-      → IsUntouchedBy h x → h.changes x ≡ [] → IsPageSound h words (all ++ x ∷ [])
+      → IsUntouchedBy h words x → h.changes x ≡ [] → IsPageSound h words (all ++ x ∷ [])
   page_untouched all x words sound added untouched unchanged offset within =
-      sound_unwritten (at_word h offset) all x added (sound offset within) (untouched offset)
+      sound_unwritten (at_word h offset) all x added (sound offset within) (untouched offset within)
       (ap (λ cs. change_at cs offset) unchanged)
 
   -- to apply the lists of changes is to repair each word
@@ -84,7 +85,7 @@ module _ {A : Type 0} (h : PageHistory A) where
   repaired_word offset (x ∷ more) v = repaired_word offset more (unwrap_or (change_at (h.changes x) offset) v)
 
   pub page_repaired : (all xs more : List A) (copy : List ℕ) → IsPageSound h (length copy) all
-      → ((a : A) → Contains xs a → Contains all a) → ArePageNext h all xs more → PageFits h copy xs
+      → ((a : A) → Contains xs a → Contains all a) → ArePageNext h (length copy) all xs more → PageFits h copy xs
       → PageFits h (fold applied copy (map h.changes more)) (xs ++ more)
   page_repaired all xs more copy sound within next fits offset below =
       let inside : offset < length copy = omega (arith, length-fold-applied copy (map h.changes more)) in
@@ -92,8 +93,8 @@ module _ {A : Type 0} (h : PageHistory A) where
       let words : AreNext w all xs more = record {
         members = next.members;
         complete = λ x a v x_in g under. ⊎_elim inl
-            (λ (either : Contains more a ⊎ IsUntouchedBy h a).
-            ⊎_elim inr (λ (untouched : IsUntouchedBy h a). absurd (untouched_no_writer untouched g)) either)
+            (λ (either : Contains more a ⊎ IsUntouchedBy h (length copy) a).
+            ⊎_elim inr (λ (untouched : IsUntouchedBy h (length copy) a). absurd (untouched_no_writer untouched inside g)) either)
             (next.complete x a x_in g.member under);
         newer = λ x x_in a v g. next.newer x a x_in g.member;
         rising = next.rising;
@@ -109,6 +110,21 @@ module _ {A : Type 0} (h : PageHistory A) where
       subst (λ v. Fits (at_word h offset) v (x ∷ xs)) (sym (made.has offset within))
       (fits_open (at_word h offset) (get_or twin offset 0) x xs (λ a v g. newest a g.member)
       (fits offset (let long = made.long in omega arith)))
+
+-- ---- only what the members did counts
+
+module _ {A : Type 0} (h h' : PageHistory A) where
+  at_word_agree : (xs : List A) (offset : ℕ) → AgreeOnPage xs h h' → AgreeOn xs (at_word h offset) (at_word h' offset)
+  at_word_agree xs offset agree = record { wrote = λ a a_in. agree.wrote a offset a_in; below = agree.below }
+
+  pub page_fits_agreed : (copy : List ℕ) (xs : List A) → AgreeOnPage xs h h' → PageFits h copy xs → PageFits h' copy xs
+  page_fits_agreed copy xs agree fits offset within =
+      fits_agreed (at_word h offset) (at_word h' offset) xs (at_word_agree xs offset agree) (get_or copy offset 0) (fits offset within)
+
+  pub page_sound_agreed : (words : ℕ) (all : List A) → AgreeOnChanges all h h' → IsPageSound h words all → IsPageSound h' words all
+  page_sound_agreed words all agree sound offset within =
+      sound_agreed (at_word h offset) (at_word h' offset) all (at_word_agree all offset agree.page)
+      (λ a a_in. ap (λ cs. change_at cs offset) (agree.changes a a_in)) agree.weight (sound offset within)
 
 -- ---- one write more
 

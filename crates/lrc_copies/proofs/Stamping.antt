@@ -1,14 +1,14 @@
 -- Stamped intervals: below, cuts, and what a time covers.
 use Rattle.std.proofs.Common.{◌≡◌, ◌≢◌, ℕ, ◌+◌, ◌<◌, ◌≤◌, ◌⊎◌, ◌∙◌, Bool, true, false, not, eqb, IsTrue, List, [], ◌∷◌, ◌++◌, length, set, ap, sym, subst, refl, inl, inr, ⊎_elim, arith}
 use Rattle.std.specs.Prelude.{Contains, AllPairs}
-use Rattle.std.proofs.lemmas.Bool.{cases_eq, leb-true, le-leb, eqb-true, eq-eqb, and_parts, and_from, not-true, false≢true}
+use Rattle.std.proofs.lemmas.Bool.{cases_eq, cases_lt, leb-true, le-leb, eqb-true, eq-eqb, and_parts, and_from, not-true, false≢true}
 use Rattle.std.proofs.lemmas.List.{length-set}
 use Rattle.std.proofs.lemmas.List.Elements.{Contains-append_left, Contains-push, Contains-push_cases, Contains-get_or}
 use Rattle.std.proofs.lemmas.List.Quantifiers.{all_pairs_push}
-use Rattle.lrc_time.specs.Time.{entry, Covers, weight_of}
-use Rattle.lrc_time.proofs.Times.{covers-refl, covers-trans, covers-raised, entry-set_same, entry-set_other, weight-covers, weight-covers_strictly, weight-raised}
+use Rattle.lrc_time.specs.Time.{entry, zeros, joined, Covers, weight_of}
+use Rattle.lrc_time.proofs.Times.{covers-refl, covers-trans, covers-joined_first, covers-joined_second, entry-zeros, entry-joined, covers-raised, entry-set_same, entry-set_other, weight-covers, weight-covers_strictly, weight-raised}
 use Rattle.lrc_copies.specs.Sound.{IsAddedLast}
-use Rattle.lrc_copies.specs.Stamps.{Stamps, number_of, stamp_weight, is_covered, covered, is_same, is_below, IsCut, AreStamped, IsClosedAt}
+use Rattle.lrc_copies.specs.Stamps.{Stamps, index_of, stamp_weight, is_covered, covered, is_same, is_below, IsCut, AreStamped, IsClosedAt}
 use Rattle.lrc_copies.proofs.Members.{Contains-first, Contains-later, cases_Contains, none_Contains, Contains-filter, Contains-from_filter, AllPairs-first, AllPairs-rest}
 
 -- of two members one comes first, or they are the same
@@ -38,11 +38,11 @@ not_from true never = absurd (never refl)
 not_from false never = refl
 
 module _ {A : Type 0} (s : Stamps A) where
-  pub covered-le : (time : List ℕ) (a : A) → IsTrue (is_covered s time a) → number_of s a ≤ entry time (s.node a)
-  covered-le time a h = leb-true (number_of s a) (entry time (s.node a)) h
+  pub covered-le : (time : List ℕ) (a : A) → IsTrue (is_covered s time a) → index_of s a ≤ entry time (s.node a)
+  covered-le time a h = leb-true (index_of s a) (entry time (s.node a)) h
 
-  pub le-covered : (time : List ℕ) (a : A) → number_of s a ≤ entry time (s.node a) → IsTrue (is_covered s time a)
-  le-covered time a h = le-leb (number_of s a) (entry time (s.node a)) h
+  pub le-covered : (time : List ℕ) (a : A) → index_of s a ≤ entry time (s.node a) → IsTrue (is_covered s time a)
+  le-covered time a h = le-leb (index_of s a) (entry time (s.node a)) h
 
   -- an interval's stamp covers it
   pub covers_itself : (a : A) → IsTrue (is_covered s (s.stamp a) a)
@@ -57,14 +57,14 @@ module _ {A : Type 0} (s : Stamps A) where
 
   -- an interval is the same as itself
   pub same_self : (a : A) → is_same s a a ≡ true
-  same_self a = and_from _ _ (eq-eqb (s.node a) (s.node a) refl) (eq-eqb (number_of s a) (number_of s a) refl)
+  same_self a = and_from _ _ (eq-eqb (s.node a) (s.node a) refl) (eq-eqb (index_of s a) (index_of s a) refl)
 
   -- what is the same is covered alike
   same_covered : (time : List ℕ) (a b : A) → is_same s a b ≡ true → IsTrue (is_covered s time a) → IsTrue (is_covered s time b)
   same_covered time a b same h =
-      let parts = and_parts (eqb (s.node a) (s.node b)) (eqb (number_of s a) (number_of s b)) same in
+      let parts = and_parts (eqb (s.node a) (s.node b)) (eqb (index_of s a) (index_of s b)) same in
       let nodes : s.node a ≡ s.node b = eqb-true (s.node a) (s.node b) parts.0 in
-      let numbers : number_of s a ≡ number_of s b = eqb-true (number_of s a) (number_of s b) parts.1 in
+      let numbers : index_of s a ≡ index_of s b = eqb-true (index_of s a) (index_of s b) parts.1 in
       let known = covered-le time a h in
       let entries : entry time (s.node a) ≡ entry time (s.node b) = ap (entry time) nodes in
       le-covered time b (omega arith)
@@ -188,6 +188,12 @@ module _ {A : Type 0} (s : Stamps A) where
           ap (λ c. length (s.stamp c)) (sym same) ∙ ap length closed.stamped
           ∙ length-set time (s.node x) (entry time (s.node x) + 1) ∙ closed.long)
           (Contains-push_cases all x a a_in);
+      begun = λ a a_in. ⊎_elim
+          (λ (old : Contains all a). stamped.begun a old)
+          (λ (same : x ≡ a).
+          let least : 1 ≤ index_of s x = let e = raised_same in omega arith in
+          subst (λ c. 1 ≤ index_of s c) same least)
+          (Contains-push_cases all x a a_in);
       cuts = new_cuts stamped;
       forward = all_pairs_push (λ a b. IsTrue (is_covered s (s.stamp a) b) → ⊥) all x stamped.forward
           (λ k d within. closed.unknown _ (Contains-get_or all k d within));
@@ -222,3 +228,37 @@ module _ {A : Type 0} (s : Stamps A) where
 
     pub below_covered : (a : A) → Contains all a → IsTrue (is_below s a x) → IsTrue (is_covered s time a)
     below_covered a a_in under = known_before a a_in (below-covered a x under)
+
+  -- ---- cuts
+
+  -- the time that covers nothing is a cut
+  pub zeros_cut : (nodes count : ℕ) (all : List A) → AreStamped s nodes all → IsCut s all (zeros count)
+  zeros_cut nodes count all stamped a a_in known =
+      let least = stamped.begun a a_in in
+      let most = covered-le (zeros count) a known in
+      let none = entry-zeros count (s.node a) in
+      absurd (omega arith)
+
+  -- the join of two cuts is a cut
+  pub joined_cut : (all : List A) (t u : List ℕ) → IsCut s all t → IsCut s all u → IsCut s all (joined t u)
+  joined_cut all t u t_cut u_cut a a_in known =
+      let most = covered-le (joined t u) a known in
+      let join = entry-joined t u (s.node a) in
+      ⊎_elim
+      (λ (first : index_of s a ≤ entry t (s.node a)).
+      covers-trans (joined t u) t (s.stamp a) (covers-joined_first t u) (t_cut a a_in (le-covered t a first)))
+      (λ (not_first : entry t (s.node a) < index_of s a).
+      let second : index_of s a ≤ entry u (s.node a) = omega arith in
+      covers-trans (joined t u) u (s.stamp a) (covers-joined_second t u) (u_cut a a_in (le-covered u a second)))
+      (⊎_elim inr inl (cases_lt (entry t (s.node a)) (index_of s a)))
+
+  -- a join covers what one of the two does
+  pub joined_knows : (t u : List ℕ) (a : A) → IsTrue (is_covered s (joined t u) a)
+      → IsTrue (is_covered s t a) ⊎ IsTrue (is_covered s u a)
+  joined_knows t u a known =
+      let most = covered-le (joined t u) a known in
+      let join = entry-joined t u (s.node a) in
+      ⊎_elim
+      (λ (lacks : entry t (s.node a) < index_of s a). inr (le-covered u a (omega arith)))
+      (λ (first : index_of s a ≤ entry t (s.node a)). inl (le-covered t a first))
+      (cases_lt (entry t (s.node a)) (index_of s a))

@@ -6,9 +6,10 @@ use Rattle.std.proofs.lemmas.List.Elements.{Contains-append_left, Contains-appen
 use Rattle.lrc_time.specs.Time.{Covers}
 use Rattle.lrc_page.specs.declared.changes.Change.{Change}
 use Rattle.lrc_page.specs.Changes.{applied}
+use Rattle.lrc_page.proofs.ChangeLists.{length-fold-applied}
 use Rattle.lrc_copies.specs.Page.{PageHistory, PageFits, IsPageSound, IsUntouchedBy, IsMoreUntouched, IsClosedWith, page_below, ArePageNext}
 use Rattle.lrc_copies.specs.Stamps.{Stamps, stamp_weight, is_covered, covered, is_below, comes_before, page_of_stamps, IsCut, AreStamped, IsClosedAt, IsBetween, AreLacking}
-use Rattle.lrc_copies.proofs.Members.{Contains-filter, Contains-from_filter}
+use Rattle.lrc_copies.proofs.Members.{Contains-later, cases_Contains, Contains-filter, Contains-from_filter}
 use Rattle.lrc_copies.proofs.Paging.{page_fits_more, page_closed, page_open, page_repaired}
 use Rattle.lrc_copies.proofs.Stamping.{test_cases, not_from, covered-up, below-covered, added_last, below_none, into_stamp, from_stamp, covered_below, below_covered}
 
@@ -40,6 +41,16 @@ module _ {A : Type 0} (s : Stamps A) (wrote : A → ℕ → Option ℕ) (changes
         → PageFits h copy (covered s (s.stamp x) (all ++ x ∷ []))
     open_fits_closed copy fits =
         same_fits copy _ _ (into_stamp s nodes all time x closed) (from_stamp s nodes all time x closed) fits
+
+    pub untouched_fits_closed : (copy : List ℕ) → IsUntouchedBy h (length copy) x → PageFits h copy (covered s time all)
+        → PageFits h copy (covered s (s.stamp x) (all ++ x ∷ []))
+    untouched_fits_closed copy untouched fits =
+        open_fits_closed copy (page_fits_more h copy (covered s time all) (x ∷ covered s time all)
+        (record {
+          kept = λ a a_in. Contains-later x (covered s time all) a a_in;
+          more = λ a a_in. ⊎_elim (λ (same : x ≡ a). inr (subst (IsUntouchedBy h (length copy)) same untouched)) inl
+              (cases_Contains x (covered s time all) a a_in);
+        }) fits)
 
     pub closed_fits : (twin copy : List ℕ) → IsClosedWith h x twin copy → PageFits h twin (covered s time all)
         → PageFits h copy (covered s (s.stamp x) (all ++ x ∷ []))
@@ -96,7 +107,7 @@ module _ {A : Type 0} (s : Stamps A) (wrote : A → ℕ → Option ℕ) (changes
         (λ (unknown : IsTrue (is_covered s since a) → ⊥). inr (record { member = parts.0; later = unknown; known = parts.1 }))
         (test_cases (is_covered s since a))
 
-    pub untouched_fits : (copy : List ℕ) → ((a : A) → IsBetween s all since upto a → IsUntouchedBy h a)
+    pub untouched_fits : (copy : List ℕ) → ((a : A) → IsBetween s all since upto a → IsUntouchedBy h (length copy) a)
         → PageFits h copy (covered s since all) → PageFits h copy (covered s upto all)
     untouched_fits copy untouched fits =
         page_fits_more h copy (covered s since all) (covered s upto all)
@@ -106,9 +117,9 @@ module _ {A : Type 0} (s : Stamps A) (wrote : A → ℕ → Option ℕ) (changes
         }) fits
 
     module _ (nodes : ℕ) (stamped : AreStamped s nodes all) (since_cut : IsCut s all since) (upto_cut : IsCut s all upto)
-        (missing : List A) (lacking : AreLacking s wrote all since upto missing) where
+        (words : ℕ) (missing : List A) (lacking : AreLacking s wrote words all since upto missing) where
       -- they can be applied one after another
-      lacking_next : ArePageNext h all (covered s since all) missing
+      lacking_next : ArePageNext h words all (covered s since all) missing
       lacking_next = record {
         members = λ x x_in. (lacking.members x x_in).member;
         complete = λ x a x_in a_in under.
@@ -126,7 +137,7 @@ module _ {A : Type 0} (s : Stamps A) (wrote : A → ℕ → Option ℕ) (changes
       }
 
       -- with those that the earlier time covers they are what the later one covers, but for some that did not write
-      lacking_all : IsMoreUntouched h (covered s since all ++ missing) (covered s upto all)
+      lacking_all : IsMoreUntouched h words (covered s since all ++ missing) (covered s upto all)
       lacking_all = record {
         kept = λ a a_in. ⊎_elim (covered_later a)
             (λ (late : Contains missing a).
@@ -142,21 +153,24 @@ module _ {A : Type 0} (s : Stamps A) (wrote : A → ℕ → Option ℕ) (changes
             (since_or_between a a_in);
       }
 
-      pub repaired_fits : (copy : List ℕ) → IsPageSound h (length copy) all → PageFits h copy (covered s since all)
-          → PageFits h (fold applied copy (map changes missing)) (covered s upto all)
-      repaired_fits copy sound fits =
-          page_fits_more h (fold applied copy (map changes missing)) (covered s since all ++ missing) (covered s upto all) lacking_all
+      pub repaired_fits : (copy : List ℕ) → words ≡ length copy → IsPageSound h (length copy) all
+          → PageFits h copy (covered s since all) → PageFits h (fold applied copy (map changes missing)) (covered s upto all)
+      repaired_fits copy long sound fits =
+          page_fits_more h (fold applied copy (map changes missing)) (covered s since all ++ missing) (covered s upto all)
+          (subst (λ n. IsMoreUntouched h n (covered s since all ++ missing) (covered s upto all))
+          (long ∙ sym (length-fold-applied copy (map changes missing))) lacking_all)
           (page_repaired h all (covered s since all) missing copy sound
-          (λ a a_in. (Contains-from_filter (is_covered s since) all a a_in).0) lacking_next fits)
+          (λ a a_in. (Contains-from_filter (is_covered s since) all a a_in).0)
+          (subst (λ n. ArePageNext h n all (covered s since all) missing) long lacking_next) fits)
 
   -- what a store that has the intervals up to a time says is missing
-  pub parts_lacking : (all stored : List A) (since upto : List ℕ) (names : A → Bool) (part : List A)
+  pub parts_lacking : (words : ℕ) (all stored : List A) (since upto : List ℕ) (names : A → Bool) (part : List A)
       → ((a : A) → IsBetween s all since upto a → Contains stored a)
       → ((a : A) → Contains stored a → Contains all a × IsTrue (is_covered s upto a))
-      → ((a : A) → Contains all a → (IsTrue (names a) → ⊥) → IsUntouchedBy h a)
+      → ((a : A) → Contains all a → (IsTrue (names a) → ⊥) → IsUntouchedBy h words a)
       → ((a : A) → Contains part a ↔ (Contains stored a × IsTrue (names a && not (is_covered s since a))))
-      → AllPairs (λ a b. IsTrue (comes_before s a b)) part → AreLacking s wrote all since upto part
-  parts_lacking all stored since upto names part into_store from_store unnamed exactly ascending = record {
+      → AllPairs (λ a b. IsTrue (comes_before s a b)) part → AreLacking s wrote words all since upto part
+  parts_lacking words all stored since upto names part into_store from_store unnamed exactly ascending = record {
     members = λ a a_in.
         let found = (exactly a).0 a_in in
         let known = from_store a found.0 in

@@ -32,14 +32,25 @@ PageFits h copy xs = (offset : ℕ) → offset < length copy → Fits (at_word h
 abbrev pub IsPageSound : {A : Type 0} → PageHistory A → ℕ → List A → Type 0
 IsPageSound h words all = (offset : ℕ) → offset < words → IsSound (at_word h offset) all
 
--- the interval wrote no word of the page
-abbrev pub IsUntouchedBy : {A : Type 0} → PageHistory A → A → Type 0
-IsUntouchedBy h a = (offset : ℕ) → h.wrote a offset ≡ None
+-- the interval wrote no word of a page of so many words
+abbrev pub IsUntouchedBy : {A : Type 0} → PageHistory A → ℕ → A → Type 0
+IsUntouchedBy h words a = (offset : ℕ) → offset < words → h.wrote a offset ≡ None
 
 -- the first list, and more intervals that did not write the page
-pub record IsMoreUntouched {A : Type 0} (h : PageHistory A) (xs ys : List A) : Type 0 where
+pub record IsMoreUntouched {A : Type 0} (h : PageHistory A) (words : ℕ) (xs ys : List A) : Type 0 where
   pub kept : (a : A) → Contains xs a → Contains ys a
-  pub more : (a : A) → Contains ys a → Contains xs a ⊎ IsUntouchedBy h a
+  pub more : (a : A) → Contains ys a → Contains xs a ⊎ IsUntouchedBy h words a
+
+-- two histories say the same of what the members of the list wrote, and of which is below which;
+pub record AgreeOnPage {A : Type 0} (xs : List A) (h h' : PageHistory A) : Type 0 where
+  pub wrote : (a : A) (offset : ℕ) → Contains xs a → h.wrote a offset ≡ h'.wrote a offset
+  pub below : (a b : A) → Contains xs a → Contains xs b → h.below a b ≡ h'.below a b
+
+-- and of their changes and weights
+pub record AgreeOnChanges {A : Type 0} (xs : List A) (h h' : PageHistory A) : Type 0 where
+  pub page : AgreeOnPage xs h h'
+  pub changes : (a : A) → Contains xs a → h.changes a ≡ h'.changes a
+  pub weight : (a : A) → Contains xs a → h.weight a ≡ h'.weight a
 
 -- In an interval that is below none of the list, one more word of the page is written:
 pub record IsWrittenOnce {A : Type 0} (before after : PageHistory A) (xs : List A) (x : A) (offset value : ℕ) : Type 0 where
@@ -68,12 +79,12 @@ abbrev pub page_below : {A : Type 0} → PageHistory A → List A → A → List
 page_below h all x = filter (λ a. h.below a x) all
 
 -- Intervals whose changes can be applied to a copy, one after another:
-pub record ArePageNext {A : Type 0} (h : PageHistory A) (all xs more : List A) : Type 0 where
+pub record ArePageNext {A : Type 0} (h : PageHistory A) (words : ℕ) (all xs more : List A) : Type 0 where
   -- they are some of all,
   pub members : (x : A) → Contains more x → Contains all x
   -- all below one of them are in, or among them, or did not write the page,
   pub complete : (x a : A) → Contains more x → Contains all a → IsTrue (h.below a x)
-      → Contains xs a ⊎ (Contains more a ⊎ IsUntouchedBy h a)
+      → Contains xs a ⊎ (Contains more a ⊎ IsUntouchedBy h words a)
   -- none is below one that is in,
   pub newer : (x a : A) → Contains more x → Contains xs a → ¬ IsTrue (h.below x a)
   -- and they stand by rising weight.

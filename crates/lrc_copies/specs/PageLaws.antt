@@ -4,7 +4,7 @@ use Rattle.lrc_page.specs.declared.size.Size.{Size}
 use Rattle.lrc_page.specs.Page.{zero_page}
 use Rattle.lrc_page.specs.Changes.{applied}
 use Rattle.lrc_copies.specs.Sound.{IsAddedLast}
-use Rattle.lrc_copies.specs.Page.{PageHistory, page_below, PageFits, IsPageSound, IsUntouchedBy, IsMoreUntouched, IsWrittenOnce, IsMadeOf, IsClosedWith, ArePageNext}
+use Rattle.lrc_copies.specs.Page.{PageHistory, AgreeOnPage, AgreeOnChanges, page_below, PageFits, IsPageSound, IsUntouchedBy, IsMoreUntouched, IsWrittenOnce, IsMadeOf, IsClosedWith, ArePageNext}
 
 -- Before the first write a page is zero.
 abbrev pub ZeroPageFitsNothing : Type 0 → Type 0
@@ -15,8 +15,19 @@ ZeroPageOfASizeFitsNothing A = (h : PageHistory A) (size : Size) → PageFits h 
 
 -- A copy goes on to fit where the list gets more intervals that did not write the page.
 abbrev pub UntouchedPageKeepsFitting : Type 0 → Type 0
-UntouchedPageKeepsFitting A = (h : PageHistory A) (copy : List ℕ) (xs ys : List A) → IsMoreUntouched h xs ys → PageFits h copy xs
+UntouchedPageKeepsFitting A = (h : PageHistory A) (copy : List ℕ) (xs ys : List A) → IsMoreUntouched h (length copy) xs ys → PageFits h copy xs
     → PageFits h copy ys
+
+-- Nothing counts for the fit but what the members wrote and which of them is below which, as where a node writes in an
+-- interval that is no member,
+abbrev pub OnlyMembersCountForThePage : Type 0 → Type 0
+OnlyMembersCountForThePage A = (h h' : PageHistory A) (copy : List ℕ) (xs : List A) → AgreeOnPage xs h h' → PageFits h copy xs
+    → PageFits h' copy xs
+
+-- and for soundness their changes and weights besides.
+abbrev pub OnlyMembersCountForSoundness : Type 0 → Type 0
+OnlyMembersCountForSoundness A = (h h' : PageHistory A) (words : ℕ) (all : List A) → AgreeOnChanges all h h'
+    → IsPageSound h words all → IsPageSound h' words all
 
 -- A write in an interval that is below none of the list keeps the fit with the list and the interval.
 abbrev pub WritingKeepsThePageFitting : Type 0 → Type 0
@@ -45,11 +56,11 @@ ClosingAWrittenPageStaysSound A = (h : PageHistory A) (all : List A) (x : A) (tw
 -- An interval that did not write the page is sound without changes, whatever copy its node has of it.
 abbrev pub ClosingAnUntouchedPageStaysSound : Type 0 → Type 0
 ClosingAnUntouchedPageStaysSound A = (h : PageHistory A) (all : List A) (x : A) (words : ℕ) → IsPageSound h words all
-    → IsAddedLast h.weight h.below all x → IsUntouchedBy h x → h.changes x ≡ [] → IsPageSound h words (all ++ x ∷ [])
+    → IsAddedLast h.weight h.below all x → IsUntouchedBy h words x → h.changes x ≡ [] → IsPageSound h words (all ++ x ∷ [])
 
 -- To apply the changes of intervals by rising weight keeps the fit, where all below them are in, or among them, or did not
 -- write the page.
 abbrev pub RepairingKeepsThePageFitting : Type 0 → Type 0
 RepairingKeepsThePageFitting A = (h : PageHistory A) (all xs more : List A) (copy : List ℕ) → IsPageSound h (length copy) all
-    → ((a : A) → Contains xs a → Contains all a) → ArePageNext h all xs more → PageFits h copy xs
+    → ((a : A) → Contains xs a → Contains all a) → ArePageNext h (length copy) all xs more → PageFits h copy xs
     → PageFits h (fold applied copy (map h.changes more)) (xs ++ more)

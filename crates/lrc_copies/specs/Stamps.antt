@@ -1,6 +1,6 @@
 -- Intervals with stamps, as nodes tell one another of them: which are below which, and in which order their changes are
 -- applied.
-use Rattle.std.specs.Prelude.{◌≡◌, ℕ, ◌+◌, ◌<◌, ◌⊎◌, ◌==◌, ◌&&◌, ◌||◌, Bool, IsTrue, not, nat_lt, Option, None, List, length, filter, slice_set, Contains, AllPairs}
+use Rattle.std.specs.Prelude.{◌≡◌, ℕ, ◌≤◌, ◌+◌, ◌<◌, ◌⊎◌, ◌==◌, ◌&&◌, ◌||◌, Bool, IsTrue, not, nat_lt, Option, None, List, length, filter, slice_set, Contains, AllPairs}
 use Rattle.lrc_time.specs.Time.{entry, knows, Covers, weight_of}
 use Rattle.lrc_page.specs.declared.changes.Change.{Change}
 use Rattle.lrc_copies.specs.Page.{PageHistory}
@@ -10,35 +10,35 @@ pub record Stamps (A : Type 0) : Type 0 where
   pub node : A → ℕ
   pub stamp : A → List ℕ
 
--- an interval's number among those of its node
-abbrev pub number_of : {A : Type 0} → Stamps A → A → ℕ
-number_of s a = entry (s.stamp a) (s.node a)
+-- an interval's index: its number among those of its node
+abbrev pub index_of : {A : Type 0} → Stamps A → A → ℕ
+index_of s a = entry (s.stamp a) (s.node a)
 
 abbrev pub stamp_weight : {A : Type 0} → Stamps A → A → ℕ
 stamp_weight s a = weight_of (s.stamp a)
 
 -- the time covers the interval
 abbrev pub is_covered : {A : Type 0} → Stamps A → List ℕ → A → Bool
-is_covered s time a = knows time (s.node a) (number_of s a)
+is_covered s time a = knows time (s.node a) (index_of s a)
 
 -- the members of the list that the time covers
 abbrev pub covered : {A : Type 0} → Stamps A → List ℕ → List A → List A
 covered s time all = filter (is_covered s time) all
 
--- the two have the same node and number
+-- the two have the same node and index
 abbrev pub is_same : {A : Type 0} → Stamps A → A → A → Bool
-is_same s a b = (s.node a == s.node b) && (number_of s a == number_of s b)
+is_same s a b = (s.node a == s.node b) && (index_of s a == index_of s b)
 
 -- the first is below the second: the second's stamp covers it, and it is another
 abbrev pub is_below : {A : Type 0} → Stamps A → A → A → Bool
 is_below s a b = is_covered s (s.stamp b) a && not (is_same s a b)
 
--- the first comes before the second by weight, then node, then number
+-- the first comes before the second by weight, then node, then index
 abbrev pub comes_before : {A : Type 0} → Stamps A → A → A → Bool
 comes_before s a b =
     nat_lt (stamp_weight s a) (stamp_weight s b)
     || ((stamp_weight s a == stamp_weight s b)
-    && (nat_lt (s.node a) (s.node b) || ((s.node a == s.node b) && nat_lt (number_of s a) (number_of s b))))
+    && (nat_lt (s.node a) (s.node b) || ((s.node a == s.node b) && nat_lt (index_of s a) (index_of s b))))
 
 -- the history of a page that stamped intervals make
 abbrev pub page_of_stamps : {A : Type 0} → Stamps A → (A → ℕ → Option ℕ) → (A → List Change) → PageHistory A
@@ -52,6 +52,8 @@ IsCut {A} s all time = (a : A) → Contains all a → IsTrue (is_covered s time 
 pub record AreStamped {A : Type 0} (s : Stamps A) (nodes : ℕ) (all : List A) : Type 0 where
   -- every stamp has an entry for each node,
   pub long : (a : A) → Contains all a → length (s.stamp a) ≡ nodes
+  -- and counts its own interval,
+  pub begun : (a : A) → Contains all a → 1 ≤ index_of s a
   -- and is a cut,
   pub cuts : (a : A) → Contains all a → IsCut s all (s.stamp a)
   -- and none covers an interval that was closed later.
@@ -78,11 +80,11 @@ pub record IsBetween {A : Type 0} (s : Stamps A) (all : List A) (since upto : Li
   pub known : IsTrue (is_covered s upto a)
 
 -- The intervals that a copy lacks, in the order in which their changes are applied:
-pub record AreLacking {A : Type 0} (s : Stamps A) (wrote : A → ℕ → Option ℕ) (all : List A) (since upto : List ℕ) (missing : List A)
+pub record AreLacking {A : Type 0} (s : Stamps A) (wrote : A → ℕ → Option ℕ) (words : ℕ) (all : List A) (since upto : List ℕ) (missing : List A)
     : Type 0 where
   -- each stands between the times,
   pub members : (a : A) → Contains missing a → IsBetween s all since upto a
   -- each that does is among them, or did not write the page,
-  pub complete : (a : A) → IsBetween s all since upto a → Contains missing a ⊎ ((offset : ℕ) → wrote a offset ≡ None)
-  -- and they ascend by weight, node and number.
+  pub complete : (a : A) → IsBetween s all since upto a → Contains missing a ⊎ ((offset : ℕ) → offset < words → wrote a offset ≡ None)
+  -- and they ascend by weight, node and index.
   pub ascending : AllPairs (λ a b. IsTrue (comes_before s a b)) missing

@@ -1,6 +1,6 @@
 -- What holds of copies by times.
-use Rattle.std.specs.Prelude.{◌≡◌, ℕ, ◌<◌, ◌↔◌, ◌&&◌, Bool, not, Option, None, AllPairs, IsTrue, List, [], ◌∷◌, ◌++◌, length, map, fold, Contains}
-use Rattle.lrc_time.specs.Time.{Covers}
+use Rattle.std.specs.Prelude.{◌≡◌, ℕ, ◌<◌, ◌↔◌, ◌⊎◌, ◌&&◌, Bool, not, Option, None, AllPairs, IsTrue, List, [], ◌∷◌, ◌++◌, length, map, fold, Contains}
+use Rattle.lrc_time.specs.Time.{Covers, zeros, joined}
 use Rattle.lrc_page.specs.declared.changes.Change.{Change}
 use Rattle.lrc_page.specs.Changes.{applied}
 use Rattle.lrc_copies.specs.Sound.{IsAddedLast}
@@ -26,6 +26,17 @@ abbrev pub ClosingKeepsCuts : Type 0 → Type 0
 ClosingKeepsCuts A = (s : Stamps A) (all : List A) (time : List ℕ) (x : A) → IsCut s all time → ¬ IsTrue (is_covered s time x)
     → IsCut s (all ++ x ∷ []) time
 
+-- The time that covers nothing is a cut, and so is the join of two cuts, which covers what one of the two does.
+abbrev pub ZerosAreACut : Type 0 → Type 0
+ZerosAreACut A = (s : Stamps A) (nodes count : ℕ) (all : List A) → AreStamped s nodes all → IsCut s all (zeros count)
+
+abbrev pub JoinsAreCuts : Type 0 → Type 0
+JoinsAreCuts A = (s : Stamps A) (all : List A) (t u : List ℕ) → IsCut s all t → IsCut s all u → IsCut s all (joined t u)
+
+abbrev pub JoinsCoverEither : Type 0 → Type 0
+JoinsCoverEither A = (s : Stamps A) (t u : List ℕ) (a : A) → IsTrue (is_covered s (joined t u) a)
+    ↔ (IsTrue (is_covered s t a) ⊎ IsTrue (is_covered s u a))
+
 -- Where a node closes an interval at a time that its twin fits, the interval is sound with the changes between twin and
 -- copy, and the copy fits the interval's stamp.
 abbrev pub ClosingAtATimeStaysSound : Type 0 → Type 0
@@ -50,6 +61,14 @@ ClosingKeepsThePageFitting A = (s : Stamps A) (wrote : A → ℕ → Option ℕ)
     → PageFits (page_of_stamps s wrote changes) copy (x ∷ covered s time all)
     → PageFits (page_of_stamps s wrote changes) copy (covered s (s.stamp x) (all ++ x ∷ []))
 
+-- So does one that fits the time, where the interval did not write the page.
+abbrev pub ClosingUntouchedKeepsThePageFitting : Type 0 → Type 0
+ClosingUntouchedKeepsThePageFitting A = (s : Stamps A) (wrote : A → ℕ → Option ℕ) (changes : A → List Change) (nodes : ℕ)
+    (all : List A) (time : List ℕ) (x : A) (copy : List ℕ) → IsClosedAt s nodes all time x
+    → IsUntouchedBy (page_of_stamps s wrote changes) (length copy) x
+    → PageFits (page_of_stamps s wrote changes) copy (covered s time all)
+    → PageFits (page_of_stamps s wrote changes) copy (covered s (s.stamp x) (all ++ x ∷ []))
+
 -- What a time does not cover makes no difference to a copy that fits the time.
 abbrev pub UncoveredIntervalsMakeNoDifference : Type 0 → Type 0
 UncoveredIntervalsMakeNoDifference A = (s : Stamps A) (wrote : A → ℕ → Option ℕ) (changes : A → List Change) (all : List A)
@@ -61,18 +80,18 @@ UncoveredIntervalsMakeNoDifference A = (s : Stamps A) (wrote : A → ℕ → Opt
 abbrev pub UntouchedPageFitsALaterTime : Type 0 → Type 0
 UntouchedPageFitsALaterTime A = (s : Stamps A) (wrote : A → ℕ → Option ℕ) (changes : A → List Change) (all : List A)
     (since upto copy : List ℕ) → Covers upto since
-    → ((a : A) → IsBetween s all since upto a → IsUntouchedBy (page_of_stamps s wrote changes) a)
+    → ((a : A) → IsBetween s all since upto a → IsUntouchedBy (page_of_stamps s wrote changes) (length copy) a)
     → PageFits (page_of_stamps s wrote changes) copy (covered s since all)
     → PageFits (page_of_stamps s wrote changes) copy (covered s upto all)
 
 -- Repair. A copy that fits a time, an invalid one and the time that its node remembers of it or a base copy and the time up
 -- to which all was collected, fits a later time once the changes of all intervals between the two were applied, by weight,
--- node and number.
+-- node and index.
 abbrev pub RepairingReachesALaterTime : Type 0 → Type 0
 RepairingReachesALaterTime A = (s : Stamps A) (wrote : A → ℕ → Option ℕ) (changes : A → List Change) (nodes : ℕ) (all : List A)
     (since upto : List ℕ) (missing : List A) (copy : List ℕ) → AreStamped s nodes all
     → IsPageSound (page_of_stamps s wrote changes) (length copy) all
-    → IsCut s all since → IsCut s all upto → Covers upto since → AreLacking s wrote all since upto missing
+    → IsCut s all since → IsCut s all upto → Covers upto since → AreLacking s wrote (length copy) all since upto missing
     → PageFits (page_of_stamps s wrote changes) copy (covered s since all)
     → PageFits (page_of_stamps s wrote changes) (fold applied copy (map changes missing)) (covered s upto all)
 
@@ -80,9 +99,9 @@ RepairingReachesALaterTime A = (s : Stamps A) (wrote : A → ℕ → Option ℕ)
 -- none that the later one does not cover, and those that do not name the page did not write it, the intervals that name it
 -- and that the earlier time does not cover, in order.
 abbrev pub MissingIntervalsAreLacking : Type 0 → Type 0
-MissingIntervalsAreLacking A = (s : Stamps A) (wrote : A → ℕ → Option ℕ) (all stored : List A) (since upto : List ℕ) (names : A → Bool)
+MissingIntervalsAreLacking A = (s : Stamps A) (wrote : A → ℕ → Option ℕ) (words : ℕ) (all stored : List A) (since upto : List ℕ) (names : A → Bool)
     (part : List A) → ((a : A) → IsBetween s all since upto a → Contains stored a)
     → ((a : A) → Contains stored a → Contains all a × IsTrue (is_covered s upto a))
-    → ((a : A) → Contains all a → ¬ IsTrue (names a) → (offset : ℕ) → wrote a offset ≡ None)
+    → ((a : A) → Contains all a → ¬ IsTrue (names a) → (offset : ℕ) → offset < words → wrote a offset ≡ None)
     → ((a : A) → Contains part a ↔ (Contains stored a × IsTrue (names a && not (is_covered s since a))))
-    → AllPairs (λ a b. IsTrue (comes_before s a b)) part → AreLacking s wrote all since upto part
+    → AllPairs (λ a b. IsTrue (comes_before s a b)) part → AreLacking s wrote words all since upto part

@@ -8,6 +8,10 @@ use Rattle.lrc_copies.specs.Decided.{fits}
 abbrev pub ZeroFitsNothing : Type 0 → Type 0
 ZeroFitsNothing A = (w : WordHistory A) → Fits w 0 []
 
+-- Where no member of a list wrote the word, what fits is zero.
+abbrev pub UnwrittenWordsAreZero : Type 0 → Type 0
+UnwrittenWordsAreZero A = (w : WordHistory A) (value : ℕ) (xs : List A) → IsUnwritten w xs → Fits w value xs → value ≡ 0
+
 -- Of the members of a list only those that wrote the word count, and of these only that they are members: a copy goes
 -- on to fit a list with more intervals of which none writes the word.
 abbrev pub OnlyWritersCount : Type 0 → Type 0

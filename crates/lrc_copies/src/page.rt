@@ -1,6 +1,6 @@
 // A whole page, of any length. Each function is a theorem: its body is empty, and its clause is the law.
 
-ghost use Rattle.lrc_copies.specs.PageLaws.{ZeroPageFitsNothing, ZeroPageOfASizeFitsNothing, UntouchedPageKeepsFitting, WritingKeepsThePageFitting, WritingIsOverTheSameTwin, OpenIntervalKeepsThePageFitting, ClosingAWrittenPageStaysSound, ClosingAnUntouchedPageStaysSound, RepairingKeepsThePageFitting};
+ghost use Rattle.lrc_copies.specs.PageLaws.{OnlyMembersCountForThePage, OnlyMembersCountForSoundness, ZeroPageFitsNothing, ZeroPageOfASizeFitsNothing, UntouchedPageKeepsFitting, WritingKeepsThePageFitting, WritingIsOverTheSameTwin, OpenIntervalKeepsThePageFitting, ClosingAWrittenPageStaysSound, ClosingAnUntouchedPageStaysSound, RepairingKeepsThePageFitting};
 
 /// Before the first write a page is zero.
 pub fn zero_page_fits_nothing<A>()
@@ -11,6 +11,12 @@ pub fn zero_page_fits_nothing<A>()
 /// A copy goes on to fit where the list gets more intervals that did not write the page.
 pub fn untouched_page_keeps_fitting<A>()
     ensures { UntouchedPageKeepsFitting A }
+{}
+
+/// Nothing counts but what the members of a list did: the fit stays where a node writes in an interval that is no member.
+pub fn only_members_count_for_the_page<A>()
+    ensures fits { OnlyMembersCountForThePage A }
+    ensures sound { OnlyMembersCountForSoundness A }
 {}
 
 /// A write in an interval that is below none of the list keeps the fit with the list and the interval.

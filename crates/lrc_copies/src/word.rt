@@ -1,10 +1,15 @@
 // One word of a page. Each function is a theorem: its body is empty, and its clause is the law.
 
-ghost use Rattle.lrc_copies.specs.WordLaws.{ZeroFitsNothing, OnlyWritersCount, OnlyMembersCount, OpenIntervalKeepsTheFit, OrderedWritersHaveALast, ClosingStaysSound, ClosingWithoutAWriteStaysSound, AddingOneKeepsTheFit, RepairingKeepsTheFit, FittingIsDecided};
+ghost use Rattle.lrc_copies.specs.WordLaws.{ZeroFitsNothing, UnwrittenWordsAreZero, OnlyWritersCount, OnlyMembersCount, OpenIntervalKeepsTheFit, OrderedWritersHaveALast, ClosingStaysSound, ClosingWithoutAWriteStaysSound, AddingOneKeepsTheFit, RepairingKeepsTheFit, FittingIsDecided};
 
 /// Before the first write a word is zero.
 pub fn zero_fits_nothing<A>()
     ensures { ZeroFitsNothing A }
+{}
+
+/// Where no member of a list wrote the word, what fits is zero.
+pub fn unwritten_words_are_zero<A>()
+    ensures { UnwrittenWordsAreZero A }
 {}
 
 /// Of the members of a list only those that wrote the word count, and of these only that they are members: a copy goes

@@ -1,1 +1,2 @@
 mod RepairByHand
+mod ReadByHand

@@ -4,9 +4,11 @@ ghost use Rattle.std.specs.Prelude.{◌≡◌, [], ◌∷◌, true, false, fold,
 ghost use Rattle.lrc_copies.specs.Decided.{fits};
 ghost use Rattle.lrc_page.specs.Changes.{applied};
 ghost use Rattle.lrc_copies.specs.Sound.{repaired_value};
+ghost use Rattle.lrc_copies.specs.Reading.{ListsWrites};
+ghost use Rattle.lrc_trace.specs.Reading.{MayRead};
 ghost use Rattle.lrc_copies.specs.Page.{PageFits, IsPageSound};
 ghost use Rattle.lrc_copies.specs.Stamps.{IsCut, AreStamped, AreLacking, covered};
-ghost use Rattle.part_tests.specs.Copies.{two_and_a_silent_one, three_in_turn, a_lost_write, four, four_stamps, four_wrote, four_changes, four_page};
+ghost use Rattle.part_tests.specs.Copies.{two_and_a_silent_one, three_in_turn, a_lost_write, four, four_stamps, four_wrote, four_changes, four_page, four_run};
 
 // Zero alone fits no interval; what one interval wrote is the one value that fits it.
 fn one_writer_decides()
@@ -54,9 +56,15 @@ fn repairs_a_page()
     ensures stamped { AreStamped four_stamps 3 four }
     ensures sound { IsPageSound four_page 2 four }
     ensures since { IsCut four_stamps four (0 ∷ 0 ∷ 1 ∷ []) }
-    ensures upto { IsCut four_stamps four (2 ∷ 1 ∷ 1 ∷ []) }
-    ensures lacking { AreLacking four_stamps four_wrote four (0 ∷ 0 ∷ 1 ∷ []) (2 ∷ 1 ∷ 1 ∷ []) (0 ∷ 2 ∷ 3 ∷ []) }
+    ensures upto { IsCut four_stamps four (4 ∷ 2 ∷ 1 ∷ []) }
+    ensures lacking { AreLacking four_stamps four_wrote 2 four (0 ∷ 0 ∷ 1 ∷ []) (4 ∷ 2 ∷ 1 ∷ []) (0 ∷ 2 ∷ 3 ∷ []) }
     ensures before { PageFits four_page (0 ∷ 7 ∷ []) (covered four_stamps (0 ∷ 0 ∷ 1 ∷ []) four) }
     ensures changes { fold applied (0 ∷ 7 ∷ []) (map four_changes (0 ∷ 2 ∷ 3 ∷ [])) ≡ 9 ∷ 7 ∷ [] }
-    ensures after { PageFits four_page (9 ∷ 7 ∷ []) (covered four_stamps (2 ∷ 1 ∷ 1 ∷ []) four) }
+    ensures after { PageFits four_page (9 ∷ 7 ∷ []) (covered four_stamps (4 ∷ 2 ∷ 1 ∷ []) four) }
+{}
+
+// A read of a run with these intervals: what the laws ask for can be met, and the read may give what the repair made.
+fn reads_a_repaired_page()
+    ensures lists { ListsWrites four_run 11 2 0 four_stamps (λ a. four_wrote a 0) (4 ∷ 2 ∷ 1 ∷ []) four }
+    ensures may_read { MayRead four_run 11 0 9 }
 {}
