@@ -1,17 +1,15 @@
 -- Which accesses the segments keep, when one is added and from one position to the next.
-use Rattle.std.proofs.Common.{◌≡◌, ℕ, ◌+◌, ◌<◌, ◌≤◌, ◌⊎◌, List, [], ◌∷◌, ◌++◌, length, get_or, set, take, inl, inr, refl, sym, subst, ◌∙◌, ap, arith, length-set}
-use Rattle.std.specs.Prelude.{◌↔◌, ◌==◌, ◌&&◌, Bool, true, false, Contains}
-use Rattle.std.proofs.lemmas.Bool.{cases_eq, both_ways}
-use Rattle.std.proofs.lemmas.List.{get_or-set_same, get_or-set_other, get_or_default, length-take-le}
+use Rattle.std.proofs.Common.{◌≡◌, ℕ, ◌+◌, ◌<◌, ◌⊎◌, List, [], ◌∷◌, ◌++◌, length, get_or, set, inl, inr, refl, sym, subst, ◌∙◌, ap, arith, length-set}
+use Rattle.std.specs.Prelude.{◌↔◌, Bool, true, false, Contains}
+use Rattle.std.proofs.lemmas.Bool.{cases_eq}
+use Rattle.std.proofs.lemmas.List.{get_or-set_same, get_or-set_other, get_or_default}
 use Rattle.std.proofs.lemmas.List.Elements.{Contains-push, Contains-push_cases, Contains-append_left}
-use Rattle.std.proofs.lemmas.List.Sums.{count_by-le-length}
 use Rattle.lrc_trace.specs.declared.act.Act.{Act}
 use Rattle.lrc_trace.specs.declared.act.Deed.{Deed}
-use Rattle.lrc_trace.specs.declared.act.Deed.TheVariants.{Read, Write, Acquire, Release, Arrive}
+use Rattle.lrc_trace.specs.declared.act.Deed.TheVariants.{Read, Write}
 use Rattle.lrc_trace.specs.Run.{Does}
-use Rattle.lrc_trace.specs.Interval.{closes, interval_at}
+use Rattle.lrc_trace.specs.Interval.{interval_at}
 use Rattle.lrc_trace.proofs.Positions.{Does-one_node, Does-one_deed}
-use Rattle.lrc_trace.proofs.Intervals.{count_of-more, count_of-same}
 use Rattle.lrc_judge.specs.declared.segments.Place.{Place}
 use Rattle.lrc_judge.specs.declared.segments.Access.{Access}
 use Rattle.lrc_judge.specs.declared.segments.Segment.{Segment}

@@ -1,15 +1,12 @@
 -- What the past says of one position further, field by field.
-use Rattle.std.proofs.Common.{◌≡◌, ℕ, ◌+◌, ◌<◌, ◌≤◌, List, [], ◌∷◌, ◌++◌, length, get_or, set, take, max, inl, inr, refl, sym, subst, ◌∙◌, ap, arith, length-set}
-use Rattle.std.specs.Prelude.{Bool, true, false}
-use Rattle.std.proofs.lemmas.Bool.{cases_eq, both_ways}
-use Rattle.std.proofs.lemmas.List.{get_or-set_same, get_or-set_other}
+use Rattle.std.proofs.Common.{◌≡◌, ℕ, ◌+◌, ◌<◌, ◌≤◌, List, [], ◌∷◌, ◌++◌, length, get_or, set, max, refl, sym, ◌∙◌, ap, arith}
 use Rattle.lrc_trace.specs.declared.act.Act.{Act}
 use Rattle.lrc_trace.specs.declared.act.Deed.{Deed}
-use Rattle.lrc_trace.specs.declared.act.Deed.TheVariants.{Release, Arrive, Depart}
-use Rattle.lrc_trace.specs.Run.{Does, IsDone, is_arrive, is_depart, count_of, arrives_before}
+use Rattle.lrc_trace.specs.declared.act.Deed.TheVariants.{Release, Arrive}
+use Rattle.lrc_trace.specs.Run.{Does, IsDone, is_arrive, arrives_before}
 use Rattle.lrc_trace.specs.Order.{program, base}
 use Rattle.lrc_trace.proofs.Positions.{Does-deed, Does-one_node, Does-one_deed}
-use Rattle.lrc_trace.proofs.Intervals.{count_of-rises, count_of-more, count_of-same}
+use Rattle.lrc_trace.proofs.Intervals.{count_of-rises, count_of-more}
 use Rattle.lrc_judge.specs.declared.reach.Reach.{Reach}
 use Rattle.lrc_judge.specs.Past.{Gathers, EachGathers, Acted, Released, Arrived}
 use Rattle.lrc_judge.proofs.HandedOn.{next-joined, next-only, each-same, each-set, each-push}
