@@ -7,3 +7,4 @@ pub mod Tally
 pub mod Keeping
 pub mod Naming
 pub mod Ascending
+mod Touching

@@ -6,3 +6,5 @@ pub mod Reading
 pub mod Segments
 pub mod Standing
 pub mod Synchronization
+pub mod Touched
+pub mod Unreached

@@ -8,6 +8,8 @@ ghost use Rattle.std.specs.Prelude.{◌<◌, ◌↔◌, All, IsTrue};
 
 use lrc_trace::act::Act;
 
+mod accesses;
+pub mod first;
 pub mod laws;
 pub mod order;
 mod past;
@@ -16,6 +18,7 @@ mod reach;
 pub mod reading;
 mod segments;
 pub mod synchronization;
+mod touched;
 
 /// How many nodes a run has at most.
 pub const NODES: usize = 16;

@@ -1,5 +1,5 @@
 -- Conflicting accesses, and races.
-use Rattle.std.specs.Prelude.{◌≢◌, ℕ, ◌<◌, ◌⊎◌, List}
+use Rattle.std.specs.Prelude.{◌≢◌, ℕ, ◌<◌, ◌≤◌, ◌⊎◌, List}
 use Rattle.lrc_trace.specs.declared.act.Act.{Act}
 use Rattle.lrc_trace.specs.declared.act.Deed.TheVariants.{Read, Write}
 use Rattle.lrc_trace.specs.Run.{Does}
@@ -35,3 +35,9 @@ pub record Races (run : List Act) (i j : ℕ) : Type 0 where
 -- no two conflicting accesses are unordered
 abbrev pub IsRaceFree : List Act → Type 0
 IsRaceFree run = (i j : ℕ) → ¬ Races run i j
+
+-- the first race: the least position that races with an earlier one
+pub record IsFirstRace (run : List Act) (position : ℕ) : Type 0 where
+  pub with : ℕ
+  pub races : Races run with position
+  pub least : (i j : ℕ) → Races run i j → position ≤ j
