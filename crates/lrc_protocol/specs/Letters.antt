@@ -1,13 +1,13 @@
 -- The messages that a node sends, and to whom.
-use Rattle.std.specs.Prelude.{ℕ, ◌&&◌, Bool, List, [], ◌∷◌, ◌++◌, length, map, flat_map, nat_le, slice_set}
-use Rattle.lrc_time.specs.Time.{entry}
+use Rattle.std.specs.Prelude.{ℕ, ◌&&◌, Bool, Option, List, [], ◌∷◌, ◌++◌, length, map, flat_map, nat_le, slice_set}
+use Rattle.std.specs.Option.{option_to_list}
 use Rattle.lrc_store.specs.Interval.{IntervalRecord}
 use Rattle.lrc_store.specs.Store.{StoreRecord, newer_of}
 use Rattle.lrc_wire.specs.declared.message.Message.{Message}
 use Rattle.lrc_wire.specs.declared.message.Message.TheVariants.{LockRequest, LockForward, LockGrant, Arrive, Depart, Clean, Discard, ChangesRequest, ChangesReply, PageRequest, PageReply}
 use Rattle.lrc_lock.specs.declared.state.Pass.{Pass}
 use Rattle.lrc_lock.specs.Lock.{manager_of}
-use Rattle.lrc_barrier.specs.declared.arrival.Departure.{Departure}
+use Rattle.lrc_barrier.specs.declared.departure.Departure.{Departure}
 use Rattle.lrc_protocol.specs.Memory.{changes_or_none}
 use Rattle.lrc_protocol.specs.Fetch.{Base, unneeded, due, come, Asked, Need}
 use Rattle.lrc_protocol.specs.Mail.{Letter}
@@ -30,6 +30,10 @@ forward_to to lock asker time = letter to (LockForward (record { lock = lock; as
 abbrev pub grant_of : Node → Pass → Letter
 grant_of node pass =
     letter pass.to (LockGrant (record { lock = pass.lock; time = pass.upto; intervals = newer_of node.memory.store pass.since pass.upto }))
+
+-- the grant of a pass, if there is one
+abbrev pub grants_of : Node → Option Pass → List Letter
+grants_of node pass = map (grant_of node) (option_to_list pass)
 
 -- a node asks for a collection where so many intervals are stored as the options say
 abbrev pub asks_for_collection : Node → Bool
