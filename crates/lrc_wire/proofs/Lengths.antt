@@ -1,5 +1,5 @@
 -- How many bytes the parts have.
-use Rattle.std.proofs.Common.{◌≡◌, ◌∙◌, ℕ, ◌+◌, ◌*◌, ◌<◌, ◌≤◌, Bool, true, false, List, [], ◌∷◌, ◌++◌, length, get_or, take, refl, sym, ap, arith}
+use Rattle.std.proofs.Common.{◌≡◌, ◌∙◌, ℕ, suc, ◌+◌, ◌-◌, ◌*◌, ◌<◌, ◌≤◌, Bool, true, false, List, [], ◌∷◌, ◌++◌, length, get_or, take, refl, sym, ap, arith}
 use Rattle.std.specs.Int.{w16, w32, w64}
 use Rattle.std.specs.List.{flat_map}
 use Rattle.std.proofs.lemmas.List.{length-append}
@@ -7,8 +7,11 @@ use Rattle.std.proofs.lemmas.List.Concat.{flat_map-cons}
 use Rattle.lrc_page.specs.declared.changes.Change.{Change}
 use Rattle.lrc_store.specs.Interval.{IntervalRecord}
 use Rattle.lrc_wire.specs.Records.{IndexedChangesRecord}
+use Rattle.lrc_wire.specs.declared.version.Version.TheVariants.{Two}
+use Rattle.lrc_wire.specs.Runs.{Run, changes_of, runs_of}
+use Rattle.lrc_wire.proofs.Runs.{runs_of-whole}
 use Rattle.lrc_wire.proofs.Written.{flat_map-take_more}
-use Rattle.lrc_wire.specs.Spelling.{byte, number, numbers, flag, time, pages, interval, intervals, indices, change, changes, indexed_changes, changes_by_index}
+use Rattle.lrc_wire.specs.Spelling.{byte, number, numbers, flag, time, pages, interval, intervals, news, indices, run, in_runs, part, parts, page_values}
 
 pub length_byte : (n : ℕ) → length (byte n) ≡ 1
 unfolding byte
@@ -70,18 +73,41 @@ pub length_indices : (ns : List ℕ) → length (indices ns) ≡ 4 + 4 * length 
 unfolding indices
 length_indices ns = omega (arith, length-append (number w32 (length ns)) (numbers w32 ns), length_number_32 (length ns), length_numbers_32 ns)
 
-length_change : (c : Change) → length (change c) ≡ 9
-unfolding change
-length_change c = omega (arith, length-append (byte c.offset) (number w64 c.value), length_byte c.offset, length_number_64 c.value)
+-- a run's bytes beside its offsets and values
+length_run : (r : Run) → length (run r) ≡ 2 + 8 * length r.values
+unfolding run
+length_run r =
+    omega (arith, length-append (byte r.first) (byte (length r.values - 1) ++ numbers w64 r.values), length-append (byte (length r.values - 1)) (numbers w64 r.values), length_byte r.first, length_byte (length r.values - 1), length_numbers_64 r.values)
 
-pub length_indexed_changes : (p : IndexedChangesRecord) → length (indexed_changes p) ≡ 5 + 9 * length p.changes
-unfolding indexed_changes changes
-length_indexed_changes p =
-    omega (arith, length-append (number w32 p.index) (byte (length p.changes) ++ flat_map change p.changes), length-append (byte (length p.changes)) (flat_map change p.changes), length_number_32 p.index, length_byte (length p.changes), length_each change 9 length_change p.changes)
+length_changes_of : (first : ℕ) (values : List ℕ) → length (changes_of (record { first = first; values = values })) ≡ length values
+length_changes_of first [] = refl
+length_changes_of first (v ∷ values) = ap suc (length_changes_of (first + 1) values)
 
-pub length_changes_by_index : (ps : List IndexedChangesRecord) → length (changes_by_index ps) ≡ 4 + length (flat_map indexed_changes ps)
-unfolding changes_by_index
-length_changes_by_index ps = omega (arith, length-append (number w32 (length ps)) (flat_map indexed_changes ps), length_number_32 (length ps))
+length_each_run : (rs : List Run) → length (flat_map run rs) ≡ 2 * length rs + 8 * length (flat_map changes_of rs)
+length_each_run [] = omega arith
+length_each_run (r ∷ rs) =
+    rw (flat_map-cons, flat_map-cons) (omega (arith, length-append (run r) (flat_map run rs), length-append (changes_of r) (flat_map changes_of rs), length_run r, length_changes_of r.first r.values, length_each_run rs))
+
+length_in_runs : (cs : List Change) → length (in_runs (runs_of cs)) ≡ 2 + 2 * length (runs_of cs) + 8 * length cs
+unfolding in_runs
+length_in_runs cs =
+    omega (arith, length-append (number w16 (length (runs_of cs))) (flat_map run (runs_of cs)), length_number_16 (length (runs_of cs)), length_each_run (runs_of cs), ap length (runs_of-whole cs))
+
+pub length_part : (p : IndexedChangesRecord) → length (part Two runs_of p) ≡ 6 + 2 * length (runs_of p.changes) + 8 * length p.changes
+unfolding part
+length_part p =
+    omega (arith, length-append (number w32 p.index) (in_runs (runs_of p.changes)), length_number_32 p.index, length_in_runs p.changes)
+
+pub length_parts : (ps : List IndexedChangesRecord) → length (parts Two runs_of ps) ≡ 4 + length (flat_map (part Two runs_of) ps)
+unfolding parts
+length_parts ps = omega (arith, length-append (number w32 (length ps)) (flat_map (part Two runs_of) ps), length_number_32 (length ps))
+
+pub length_news : (entries : List ℕ) (is : List IntervalRecord) → length (news entries is) ≡ length (time entries) + 4 + length (flat_map interval is)
+unfolding news
+length_news entries is = omega (arith, length-append (time entries) (intervals is), length_intervals is)
+
+pub length_page_values : (vs : List ℕ) → length (page_values Two vs) ≡ 2 + 8 * length vs
+length_page_values vs = omega (arith, length-append (number w16 (length vs)) (numbers w64 vs), length_number_16 (length vs), length_numbers_64 vs)
 
 -- one more element
 pub length-take_more : {A : Type 0} (f : A → List ℕ) (xs : List A) (i : ℕ) (d : A) → i < length xs
@@ -95,14 +121,14 @@ count_le : {A : Type 0} (f : A → List ℕ) → ((x : A) → 1 ≤ length (f x)
 count_le f some [] = omega arith
 count_le f some (x ∷ xs) = rw flat_map-cons (omega (arith, length-append (f x) (flat_map f xs), some x, count_le f some xs))
 
-pub few_intervals : (is : List IntervalRecord) → length is ≤ length (intervals is)
-few_intervals is = omega (arith, length_intervals is, count_le interval (λ i. omega (arith, length_interval i)) is)
-
 pub few_indices : (ns : List ℕ) → length ns ≤ length (indices ns)
 few_indices ns = omega (arith, length_indices ns)
 
-pub few_parts : (ps : List IndexedChangesRecord) → length ps ≤ length (changes_by_index ps)
-few_parts ps = omega (arith, length_changes_by_index ps, count_le indexed_changes (λ p. omega (arith, length_indexed_changes p)) ps)
+pub few_parts : (ps : List IndexedChangesRecord) → length ps ≤ length (parts Two runs_of ps)
+few_parts ps = omega (arith, length_parts ps, count_le (part Two runs_of) (λ p. omega (arith, length_part p)) ps)
+
+pub few_of_news : (entries : List ℕ) (is : List IntervalRecord) → length is ≤ length (news entries is)
+few_of_news entries is = omega (arith, length_news entries is, count_le interval (λ i. omega (arith, length_interval i)) is)
 
 -- how long what stands one after the other is
 pub ruleset lengths = (length-append, length_byte, length_flag, length_number_16, length_number_32, length_number_64)

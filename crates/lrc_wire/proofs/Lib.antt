@@ -4,10 +4,17 @@ pub mod Along
 pub mod Shapes
 pub mod Bytes
 pub mod Agrees
-pub mod Parts
+pub mod Fields
 pub mod Intervals
-pub mod ChangeParts
+pub mod Listed
+mod Singly
+mod Cuts
+mod ChangeParts
 pub mod Bodies
 pub mod Envelopes
 pub mod Written
 pub mod Lengths
+mod Runs
+mod Last
+mod Leads
+mod PageValues

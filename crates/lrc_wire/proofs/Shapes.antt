@@ -4,17 +4,14 @@ use Rattle.std.specs.Prelude.{All, AllPairs, IfOk}
 use Rattle.std.specs.List.Sorted.{IsStrictlyIncreasing}
 use Rattle.std.proofs.lemmas.Bool.{ltb-true, leb-true, lt-ltb, eqb-true, eq-eqb, or_cases, or_left, or_right, and_parts, and_from}
 use Rattle.std.proofs.lemmas.Bool.Decides.{nat_tests}
-use Rattle.std.specs.Int.{w16, w32, w64}
+use Rattle.std.specs.Int.{w32}
 use Rattle.lrc_time.specs.Time.{entry}
-use Rattle.lrc_store.specs.declared.interval.TheConstants.{MOST_PAGES}
-use Rattle.lrc_store.specs.Interval.{IntervalRecord}
-use Rattle.lrc_page.specs.declared.TheConstants.{PAGE_WORDS}
-use Rattle.lrc_page.specs.declared.changes.Change.{Change}
-use Rattle.lrc_page.specs.Changes.{IsAscending}
+use Rattle.lrc_store.specs.Interval.{IntervalRecord, by_node}
 use Rattle.lrc_wire.specs.declared.fault.WireFault.{WireFault}
 use Rattle.lrc_wire.specs.declared.fault.WireFault.TheVariants.{BadNode, BadCount, NotAscending}
+use Rattle.lrc_wire.specs.declared.version.Version.{Version}
 use Rattle.lrc_wire.specs.Records.{GoWith, IndexedChangesRecord}
-use Rattle.lrc_wire.specs.Reading.{◌>>=◌, Gives, elements_at, is_after, tested, byte_at, number_at, page_at, next_page_at, is_below, key_of, stamp_at, entries_at, entry_at, pages_at, next_interval_at, next_index_at, next_offset_at, next_change_at, changes_at, next_indexed_changes_at}
+use Rattle.lrc_wire.specs.Reading.{◌>>=◌, Gives, elements_at, is_after, tested, byte_at, number_at, is_below, known_by, stamp_at, entries_at, entry_at, pages_at, next_interval_at, next_index_at, changes_at, next_part_at}
 use Rattle.lrc_wire.proofs.Steps.{bind_ok, ok_is, tested_ok}
 use Rattle.lrc_wire.proofs.Along.{Along, elements_along, along_at, Ascends, Follow, All-from_follow, AllPairs-from_follow, increasing_from_follow, lt-trans}
 
@@ -22,28 +19,6 @@ use Rattle.lrc_wire.proofs.Along.{Along, elements_along, along_at, Ascends, Foll
 pub if_gives : {X Y : Type 0} (view : X → Y) (r : Result X WireFault) (read : Result Y WireFault) (P : X → Type 0) → Gives view r read → ((x : X) → read ≡ Ok (view x) → P x) → IfOk r P
 if_gives view (Ok x) read P given says = says x given
 if_gives view (Err fault) read P given says = tt
-
--- ---- pages
-
-pub page_in_range : (bytes : List ℕ) (page : ℕ) (rest : List ℕ) → page_at bytes ≡ Ok (page, rest) → page < MOST_PAGES
-unfolding page_at
-page_in_range bytes page rest e = ltb-true page MOST_PAGES (tested_ok (λ n. ltb n MOST_PAGES) BadCount (number_at w16 bytes) (page, rest) e).1
-
-next_page_ascends : (before : Option ℕ) (bytes : List ℕ) (page : ℕ) (rest : List ℕ) → next_page_at before bytes ≡ Ok (page, rest) → Ascends ltb (λ n. n) (λ n. n < MOST_PAGES) before page
-unfolding next_page_at
-next_page_ascends before bytes page rest e =
-    let t = tested_ok (is_after ltb before) NotAscending (page_at bytes) (page, rest) e in
-    (page_in_range bytes page rest t.0, t.1)
-
-pages_follow : (count : ℕ) (bytes pages rest : List ℕ) → elements_at next_page_at (λ _ page. Some page) count None bytes ≡ Ok (pages, rest) → Follow ltb (λ n. n) (λ n. n < MOST_PAGES) None pages
-pages_follow count bytes pages rest e =
-    (elements_along next_page_at (λ _ page. Some page) (Ascends ltb (λ n. n) (λ n. n < MOST_PAGES)) next_page_ascends count None bytes pages rest e).1
-
-pub pages_in_range : (count : ℕ) (bytes pages rest : List ℕ) → elements_at next_page_at (λ _ page. Some page) count None bytes ≡ Ok (pages, rest) → All (λ n. n < MOST_PAGES) pages
-pages_in_range count bytes pages rest e = All-from_follow ltb (λ n. n) (λ n. n < MOST_PAGES) None pages (pages_follow count bytes pages rest e)
-
-pub pages_increase : (count : ℕ) (bytes pages rest : List ℕ) → elements_at next_page_at (λ _ page. Some page) count None bytes ≡ Ok (pages, rest) → IsStrictlyIncreasing pages
-pages_increase count bytes pages rest e = increasing_from_follow (λ n. n < MOST_PAGES) None pages (pages_follow count bytes pages rest e)
 
 -- ---- times
 
@@ -104,24 +79,28 @@ Comes-trans a b c (inr p) (inr q) = inr (p.0 ∙ q.0, omega arith)
 pub below-trans : (a b c : ℕ × ℕ) → is_below a b ≡ true → is_below b c ≡ true → is_below a c ≡ true
 below-trans a b c p q = below_from a c (Comes-trans a b c (below_is a b p) (below_is b c q))
 
-next_interval_ascends : (nodes : ℕ) (before : Option (ℕ × ℕ)) (bytes : List ℕ) (x : IntervalRecord) (rest : List ℕ) → next_interval_at nodes before bytes ≡ Ok (x, rest) → Ascends is_below key_of (λ interval. length interval.stamp ≡ nodes) before x
+next_interval_ascends : (v : Version) (nodes : ℕ) (before : Option (ℕ × ℕ)) (bytes : List ℕ) (x : IntervalRecord) (rest : List ℕ) → next_interval_at v nodes before bytes ≡ Ok (x, rest) → Ascends is_below known_by (λ interval. length interval.stamp ≡ nodes) before x
 unfolding next_interval_at
-next_interval_ascends nodes before bytes x rest e =
-    let a = bind_ok (tested (λ n. ltb n nodes) BadNode (byte_at bytes)) (λ node. tested (λ stamp. is_after is_below before (node.0, entry stamp node.0)) NotAscending (stamp_at nodes node.0 node.1) >>= λ stamp. pages_at stamp.1 >>= λ pages. Ok (record { node = node.0; stamp = stamp.0; pages = pages.0 }, pages.1)) (x, rest) e in
-    let b = bind_ok (tested (λ stamp. is_after is_below before (a.0.0, entry stamp a.0.0)) NotAscending (stamp_at nodes a.0.0 a.0.1)) (λ stamp. pages_at stamp.1 >>= λ pages. Ok (record { node = a.0.0; stamp = stamp.0; pages = pages.0 }, pages.1)) (x, rest) a.2 in
-    let c = bind_ok (pages_at b.0.1) (λ pages. Ok (record { node = a.0.0; stamp = b.0.0; pages = pages.0 }, pages.1)) (x, rest) b.2 in
+next_interval_ascends v nodes before bytes x rest e =
+    let a = bind_ok (tested (λ n. ltb n nodes) BadNode (byte_at bytes)) (λ node. tested (λ stamp. is_after is_below before (node.0, entry stamp node.0)) NotAscending (stamp_at nodes node.0 node.1) >>= λ stamp. pages_at v stamp.1 >>= λ pages. Ok (record { node = node.0; stamp = stamp.0; pages = pages.0 }, pages.1)) (x, rest) e in
+    let b = bind_ok (tested (λ stamp. is_after is_below before (a.0.0, entry stamp a.0.0)) NotAscending (stamp_at nodes a.0.0 a.0.1)) (λ stamp. pages_at v stamp.1 >>= λ pages. Ok (record { node = a.0.0; stamp = stamp.0; pages = pages.0 }, pages.1)) (x, rest) a.2 in
+    let c = bind_ok (pages_at v b.0.1) (λ pages. Ok (record { node = a.0.0; stamp = b.0.0; pages = pages.0 }, pages.1)) (x, rest) b.2 in
     let t = tested_ok (λ stamp. is_after is_below before (a.0.0, entry stamp a.0.0)) NotAscending (stamp_at nodes a.0.0 a.0.1) b.0 b.1 in
     let made : IntervalRecord × List ℕ = (record { node = a.0.0; stamp = b.0.0; pages = c.0.0 }, c.0.1) in
-    subst (λ (y : IntervalRecord × List ℕ). Ascends is_below key_of (λ interval. length interval.stamp ≡ nodes) before y.0) (ok_is made (x, rest) c.2)
+    subst (λ (y : IntervalRecord × List ℕ). Ascends is_below known_by (λ interval. length interval.stamp ≡ nodes) before y.0) (ok_is made (x, rest) c.2)
     (stamp_long nodes a.0.0 a.0.1 b.0.0 b.0.1 t.0, t.1)
 
-pub intervals_go_with : (nodes count : ℕ) (bytes : List ℕ) (xs : List IntervalRecord) (rest : List ℕ) → elements_at (next_interval_at nodes) (λ _ interval. Some (key_of interval)) count None bytes ≡ Ok (xs, rest) → GoWith nodes xs
-intervals_go_with nodes count bytes xs rest e =
-    let h = (elements_along (next_interval_at nodes) (λ _ interval. Some (key_of interval)) (Ascends is_below key_of (λ interval. length interval.stamp ≡ nodes)) (next_interval_ascends nodes) count None bytes xs rest e).1 in
-    record {
-      stamps = All-from_follow is_below key_of (λ interval. length interval.stamp ≡ nodes) None xs h;
-      ascending = AllPairs-from_follow is_below key_of (λ interval. length interval.stamp ≡ nodes) below-trans None xs h;
-    }
+intervals_follow : (v : Version) (nodes count : ℕ) (bytes : List ℕ) (xs : List IntervalRecord) (rest : List ℕ) → elements_at (next_interval_at v nodes) (λ _ interval. Some (known_by interval)) count None bytes ≡ Ok (xs, rest) → Follow is_below known_by (λ interval. length interval.stamp ≡ nodes) None xs
+intervals_follow v nodes count bytes xs rest e =
+    (elements_along (next_interval_at v nodes) (λ _ interval. Some (known_by interval)) (Ascends is_below known_by (λ interval. length interval.stamp ≡ nodes)) (next_interval_ascends v nodes) count None bytes xs rest e).1
+
+pub intervals_go_with : (v : Version) (nodes count : ℕ) (bytes : List ℕ) (xs : List IntervalRecord) (rest : List ℕ) → elements_at (next_interval_at v nodes) (λ _ interval. Some (known_by interval)) count None bytes ≡ Ok (xs, rest) → GoWith nodes xs
+intervals_go_with v nodes count bytes xs rest e =
+    All-from_follow is_below known_by (λ interval. length interval.stamp ≡ nodes) None xs (intervals_follow v nodes count bytes xs rest e)
+
+pub intervals_ascend : (v : Version) (nodes count : ℕ) (bytes : List ℕ) (xs : List IntervalRecord) (rest : List ℕ) → elements_at (next_interval_at v nodes) (λ _ interval. Some (known_by interval)) count None bytes ≡ Ok (xs, rest) → AllPairs (λ a b. by_node a b ≡ true) xs
+intervals_ascend v nodes count bytes xs rest e =
+    AllPairs-from_follow is_below known_by (λ interval. length interval.stamp ≡ nodes) below-trans None xs (intervals_follow v nodes count bytes xs rest e)
 
 -- ---- indices
 
@@ -145,55 +124,25 @@ indices_begun count bytes indices rest e = All-from_follow ltb (λ n. n) (λ n. 
 pub indices_increase : (count : ℕ) (bytes indices rest : List ℕ) → elements_at next_index_at (λ _ index. Some index) count None bytes ≡ Ok (indices, rest) → IsStrictlyIncreasing indices
 indices_increase count bytes indices rest e = increasing_from_follow (λ n. 1 ≤ n) None indices (indices_follow count bytes indices rest e).1
 
--- ---- changes
+-- ---- parts
 
-next_offset_ascends : (before : Option ℕ) (bytes : List ℕ) (offset : ℕ) (rest : List ℕ) → next_offset_at before bytes ≡ Ok (offset, rest) → Ascends ltb (λ n. n) (λ n. n < PAGE_WORDS) before offset
-unfolding next_offset_at
-next_offset_ascends before bytes offset rest e =
-    let t = tested_ok (is_after ltb before) NotAscending (tested (λ n. ltb n PAGE_WORDS) BadCount (byte_at bytes)) (offset, rest) e in
-    let u = tested_ok (λ n. ltb n PAGE_WORDS) BadCount (byte_at bytes) (offset, rest) t.0 in
-    (ltb-true offset PAGE_WORDS u.1, t.1)
-
-next_change_ascends : (before : Option ℕ) (bytes : List ℕ) (change : Change) (rest : List ℕ) → next_change_at before bytes ≡ Ok (change, rest) → Ascends ltb (λ c. c.offset) (λ c. c.offset < PAGE_WORDS) before change
-unfolding next_change_at
-next_change_ascends before bytes change rest e =
-    let a = bind_ok (next_offset_at before bytes) (λ offset. number_at w64 offset.1 >>= λ value. Ok (record { offset = offset.0; value = value.0 }, value.1)) (change, rest) e in
-    let b = bind_ok (number_at w64 a.0.1) (λ value. Ok (record { offset = a.0.0; value = value.0 }, value.1)) (change, rest) a.2 in
-    let made : Change × List ℕ = (record { offset = a.0.0; value = b.0.0 }, b.0.1) in
-    subst (λ (y : Change × List ℕ). Ascends ltb (λ c. c.offset) (λ c. c.offset < PAGE_WORDS) before y.0) (ok_is made (change, rest) b.2)
-    (next_offset_ascends before bytes a.0.0 a.0.1 a.1)
-
-changes_follow : (count : ℕ) (bytes : List ℕ) (changes : List Change) (rest : List ℕ) → elements_at next_change_at (λ _ change. Some change.offset) count None bytes ≡ Ok (changes, rest) → Follow ltb (λ c. c.offset) (λ c. c.offset < PAGE_WORDS) None changes
-changes_follow count bytes changes rest e =
-    (elements_along next_change_at (λ _ change. Some change.offset) (Ascends ltb (λ c. c.offset) (λ c. c.offset < PAGE_WORDS)) next_change_ascends count None bytes changes rest e).1
-
-pub changes_in_range : (count : ℕ) (bytes : List ℕ) (changes : List Change) (rest : List ℕ) → elements_at next_change_at (λ _ change. Some change.offset) count None bytes ≡ Ok (changes, rest) → All (λ change. change.offset < PAGE_WORDS) changes
-changes_in_range count bytes changes rest e = All-from_follow ltb (λ c. c.offset) (λ c. c.offset < PAGE_WORDS) None changes (changes_follow count bytes changes rest e)
-
-pub changes_ascend : (count : ℕ) (bytes : List ℕ) (changes : List Change) (rest : List ℕ) → elements_at next_change_at (λ _ change. Some change.offset) count None bytes ≡ Ok (changes, rest) → IsAscending changes
-changes_ascend count bytes changes rest e =
-    let h = AllPairs-from_follow ltb (λ c. c.offset) (λ c. c.offset < PAGE_WORDS) lt-trans None changes (changes_follow count bytes changes rest e) in
-    λ i j d lt within. ltb-true _ _ (h i j d lt within)
-
--- ---- changes by index
-
-next_part_ascends : (before : Option ℕ) (bytes : List ℕ) (part : IndexedChangesRecord) (rest : List ℕ) → next_indexed_changes_at before bytes ≡ Ok (part, rest) → Ascends ltb (λ p. p.index) (λ p. 1 ≤ p.index) before part
-unfolding next_indexed_changes_at
-next_part_ascends before bytes part rest e =
-    let a = bind_ok (next_index_at before bytes) (λ index. changes_at index.1 >>= λ changes. Ok (record { index = index.0; changes = changes.0 }, changes.1)) (part, rest) e in
-    let b = bind_ok (changes_at a.0.1) (λ changes. Ok (record { index = a.0.0; changes = changes.0 }, changes.1)) (part, rest) a.2 in
+next_part_ascends : (v : Version) (before : Option ℕ) (bytes : List ℕ) (part : IndexedChangesRecord) (rest : List ℕ) → next_part_at v before bytes ≡ Ok (part, rest) → Ascends ltb (λ p. p.index) (λ p. 1 ≤ p.index) before part
+unfolding next_part_at
+next_part_ascends v before bytes part rest e =
+    let a = bind_ok (next_index_at before bytes) (λ index. changes_at v index.1 >>= λ changes. Ok (record { index = index.0; changes = changes.0 }, changes.1)) (part, rest) e in
+    let b = bind_ok (changes_at v a.0.1) (λ changes. Ok (record { index = a.0.0; changes = changes.0 }, changes.1)) (part, rest) a.2 in
     let made : IndexedChangesRecord × List ℕ = (record { index = a.0.0; changes = b.0.0 }, b.0.1) in
     subst (λ (y : IndexedChangesRecord × List ℕ). Ascends ltb (λ p. p.index) (λ p. 1 ≤ p.index) before y.0) (ok_is made (part, rest) b.2)
     (next_index_ascends before bytes a.0.0 a.0.1 a.1)
 
-parts_follow : (count : ℕ) (bytes : List ℕ) (parts : List IndexedChangesRecord) (rest : List ℕ) → elements_at next_indexed_changes_at (λ _ part. Some part.index) count None bytes ≡ Ok (parts, rest) → (length parts ≡ count) × Follow ltb (λ p. p.index) (λ p. 1 ≤ p.index) None parts
-parts_follow count bytes parts rest e =
-    elements_along next_indexed_changes_at (λ _ part. Some part.index) (Ascends ltb (λ p. p.index) (λ p. 1 ≤ p.index)) next_part_ascends count None bytes parts rest e
+parts_follow : (v : Version) (count : ℕ) (bytes : List ℕ) (parts : List IndexedChangesRecord) (rest : List ℕ) → elements_at (next_part_at v) (λ _ part. Some part.index) count None bytes ≡ Ok (parts, rest) → (length parts ≡ count) × Follow ltb (λ p. p.index) (λ p. 1 ≤ p.index) None parts
+parts_follow v count bytes parts rest e =
+    elements_along (next_part_at v) (λ _ part. Some part.index) (Ascends ltb (λ p. p.index) (λ p. 1 ≤ p.index)) (next_part_ascends v) count None bytes parts rest e
 
-pub parts_long : (count : ℕ) (bytes : List ℕ) (parts : List IndexedChangesRecord) (rest : List ℕ) → elements_at next_indexed_changes_at (λ _ part. Some part.index) count None bytes ≡ Ok (parts, rest) → length parts ≡ count
-parts_long count bytes parts rest e = (parts_follow count bytes parts rest e).0
+pub parts_long : (v : Version) (count : ℕ) (bytes : List ℕ) (parts : List IndexedChangesRecord) (rest : List ℕ) → elements_at (next_part_at v) (λ _ part. Some part.index) count None bytes ≡ Ok (parts, rest) → length parts ≡ count
+parts_long v count bytes parts rest e = (parts_follow v count bytes parts rest e).0
 
-pub parts_ascend : (count : ℕ) (bytes : List ℕ) (parts : List IndexedChangesRecord) (rest : List ℕ) → elements_at next_indexed_changes_at (λ _ part. Some part.index) count None bytes ≡ Ok (parts, rest) → AllPairs (λ a b. a.index < b.index) parts
-parts_ascend count bytes parts rest e =
-    let h = AllPairs-from_follow ltb (λ p. p.index) (λ p. 1 ≤ p.index) lt-trans None parts (parts_follow count bytes parts rest e).1 in
+pub parts_ascend : (v : Version) (count : ℕ) (bytes : List ℕ) (parts : List IndexedChangesRecord) (rest : List ℕ) → elements_at (next_part_at v) (λ _ part. Some part.index) count None bytes ≡ Ok (parts, rest) → AllPairs (λ a b. a.index < b.index) parts
+parts_ascend v count bytes parts rest e =
+    let h = AllPairs-from_follow ltb (λ p. p.index) (λ p. 1 ≤ p.index) lt-trans None parts (parts_follow v count bytes parts rest e).1 in
     λ i j d lt within. ltb-true _ _ (h i j d lt within)

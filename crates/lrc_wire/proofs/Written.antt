@@ -1,5 +1,6 @@
 -- Writing elements one after the other, as a loop does.
-use Rattle.std.proofs.Common.{◌≡◌, ◌∙◌, ℕ, ◌+◌, ◌<◌, List, ◌++◌, length, get_or, take, sym, ap}
+use Rattle.std.proofs.Common.{◌≡◌, ◌∙◌, ℕ, ◌+◌, ◌<◌, List, [], ◌∷◌, ◌++◌, length, get_or, take, Result, Ok, Err, sym, ap}
+use Rattle.std.specs.Prelude.{OnOk}
 use Rattle.std.specs.Int.{Width}
 use Rattle.std.specs.List.{flat_map}
 use Rattle.std.proofs.lemmas.List.{flat_map_more, take_more}
@@ -15,3 +16,13 @@ pub numbers-take_more : (w : Width) (before xs : List ℕ) (i : ℕ) → i < len
     → (before ++ numbers w (take i xs)) ++ number w (get_or xs i 0) ≡ before ++ numbers w (take (i + 1) xs)
 unfolding numbers
 numbers-take_more w before xs i within = flat_map-take_more (number w) before xs i 0 within
+
+-- one more number behind others
+pub numbers-more : (w : Width) (before xs : List ℕ) (x : ℕ) → (before ++ numbers w xs) ++ number w x ≡ before ++ numbers w (xs ++ x ∷ [])
+unfolding numbers
+numbers-more w before xs x = flat_map_more (number w) before xs x
+
+-- what follows from what holds on success holds on success
+pub on_ok_so : {T E P Q : Type 0} (r : Result T E) → (P → Q) → OnOk r P → OnOk r Q
+on_ok_so (Ok x) f p = f p
+on_ok_so (Err e) f p = tt

@@ -1,14 +1,15 @@
--- Which numbers and lists a message may have: the ranges and orders of its fields.
-use Rattle.std.specs.Prelude.{◌≡◌, ℕ, ◌^◌, ◌<◌, ◌≤◌, List, length, All, AllPairs}
-use Rattle.std.specs.List.Sorted.{IsStrictlyIncreasing}
-use Rattle.lrc_page.specs.declared.TheConstants.{PAGE_WORDS}
-use Rattle.lrc_store.specs.declared.interval.TheConstants.{MOST_PAGES}
-use Rattle.lrc_store.specs.Interval.{IntervalRecord, IsInterval}
+-- Which numbers and lists a version can spell: the ranges and orders of the fields of each kind.
+use Rattle.std.specs.Prelude.{◌≡◌, ℕ, ◌^◌, ◌<◌, ◌≤◌, ◌⊎◌, IsTrue, List, length, All, AllPairs}
+use Rattle.lrc_page.specs.declared.TheConstants.{MOST_PAGE_WORDS}
+use Rattle.lrc_store.specs.Interval.{IntervalRecord, IsInterval, by_node}
 use Rattle.lrc_wire.specs.declared.limits.TheConstants.{MOST_LOCKS, MOST_NODES}
+use Rattle.lrc_wire.specs.declared.version.Version.{Version}
+use Rattle.lrc_wire.specs.declared.version.Version.TheVariants.{One, Two}
 use Rattle.lrc_wire.specs.declared.message.Message.{Message}
 use Rattle.lrc_wire.specs.declared.message.Message.TheVariants.{LockRequest, LockForward, LockGrant, Arrive, Depart, Clean, Discard, ChangesRequest, ChangesReply, PageRequest, PageReply}
-use Rattle.lrc_wire.specs.Records.{GoWith, IndexedChangesRecord, IsIndexedChanges}
-use Rattle.lrc_wire.specs.Envelope.{EnvelopeRecord}
+use Rattle.lrc_wire.specs.Versions.{pages_in, words_in}
+use Rattle.lrc_wire.specs.Records.{GoWith, AreIndices, IndexedChangesRecord, IsIndexedChanges, AreParts}
+use Rattle.lrc_wire.specs.Envelope.{EnvelopeRecord, IsEnvelope}
 
 -- a number of so many bits
 abbrev pub HasBits : ℕ → ℕ → Type 0
@@ -20,62 +21,72 @@ pub record IsTime (time : List ℕ) : Type 0 where
   pub few : length time ≤ MOST_NODES
   pub bits : All (HasBits 32) time
 
--- a time, and intervals that go with it
-pub record IsNews (time : List ℕ) (intervals : List IntervalRecord) : Type 0 where
-  pub begins : IsTime time
-  pub count : HasBits 32 (length intervals)
-  pub each : All IsInterval intervals
-  pub bits : All (λ interval. All (HasBits 32) interval.stamp) intervals
-  pub together : GoWith (length time) intervals
-
--- an index, at least 1
-pub record IsIndex (index : ℕ) : Type 0 where
-  pub begun : 1 ≤ index
-  pub bits : HasBits 32 index
-
 -- an episode, at least 1
 pub record IsEpisode (episode : ℕ) : Type 0 where
   pub begun : 1 ≤ episode
   pub bits : HasBits 32 episode
 
--- at least one index, strictly ascending
-pub record AreIndices (indices : List ℕ) : Type 0 where
+-- the pages of an interval
+abbrev pub NamesPages : Version → IntervalRecord → Type 0
+NamesPages version interval = All (λ page. page < pages_in version) interval.pages
+
+-- a time, and intervals that go with it, ascending by node, then index
+pub record FitNews (version : Version) (time : List ℕ) (intervals : List IntervalRecord) : Type 0 where
+  pub begins : IsTime time
+  pub count : HasBits 32 (length intervals)
+  pub each : All IsInterval intervals
+  pub bits : All (λ interval. All (HasBits 32) interval.stamp) intervals
+  pub pages : All (NamesPages version) intervals
+  pub together : GoWith (length time) intervals
+  pub ascending : AllPairs (λ a b. IsTrue (by_node a b)) intervals
+
+-- at least one index
+pub record FitIndices (indices : List ℕ) : Type 0 where
   pub some : 1 ≤ length indices
   pub count : HasBits 32 (length indices)
-  pub each : All IsIndex indices
-  pub ascending : IsStrictlyIncreasing indices
+  pub are : AreIndices indices
+  pub bits : All (HasBits 32) indices
 
--- what at least one interval changed in a page, strictly ascending by index
-pub record AreChanges (parts : List IndexedChangesRecord) : Type 0 where
+-- what an interval changed
+pub record FitPart (version : Version) (part : IndexedChangesRecord) : Type 0 where
+  pub is : IsIndexedChanges part
+  pub bits : HasBits 32 part.index
+  pub offsets : All (λ change. change.offset < words_in version) part.changes
+  pub values : All (λ change. HasBits 64 change.value) part.changes
+
+-- what at least one interval changed
+pub record FitParts (version : Version) (parts : List IndexedChangesRecord) : Type 0 where
   pub some : 1 ≤ length parts
   pub count : HasBits 32 (length parts)
-  pub each : All IsIndexedChanges parts
-  pub index_bits : All (λ part. HasBits 32 part.index) parts
-  pub value_bits : All (λ part. All (λ change. HasBits 64 change.value) part.changes) parts
-  pub ascending : AllPairs (λ a b. a.index < b.index) parts
+  pub each : All (FitPart version) parts
+  pub are : AreParts parts
+
+-- how many words a page may have
+abbrev pub IsSize : Version → ℕ → Type 0
+IsSize One words = words ≡ 64
+IsSize Two words = (words ≡ 64) ⊎ (words ≡ MOST_PAGE_WORDS)
 
 -- a value for each word of a page
-pub record ArePageValues (values : List ℕ) : Type 0 where
-  pub all : length values ≡ PAGE_WORDS
+pub record FitValues (version : Version) (values : List ℕ) : Type 0 where
+  pub all : IsSize version (length values)
   pub bits : All (HasBits 64) values
 
 -- the ranges and orders of each kind
-abbrev pub IsMessage : Message → Type 0
-IsMessage (LockRequest m) = (m.lock < MOST_LOCKS) × IsTime m.time
-IsMessage (LockForward m) = (m.lock < MOST_LOCKS) × (m.asker < MOST_NODES) × IsTime m.time
-IsMessage (LockGrant m) = (m.lock < MOST_LOCKS) × IsNews m.time m.intervals
-IsMessage (Arrive m) = IsEpisode m.episode × IsNews m.time m.intervals
-IsMessage (Depart m) = IsEpisode m.episode × IsNews m.time m.intervals
-IsMessage (Clean episode) = IsEpisode episode
-IsMessage (Discard episode) = IsEpisode episode
-IsMessage (ChangesRequest m) = (m.page < MOST_PAGES) × AreIndices m.indices
-IsMessage (ChangesReply m) = (m.page < MOST_PAGES) × AreChanges m.parts
-IsMessage (PageRequest page) = page < MOST_PAGES
-IsMessage (PageReply m) = (m.page < MOST_PAGES) × ArePageValues m.values
+abbrev pub IsMessage : Version → Message → Type 0
+IsMessage v (LockRequest m) = (m.lock < MOST_LOCKS) × IsTime m.time
+IsMessage v (LockForward m) = (m.lock < MOST_LOCKS) × (m.asker < MOST_NODES) × IsTime m.time
+IsMessage v (LockGrant m) = (m.lock < MOST_LOCKS) × FitNews v m.time m.intervals
+IsMessage v (Arrive m) = IsEpisode m.episode × FitNews v m.time m.intervals
+IsMessage v (Depart m) = IsEpisode m.episode × FitNews v m.time m.intervals
+IsMessage v (Clean episode) = IsEpisode episode
+IsMessage v (Discard episode) = IsEpisode episode
+IsMessage v (ChangesRequest m) = (m.page < pages_in v) × FitIndices m.indices
+IsMessage v (ChangesReply m) = (m.page < pages_in v) × FitParts v m.parts
+IsMessage v (PageRequest page) = page < pages_in v
+IsMessage v (PageReply m) = (m.page < pages_in v) × FitValues v m.values
 
 -- the ranges and orders of an envelope
-pub record IsFit (envelope : EnvelopeRecord) : Type 0 where
-  pub from : envelope.from < MOST_NODES
-  pub to : envelope.to < MOST_NODES
+pub record IsFit (version : Version) (envelope : EnvelopeRecord) : Type 0 where
+  pub ends : IsEnvelope envelope
   pub number : HasBits 32 envelope.number
-  pub message : IsMessage envelope.message
+  pub message : IsMessage version envelope.message

@@ -1,21 +1,28 @@
 -- Reading from left to right, field by field, up to the first fault: which field is looked at, and what is wrong with it.
-use Rattle.std.specs.Prelude.{◌≡◌, ◌≢◌, ℕ, zero, suc, ◌+◌, Bool, true, not, ◌&&◌, ◌||◌, List, [], ◌∷◌, length, take, drop, Option, Some, None, Result, Ok, Err, ok_or, nat_lt, nat_le, ◌==◌, if◌then◌else◌}
+use Rattle.std.specs.Prelude.{◌≡◌, ◌≢◌, ℕ, zero, suc, ◌+◌, ◌-◌, Bool, true, not, ◌&&◌, ◌||◌, List, [], ◌∷◌, ◌++◌, length, take, drop, Option, Some, None, Result, Ok, Err, ok_or, nat_lt, nat_le, ◌==◌, if◌then◌else◌}
 use Rattle.std.specs.Int.{Width, w16, w32, w64, byte_len, from_be_bytes}
 use Rattle.lrc_time.specs.Time.{entry}
-use Rattle.lrc_page.specs.declared.TheConstants.{PAGE_WORDS}
+use Rattle.std.specs.List.{flat_map}
+use Rattle.lrc_page.specs.declared.TheConstants.{MOST_PAGE_WORDS}
 use Rattle.lrc_page.specs.declared.changes.Change.{Change}
-use Rattle.lrc_store.specs.declared.interval.TheConstants.{MOST_PAGES}
 use Rattle.lrc_store.specs.Interval.{IntervalRecord, index_of}
 use Rattle.lrc_wire.specs.declared.fault.WireFault.{WireFault}
 use Rattle.lrc_wire.specs.declared.fault.WireFault.TheVariants.{Short, Long, BadVersion, BadKind, BadNode, BadCount, NotAscending, NoMemory}
 use Rattle.lrc_wire.specs.declared.kind.Kind.{Kind}
 use Rattle.lrc_wire.specs.declared.kind.Kind.TheVariants as kinds
-use Rattle.lrc_wire.specs.declared.reading.header.Header.{Header}
-use Rattle.lrc_wire.specs.declared.limits.TheConstants.{MOST_LOCKS, MOST_NODES, HEADER_BYTES, MOST_BODY_BYTES}
+use Rattle.lrc_wire.specs.declared.version.Version.{Version}
+use Rattle.lrc_wire.specs.declared.version.Version.TheVariants.{One, Two}
+use Rattle.lrc_wire.specs.declared.limits.TheConstants.{MOST_LOCKS, MOST_NODES, MOST_RUNS, HEADER_BYTES, MOST_BODY_BYTES}
 use Rattle.lrc_wire.specs.declared.message.Message.{Message}
 use Rattle.lrc_wire.specs.declared.message.Message.TheVariants.{LockRequest, LockForward, LockGrant, Arrive, Depart, Clean, Discard, ChangesRequest, ChangesReply, PageRequest, PageReply}
-use Rattle.lrc_wire.specs.Records.{LockRequestRecord, LockForwardRecord, LockGrantRecord, ArriveRecord, DepartRecord, ChangesRequestRecord, ChangesReplyRecord, PageReplyRecord, IndexedChangesRecord}
+use Rattle.lrc_wire.specs.Versions.{version_of, pages_in, words_in}
+use Rattle.lrc_wire.specs.Records.{NewsRecord, LockRequestRecord, LockForwardRecord, LockGrantRecord, ArriveRecord, DepartRecord, ChangesRequestRecord, ChangesReplyRecord, PageReplyRecord, IndexedChangesRecord}
+use Rattle.lrc_wire.specs.Runs.{Run, changes_of}
 use Rattle.lrc_wire.specs.Envelope.{EnvelopeRecord}
+
+-- the last offset of a run
+abbrev pub last_of : Run → ℕ
+last_of run = run.first + (length run.values - 1)
 
 infixl 10 ◌>>=◌
 abbrev pub ◌>>=◌ : {A B : Type 0} → Result A WireFault → (A → Result B WireFault) → Result B WireFault
@@ -26,6 +33,18 @@ abbrev pub ◌>>=◌ : {A B : Type 0} → Result A WireFault → (A → Result B
 abbrev pub Gives : {X Y : Type 0} → (X → Y) → Result X WireFault → Result Y WireFault → Type 0
 Gives view (Ok x) read = read ≡ Ok (view x)
 Gives view (Err fault) read = fault ≢ NoMemory → read ≡ Err fault
+
+-- a function that puts a run behind changes and returned its last offset did so with the run that reading gives,
+-- unless memory ran out
+abbrev pub PutsRun : Result ℕ WireFault → Result (Run × List ℕ) WireFault → List Change → List Change → List ℕ → Type 0
+PutsRun (Ok last) read old new rest = (run : Run) × (read ≡ Ok (run, rest)) × (new ≡ old ++ changes_of run) × (last ≡ last_of run)
+PutsRun (Err fault) read old new rest = fault ≢ NoMemory → read ≡ Err fault
+
+-- the same of a function that puts values at offsets from `first` on
+abbrev pub PutsValues : {X : Type 0} → Result X WireFault → Result (List ℕ × List ℕ) WireFault → ℕ → List Change → List Change → List ℕ → Type 0
+PutsValues (Ok done) read first old new rest =
+    (values : List ℕ) × (read ≡ Ok (values, rest)) × (new ≡ old ++ changes_of (record { first = first; values = values }))
+PutsValues (Err fault) read first old new rest = fault ≢ NoMemory → read ≡ Err fault
 
 -- a value and the bytes after it, or the first fault
 abbrev pub Field : Type 0 → Type 0
@@ -71,8 +90,8 @@ node_at bytes = tested (λ n. nat_lt n MOST_NODES) BadNode (byte_at bytes)
 unfoldable pub episode_at : List ℕ → Field ℕ
 episode_at bytes = tested (λ n. nat_le 1 n) BadCount (number_at w32 bytes)
 
-unfoldable pub page_at : List ℕ → Field ℕ
-page_at bytes = tested (λ n. nat_lt n MOST_PAGES) BadCount (number_at w16 bytes)
+unfoldable pub page_at : Version → List ℕ → Field ℕ
+page_at version bytes = tested (λ n. nat_lt n (pages_in version)) BadCount (number_at w16 bytes)
 
 unfoldable pub flag_at : List ℕ → Field Bool
 flag_at bytes = do
@@ -100,35 +119,41 @@ stamp_at nodes own bytes = do
   entries_at (Some own) nodes count.1
 
 -- a page after another, tested for its range first
-unfoldable pub next_page_at : Option ℕ → List ℕ → Field ℕ
-next_page_at before bytes = tested (is_after nat_lt before) NotAscending (page_at bytes)
+unfoldable pub next_page_at : Version → Option ℕ → List ℕ → Field ℕ
+next_page_at version before bytes = tested (is_after nat_lt before) NotAscending (page_at version bytes)
 
-unfoldable pub pages_at : List ℕ → Field (List ℕ)
-pages_at bytes = do
+unfoldable pub pages_at : Version → List ℕ → Field (List ℕ)
+pages_at version bytes = do
   count ← number_at w16 bytes
-  elements_at next_page_at (λ _ page. Some page) count.0 None count.1
+  elements_at (next_page_at version) (λ _ page. Some page) count.0 None count.1
 
 -- a lower node, or a lower index of the same node
 abbrev pub is_below : ℕ × ℕ → ℕ × ℕ → Bool
 is_below a b = nat_lt a.0 b.0 || ((a.0 == b.0) && nat_lt a.1 b.1)
 
 -- what an interval is known by
-abbrev pub key_of : IntervalRecord → ℕ × ℕ
-key_of interval = (interval.node, index_of interval)
+abbrev pub known_by : IntervalRecord → ℕ × ℕ
+known_by interval = (interval.node, index_of interval)
 
 -- an interval after another, which it is compared with after its stamp and before its pages
-unfoldable pub next_interval_at : ℕ → Option (ℕ × ℕ) → List ℕ → Field IntervalRecord
-next_interval_at nodes before bytes = do
+unfoldable pub next_interval_at : Version → ℕ → Option (ℕ × ℕ) → List ℕ → Field IntervalRecord
+next_interval_at version nodes before bytes = do
   node ← tested (λ n. nat_lt n nodes) BadNode (byte_at bytes)
   stamp ← tested (λ stamp. is_after is_below before (node.0, entry stamp node.0)) NotAscending (stamp_at nodes node.0 node.1)
-  pages ← pages_at stamp.1
+  pages ← pages_at version stamp.1
   Ok (record { node = node.0; stamp = stamp.0; pages = pages.0 }, pages.1)
 
 -- intervals beside a time of so many nodes
-unfoldable pub intervals_at : ℕ → List ℕ → Field (List IntervalRecord)
-intervals_at nodes bytes = do
+unfoldable pub intervals_at : Version → ℕ → List ℕ → Field (List IntervalRecord)
+intervals_at version nodes bytes = do
   count ← number_at w32 bytes
-  elements_at (next_interval_at nodes) (λ _ interval. Some (key_of interval)) count.0 None count.1
+  elements_at (next_interval_at version nodes) (λ _ interval. Some (known_by interval)) count.0 None count.1
+
+unfoldable pub news_at : Version → List ℕ → Field NewsRecord
+news_at version bytes = do
+  time ← time_at bytes
+  intervals ← intervals_at version (length time.0) time.1
+  Ok (record { time = time.0; intervals = intervals.0 }, intervals.1)
 
 -- ---- changes
 
@@ -147,7 +172,7 @@ indices_at bytes = do
 
 -- an offset after another, tested for its range first
 unfoldable pub next_offset_at : Option ℕ → List ℕ → Field ℕ
-next_offset_at before bytes = tested (is_after nat_lt before) NotAscending (tested (λ n. nat_lt n PAGE_WORDS) BadCount (byte_at bytes))
+next_offset_at before bytes = tested (is_after nat_lt before) NotAscending (tested (λ n. nat_lt n (words_in One)) BadCount (byte_at bytes))
 
 unfoldable pub next_change_at : Option ℕ → List ℕ → Field Change
 next_change_at before bytes = do
@@ -155,21 +180,51 @@ next_change_at before bytes = do
   value ← number_at w64 offset.1
   Ok (record { offset = offset.0; value = value.0 }, value.1)
 
-unfoldable pub changes_at : List ℕ → Field (List Change)
-changes_at bytes = do
-  count ← tested (λ n. nat_le n PAGE_WORDS) BadCount (byte_at bytes)
+-- changes one by one
+unfoldable pub singly_at : List ℕ → Field (List Change)
+singly_at bytes = do
+  count ← tested (λ n. nat_le n (words_in One)) BadCount (byte_at bytes)
   elements_at next_change_at (λ _ change. Some change.offset) count.0 None count.1
 
-unfoldable pub next_indexed_changes_at : Option ℕ → List ℕ → Field IndexedChangesRecord
-next_indexed_changes_at before bytes = do
+-- at least one offset lies between
+abbrev pub is_apart : ℕ → ℕ → Bool
+is_apart last first = nat_lt (last + 1) first
+
+-- so many values
+unfoldable pub values_at : ℕ → List ℕ → Field (List ℕ)
+values_at count bytes = elements_at (λ _ rest. number_at w64 rest) (λ state _. state) count (tt {0}) bytes
+
+-- a run after another, which ends at the offset `before`
+unfoldable pub next_run_at : Option ℕ → List ℕ → Field Run
+next_run_at before bytes = do
+  first ← tested (is_after is_apart before) NotAscending (byte_at bytes)
+  more ← tested (λ n. nat_lt (first.0 + n) MOST_PAGE_WORDS) BadCount (byte_at first.1)
+  values ← values_at (more.0 + 1) more.1
+  Ok (record { first = first.0; values = values.0 }, values.1)
+
+-- the changes of runs that were read
+abbrev pub whole_runs : Field (List Run) → Field (List Change)
+whole_runs read = read >>= λ runs. Ok (flat_map changes_of runs.0, runs.1)
+
+unfoldable pub runs_at : List ℕ → Field (List Run)
+runs_at bytes = do
+  count ← tested (λ n. nat_le n MOST_RUNS) BadCount (number_at w16 bytes)
+  elements_at next_run_at (λ _ run. Some (last_of run)) count.0 None count.1
+
+unfoldable pub changes_at : Version → List ℕ → Field (List Change)
+changes_at One bytes = singly_at bytes
+changes_at Two bytes = whole_runs (runs_at bytes)
+
+unfoldable pub next_part_at : Version → Option ℕ → List ℕ → Field IndexedChangesRecord
+next_part_at version before bytes = do
   index ← next_index_at before bytes
-  changes ← changes_at index.1
+  changes ← changes_at version index.1
   Ok (record { index = index.0; changes = changes.0 }, changes.1)
 
-unfoldable pub changes_by_index_at : List ℕ → Field (List IndexedChangesRecord)
-changes_by_index_at bytes = do
+unfoldable pub parts_at : Version → List ℕ → Field (List IndexedChangesRecord)
+parts_at version bytes = do
   count ← count_at bytes
-  elements_at next_indexed_changes_at (λ _ part. Some part.index) count.0 None count.1
+  elements_at (next_part_at version) (λ _ part. Some part.index) count.0 None count.1
 
 -- ---- bodies
 
@@ -186,49 +241,62 @@ lock_forward_at bytes = do
   time ← time_at asker.1
   Ok (record { lock = lock.0; asker = asker.0; time = time.0 }, time.1)
 
-unfoldable pub lock_grant_at : List ℕ → Field LockGrantRecord
-lock_grant_at bytes = do
+unfoldable pub lock_grant_at : Version → List ℕ → Field LockGrantRecord
+lock_grant_at version bytes = do
   lock ← lock_at bytes
-  time ← time_at lock.1
-  intervals ← intervals_at (length time.0) time.1
-  Ok (record { lock = lock.0; time = time.0; intervals = intervals.0 }, intervals.1)
+  news ← news_at version lock.1
+  Ok (record { lock = lock.0; time = news.0.time; intervals = news.0.intervals }, news.1)
 
-unfoldable pub arrive_at : List ℕ → Field ArriveRecord
-arrive_at bytes = do
+unfoldable pub arrive_at : Version → List ℕ → Field ArriveRecord
+arrive_at version bytes = do
   episode ← episode_at bytes
   ask ← flag_at episode.1
-  time ← time_at ask.1
-  intervals ← intervals_at (length time.0) time.1
-  Ok (record { episode = episode.0; ask = ask.0; time = time.0; intervals = intervals.0 }, intervals.1)
+  news ← news_at version ask.1
+  Ok (record { episode = episode.0; ask = ask.0; time = news.0.time; intervals = news.0.intervals }, news.1)
 
-unfoldable pub depart_at : List ℕ → Field DepartRecord
-depart_at bytes = do
+unfoldable pub depart_at : Version → List ℕ → Field DepartRecord
+depart_at version bytes = do
   episode ← episode_at bytes
   collect ← flag_at episode.1
-  time ← time_at collect.1
-  intervals ← intervals_at (length time.0) time.1
-  Ok (record { episode = episode.0; collect = collect.0; time = time.0; intervals = intervals.0 }, intervals.1)
+  news ← news_at version collect.1
+  Ok (record { episode = episode.0; collect = collect.0; time = news.0.time; intervals = news.0.intervals }, news.1)
 
-unfoldable pub changes_request_at : List ℕ → Field ChangesRequestRecord
-changes_request_at bytes = do
-  page ← page_at bytes
+unfoldable pub changes_request_at : Version → List ℕ → Field ChangesRequestRecord
+changes_request_at version bytes = do
+  page ← page_at version bytes
   indices ← indices_at page.1
   Ok (record { page = page.0; indices = indices.0 }, indices.1)
 
-unfoldable pub changes_reply_at : List ℕ → Field ChangesReplyRecord
-changes_reply_at bytes = do
-  page ← page_at bytes
-  parts ← changes_by_index_at page.1
+unfoldable pub changes_reply_at : Version → List ℕ → Field ChangesReplyRecord
+changes_reply_at version bytes = do
+  page ← page_at version bytes
+  parts ← parts_at version page.1
   Ok (record { page = page.0; parts = parts.0 }, parts.1)
 
--- a value for each word of a page
-unfoldable pub values_at : List ℕ → Field (List ℕ)
-values_at bytes = elements_at (λ _ rest. number_at w64 rest) (λ state _. state) PAGE_WORDS (tt {0}) bytes
+abbrev pub clean_at : List ℕ → Field ℕ
+clean_at bytes = episode_at bytes
 
-unfoldable pub page_reply_at : List ℕ → Field PageReplyRecord
-page_reply_at bytes = do
-  page ← page_at bytes
-  values ← values_at page.1
+abbrev pub discard_at : List ℕ → Field ℕ
+discard_at bytes = episode_at bytes
+
+abbrev pub page_request_at : Version → List ℕ → Field ℕ
+page_request_at version bytes = page_at version bytes
+
+-- how many words a page has
+unfoldable pub size_at : Version → List ℕ → Field ℕ
+size_at One bytes = Ok (words_in One, bytes)
+size_at Two bytes = tested (λ n. n == 64 || n == MOST_PAGE_WORDS) BadCount (number_at w16 bytes)
+
+-- a value for each word of a page
+unfoldable pub page_values_at : Version → List ℕ → Field (List ℕ)
+page_values_at version bytes = do
+  size ← size_at version bytes
+  values_at size.0 size.1
+
+unfoldable pub page_reply_at : Version → List ℕ → Field PageReplyRecord
+page_reply_at version bytes = do
+  page ← page_at version bytes
+  values ← page_values_at version page.1
   Ok (record { page = page.0; values = values.0 }, values.1)
 
 -- the kind of each number
@@ -247,40 +315,22 @@ kind_of n =
     else if n == 11 then Some kinds.PageReply
     else None
 
-unfoldable pub body_at : Kind → List ℕ → Field Message
-body_at kinds.LockRequest bytes = do
-  m ← lock_request_at bytes
-  Ok (LockRequest m.0, m.1)
-body_at kinds.LockForward bytes = do
-  m ← lock_forward_at bytes
-  Ok (LockForward m.0, m.1)
-body_at kinds.LockGrant bytes = do
-  m ← lock_grant_at bytes
-  Ok (LockGrant m.0, m.1)
-body_at kinds.Arrive bytes = do
-  m ← arrive_at bytes
-  Ok (Arrive m.0, m.1)
-body_at kinds.Depart bytes = do
-  m ← depart_at bytes
-  Ok (Depart m.0, m.1)
-body_at kinds.Clean bytes = do
-  episode ← episode_at bytes
-  Ok (Clean episode.0, episode.1)
-body_at kinds.Discard bytes = do
-  episode ← episode_at bytes
-  Ok (Discard episode.0, episode.1)
-body_at kinds.ChangesRequest bytes = do
-  m ← changes_request_at bytes
-  Ok (ChangesRequest m.0, m.1)
-body_at kinds.ChangesReply bytes = do
-  m ← changes_reply_at bytes
-  Ok (ChangesReply m.0, m.1)
-body_at kinds.PageRequest bytes = do
-  page ← page_at bytes
-  Ok (PageRequest page.0, page.1)
-body_at kinds.PageReply bytes = do
-  m ← page_reply_at bytes
-  Ok (PageReply m.0, m.1)
+-- a field as a message
+unfoldable pub as_message : {A : Type 0} → (A → Message) → Field A → Field Message
+as_message make field = field >>= λ m. Ok (make m.0, m.1)
+
+unfoldable pub body_at : Version → Kind → List ℕ → Field Message
+body_at version kinds.LockRequest bytes = as_message (λ m. LockRequest m) (lock_request_at bytes)
+body_at version kinds.LockForward bytes = as_message (λ m. LockForward m) (lock_forward_at bytes)
+body_at version kinds.LockGrant bytes = as_message (λ m. LockGrant m) (lock_grant_at version bytes)
+body_at version kinds.Arrive bytes = as_message (λ m. Arrive m) (arrive_at version bytes)
+body_at version kinds.Depart bytes = as_message (λ m. Depart m) (depart_at version bytes)
+body_at version kinds.Clean bytes = as_message (λ m. Clean m) (clean_at bytes)
+body_at version kinds.Discard bytes = as_message (λ m. Discard m) (discard_at bytes)
+body_at version kinds.ChangesRequest bytes = as_message (λ m. ChangesRequest m) (changes_request_at version bytes)
+body_at version kinds.ChangesReply bytes = as_message (λ m. ChangesReply m) (changes_reply_at version bytes)
+body_at version kinds.PageRequest bytes = as_message (λ m. PageRequest m) (page_request_at version bytes)
+body_at version kinds.PageReply bytes = as_message (λ m. PageReply m) (page_reply_at version bytes)
 
 -- ---- envelopes
 
@@ -290,23 +340,38 @@ kind_at bytes = do
   kind ← ok_or (kind_of n.0) BadKind
   Ok (kind, n.1)
 
-unfoldable pub header_at : List ℕ → Field Header
+unfoldable pub version_at : List ℕ → Field Version
+version_at bytes = do
+  n ← byte_at bytes
+  version ← ok_or (version_of n.0) BadVersion
+  Ok (version, n.1)
+
+-- what a header says of the message behind it
+pub record HeaderRecord : Type 0 where
+  pub version : Version
+  pub kind : Kind
+  pub from : ℕ
+  pub to : ℕ
+  pub number : ℕ
+  pub body_len : ℕ
+
+unfoldable pub header_at : List ℕ → Field HeaderRecord
 header_at bytes = do
-  version ← tested (λ n. n == 1) BadVersion (byte_at bytes)
+  version ← version_at bytes
   kind ← kind_at version.1
   from ← node_at kind.1
   to ← node_at from.1
   number ← number_at w32 to.1
   body_len ← tested (λ n. nat_le n MOST_BODY_BYTES) BadCount (number_at w32 number.1)
-  Ok (record { kind = kind.0; from = from.0; to = to.0; number = number.0; body_len = body_len.0 }, body_len.1)
+  Ok (record { version = version.0; kind = kind.0; from = from.0; to = to.0; number = number.0; body_len = body_len.0 }, body_len.1)
 
 -- a body of so many bytes, and no byte after it
-unfoldable pub whole_body_of : Kind → ℕ → List ℕ → Result Message WireFault
-whole_body_of kind len bytes =
+unfoldable pub whole_body_of : Version → Kind → ℕ → List ℕ → Result Message WireFault
+whole_body_of version kind len bytes =
     if nat_lt (length bytes) len then Err Short
     else if nat_lt len (length bytes) then Err Long
     else do
-      message ← body_at kind bytes
+      message ← body_at version kind bytes
       if length message.1 == 0 then Ok message.0 else Err Long
 
 -- all of the bytes
@@ -315,5 +380,5 @@ envelope_of bytes =
     if nat_lt (length bytes) HEADER_BYTES then Err Short
     else do
       header ← header_at bytes
-      message ← whole_body_of header.0.kind header.0.body_len header.1
+      message ← whole_body_of header.0.version header.0.kind header.0.body_len header.1
       Ok (record { from = header.0.from; to = header.0.to; number = header.0.number; message = message })

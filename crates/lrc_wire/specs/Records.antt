@@ -1,19 +1,31 @@
--- What the messages say, as contracts see them: numbers and lists.
-use Rattle.std.specs.Prelude.{◌≡◌, ℕ, ◌<◌, ◌≤◌, Bool, IsTrue, List, length, All, AllPairs}
+-- What the messages say, as contracts see them: numbers and lists. What the types keep of their ranges and orders.
+use Rattle.std.specs.Prelude.{◌≡◌, ℕ, ◌-◌, ◌<◌, ◌≤◌, Bool, List, length, Option, slice_get, All, AllPairs}
 use Rattle.std.specs.List.Sorted.{IsStrictlyIncreasing}
-use Rattle.lrc_page.specs.declared.TheConstants.{PAGE_WORDS}
+use Rattle.lrc_page.specs.declared.TheConstants.{MOST_PAGES, MOST_PAGE_WORDS}
 use Rattle.lrc_page.specs.declared.changes.Change.{Change}
 use Rattle.lrc_page.specs.Changes.{IsAscending}
-use Rattle.lrc_store.specs.declared.interval.TheConstants.{MOST_PAGES}
-use Rattle.lrc_store.specs.Interval.{IntervalRecord, by_node}
+use Rattle.lrc_store.specs.Interval.{IntervalRecord}
 use Rattle.lrc_wire.specs.declared.limits.TheConstants.{MOST_LOCKS, MOST_NODES}
 
 -- ---- parts of several kinds
 
--- intervals beside a time of so many nodes: their stamps have as many entries, and they ascend by node, then index
-pub record GoWith (nodes : ℕ) (intervals : List IntervalRecord) : Type 0 where
-  pub stamps : All (λ interval. length interval.stamp ≡ nodes) intervals
-  pub ascending : AllPairs (λ a b. IsTrue (by_node a b)) intervals
+-- what a node tells of what it knows: its time, and intervals
+pub record NewsRecord : Type 0 where
+  pub time : List ℕ
+  pub intervals : List IntervalRecord
+
+-- the stamps beside a time of so many nodes have as many entries
+abbrev pub GoWith : ℕ → List IntervalRecord → Type 0
+GoWith nodes intervals = All (λ interval. length interval.stamp ≡ nodes) intervals
+
+-- indices begin at 1 and ascend
+pub record AreIndices (indices : List ℕ) : Type 0 where
+  pub begun : All (λ index. 1 ≤ index) indices
+  pub ascending : IsStrictlyIncreasing indices
+
+-- the greatest index
+abbrev pub last_index : List ℕ → Option ℕ
+last_index indices = slice_get indices (length indices - 1)
 
 -- what the interval of this index changed in a page
 pub record IndexedChangesRecord : Type 0 where
@@ -24,7 +36,15 @@ pub record IndexedChangesRecord : Type 0 where
 pub record IsIndexedChanges (part : IndexedChangesRecord) : Type 0 where
   pub begun : 1 ≤ part.index
   pub ascending : IsAscending part.changes
-  pub in_range : All (λ change. change.offset < PAGE_WORDS) part.changes
+  pub in_range : All (λ change. change.offset < MOST_PAGE_WORDS) part.changes
+
+-- parts ascend by index
+abbrev pub AreParts : List IndexedChangesRecord → Type 0
+AreParts parts = AllPairs (λ a b. a.index < b.index) parts
+
+-- the part of the greatest index
+abbrev pub last_part : List IndexedChangesRecord → Option IndexedChangesRecord
+last_part parts = slice_get parts (length parts - 1)
 
 -- ---- the kinds
 
@@ -66,33 +86,18 @@ pub record PageReplyRecord : Type 0 where
   pub page : ℕ
   pub values : List ℕ
 
--- ---- what the types keep
+-- ---- what the types keep beside what their fields keep
 
 pub record IsLockForward (m : LockForwardRecord) : Type 0 where
   pub lock : m.lock < MOST_LOCKS
   pub asker : m.asker < MOST_NODES
 
-pub record IsLockGrant (m : LockGrantRecord) : Type 0 where
-  pub lock : m.lock < MOST_LOCKS
-  pub intervals : GoWith (length m.time) m.intervals
-
-pub record IsArrive (m : ArriveRecord) : Type 0 where
-  pub episode : 1 ≤ m.episode
-  pub intervals : GoWith (length m.time) m.intervals
-
-pub record IsDepart (m : DepartRecord) : Type 0 where
-  pub episode : 1 ≤ m.episode
-  pub intervals : GoWith (length m.time) m.intervals
-
--- at least one index, each at least 1
+-- at least one index
 pub record IsChangesRequest (m : ChangesRequestRecord) : Type 0 where
   pub page : m.page < MOST_PAGES
   pub some : 1 ≤ length m.indices
-  pub begun : All (λ index. 1 ≤ index) m.indices
-  pub ascending : IsStrictlyIncreasing m.indices
 
 -- at least one interval
 pub record IsChangesReply (m : ChangesReplyRecord) : Type 0 where
   pub page : m.page < MOST_PAGES
   pub some : 1 ≤ length m.parts
-  pub ascending : AllPairs (λ a b. a.index < b.index) m.parts

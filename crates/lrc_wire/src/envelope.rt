@@ -4,7 +4,7 @@ use crate::message::Message;
 use std::marker::Model;
 
 /// A message on its way from one node to another.
-#[derive(Debug, Drop)]
+#[derive(Drop)]
 pub struct Envelope {
     /// The sender, below `MOST_NODES`.
     pub from: u8,

@@ -16,7 +16,7 @@ pub enum WireFault {
     /// Bytes stand after the message.
     #[error("bytes stand after the message")]
     Long,
-    /// The version is not 1.
+    /// The version is neither 1 nor 2.
     #[error("unknown version")]
     BadVersion,
     /// The kind is not 1 to 11.

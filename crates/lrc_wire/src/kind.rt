@@ -3,9 +3,9 @@
 ghost use Rattle.std.specs.Prelude.{◌≡◌};
 ghost use Rattle.lrc_wire.specs.Reading.{kind_of};
 
-/// What kind of message a body is.
-#[derive(Clone, Copy, Debug, PartialEq, Eq)]
-pub(crate) enum Kind {
+/// What kind of message a body is, the second byte of a message: 1 to 11 in this order.
+#[derive(Clone, Copy)]
+pub enum Kind {
     LockRequest,
     LockForward,
     LockGrant,

@@ -2,31 +2,47 @@
 // nothing to do.
 
 ghost use Rattle.std.specs.Prelude.{◌≡◌, ◌++◌, ◌<◌, ◌≤◌, List, ℕ, length, take, Ok, Err};
+ghost use Rattle.lrc_page.specs.declared.changes.Change.{Change};
+ghost use Rattle.lrc_page.specs.Changes.{IsAscending};
 ghost use Rattle.lrc_wire.specs.declared.limits.TheConstants.{MOST_BODY_BYTES};
+ghost use Rattle.lrc_wire.specs.declared.version.Version.{Version};
 ghost use Rattle.lrc_wire.specs.Envelope.{EnvelopeRecord};
 ghost use Rattle.lrc_wire.specs.Ranges.{IsFit};
-ghost use Rattle.lrc_wire.specs.Spelling.{◌·◌, Spells, header, body};
+ghost use Rattle.lrc_wire.specs.Runs.{Run, AreRuns, runs_of};
+ghost use Rattle.lrc_wire.specs.Spelling.{◌·◌, Cut, IsCut, Spells, header, body};
 ghost use Rattle.lrc_wire.specs.Reading.{envelope_of};
 
 use crate::fault::WireFault;
 
-/// No spelling of an envelope begins another: where one list of bytes begins with both, they are the same.
-pub fn no_spelling_begins_another()
-    ensures { (m n : EnvelopeRecord) (a b x y : List ℕ) → Spells m a → Spells n b → a ++ x ≡ b ++ y → (a ≡ b) × (m ≡ n) }
+/// Ascending changes are cut into maximal runs in one way, which the function gives.
+pub fn changes_are_cut_in_one_way()
+    ensures runs { (changes : List Change) → IsAscending changes → AreRuns changes (runs_of changes) }
+    ensures no_others { (changes : List Change) (runs : List Run) → AreRuns changes runs → runs ≡ runs_of changes }
 {}
 
-/// What was written is read again.
+/// An envelope has one spelling in a version.
+pub fn a_spelling_is_unique()
+    ensures { (version : Version) (envelope : EnvelopeRecord) (a b : List ℕ) → Spells version envelope a → Spells version envelope b → a ≡ b }
+{}
+
+/// No spelling of an envelope in either version begins another: where one list of bytes begins with both, they are the
+/// same.
+pub fn no_spelling_begins_another()
+    ensures { (v w : Version) (m n : EnvelopeRecord) (a b x y : List ℕ) → Spells v m a → Spells w n b → a ++ x ≡ b ++ y → (v ≡ w) × (a ≡ b) × (m ≡ n) }
+{}
+
+/// What was written in either version is read again.
 pub fn what_is_written_is_read_again()
-    ensures { (envelope : EnvelopeRecord) (bytes : List ℕ) → Spells envelope bytes → envelope_of bytes ≡ Ok envelope }
+    ensures { (version : Version) (envelope : EnvelopeRecord) (bytes : List ℕ) → Spells version envelope bytes → envelope_of bytes ≡ Ok envelope }
 {}
 
 /// A spelling that is cut is `Short`, and one with more bytes behind it is `Long`.
 pub fn a_part_is_short_and_more_is_long()
-    ensures short { (envelope : EnvelopeRecord) (bytes : List ℕ) (n : ℕ) → Spells envelope bytes → n < length bytes → envelope_of (take n bytes) ≡ Err WireFault.Short }
-    ensures long { (envelope : EnvelopeRecord) (bytes : List ℕ) (more : List ℕ) → Spells envelope bytes → 1 ≤ length more → envelope_of (bytes ++ more) ≡ Err WireFault.Long }
+    ensures short { (version : Version) (envelope : EnvelopeRecord) (bytes : List ℕ) (n : ℕ) → Spells version envelope bytes → n < length bytes → envelope_of (take n bytes) ≡ Err WireFault.Short }
+    ensures long { (version : Version) (envelope : EnvelopeRecord) (bytes : List ℕ) (more : List ℕ) → Spells version envelope bytes → 1 ≤ length more → envelope_of (bytes ++ more) ≡ Err WireFault.Long }
 {}
 
-/// Every envelope has a spelling, but for the length of its body.
+/// Every envelope has a spelling in each version whose ranges it keeps, but for the length of its body.
 pub fn every_envelope_is_spelled()
-    ensures { (envelope : EnvelopeRecord) → IsFit envelope → length (body envelope.message) ≤ MOST_BODY_BYTES → Spells envelope (header envelope · body envelope.message) }
+    ensures { (version : Version) (envelope : EnvelopeRecord) (cut : Cut) → IsFit version envelope → IsCut cut → length (body version cut envelope.message) ≤ MOST_BODY_BYTES → Spells version envelope (header version cut envelope · body version cut envelope.message) }
 {}

@@ -6,6 +6,9 @@ pub const MOST_LOCKS: u8 = 64;
 /// The largest number of nodes.
 pub const MOST_NODES: u8 = 16;
 
+/// The largest number of runs that the changes of a page are cut into.
+pub const MOST_RUNS: u16 = 128;
+
 /// The largest number of bytes of a message's body.
 pub const MOST_BODY_BYTES: usize = 16_777_216;
 

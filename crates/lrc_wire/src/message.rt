@@ -1,12 +1,14 @@
 //! The eleven kinds of messages (Keleher, Cox, Dwarkadas and Zwaenepoel 1994; Amza et al. 1996).
 
-use lrc_page::{Changes, Page};
-use lrc_store::interval::Interval;
+use crate::indices::Indices;
+use crate::news::News;
+use crate::parts::Parts;
+use lrc_page::Page;
 use lrc_time::Time;
 use std::marker::Model;
 
 /// What one node tells another.
-#[derive(Debug, Drop)]
+#[derive(Drop)]
 pub enum Message {
     LockRequest(LockRequest),
     LockForward(LockForward),
@@ -22,7 +24,7 @@ pub enum Message {
 }
 
 /// Asks a lock's manager for the lock.
-#[derive(Debug, Drop)]
+#[derive(Drop)]
 pub struct LockRequest {
     /// Below `MOST_LOCKS`.
     pub lock: u8,
@@ -43,7 +45,7 @@ impl Model for LockRequest {
 }
 
 /// A lock's manager passes a request on to the node that asked for the lock before.
-#[derive(Debug, Drop)]
+#[derive(Drop)]
 pub struct LockForward {
     /// Below `MOST_LOCKS`.
     pub lock: u8,
@@ -64,75 +66,72 @@ impl Model for LockForward {
 }
 
 /// Hands a lock on.
-#[derive(Debug, Drop)]
+#[derive(Drop)]
 pub struct LockGrant {
     /// Below `MOST_LOCKS`.
     pub lock: u8,
-    /// What the lock's last holder knew at its release.
-    pub time: Time,
-    /// What the asker lacks of it, ascending by node, then index. Each stamp has as many entries as `time`.
-    pub intervals: Vec<Interval>,
+    /// What the lock's last holder knew at its release, with the intervals that the asker lacks of it.
+    pub news: News,
 }
 
 impl Model for LockGrant {
-    ghost use Rattle.lrc_wire.specs.Records.{LockGrantRecord, IsLockGrant};
+    ghost use Rattle.std.specs.Prelude.{◌<◌};
+    ghost use Rattle.lrc_wire.specs.declared.limits.TheConstants.{MOST_LOCKS};
+    ghost use Rattle.lrc_wire.specs.Records.{LockGrantRecord};
 
     ghost Value = { LockGrantRecord };
 
-    ghost view = { λ m. record { lock = m.lock; time = m.time; intervals = m.intervals.items } };
+    ghost view = { λ m. record { lock = m.lock; time = m.news.time; intervals = m.news.intervals } };
 
-    ghost invariant = { λ m. IsLockGrant (record { lock = m.lock; time = m.time; intervals = m.intervals.items }) };
+    ghost invariant = { λ m. m.lock < MOST_LOCKS };
 }
 
 /// A node has arrived at the barrier.
-#[derive(Debug, Drop)]
+#[derive(Drop)]
 pub struct Arrive {
     /// Which barrier of the run, from 1.
     pub episode: u32,
     /// Whether the node asks for a collection.
     pub ask: bool,
-    /// What the node knows.
-    pub time: Time,
-    /// The node's own intervals since its last departure, ascending by node, then index. Each stamp has as many
-    /// entries as `time`.
-    pub intervals: Vec<Interval>,
+    /// What the node knows, with its own intervals since its last arrival.
+    pub news: News,
 }
 
 impl Model for Arrive {
-    ghost use Rattle.lrc_wire.specs.Records.{ArriveRecord, IsArrive};
+    ghost use Rattle.std.specs.Prelude.{◌≤◌};
+    ghost use Rattle.lrc_wire.specs.Records.{ArriveRecord};
 
     ghost Value = { ArriveRecord };
 
-    ghost view = { λ m. record { episode = m.episode; ask = m.ask; time = m.time; intervals = m.intervals.items } };
+    ghost view = { λ m. record { episode = m.episode; ask = m.ask; time = m.news.time; intervals = m.news.intervals } };
 
-    ghost invariant = { λ m. IsArrive (record { episode = m.episode; ask = m.ask; time = m.time; intervals = m.intervals.items }) };
+    ghost invariant = { λ m. 1 ≤ m.episode };
 }
 
 /// A node may leave the barrier.
-#[derive(Debug, Drop)]
+#[derive(Drop)]
 pub struct Depart {
     /// Which barrier of the run, from 1.
     pub episode: u32,
     /// Whether this barrier collects.
     pub collect: bool,
-    /// What all nodes together knew when they arrived.
-    pub time: Time,
-    /// What the node lacks of it, ascending by node, then index. Each stamp has as many entries as `time`.
-    pub intervals: Vec<Interval>,
+    /// What all nodes together knew when they arrived, with the intervals that the node lacks of it.
+    pub news: News,
 }
 
 impl Model for Depart {
-    ghost use Rattle.lrc_wire.specs.Records.{DepartRecord, IsDepart};
+    ghost use Rattle.std.specs.Prelude.{◌≤◌};
+    ghost use Rattle.lrc_wire.specs.Records.{DepartRecord};
 
     ghost Value = { DepartRecord };
 
-    ghost view = { λ m. record { episode = m.episode; collect = m.collect; time = m.time; intervals = m.intervals.items } };
+    ghost view = { λ m. record { episode = m.episode; collect = m.collect; time = m.news.time; intervals = m.news.intervals } };
 
-    ghost invariant = { λ m. IsDepart (record { episode = m.episode; collect = m.collect; time = m.time; intervals = m.intervals.items }) };
+    ghost invariant = { λ m. 1 ≤ m.episode };
 }
 
 /// A node's copies are up to date: its part of a collection is done.
-#[derive(Debug, Drop)]
+#[derive(Drop)]
 pub struct Clean {
     /// Which barrier of the run collects, from 1.
     pub episode: u32,
@@ -149,7 +148,7 @@ impl Model for Clean {
 }
 
 /// Every node's part of a collection is done: what it collects may be dropped.
-#[derive(Debug, Drop)]
+#[derive(Drop)]
 pub struct Discard {
     /// Which barrier of the run collects, from 1.
     pub episode: u32,
@@ -166,12 +165,12 @@ impl Model for Discard {
 }
 
 /// Asks a node for what some of its intervals changed in a page.
-#[derive(Debug, Drop)]
+#[derive(Drop)]
 pub struct ChangesRequest {
     /// Below `MOST_PAGES`.
     pub page: u16,
-    /// The intervals by their indices, at least one, each at least 1, strictly ascending.
-    pub indices: Vec<u32>,
+    /// The intervals, at least one.
+    pub indices: Indices,
 }
 
 impl Model for ChangesRequest {
@@ -179,36 +178,18 @@ impl Model for ChangesRequest {
 
     ghost Value = { ChangesRequestRecord };
 
-    ghost view = { λ m. record { page = m.page; indices = m.indices.items } };
+    ghost view = { λ m. record { page = m.page; indices = m.indices } };
 
-    ghost invariant = { λ m. IsChangesRequest (record { page = m.page; indices = m.indices.items }) };
-}
-
-/// What one interval changed in a page.
-#[derive(Debug, Drop)]
-pub struct IndexedChanges {
-    /// The interval's index, at least 1.
-    pub index: u32,
-    pub changes: Changes,
-}
-
-impl Model for IndexedChanges {
-    ghost use Rattle.lrc_wire.specs.Records.{IndexedChangesRecord, IsIndexedChanges};
-
-    ghost Value = { IndexedChangesRecord };
-
-    ghost view = { λ p. record { index = p.index; changes = p.changes } };
-
-    ghost invariant = { λ p. IsIndexedChanges (record { index = p.index; changes = p.changes }) };
+    ghost invariant = { λ m. IsChangesRequest (record { page = m.page; indices = m.indices }) };
 }
 
 /// What some of a node's intervals changed in a page.
-#[derive(Debug, Drop)]
+#[derive(Drop)]
 pub struct ChangesReply {
     /// Below `MOST_PAGES`.
     pub page: u16,
-    /// At least one, strictly ascending by index.
-    pub parts: Vec<IndexedChanges>,
+    /// At least one.
+    pub parts: Parts,
 }
 
 impl Model for ChangesReply {
@@ -216,13 +197,13 @@ impl Model for ChangesReply {
 
     ghost Value = { ChangesReplyRecord };
 
-    ghost view = { λ m. record { page = m.page; parts = m.parts.items } };
+    ghost view = { λ m. record { page = m.page; parts = m.parts } };
 
-    ghost invariant = { λ m. IsChangesReply (record { page = m.page; parts = m.parts.items }) };
+    ghost invariant = { λ m. IsChangesReply (record { page = m.page; parts = m.parts }) };
 }
 
 /// Asks a page's keeper for its base copy.
-#[derive(Debug, Drop)]
+#[derive(Drop)]
 pub struct PageRequest {
     /// Below `MOST_PAGES`.
     pub page: u16,
@@ -230,7 +211,7 @@ pub struct PageRequest {
 
 impl Model for PageRequest {
     ghost use Rattle.std.specs.Prelude.{ℕ, ◌<◌};
-    ghost use Rattle.lrc_store.specs.declared.interval.TheConstants.{MOST_PAGES};
+    ghost use Rattle.lrc_page.specs.declared.TheConstants.{MOST_PAGES};
 
     ghost Value = { ℕ };
 
@@ -240,21 +221,21 @@ impl Model for PageRequest {
 }
 
 /// A page's base copy.
-#[derive(Debug, Drop)]
+#[derive(Drop)]
 pub struct PageReply {
     /// Below `MOST_PAGES`.
     pub page: u16,
-    pub copy: Page,
+    pub copy: Box<Page>,
 }
 
 impl Model for PageReply {
     ghost use Rattle.std.specs.Prelude.{◌<◌};
-    ghost use Rattle.lrc_store.specs.declared.interval.TheConstants.{MOST_PAGES};
+    ghost use Rattle.lrc_page.specs.declared.TheConstants.{MOST_PAGES};
     ghost use Rattle.lrc_wire.specs.Records.{PageReplyRecord};
 
     ghost Value = { PageReplyRecord };
 
-    ghost view = { λ m. record { page = m.page; values = m.copy } };
+    ghost view = { λ m. record { page = m.page; values = m.copy.value } };
 
     ghost invariant = { λ m. m.page < MOST_PAGES };
 }

@@ -7,4 +7,6 @@ pub enum Picker {
     Oldest,
     /// The one that was sent last.
     Newest,
+    /// The one that was sent first, and each message two times.
+    Twice,
 }

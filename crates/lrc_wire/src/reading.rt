@@ -1,6 +1,7 @@
 //! Reading envelopes.
 
-ghost use Rattle.std.specs.Prelude.{◌≡◌, IfOk, Ok};
+ghost use Rattle.std.specs.Prelude.{◌≡◌, ◌≤◌, ◌*◌, length, IfOk, Ok};
+ghost use Rattle.lrc_wire.specs.declared.version.Version.{Version};
 ghost use Rattle.lrc_wire.specs.Envelope.{EnvelopeRecord};
 ghost use Rattle.lrc_wire.specs.Spelling.{Spells};
 ghost use Rattle.lrc_wire.specs.Reading.{Gives, whole_body_of, envelope_of};
@@ -10,6 +11,7 @@ use crate::fault::WireFault;
 use crate::kind::Kind;
 use crate::limits::HEADER_BYTES;
 use crate::message::Message;
+use crate::version::Version;
 use bodies::read_body;
 use header::read_header;
 use std::alloc::Global;
@@ -17,15 +19,34 @@ use std::alloc::Global;
 mod bodies;
 mod changes;
 mod fields;
-pub(crate) mod header;
+mod header;
+mod indices;
 mod intervals;
 mod numbers;
+mod pages;
+mod parts;
 mod times;
+
+/// How many elements to make room for: as many as are counted, but no more than the bytes can hold, where each takes
+/// at least so many.
+fn room(count: u32, bytes: &[u8], each: usize) -> usize
+    requires { 1 ≤ each }
+    ensures counted { result ≤ count }
+    ensures held { result * each ≤ length bytes.now }
+{
+    (count as usize).min(bytes.len() / each)
+}
 
 /// A body of so many bytes, and no byte after it.
 #[tactic(auto, unfolding(crate::specs::Reading::whole_body_of))]
-fn whole_body(alloc: Global, kind: Kind, len: u32, mut bytes: &[u8]) -> Result<Message, WireFault>
-    ensures { Gives (λ message. message) result (whole_body_of kind len bytes.entry.now) }
+fn whole_body(
+    alloc: Global,
+    version: Version,
+    kind: Kind,
+    len: u32,
+    mut bytes: &[u8],
+) -> Result<Message, WireFault>
+    ensures { Gives (λ message. message) result (whole_body_of version kind len bytes.entry.now) }
 {
     let len = len as usize;
     if bytes.len() < len {
@@ -34,7 +55,7 @@ fn whole_body(alloc: Global, kind: Kind, len: u32, mut bytes: &[u8]) -> Result<M
     if bytes.len() > len {
         return Err(WireFault::Long);
     }
-    let message = read_body(alloc, kind, &mut bytes)?;
+    let message = read_body(alloc, version, kind, &mut bytes)?;
     if !bytes.is_empty() {
         return Err(WireFault::Long);
     }
@@ -50,7 +71,7 @@ fn read_envelope(alloc: Global, mut bytes: &[u8]) -> Result<Envelope, WireFault>
         return Err(WireFault::Short);
     }
     let header = read_header(&mut bytes)?;
-    let message = whole_body(alloc, header.kind, header.body_len, bytes)?;
+    let message = whole_body(alloc, header.version, header.kind, header.body_len, bytes)?;
     Ok(Envelope {
         from: header.from,
         to: header.to,
@@ -59,13 +80,13 @@ fn read_envelope(alloc: Global, mut bytes: &[u8]) -> Result<Envelope, WireFault>
     })
 }
 
-/// The envelope that the bytes spell, all of them. Otherwise the first fault from the left; `NoMemory` may come in
-/// place of either. No memory is taken for what a count promises and the bytes do not have.
+/// The envelope that the bytes spell, all of them, in either version. Otherwise the first fault from the left;
+/// `NoMemory` may come in place of either. No memory is taken for what a count promises and the bytes do not have.
 pub fn decode(alloc: Global, bytes: &[u8]) -> Result<Envelope, WireFault>
-    // What is read is spelled so.
-    ensures found { IfOk result (λ envelope. Spells envelope bytes.now) }
+    // What is read is spelled so, in one of the versions.
+    ensures found { IfOk result (λ envelope. (version : Version) × Spells version envelope bytes.now) }
     // What is spelled so is read.
-    ensures only { (envelope : EnvelopeRecord) → Spells envelope bytes.now → Gives (λ read. read) result (Ok envelope) }
+    ensures only { (version : Version) (envelope : EnvelopeRecord) → Spells version envelope bytes.now → Gives (λ read. read) result (Ok envelope) }
     // Which fault it is.
     ensures exact { Gives (λ read. read) result (envelope_of bytes.now) }
 {

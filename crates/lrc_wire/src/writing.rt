@@ -3,6 +3,8 @@
 ghost use Rattle.std.specs.Prelude.{◌≡◌, ◌++◌, ◌<◌, ◌≤◌, ◌↔◌, [], length, IfOk, OnOk, IsErrOf};
 ghost use Rattle.lrc_wire.specs.declared.limits.TheConstants.{MOST_BODY_BYTES};
 ghost use Rattle.lrc_wire.specs.Ranges.{HasBits};
+ghost use Rattle.lrc_wire.specs.declared.version.Version.TheVariants.{Two};
+ghost use Rattle.lrc_wire.specs.Runs.{runs_of};
 ghost use Rattle.lrc_wire.specs.Spelling.{Spells, header, body};
 
 use crate::envelope::Envelope;
@@ -17,6 +19,7 @@ use std::alloc::{AllocError, Global};
 mod bodies;
 mod changes;
 mod intervals;
+mod runs;
 mod sizes;
 
 /// The number of each kind.
@@ -41,12 +44,12 @@ fn kind(message: &Message) -> u8
 /// Version, kind, sender, receiver, number, and how many bytes the body has.
 #[tactic(auto, unfolding(crate::specs::Spelling::header, crate::specs::Spelling::byte, crate::specs::Spelling::number))]
 fn put_header(out: &mut Vec<u8>, envelope: &Envelope, body_len: usize) -> Result<(), AllocError>
-    requires exact { body_len ≡ length (body envelope.now.message) }
+    requires exact { body_len ≡ length (body Two runs_of envelope.now.message) }
     requires short { body_len ≤ MOST_BODY_BYTES }
-    ensures written { OnOk result (out.new.items ≡ out.old.items ++ header envelope.now) }
+    ensures written { OnOk result (out.new.items ≡ out.old.items ++ header Two runs_of envelope.now) }
     ensures number_bits { OnOk result (HasBits 32 envelope.now.number) }
 {
-    out.put_u8(1)?;
+    out.put_u8(2)?;
     out.put_u8(kind(&envelope.message))?;
     out.put_u8(envelope.from)?;
     out.put_u8(envelope.to)?;
@@ -56,20 +59,21 @@ fn put_header(out: &mut Vec<u8>, envelope: &Envelope, body_len: usize) -> Result
 
 /// Header and body.
 fn put_envelope(out: &mut Vec<u8>, envelope: &Envelope, body_len: usize) -> Result<(), AllocError>
-    requires exact { body_len ≡ length (body envelope.now.message) }
+    requires exact { body_len ≡ length (body Two runs_of envelope.now.message) }
     requires short { body_len ≤ MOST_BODY_BYTES }
     requires empty { out.old.items ≡ [] }
-    ensures { OnOk result (Spells envelope.now out.new.items) }
+    ensures { OnOk result (Spells Two envelope.now out.new.items) }
 {
     put_header(out, envelope, body_len)?;
     put_body(out, &envelope.message)?;
     Ok(())
 }
 
-/// The bytes of an envelope. `TooLong` exactly where the body would have more than `MOST_BODY_BYTES` bytes.
+/// The bytes of an envelope, in version 2. `TooLong` exactly where the body would have more than `MOST_BODY_BYTES`
+/// bytes.
 pub fn encode(alloc: Global, envelope: &Envelope) -> Result<Bytes, EncodeFault>
-    ensures written { IfOk result (λ bytes. Spells envelope.now bytes) }
-    ensures too_long { IsErrOf result EncodeFault.TooLong ↔ (MOST_BODY_BYTES < length (body envelope.now.message)) }
+    ensures written { IfOk result (λ bytes. Spells Two envelope.now bytes) }
+    ensures too_long { IsErrOf result EncodeFault.TooLong ↔ (MOST_BODY_BYTES < length (body Two runs_of envelope.now.message)) }
 {
     let Some(body_len) = body_len(&envelope.message) else {
         return Err(EncodeFault::TooLong);

@@ -1,11 +1,13 @@
 //! What each kind has after the header.
 
 ghost use Rattle.std.specs.Prelude.{◌≡◌};
-ghost use Rattle.lrc_wire.specs.Reading.{Gives, lock_request_at, lock_forward_at, lock_grant_at, arrive_at, depart_at, changes_request_at, changes_reply_at, page_reply_at, body_at};
+ghost use Rattle.lrc_wire.specs.Reading.{Gives, lock_request_at, lock_forward_at, lock_grant_at, arrive_at, depart_at, clean_at, discard_at, changes_request_at, changes_reply_at, page_request_at, page_reply_at, body_at};
 
-use super::changes::{read_indices, read_parts, read_values};
 use super::fields::{read_episode, read_flag, read_lock, read_node, read_page};
-use super::intervals::read_intervals;
+use super::indices::read_indices;
+use super::intervals::read_news;
+use super::pages::read_page_values;
+use super::parts::read_parts;
 use super::times::read_time;
 use crate::fault::WireFault;
 use crate::kind::Kind;
@@ -13,6 +15,7 @@ use crate::message::{
     Arrive, ChangesReply, ChangesRequest, Clean, Depart, Discard, LockForward, LockGrant,
     LockRequest, Message, PageReply, PageRequest,
 };
+use crate::version::Version;
 use std::alloc::Global;
 
 #[tactic(auto, unfolding(crate::specs::Reading::lock_request_at))]
@@ -35,103 +38,125 @@ fn read_lock_forward(bytes: &mut &[u8]) -> Result<LockForward, WireFault>
 }
 
 #[tactic(auto, unfolding(crate::specs::Reading::lock_grant_at))]
-fn read_lock_grant(alloc: Global, bytes: &mut &[u8]) -> Result<LockGrant, WireFault>
-    ensures { Gives (λ m. (m, bytes.new.now)) result (lock_grant_at bytes.old.now) }
+fn read_lock_grant(
+    alloc: Global,
+    version: Version,
+    bytes: &mut &[u8],
+) -> Result<LockGrant, WireFault>
+    ensures { Gives (λ m. (m, bytes.new.now)) result (lock_grant_at version bytes.old.now) }
 {
     let lock = read_lock(bytes)?;
-    let time = read_time(bytes)?;
-    let intervals = read_intervals(alloc, time.nodes(), bytes)?;
-    Ok(LockGrant {
-        lock,
-        time,
-        intervals,
-    })
+    let news = read_news(alloc, version, bytes)?;
+    Ok(LockGrant { lock, news })
 }
 
 #[tactic(auto, unfolding(crate::specs::Reading::arrive_at))]
-fn read_arrive(alloc: Global, bytes: &mut &[u8]) -> Result<Arrive, WireFault>
-    ensures { Gives (λ m. (m, bytes.new.now)) result (arrive_at bytes.old.now) }
+fn read_arrive(alloc: Global, version: Version, bytes: &mut &[u8]) -> Result<Arrive, WireFault>
+    ensures { Gives (λ m. (m, bytes.new.now)) result (arrive_at version bytes.old.now) }
 {
     let episode = read_episode(bytes)?;
     let ask = read_flag(bytes)?;
-    let time = read_time(bytes)?;
-    let intervals = read_intervals(alloc, time.nodes(), bytes)?;
-    Ok(Arrive {
-        episode,
-        ask,
-        time,
-        intervals,
-    })
+    let news = read_news(alloc, version, bytes)?;
+    Ok(Arrive { episode, ask, news })
 }
 
 #[tactic(auto, unfolding(crate::specs::Reading::depart_at))]
-fn read_depart(alloc: Global, bytes: &mut &[u8]) -> Result<Depart, WireFault>
-    ensures { Gives (λ m. (m, bytes.new.now)) result (depart_at bytes.old.now) }
+fn read_depart(alloc: Global, version: Version, bytes: &mut &[u8]) -> Result<Depart, WireFault>
+    ensures { Gives (λ m. (m, bytes.new.now)) result (depart_at version bytes.old.now) }
 {
     let episode = read_episode(bytes)?;
     let collect = read_flag(bytes)?;
-    let time = read_time(bytes)?;
-    let intervals = read_intervals(alloc, time.nodes(), bytes)?;
+    let news = read_news(alloc, version, bytes)?;
     Ok(Depart {
         episode,
         collect,
-        time,
-        intervals,
+        news,
     })
 }
 
-#[tactic(auto, unfolding(crate::specs::Reading::changes_request_at))]
-fn read_changes_request(alloc: Global, bytes: &mut &[u8]) -> Result<ChangesRequest, WireFault>
-    ensures { Gives (λ m. (m, bytes.new.now)) result (changes_request_at bytes.old.now) }
+fn read_clean(bytes: &mut &[u8]) -> Result<Clean, WireFault>
+    ensures { Gives (λ m. (m, bytes.new.now)) result (clean_at bytes.old.now) }
 {
-    let page = read_page(bytes)?;
+    let episode = read_episode(bytes)?;
+    Ok(Clean { episode })
+}
+
+fn read_discard(bytes: &mut &[u8]) -> Result<Discard, WireFault>
+    ensures { Gives (λ m. (m, bytes.new.now)) result (discard_at bytes.old.now) }
+{
+    let episode = read_episode(bytes)?;
+    Ok(Discard { episode })
+}
+
+#[tactic(auto, unfolding(crate::specs::Reading::changes_request_at))]
+fn read_changes_request(
+    alloc: Global,
+    version: Version,
+    bytes: &mut &[u8],
+) -> Result<ChangesRequest, WireFault>
+    ensures { Gives (λ m. (m, bytes.new.now)) result (changes_request_at version bytes.old.now) }
+{
+    let page = read_page(version, bytes)?;
     let indices = read_indices(alloc, bytes)?;
     Ok(ChangesRequest { page, indices })
 }
 
 #[tactic(auto, unfolding(crate::specs::Reading::changes_reply_at))]
-fn read_changes_reply(alloc: Global, bytes: &mut &[u8]) -> Result<ChangesReply, WireFault>
-    ensures { Gives (λ m. (m, bytes.new.now)) result (changes_reply_at bytes.old.now) }
+fn read_changes_reply(
+    alloc: Global,
+    version: Version,
+    bytes: &mut &[u8],
+) -> Result<ChangesReply, WireFault>
+    ensures { Gives (λ m. (m, bytes.new.now)) result (changes_reply_at version bytes.old.now) }
 {
-    let page = read_page(bytes)?;
-    let parts = read_parts(alloc, bytes)?;
+    let page = read_page(version, bytes)?;
+    let parts = read_parts(alloc, version, bytes)?;
     Ok(ChangesReply { page, parts })
 }
 
-#[tactic(auto, unfolding(crate::specs::Reading::page_reply_at))]
-fn read_page_reply(bytes: &mut &[u8]) -> Result<PageReply, WireFault>
-    ensures { Gives (λ m. (m, bytes.new.now)) result (page_reply_at bytes.old.now) }
+fn read_page_request(version: Version, bytes: &mut &[u8]) -> Result<PageRequest, WireFault>
+    ensures { Gives (λ m. (m, bytes.new.now)) result (page_request_at version bytes.old.now) }
 {
-    let page = read_page(bytes)?;
-    let copy = read_values(bytes)?;
+    let page = read_page(version, bytes)?;
+    Ok(PageRequest { page })
+}
+
+#[tactic(auto, unfolding(crate::specs::Reading::page_reply_at))]
+fn read_page_reply(
+    alloc: Global,
+    version: Version,
+    bytes: &mut &[u8],
+) -> Result<PageReply, WireFault>
+    ensures { Gives (λ m. (m, bytes.new.now)) result (page_reply_at version bytes.old.now) }
+{
+    let page = read_page(version, bytes)?;
+    let copy = read_page_values(alloc, version, bytes)?;
     Ok(PageReply { page, copy })
 }
 
 /// The body of a message of this kind. Bytes may be left.
-#[tactic(auto, unfolding(crate::specs::Reading::body_at))]
-pub(super) fn read_body(alloc: Global, kind: Kind, bytes: &mut &[u8]) -> Result<Message, WireFault>
-    ensures { Gives (λ message. (message, bytes.new.now)) result (body_at kind bytes.old.now) }
+#[tactic(auto, unfolding(crate::specs::Reading::body_at, crate::specs::Reading::as_message))]
+pub(super) fn read_body(
+    alloc: Global,
+    version: Version,
+    kind: Kind,
+    bytes: &mut &[u8],
+) -> Result<Message, WireFault>
+    ensures { Gives (λ message. (message, bytes.new.now)) result (body_at version kind bytes.old.now) }
 {
     match kind {
-        Kind::LockRequest => Ok(Message::LockRequest(read_lock_request(bytes)?)),
-        Kind::LockForward => Ok(Message::LockForward(read_lock_forward(bytes)?)),
-        Kind::LockGrant => Ok(Message::LockGrant(read_lock_grant(alloc, bytes)?)),
-        Kind::Arrive => Ok(Message::Arrive(read_arrive(alloc, bytes)?)),
-        Kind::Depart => Ok(Message::Depart(read_depart(alloc, bytes)?)),
-        Kind::Clean => {
-            let episode = read_episode(bytes)?;
-            Ok(Message::Clean(Clean { episode }))
+        Kind::LockRequest => read_lock_request(bytes).map(Message::LockRequest),
+        Kind::LockForward => read_lock_forward(bytes).map(Message::LockForward),
+        Kind::LockGrant => read_lock_grant(alloc, version, bytes).map(Message::LockGrant),
+        Kind::Arrive => read_arrive(alloc, version, bytes).map(Message::Arrive),
+        Kind::Depart => read_depart(alloc, version, bytes).map(Message::Depart),
+        Kind::Clean => read_clean(bytes).map(Message::Clean),
+        Kind::Discard => read_discard(bytes).map(Message::Discard),
+        Kind::ChangesRequest => {
+            read_changes_request(alloc, version, bytes).map(Message::ChangesRequest)
         }
-        Kind::Discard => {
-            let episode = read_episode(bytes)?;
-            Ok(Message::Discard(Discard { episode }))
-        }
-        Kind::ChangesRequest => Ok(Message::ChangesRequest(read_changes_request(alloc, bytes)?)),
-        Kind::ChangesReply => Ok(Message::ChangesReply(read_changes_reply(alloc, bytes)?)),
-        Kind::PageRequest => {
-            let page = read_page(bytes)?;
-            Ok(Message::PageRequest(PageRequest { page }))
-        }
-        Kind::PageReply => Ok(Message::PageReply(read_page_reply(bytes)?)),
+        Kind::ChangesReply => read_changes_reply(alloc, version, bytes).map(Message::ChangesReply),
+        Kind::PageRequest => read_page_request(version, bytes).map(Message::PageRequest),
+        Kind::PageReply => read_page_reply(alloc, version, bytes).map(Message::PageReply),
     }
 }

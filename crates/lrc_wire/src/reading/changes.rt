@@ -1,68 +1,25 @@
-//! Indices and changes.
+//! Changes, one by one and in runs.
 
-ghost use Rattle.std.specs.Prelude.{◌≡◌, ◌≤◌, ◌<◌, length, All, AllPairs, IfOk, IfSome, Option, Some, None};
-ghost use Rattle.std.specs.List.Sorted.{IsStrictlyIncreasing};
-ghost use Rattle.std.specs.Option.{option_map};
-ghost use Rattle.lrc_page.specs.declared.TheConstants.{PAGE_WORDS};
-ghost use Rattle.lrc_page.specs.Changes.{IsAscending};
-ghost use Rattle.lrc_wire.specs.Reading.{Gives, elements_at, next_index_at, indices_at, next_offset_at, next_change_at, changes_at, next_indexed_changes_at, changes_by_index_at, values_at, page_reply_at};
+ghost use Rattle.std.specs.Prelude.{◌≡◌, ◌+◌, ◌≤◌, ◌<◌, IfOk, OnOk, IfSome, IsSomeAnd, Option, Some, None};
+ghost use Rattle.std.specs.Option.{ForSome};
+ghost use Rattle.lrc_page.specs.Changes.{last_change};
+ghost use Rattle.lrc_wire.specs.Reading.{Gives, PutsRun, PutsValues, is_after, is_apart, elements_at, next_offset_at, next_change_at, singly_at, values_at, next_run_at, last_of, whole_runs, runs_at, changes_at};
 
-use super::fields::read_count;
-use super::numbers::{read_u8, read_u32, read_u64};
+use super::numbers::{read_u8, read_u16, read_u64};
 use crate::fault::WireFault;
-use crate::message::IndexedChanges;
-use lrc_page::{Change, Changes, PAGE_WORDS as WORDS, Page};
+use crate::limits::MOST_RUNS;
+use crate::version::Version;
+use lrc_page::{Change, Changes};
 use std::alloc::Global;
-
-/// An index after another.
-#[tactic(auto, unfolding(crate::specs::Reading::next_index_at, crate::specs::Reading::tested, crate::specs::Reading::is_after))]
-fn read_next_index(before: Option<u32>, bytes: &mut &[u8]) -> Result<u32, WireFault>
-    ensures exact { Gives (λ n. (n, bytes.new.now)) result (next_index_at before bytes.old.now) }
-    ensures begun { IfOk result (λ n. 1 ≤ n) }
-{
-    let index = read_u32(bytes)?;
-    if index == 0 {
-        return Err(WireFault::BadCount);
-    }
-    if before.is_some_and(|before| index <= before) {
-        return Err(WireFault::NotAscending);
-    }
-    Ok(index)
-}
-
-fn read_indices_of(alloc: Global, count: u32, bytes: &mut &[u8]) -> Result<Vec<u32>, WireFault>
-    ensures { Gives (λ v. (v.items, bytes.new.now)) result (elements_at next_index_at (λ _ index. Some index) count None bytes.old.now) }
-{
-    let mut indices = Vec::new(alloc);
-    let mut before = None;
-    for _ in 0..count {
-        let index = read_next_index(before, bytes)?;
-        indices.push(index)?;
-        before = Some(index);
-    }
-    Ok(indices)
-}
-
-#[tactic(auto, unfolding(crate::specs::Reading::indices_at))]
-pub(super) fn read_indices(alloc: Global, bytes: &mut &[u8]) -> Result<Vec<u32>, WireFault>
-    ensures exact { Gives (λ v. (v.items, bytes.new.now)) result (indices_at bytes.old.now) }
-    ensures some { IfOk result (λ v. 1 ≤ length v.items) }
-    ensures begun { IfOk result (λ v. All (λ index. 1 ≤ index) v.items) }
-    ensures ascending { IfOk result (λ v. IsStrictlyIncreasing v.items) }
-{
-    let count = read_count(bytes)?;
-    read_indices_of(alloc, count, bytes)
-}
 
 /// An offset after another.
 #[tactic(auto, unfolding(crate::specs::Reading::next_offset_at, crate::specs::Reading::tested, crate::specs::Reading::is_after))]
 fn read_next_offset(before: Option<u8>, bytes: &mut &[u8]) -> Result<u8, WireFault>
     ensures exact { Gives (λ n. (n, bytes.new.now)) result (next_offset_at before bytes.old.now) }
-    ensures in_range { IfOk result (λ n. n < PAGE_WORDS) }
     ensures above { IfOk result (λ n. IfSome before (λ b. b < n)) }
 {
     let offset = read_u8(bytes)?;
-    if usize::from(offset) >= WORDS {
+    if offset >= 64 {
         return Err(WireFault::BadCount);
     }
     if before.is_some_and(|before| offset <= before) {
@@ -75,7 +32,6 @@ fn read_next_offset(before: Option<u8>, bytes: &mut &[u8]) -> Result<u8, WireFau
 #[tactic(auto, unfolding(crate::specs::Reading::next_change_at))]
 fn read_next_change(before: Option<u8>, bytes: &mut &[u8]) -> Result<Change, WireFault>
     ensures exact { Gives (λ change. (change, bytes.new.now)) result (next_change_at before bytes.old.now) }
-    ensures in_range { IfOk result (λ change. change.offset < PAGE_WORDS) }
     ensures above { IfOk result (λ change. IfSome before (λ b. b < change.offset)) }
 {
     let offset = read_next_offset(before, bytes)?;
@@ -96,75 +52,107 @@ fn read_changes_of(alloc: Global, count: u8, bytes: &mut &[u8]) -> Result<Change
     Ok(changes)
 }
 
-#[tactic(auto, unfolding(crate::specs::Reading::changes_at, crate::specs::Reading::tested))]
-fn read_changes(alloc: Global, bytes: &mut &[u8]) -> Result<Changes, WireFault>
-    ensures exact { Gives (λ changes. (changes, bytes.new.now)) result (changes_at bytes.old.now) }
-    ensures ascending { IfOk result IsAscending }
-    ensures in_range { IfOk result (λ changes. All (λ change. change.offset < PAGE_WORDS) changes) }
+/// Changes one by one.
+#[tactic(auto, unfolding(crate::specs::Reading::singly_at, crate::specs::Reading::tested))]
+fn read_singly(alloc: Global, bytes: &mut &[u8]) -> Result<Changes, WireFault>
+    ensures { Gives (λ changes. (changes, bytes.new.now)) result (singly_at bytes.old.now) }
 {
     let count = read_u8(bytes)?;
-    if usize::from(count) > WORDS {
+    if count > 64 {
         return Err(WireFault::BadCount);
     }
     read_changes_of(alloc, count, bytes)
 }
 
-/// What an interval changed, after another of a lower index.
-#[tactic(auto, unfolding(crate::specs::Reading::next_indexed_changes_at))]
-fn read_next_part(
-    alloc: Global,
-    before: Option<u32>,
+/// The values of a run, as changes behind the others.
+fn read_run_values(
+    changes: &mut Changes,
+    first: u8,
+    more: u8,
     bytes: &mut &[u8],
-) -> Result<IndexedChanges, WireFault>
-    ensures { Gives (λ part. (part, bytes.new.now)) result (next_indexed_changes_at before bytes.old.now) }
+) -> Result<(), WireFault>
+    requires within { first + more < 256 }
+    requires above { ForSome (last_change changes.old) (λ c. c.offset < first) }
+    ensures put { PutsValues result (values_at (more + 1) bytes.old.now) first changes.old changes.new bytes.new.now }
+    ensures last { OnOk result (ForSome (last_change changes.new) (λ c. c.offset ≤ first + more)) }
 {
-    let index = read_next_index(before, bytes)?;
-    let changes = read_changes(alloc, bytes)?;
-    Ok(IndexedChanges { index, changes })
+    let end = u16::from(first) + u16::from(more) + 1;
+    for offset in u16::from(first)..end {
+        let value = read_u64(bytes)?;
+        changes.push(offset as u8, value)?;
+    }
+    Ok(())
 }
 
-fn read_parts_of(
-    alloc: Global,
-    count: u32,
-    bytes: &mut &[u8],
-) -> Result<Vec<IndexedChanges>, WireFault>
-    ensures { Gives (λ v. (v.items, bytes.new.now)) result (elements_at next_indexed_changes_at (λ _ part. Some part.index) count None bytes.old.now) }
+/// Whether a run may begin at an offset behind a run that ends at the offset `before`.
+#[tactic(auto, unfolding(crate::specs::Reading::is_after))]
+fn may_begin(before: Option<u8>, first: u8) -> bool
+    ensures { result ≡ is_after is_apart before first }
 {
-    let mut parts = Vec::new(alloc);
+    match before {
+        None => true,
+        Some(last) => u16::from(last) + 1 < u16::from(first),
+    }
+}
+
+/// A run after another, which ends at the offset `before`, as changes behind the others: its last offset.
+#[tactic(auto, unfolding(crate::specs::Reading::next_run_at, crate::specs::Reading::tested, crate::specs::Reading::is_after))]
+fn read_run(
+    before: Option<u8>,
+    changes: &mut Changes,
+    bytes: &mut &[u8],
+) -> Result<u8, WireFault>
+    requires { ForSome (last_change changes.old) (λ c. IsSomeAnd before (λ last. c.offset ≤ last)) }
+    ensures put { PutsRun result (next_run_at before bytes.old.now) changes.old changes.new bytes.new.now }
+    ensures last { IfOk result (λ last. ForSome (last_change changes.new) (λ c. c.offset ≤ last)) }
+{
+    let first = read_u8(bytes)?;
+    if !may_begin(before, first) {
+        return Err(WireFault::NotAscending);
+    }
+    let more = read_u8(bytes)?;
+    let Some(last) = first.checked_add(more) else {
+        return Err(WireFault::BadCount);
+    };
+    read_run_values(changes, first, more, bytes)?;
+    Ok(last)
+}
+
+fn read_runs_of(alloc: Global, count: u16, bytes: &mut &[u8]) -> Result<Changes, WireFault>
+    ensures { Gives (λ changes. (changes, bytes.new.now)) result (whole_runs (elements_at next_run_at (λ _ run. Some (last_of run)) count None bytes.old.now)) }
+{
+    let mut changes = Changes::empty(alloc);
     let mut before = None;
     for _ in 0..count {
-        let part = read_next_part(alloc, before, bytes)?;
-        before = Some(index_of(&part));
-        parts.push(part)?;
+        let last = read_run(before, &mut changes, bytes)?;
+        before = Some(last);
     }
-    Ok(parts)
+    Ok(changes)
 }
 
-fn index_of(part: &IndexedChanges) -> u32
-    ensures { result ≡ part.now.index }
+/// Changes in runs.
+#[tactic(auto, unfolding(crate::specs::Reading::runs_at, crate::specs::Reading::tested))]
+fn read_runs(alloc: Global, bytes: &mut &[u8]) -> Result<Changes, WireFault>
+    ensures { Gives (λ changes. (changes, bytes.new.now)) result (whole_runs (runs_at bytes.old.now)) }
 {
-    part.index
-}
-
-/// What at least one interval changed.
-#[tactic(auto, unfolding(crate::specs::Reading::changes_by_index_at))]
-pub(super) fn read_parts(alloc: Global, bytes: &mut &[u8]) -> Result<Vec<IndexedChanges>, WireFault>
-    ensures exact { Gives (λ v. (v.items, bytes.new.now)) result (changes_by_index_at bytes.old.now) }
-    ensures some { IfOk result (λ v. 1 ≤ length v.items) }
-    ensures ascending { IfOk result (λ v. AllPairs (λ a b. a.index < b.index) v.items) }
-{
-    let count = read_count(bytes)?;
-    read_parts_of(alloc, count, bytes)
-}
-
-/// A value for each word of a page.
-pub(super) fn read_values(bytes: &mut &[u8]) -> Result<Page, WireFault>
-    ensures { Gives (λ page. (page, bytes.new.now)) result (values_at bytes.old.now) }
-{
-    let mut page = Page::zero();
-    for offset in 0..WORDS as u8 {
-        let value = read_u64(bytes)?;
-        page.set(offset, value);
+    let count = read_u16(bytes)?;
+    if count > MOST_RUNS {
+        return Err(WireFault::BadCount);
     }
-    Ok(page)
+    read_runs_of(alloc, count, bytes)
+}
+
+/// What an interval changed.
+#[tactic(auto, unfolding(crate::specs::Reading::changes_at))]
+pub(super) fn read_changes(
+    alloc: Global,
+    version: Version,
+    bytes: &mut &[u8],
+) -> Result<Changes, WireFault>
+    ensures { Gives (λ changes. (changes, bytes.new.now)) result (changes_at version bytes.old.now) }
+{
+    match version {
+        Version::One => read_singly(alloc, bytes),
+        Version::Two => read_runs(alloc, bytes),
+    }
 }

@@ -1,13 +1,13 @@
 //! Fields of one number, each tested once it is read.
 
 ghost use Rattle.std.specs.Prelude.{◌≡◌, ◌<◌, ◌≤◌, IfOk};
-ghost use Rattle.lrc_store.specs.declared.interval.TheConstants.{MOST_PAGES};
+ghost use Rattle.lrc_page.specs.declared.TheConstants.{MOST_PAGES};
 ghost use Rattle.lrc_wire.specs.Reading.{Gives, lock_at, node_at, episode_at, page_at, flag_at, count_at};
 
 use super::numbers::{read_u8, read_u16, read_u32};
 use crate::fault::WireFault;
 use crate::limits::{MOST_LOCKS, MOST_NODES};
-use lrc_store::interval::MOST_PAGES as PAGES;
+use crate::version::Version;
 
 #[tactic(auto, unfolding(crate::specs::Reading::lock_at, crate::specs::Reading::tested))]
 pub(super) fn read_lock(bytes: &mut &[u8]) -> Result<u8, WireFault>
@@ -46,12 +46,12 @@ pub(super) fn read_episode(bytes: &mut &[u8]) -> Result<u32, WireFault>
 }
 
 #[tactic(auto, unfolding(crate::specs::Reading::page_at, crate::specs::Reading::tested))]
-pub(super) fn read_page(bytes: &mut &[u8]) -> Result<u16, WireFault>
-    ensures exact { Gives (λ n. (n, bytes.new.now)) result (page_at bytes.old.now) }
+pub(super) fn read_page(version: Version, bytes: &mut &[u8]) -> Result<u16, WireFault>
+    ensures exact { Gives (λ n. (n, bytes.new.now)) result (page_at version bytes.old.now) }
     ensures fits { IfOk result (λ n. n < MOST_PAGES) }
 {
     let page = read_u16(bytes)?;
-    if page >= PAGES {
+    if page >= version.pages() {
         return Err(WireFault::BadCount);
     }
     Ok(page)

@@ -1,22 +1,44 @@
 //! Headers.
 
 ghost use Rattle.std.specs.Prelude.{◌≡◌, ◌<◌, IfOk};
-ghost use Rattle.lrc_wire.specs.Reading.{Gives, kind_at, header_at};
+ghost use Rattle.lrc_wire.specs.Reading.{Gives, version_at, kind_at, header_at};
 
 use super::fields::read_node;
 use super::numbers::{read_u8, read_u32};
 use crate::fault::WireFault;
 use crate::kind::{self, Kind};
 use crate::limits::{MOST_BODY_BYTES, MOST_NODES};
+use crate::version::Version;
+use std::marker::Model;
 
 /// What a header says of the message behind it.
-#[derive(Clone, Copy, Debug)]
-pub(crate) struct Header {
+#[derive(Drop)]
+pub(super) struct Header {
+    pub version: Version,
     pub kind: Kind,
     pub from: u8,
     pub to: u8,
     pub number: u32,
     pub body_len: u32,
+}
+
+impl Model for Header {
+    ghost use Rattle.std.specs.Prelude.{◌<◌};
+    ghost use Rattle.lrc_wire.specs.declared.limits.TheConstants.{MOST_NODES};
+    ghost use Rattle.lrc_wire.specs.Reading.{HeaderRecord};
+
+    ghost Value = { HeaderRecord };
+
+    ghost view = { λ h. record { version = h.version; kind = h.kind; from = h.from; to = h.to; number = h.number; body_len = h.body_len } };
+
+    ghost invariant = { λ h. (h.from < MOST_NODES) × (h.to < MOST_NODES) };
+}
+
+#[tactic(auto, unfolding(crate::specs::Reading::version_at))]
+fn read_version(bytes: &mut &[u8]) -> Result<Version, WireFault>
+    ensures { Gives (λ version. (version, bytes.new.now)) result (version_at bytes.old.now) }
+{
+    Version::numbered(read_u8(bytes)?).ok_or(WireFault::BadVersion)
 }
 
 #[tactic(auto, unfolding(crate::specs::Reading::kind_at))]
@@ -28,13 +50,9 @@ fn read_kind(bytes: &mut &[u8]) -> Result<Kind, WireFault>
 
 #[tactic(auto, unfolding(crate::specs::Reading::header_at, crate::specs::Reading::tested))]
 pub(super) fn read_header(bytes: &mut &[u8]) -> Result<Header, WireFault>
-    ensures exact { Gives (λ header. (header, bytes.new.now)) result (header_at bytes.old.now) }
-    ensures from { IfOk result (λ header. header.from < MOST_NODES) }
-    ensures to { IfOk result (λ header. header.to < MOST_NODES) }
+    ensures { Gives (λ header. (header, bytes.new.now)) result (header_at bytes.old.now) }
 {
-    if read_u8(bytes)? != 1 {
-        return Err(WireFault::BadVersion);
-    }
+    let version = read_version(bytes)?;
     let kind = read_kind(bytes)?;
     let from = read_node(bytes)?;
     let to = read_node(bytes)?;
@@ -44,6 +62,7 @@ pub(super) fn read_header(bytes: &mut &[u8]) -> Result<Header, WireFault>
         return Err(WireFault::BadCount);
     }
     Ok(Header {
+        version,
         kind,
         from,
         to,

@@ -2,38 +2,26 @@
 
 ghost use Rattle.std.specs.Prelude.{◌≡◌, ◌++◌, ◌<◌, ◌≤◌, ◌^◌, length, OnOk};
 ghost use Rattle.std.specs.Int.{w16, w32};
-ghost use Rattle.lrc_wire.specs.Records.{GoWith};
-ghost use Rattle.lrc_wire.specs.Ranges.{IsEpisode, IsNews, IsMessage};
-ghost use Rattle.lrc_wire.specs.Spelling.{◌·◌, number, time, intervals, body};
+ghost use Rattle.lrc_wire.specs.declared.version.Version.TheVariants.{Two};
+ghost use Rattle.lrc_wire.specs.Ranges.{IsEpisode, IsMessage};
+ghost use Rattle.lrc_wire.specs.Runs.{runs_of};
+ghost use Rattle.lrc_wire.specs.Spelling.{number, body};
 ghost use Rattle.lrc_wire.specs.declared.limits.TheConstants.{MOST_BODY_BYTES};
 ghost use Rattle.lrc_wire.specs.declared.message.Message.TheVariants as kinds;
 
-use super::changes::{put_indices, put_parts, put_values};
-use super::intervals::{put_flag, put_intervals, put_time};
+use super::changes::{put_indices, put_page_values, put_parts};
+use super::intervals::{put_flag, put_news, put_time};
 use crate::message::{
     Arrive, ChangesReply, ChangesRequest, Depart, LockForward, LockGrant, LockRequest, Message,
     PageReply,
 };
 use bytes::BufMut;
-use lrc_store::Interval;
-use lrc_time::Time;
 use std::alloc::AllocError;
-
-/// A time and intervals that go with it.
-fn put_news(out: &mut Vec<u8>, now: &Time, list: &[Interval]) -> Result<(), AllocError>
-    requires few { length list.now < 2 ^ 32 }
-    requires together { GoWith (length now.now) list.now }
-    ensures written { OnOk result (out.new.items ≡ out.old.items ++ time now.now · intervals list.now) }
-    ensures fits { OnOk result (IsNews now.now list.now) }
-{
-    put_time(out, now)?;
-    put_intervals(out, list)
-}
 
 #[tactic(auto, unfolding(crate::specs::Spelling::byte))]
 fn put_lock_request(out: &mut Vec<u8>, m: &LockRequest) -> Result<(), AllocError>
-    ensures written { OnOk result (out.new.items ≡ out.old.items ++ body (kinds.LockRequest m.now)) }
-    ensures fits { OnOk result (IsMessage (kinds.LockRequest m.now)) }
+    ensures written { OnOk result (out.new.items ≡ out.old.items ++ body Two runs_of (kinds.LockRequest m.now)) }
+    ensures fits { OnOk result (IsMessage Two (kinds.LockRequest m.now)) }
 {
     out.put_u8(m.lock)?;
     put_time(out, &m.time)
@@ -41,8 +29,8 @@ fn put_lock_request(out: &mut Vec<u8>, m: &LockRequest) -> Result<(), AllocError
 
 #[tactic(auto, unfolding(crate::specs::Spelling::byte))]
 fn put_lock_forward(out: &mut Vec<u8>, m: &LockForward) -> Result<(), AllocError>
-    ensures written { OnOk result (out.new.items ≡ out.old.items ++ body (kinds.LockForward m.now)) }
-    ensures fits { OnOk result (IsMessage (kinds.LockForward m.now)) }
+    ensures written { OnOk result (out.new.items ≡ out.old.items ++ body Two runs_of (kinds.LockForward m.now)) }
+    ensures fits { OnOk result (IsMessage Two (kinds.LockForward m.now)) }
 {
     out.put_u8(m.lock)?;
     out.put_u8(m.asker)?;
@@ -52,40 +40,40 @@ fn put_lock_forward(out: &mut Vec<u8>, m: &LockForward) -> Result<(), AllocError
 #[tactic(auto, unfolding(crate::specs::Spelling::byte))]
 fn put_lock_grant(out: &mut Vec<u8>, m: &LockGrant) -> Result<(), AllocError>
     requires { length m.now.intervals < 2 ^ 32 }
-    ensures written { OnOk result (out.new.items ≡ out.old.items ++ body (kinds.LockGrant m.now)) }
-    ensures fits { OnOk result (IsMessage (kinds.LockGrant m.now)) }
+    ensures written { OnOk result (out.new.items ≡ out.old.items ++ body Two runs_of (kinds.LockGrant m.now)) }
+    ensures fits { OnOk result (IsMessage Two (kinds.LockGrant m.now)) }
 {
     out.put_u8(m.lock)?;
-    put_news(out, &m.time, &m.intervals)
+    put_news(out, &m.news)
 }
 
 #[tactic(auto, unfolding(crate::specs::Spelling::number))]
 fn put_arrive(out: &mut Vec<u8>, m: &Arrive) -> Result<(), AllocError>
     requires { length m.now.intervals < 2 ^ 32 }
-    ensures written { OnOk result (out.new.items ≡ out.old.items ++ body (kinds.Arrive m.now)) }
-    ensures fits { OnOk result (IsMessage (kinds.Arrive m.now)) }
+    ensures written { OnOk result (out.new.items ≡ out.old.items ++ body Two runs_of (kinds.Arrive m.now)) }
+    ensures fits { OnOk result (IsMessage Two (kinds.Arrive m.now)) }
 {
     out.put_u32(m.episode)?;
     put_flag(out, m.ask)?;
-    put_news(out, &m.time, &m.intervals)
+    put_news(out, &m.news)
 }
 
 #[tactic(auto, unfolding(crate::specs::Spelling::number))]
 fn put_depart(out: &mut Vec<u8>, m: &Depart) -> Result<(), AllocError>
     requires { length m.now.intervals < 2 ^ 32 }
-    ensures written { OnOk result (out.new.items ≡ out.old.items ++ body (kinds.Depart m.now)) }
-    ensures fits { OnOk result (IsMessage (kinds.Depart m.now)) }
+    ensures written { OnOk result (out.new.items ≡ out.old.items ++ body Two runs_of (kinds.Depart m.now)) }
+    ensures fits { OnOk result (IsMessage Two (kinds.Depart m.now)) }
 {
     out.put_u32(m.episode)?;
     put_flag(out, m.collect)?;
-    put_news(out, &m.time, &m.intervals)
+    put_news(out, &m.news)
 }
 
 #[tactic(auto, unfolding(crate::specs::Spelling::number))]
 fn put_changes_request(out: &mut Vec<u8>, m: &ChangesRequest) -> Result<(), AllocError>
     requires { length m.now.indices < 2 ^ 32 }
-    ensures written { OnOk result (out.new.items ≡ out.old.items ++ body (kinds.ChangesRequest m.now)) }
-    ensures fits { OnOk result (IsMessage (kinds.ChangesRequest m.now)) }
+    ensures written { OnOk result (out.new.items ≡ out.old.items ++ body Two runs_of (kinds.ChangesRequest m.now)) }
+    ensures fits { OnOk result (IsMessage Two (kinds.ChangesRequest m.now)) }
 {
     out.put_u16(m.page)?;
     put_indices(out, &m.indices)
@@ -94,8 +82,8 @@ fn put_changes_request(out: &mut Vec<u8>, m: &ChangesRequest) -> Result<(), Allo
 #[tactic(auto, unfolding(crate::specs::Spelling::number))]
 fn put_changes_reply(out: &mut Vec<u8>, m: &ChangesReply) -> Result<(), AllocError>
     requires { length m.now.parts < 2 ^ 32 }
-    ensures written { OnOk result (out.new.items ≡ out.old.items ++ body (kinds.ChangesReply m.now)) }
-    ensures fits { OnOk result (IsMessage (kinds.ChangesReply m.now)) }
+    ensures written { OnOk result (out.new.items ≡ out.old.items ++ body Two runs_of (kinds.ChangesReply m.now)) }
+    ensures fits { OnOk result (IsMessage Two (kinds.ChangesReply m.now)) }
 {
     out.put_u16(m.page)?;
     put_parts(out, &m.parts)
@@ -103,11 +91,11 @@ fn put_changes_reply(out: &mut Vec<u8>, m: &ChangesReply) -> Result<(), AllocErr
 
 #[tactic(auto, unfolding(crate::specs::Spelling::number))]
 fn put_page_reply(out: &mut Vec<u8>, m: &PageReply) -> Result<(), AllocError>
-    ensures written { OnOk result (out.new.items ≡ out.old.items ++ body (kinds.PageReply m.now)) }
-    ensures fits { OnOk result (IsMessage (kinds.PageReply m.now)) }
+    ensures written { OnOk result (out.new.items ≡ out.old.items ++ body Two runs_of (kinds.PageReply m.now)) }
+    ensures fits { OnOk result (IsMessage Two (kinds.PageReply m.now)) }
 {
     out.put_u16(m.page)?;
-    put_values(out, &m.copy)
+    put_page_values(out, &m.copy)
 }
 
 #[tactic(auto, unfolding(crate::specs::Spelling::number))]
@@ -128,9 +116,9 @@ fn put_page(out: &mut Vec<u8>, page: u16) -> Result<(), AllocError>
 
 /// The body of a message.
 pub(super) fn put_body(out: &mut Vec<u8>, message: &Message) -> Result<(), AllocError>
-    requires { length (body message.now) ≤ MOST_BODY_BYTES }
-    ensures written { OnOk result (out.new.items ≡ out.old.items ++ body message.now) }
-    ensures fits { OnOk result (IsMessage message.now) }
+    requires { length (body Two runs_of message.now) ≤ MOST_BODY_BYTES }
+    ensures written { OnOk result (out.new.items ≡ out.old.items ++ body Two runs_of message.now) }
+    ensures fits { OnOk result (IsMessage Two message.now) }
 {
     match message {
         Message::LockRequest(m) => put_lock_request(out, m),

@@ -1,14 +1,17 @@
 //! Writing flags, times and intervals.
 
-ghost use Rattle.std.specs.Prelude.{◌≡◌, ◌++◌, ◌<◌, ◌^◌, length, All, OnOk};
+ghost use Rattle.std.specs.Prelude.{◌≡◌, ◌++◌, ◌<◌, ◌^◌, IsTrue, length, All, AllPairs, OnOk};
 ghost use Rattle.std.specs.Int.{w16, w32};
 ghost use Rattle.std.specs.List.{flat_map};
-ghost use Rattle.lrc_store.specs.Interval.{IsInterval};
-ghost use Rattle.lrc_wire.specs.Ranges.{HasBits, IsTime};
-ghost use Rattle.lrc_wire.specs.Spelling.{numbers, flag, time, pages, interval, intervals};
+ghost use Rattle.lrc_store.specs.Interval.{IsInterval, by_node};
+ghost use Rattle.lrc_wire.specs.declared.version.Version.TheVariants.{Two};
+ghost use Rattle.lrc_wire.specs.Ranges.{HasBits, IsTime, FitNews};
+ghost use Rattle.lrc_wire.specs.Spelling.{numbers, flag, time, pages, interval, intervals, news};
 
+use crate::news::News;
 use bytes::BufMut;
-use lrc_store::Interval;
+use lrc_page::Pages;
+use lrc_store::{Interval, Intervals};
 use lrc_time::Time;
 use std::alloc::AllocError;
 
@@ -50,12 +53,11 @@ fn put_numbers_16(out: &mut Vec<u8>, list: &[u16]) -> Result<(), AllocError>
 }
 
 #[tactic(auto, unfolding(crate::specs::Spelling::pages, crate::specs::Spelling::number))]
-fn put_pages(out: &mut Vec<u8>, list: &[u16]) -> Result<(), AllocError>
-    requires { length list.now < 2 ^ 16 }
+fn put_pages(out: &mut Vec<u8>, list: &Pages) -> Result<(), AllocError>
     ensures { OnOk result (out.new.items ≡ out.old.items ++ pages list.now) }
 {
     out.put_u16(list.len() as u16)?;
-    put_numbers_16(out, list)
+    put_numbers_16(out, list.as_slice())
 }
 
 #[tactic(auto, unfolding(crate::specs::Spelling::interval, crate::specs::Spelling::byte))]
@@ -81,12 +83,24 @@ fn put_each_interval(out: &mut Vec<u8>, list: &[Interval]) -> Result<(), AllocEr
 }
 
 #[tactic(auto, unfolding(crate::specs::Spelling::intervals, crate::specs::Spelling::number))]
-pub(super) fn put_intervals(out: &mut Vec<u8>, list: &[Interval]) -> Result<(), AllocError>
+fn put_intervals(out: &mut Vec<u8>, list: &Intervals) -> Result<(), AllocError>
     requires { length list.now < 2 ^ 32 }
     ensures written { OnOk result (out.new.items ≡ out.old.items ++ intervals list.now) }
     ensures each { OnOk result (All IsInterval list.now) }
     ensures bits { OnOk result (All (λ i. All (HasBits 32) i.stamp) list.now) }
+    ensures ascending { OnOk result (AllPairs (λ a b. IsTrue (by_node a b)) list.now) }
 {
     out.put_u32(list.len() as u32)?;
-    put_each_interval(out, list)
+    put_each_interval(out, list.as_slice())
+}
+
+/// A time, and intervals that go with it.
+#[tactic(auto, unfolding(crate::specs::Spelling::news))]
+pub(super) fn put_news(out: &mut Vec<u8>, told: &News) -> Result<(), AllocError>
+    requires { length told.now.intervals < 2 ^ 32 }
+    ensures written { OnOk result (out.new.items ≡ out.old.items ++ news told.now.time told.now.intervals) }
+    ensures fits { OnOk result (FitNews Two told.now.time told.now.intervals) }
+{
+    put_time(out, &told.time)?;
+    put_intervals(out, &told.intervals)
 }

@@ -1,12 +1,17 @@
 //! How many bytes a body has, before any of them is written.
 
-ghost use Rattle.std.specs.Prelude.{◌≡◌, ◌*◌, ◌<◌, ◌≤◌, length, IfSome, IfNone, Some, None, nat_le, if◌then◌else◌};
-ghost use Rattle.std.specs.Int.{w64};
-ghost use Rattle.lrc_wire.specs.Spelling.{time, interval, intervals, indices, indexed_changes, changes_by_index, numbers, body};
+ghost use Rattle.std.specs.Prelude.{◌≡◌, ◌+◌, ◌<◌, ◌≤◌, length, IfSome, IfNone};
+ghost use Rattle.lrc_wire.specs.declared.version.Version.TheVariants.{Two};
+ghost use Rattle.lrc_wire.specs.Runs.{runs_of};
+ghost use Rattle.lrc_wire.specs.Spelling.{time, interval, news, indices, part, parts, page_values, body};
 
+use super::runs::count_runs;
+use crate::indices::Indices;
 use crate::limits::MOST_BODY_BYTES;
-use crate::message::{IndexedChanges, Message};
-use lrc_page::{PAGE_WORDS, Page};
+use crate::message::Message;
+use crate::news::News;
+use crate::parts::{IndexedChanges, Parts};
+use lrc_page::Page;
 use lrc_store::Interval;
 use lrc_time::Time;
 
@@ -20,19 +25,21 @@ fn time_len(entries: &Time) -> usize
 
 fn interval_len(item: &Interval) -> usize
     ensures exact { result ≡ length (interval item.now) }
-    ensures small { result ≤ 196 }
+    ensures small { result ≤ 2116 }
 {
     3 + time_len(&item.stamp) + 2 * item.pages.len()
 }
 
-/// None where it is more than a body may have.
-fn intervals_len(list: &[Interval]) -> Option<usize>
-    ensures within { IfSome result (λ n. n ≡ length (intervals list.now)) }
+/// How many bytes there are up to the end of the news, with so many before it. None where it is more than a body may
+/// have.
+fn news_len(before: usize, told: &News) -> Option<usize>
+    requires { before ≤ 5 }
+    ensures within { IfSome result (λ n. n ≡ before + length (news told.now.time told.now.intervals)) }
     ensures small { IfSome result (λ n. n ≤ MOST_BODY_BYTES) }
-    ensures over { IfNone result (MOST_BODY_BYTES < length (intervals list.now)) }
+    ensures over { IfNone result (MOST_BODY_BYTES < before + length (news told.now.time told.now.intervals)) }
 {
-    let mut len = 4;
-    for record in list {
+    let mut len = before + time_len(&told.time) + 4;
+    for record in told.intervals.as_slice() {
         len += interval_len(record);
         if len > MOST_BODY_BYTES {
             return None;
@@ -41,34 +48,34 @@ fn intervals_len(list: &[Interval]) -> Option<usize>
     Some(len)
 }
 
-/// None where it is more than a body may have.
-fn indices_len(list: &[u32]) -> Option<usize>
-    ensures within { IfSome result (λ n. n ≡ length (indices list.now)) }
-    ensures small { IfSome result (λ n. n ≤ 5 * MOST_BODY_BYTES) }
-    ensures over { IfNone result (MOST_BODY_BYTES < length (indices list.now)) }
+/// The same of indices after two bytes.
+fn indices_len(list: &Indices) -> Option<usize>
+    ensures within { IfSome result (λ n. n ≡ 2 + length (indices list.now)) }
+    ensures small { IfSome result (λ n. n ≤ MOST_BODY_BYTES) }
+    ensures over { IfNone result (MOST_BODY_BYTES < 2 + length (indices list.now)) }
 {
-    if list.len() > MOST_BODY_BYTES {
+    if list.len() > (MOST_BODY_BYTES - 6) / 4 {
         return None;
     }
-    Some(4 + 4 * list.len())
+    Some(6 + 4 * list.len())
 }
 
-fn part_len(part: &IndexedChanges) -> usize
-    ensures exact { result ≡ length (indexed_changes part.now) }
-    ensures small { result ≤ 581 }
+fn part_len(item: &IndexedChanges) -> usize
+    ensures exact { result ≡ length (part Two runs_of item.now) }
+    ensures small { result ≤ 2566 }
 {
-    5 + 9 * part.changes.len()
+    6 + 2 * count_runs(&item.changes) + 8 * item.changes.len()
 }
 
-/// None where it is more than a body may have.
-fn parts_len(list: &[IndexedChanges]) -> Option<usize>
-    ensures within { IfSome result (λ n. n ≡ length (changes_by_index list.now)) }
+/// The same of parts after two bytes.
+fn parts_len(list: &Parts) -> Option<usize>
+    ensures within { IfSome result (λ n. n ≡ 2 + length (parts Two runs_of list.now)) }
     ensures small { IfSome result (λ n. n ≤ MOST_BODY_BYTES) }
-    ensures over { IfNone result (MOST_BODY_BYTES < length (changes_by_index list.now)) }
+    ensures over { IfNone result (MOST_BODY_BYTES < 2 + length (parts Two runs_of list.now)) }
 {
-    let mut len = 4;
-    for part in list {
-        len += part_len(part);
+    let mut len = 6;
+    for item in list.as_slice() {
+        len += part_len(item);
         if len > MOST_BODY_BYTES {
             return None;
         }
@@ -76,40 +83,30 @@ fn parts_len(list: &[IndexedChanges]) -> Option<usize>
     Some(len)
 }
 
-fn values_len(page: &Page) -> usize
-    ensures exact { result ≡ length (numbers w64 page.now) }
-    ensures small { result ≤ 512 }
+fn page_len(page: &Page) -> usize
+    ensures exact { result ≡ 2 + length (page_values Two page.now) }
+    ensures small { result ≤ 2052 }
 {
-    let _first = page.get(0);
-    8 * PAGE_WORDS
-}
-
-/// The length itself, where a body may have it.
-fn limited(len: usize) -> Option<usize>
-    ensures within { IfSome result (λ n. n ≡ len) }
-    ensures short { IfSome result (λ n. n ≤ MOST_BODY_BYTES) }
-    ensures over { IfNone result (MOST_BODY_BYTES < len) }
-{
-    (len <= MOST_BODY_BYTES).then_some(len)
+    4 + 8 * usize::from(page.size().words())
 }
 
 /// How many bytes the body of a message has. None where it is more than a body may have.
 #[tactic(auto, using(crate::proofs::Lengths::lengths))]
 pub(super) fn body_len(message: &Message) -> Option<usize>
-    ensures within { IfSome result (λ n. n ≡ length (body message.now)) }
+    ensures within { IfSome result (λ n. n ≡ length (body Two runs_of message.now)) }
     ensures short { IfSome result (λ n. n ≤ MOST_BODY_BYTES) }
-    ensures over { IfNone result (MOST_BODY_BYTES < length (body message.now)) }
+    ensures over { IfNone result (MOST_BODY_BYTES < length (body Two runs_of message.now)) }
 {
     match message {
-        Message::LockRequest(m) => limited(1 + time_len(&m.time)),
-        Message::LockForward(m) => limited(2 + time_len(&m.time)),
-        Message::LockGrant(m) => limited(1 + time_len(&m.time) + intervals_len(&m.intervals)?),
-        Message::Arrive(m) => limited(5 + time_len(&m.time) + intervals_len(&m.intervals)?),
-        Message::Depart(m) => limited(5 + time_len(&m.time) + intervals_len(&m.intervals)?),
+        Message::LockRequest(m) => Some(1 + time_len(&m.time)),
+        Message::LockForward(m) => Some(2 + time_len(&m.time)),
+        Message::LockGrant(m) => news_len(1, &m.news),
+        Message::Arrive(m) => news_len(5, &m.news),
+        Message::Depart(m) => news_len(5, &m.news),
         Message::Clean(_) | Message::Discard(_) => Some(4),
-        Message::ChangesRequest(m) => limited(2 + indices_len(&m.indices)?),
-        Message::ChangesReply(m) => limited(2 + parts_len(&m.parts)?),
+        Message::ChangesRequest(m) => indices_len(&m.indices),
+        Message::ChangesReply(m) => parts_len(&m.parts),
         Message::PageRequest(_) => Some(2),
-        Message::PageReply(m) => Some(2 + values_len(&m.copy)),
+        Message::PageReply(m) => Some(page_len(&m.copy)),
     }
 }

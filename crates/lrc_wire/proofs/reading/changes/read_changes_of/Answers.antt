@@ -1,18 +1,10 @@
-use Rattle.std.proofs.Common.{◌≡◌, ◌∙◌, ◌-◌, List, [], ◌∷◌, ◌++◌, length, Some, None, sym, ap, arith, length-append}
-use Rattle.std.proofs.Math.Seq.{get_or-append_seam}
-use Rattle.std.proofs.lemmas.Option.{get_or_from_slice_get}
+use Rattle.std.proofs.Common.{◌≡◌, ◌-◌, Some, None, ap, arith}
 use Rattle.std.proofs.lemmas.Result.{err_from_is_err_and}
 use Rattle.lrc_page.specs.declared.changes.Change.{Change}
-use Rattle.lrc_page.specs.Changes.{last_change}
 use Rattle.lrc_wire.specs.Reading.{elements_at, next_change_at}
 use Rattle.lrc_wire.proofs.Elements.{with_nothing, goes_on, ends, is_done}
+use Rattle.lrc_wire.proofs.Last.{last_pushed}
 use Rattle.lrc_wire.proofs.reading.changes.read_changes_of.Goals as goal
-
--- the last change is the one that was pushed
-last_pushed : (changes : List Change) (x y : Change) → last_change (changes ++ x ∷ []) ≡ Some y → x ≡ y
-last_pushed changes x y e =
-    let place : length (changes ++ x ∷ []) - 1 ≡ length changes = omega (arith, length-append changes (x ∷ [])) in
-    sym (get_or-append_seam changes x [] x) ∙ get_or_from_slice_get (changes ++ x ∷ []) (length changes) y x (rw place at e)
 
 pub loop-init : goal.loop-init
 loop-init c =
@@ -27,8 +19,8 @@ returns-in_err-change c =
     let p = err_from_is_err_and c.from_residual.result c.from_residual.ensures.1 in
     rw (p.1, p.2) (ends next_change_at (λ _ change. Some change.offset) c.in_err-change.field-0.0 c.loop.changes c.args.count c.loop.counter c.loop.before c.loop.bytes.now _ c.loop-test.true c.in_err-change.ensures.exact c.loop.invariant.read)
 
-pub push-requires-clause-above : goal.push-requires-clause-above
-push-requires-clause-above c =
+pub push-requires : goal.push-requires
+push-requires c =
     λ change e. rw (c.loop.invariant.last change e) at c.in_ok-change.ensures.above
 
 pub loop-preserved : goal.loop-preserved

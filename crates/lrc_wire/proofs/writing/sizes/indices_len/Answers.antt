@@ -1,9 +1,9 @@
-use Rattle.std.proofs.Common.{sym, arith}
+use Rattle.std.proofs.Common.{arith}
 use Rattle.lrc_wire.proofs.Lengths.{length_indices}
 use Rattle.lrc_wire.proofs.writing.sizes.indices_len.Goals as goal
 
-pub returns-then-list-gt-MOST_BODY_BYTES-clause-over : goal.returns-then-list-gt-MOST_BODY_BYTES-clause-over
-returns-then-list-gt-MOST_BODY_BYTES-clause-over c = omega (arith, length_indices c.args.list.now, c.if-list-gt-MOST_BODY_BYTES.true)
+pub returns-then-len-clause-over : goal.returns-then-len-clause-over
+returns-then-len-clause-over c = omega (arith, length_indices c.args.list.now, c.if-len.true, c.len.ensures.count)
 
 pub returns-clause-within : goal.returns-clause-within
-returns-clause-within c = sym (length_indices c.args.list.now)
+returns-clause-within c = omega (arith, length_indices c.args.list.now, c.len.ensures.count)

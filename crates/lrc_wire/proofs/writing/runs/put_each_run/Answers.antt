@@ -1,0 +1,19 @@
+use Rattle.std.proofs.Common.{◌≡◌, ◌∙◌, ◌++◌, drop, ap, arith}
+use Rattle.std.specs.List.{flat_map}
+use Rattle.std.proofs.lemmas.List.{take_all, append-nil}
+use Rattle.lrc_wire.specs.Runs.{runs_of}
+use Rattle.lrc_wire.specs.Spelling.{run}
+use Rattle.lrc_wire.proofs.Leads.{run_written, none_left}
+use Rattle.lrc_wire.proofs.writing.runs.put_each_run.Goals as goal
+
+pub loop-start-preserved : goal.loop-start-preserved
+loop-start-preserved c =
+    record {
+      written = rw (c.in_ok-put_run.ensures.written, c.run_end-end.ensures.exact) (run_written c.args.changes.now c.loop-start.start c.loop-start.out.items (omega (arith, c.loop-start-test.true, c.len.ensures.count)) ∙ c.loop-start.invariant.written);
+      within = c.run_end-end.ensures.within;
+      bits = c.in_ok-put_run.ensures.bits;
+    }
+
+pub returns-clause-bits : goal.returns-clause-bits
+returns-clause-bits c =
+    rw (← take_all c.loop-start.start c.args.changes.now (omega (arith, c.loop-start-test.false, c.len.ensures.count))) c.loop-start.invariant.bits

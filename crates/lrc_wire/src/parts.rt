@@ -1,0 +1,104 @@
+//! What intervals of one node changed in a page.
+
+ghost use Rattle.std.specs.Prelude.{◌≡◌, ◌<◌, ◌↔◌, IsTrue, OnOk, OnErr, Some, [], ◌∷◌, ◌++◌, length, slice_get};
+ghost use Rattle.std.specs.Option.{ForSome};
+ghost use Rattle.lrc_wire.specs.Records.{AreParts, last_part};
+
+use lrc_page::Changes;
+use std::alloc::{AllocError, Global};
+use std::marker::Model;
+
+/// What one interval changed in a page.
+#[derive(Drop)]
+pub struct IndexedChanges {
+    /// The interval's index, at least 1.
+    pub index: u32,
+    pub changes: Changes,
+}
+
+impl Model for IndexedChanges {
+    ghost use Rattle.lrc_wire.specs.Records.{IndexedChangesRecord, IsIndexedChanges};
+
+    ghost Value = { IndexedChangesRecord };
+
+    ghost view = { λ p. record { index = p.index; changes = p.changes } };
+
+    ghost invariant = { λ p. IsIndexedChanges (record { index = p.index; changes = p.changes }) };
+}
+
+/// What some intervals of one node changed in a page, strictly ascending by index.
+#[derive(Drop)]
+pub struct Parts {
+    list: Vec<IndexedChanges>,
+}
+
+impl Model for Parts {
+    ghost use Rattle.std.specs.Prelude.{List};
+    ghost use Rattle.lrc_wire.specs.Records.{IndexedChangesRecord, AreParts};
+
+    ghost Value = { List IndexedChangesRecord };
+
+    ghost view = { λ parts. parts.list.items };
+
+    ghost invariant = { λ parts. AreParts parts.list.items };
+}
+
+impl Parts {
+    /// No parts.
+    pub fn empty(alloc: Global) -> Self
+        ensures { result ≡ [] }
+    {
+        Parts {
+            list: Vec::new(alloc),
+        }
+    }
+
+    /// These parts, which ascend by index.
+    pub fn from_ascending(list: Vec<IndexedChanges>) -> Self
+        requires { AreParts list.items }
+        ensures { result ≡ list.items }
+    {
+        Parts { list }
+    }
+
+    /// Adds a part of an index above all others. An error leaves the parts as they were.
+    pub fn push(&mut self, part: IndexedChanges) -> Result<(), AllocError>
+        requires { ForSome (last_part self.old) (λ last. last.index < part.index) }
+        ensures ok { OnOk result (self.new ≡ self.old ++ part ∷ []) }
+        ensures err { OnErr result (self.new ≡ self.old) }
+    {
+        self.list.push(part)?;
+        Ok(())
+    }
+
+    /// How many parts there are.
+    pub fn len(&self) -> usize
+        ensures count { result ≡ length self.now }
+        ensures are { AreParts self.now }
+    {
+        self.list.len()
+    }
+
+    /// Whether there is no part.
+    pub fn is_empty(&self) -> bool
+        ensures { IsTrue result ↔ (self.now ≡ []) }
+    {
+        self.list.is_empty()
+    }
+
+    /// The part at a place, counted from 0 in the order of the indices.
+    pub fn at(&self, place: usize) -> &IndexedChanges
+        requires { place < length self.now }
+        ensures { slice_get self.now place ≡ Some result.now }
+    {
+        &self.list[place]
+    }
+
+    /// The parts in order.
+    pub fn as_slice(&self) -> &[IndexedChanges]
+        ensures all { result.now ≡ self.now }
+        ensures are { AreParts self.now }
+    {
+        self.list.as_slice()
+    }
+}
