@@ -45,13 +45,6 @@ course_of value ends = ended
 
 -- what it counts of a node's steps to begin this: the end of the text and a departure count none
 abbrev pub cost_of : Next → ℕ
-cost_of (quiet after) = 1
-cost_of (prints printed after) = 1
-cost_of (reads word after) = 1
-cost_of (writes word written after) = 1
-cost_of (acquires lock after) = 1
-cost_of (releases lock after) = 1
-cost_of (arrives after) = 1
 cost_of (departs after) = 0
-cost_of (traps cause) = 1
 cost_of ends = 0
+cost_of _ = 1

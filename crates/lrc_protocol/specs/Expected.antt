@@ -78,13 +78,11 @@ are_arriving node from time intervals =
 -- the call takes what comes
 abbrev pub is_taken : LockStep → Bool
 is_taken (refuses fault) = false
-is_taken (stays state) = true
-is_taken (passes pass) = true
+is_taken _ = true
 
 abbrev pub is_clean : CleanStep → Bool
 is_clean (refuses_clean fault) = false
-is_clean (awaits manager) = true
-is_clean (discards episode manager) = true
+is_clean _ = true
 
 -- the manager of barriers is here and accepts it
 abbrev pub is_arrival : Node → ℕ → ArriveRecord → Bool

@@ -65,9 +65,8 @@ changes_request_of page asked = letter asked.maker (ChangesRequest (record { pag
 
 -- what is asked of a keeper
 abbrev pub page_request_of : ℕ → Base → List Letter
-page_request_of page unneeded = []
 page_request_of page (due keeper) = letter keeper (PageRequest page) ∷ []
-page_request_of page (come values) = []
+page_request_of page _ = []
 
 -- the requests for a page: its keeper's first, then one for each maker, makers ascending
 abbrev pub requests_of : Need → List Letter

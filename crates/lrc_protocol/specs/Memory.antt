@@ -89,10 +89,9 @@ learned before intervals memory = record memory {
 -- the notices of a page that a copy of it lacks, in the order in which their changes are applied: by weight, node, index.
 -- An invalid copy has what its remembered time covers, an absent one what was collected.
 abbrev pub lacking_in : Memory → ℕ → Copy → List Key
-lacking_in memory page (valid values) = []
-lacking_in memory page (written values twin) = []
 lacking_in memory page (invalid values since) = missing_of memory.store page since
 lacking_in memory page absent = missing_of memory.store page memory.collected
+lacking_in memory page _ = []
 
 abbrev pub lacking : Memory → ℕ → List Key
 lacking memory page = lacking_in memory page (copy_at memory page)

@@ -61,16 +61,12 @@ arrive_at node =
 
 -- the effect of what a thread does next; none where a number would be too large. A trap closes nothing.
 abbrev pub run_effect : Node → Next → Option Effect
-run_effect node (quiet after) = Some (acts [] node)
-run_effect node (prints value after) = Some (acts [] node)
 run_effect node (reads word after) = Some (reaches node (page_of word node.options.size))
 run_effect node (writes word value after) = Some (reaches node (page_of word node.options.size))
 run_effect node (acquires lock after) = closing node (acquire_at lock)
 run_effect node (releases lock after) = closing node (release_at lock)
 run_effect node (arrives after) = closing node arrive_at
-run_effect node (departs after) = Some (acts [] node)
-run_effect node (traps cause) = Some (acts [] node)
-run_effect node ends = Some (acts [] node)
+run_effect node _ = Some (acts [] node)
 
 -- the node with the steps fewer that it costs to begin this
 abbrev pub charged : Node → Next → Node
