@@ -1,7 +1,7 @@
 -- What every effect leaves as it was: the setting, the options, the counts of messages sent, and a text that moves on by
 -- its own next deed, or not at all.
-use Rattle.std.proofs.Common.{◌≡◌, ℕ, List, [], ◌∷◌, Bool, true, false, refl, sym, subst}
-use Rattle.std.specs.Prelude.{Option, Some, None, nat_lt, if◌then◌else◌, flat_map, map, fold}
+use Rattle.std.proofs.Common.{◌≡◌, ℕ, List, [], Bool, true, false, refl, sym, subst}
+use Rattle.std.specs.Prelude.{Option, Some, None, nat_lt, if◌then◌else◌, flat_map, fold}
 use Rattle.std.specs.List.{list_all}
 use Rattle.lrc_trace.specs.declared.act.Deed.{Deed}
 use Rattle.lrc_exec.specs.Meaning.{Setting, Thread, Next, quiet, prints, reads, writes, acquires, releases, arrives, departs, traps, ends, next_of}
@@ -16,13 +16,13 @@ use Rattle.lrc_protocol.specs.Memory.{copy_at, kept_pages, with_keepers, base_at
 use Rattle.lrc_protocol.specs.Fetch.{Need, need_of, is_met, with_changes, with_page}
 use Rattle.lrc_protocol.specs.Mail.{Letter, Wait, nothing, grant, departure, access, upkeep, discard, Collection, collection_of, MOST_NUMBER}
 use Rattle.lrc_protocol.specs.Course.{Course, going, trapped, ended, thread_of, deed_of, course_of}
-use Rattle.lrc_protocol.specs.Barrier.{arrive_step, clean_step}
+use Rattle.lrc_protocol.specs.Barrier.{clean_step}
 use Rattle.lrc_protocol.specs.Node.{Node, OptionsRecord, Effect, sends, acts, acts_by, value_read, with_memory, waiting}
 use Rattle.lrc_protocol.specs.Letters.{requests_of}
 use Rattle.lrc_protocol.specs.Waits.{waits_or_goes_on, with_needs}
 use Rattle.lrc_page.specs.Place.{page_of}
 use Rattle.lrc_protocol.specs.Run.{own_index, closes, closing, reaches, acquire_at, release_at, arrive_at, run_effect}
-use Rattle.lrc_protocol.specs.Take.{request_by, forward_by, learns, take_grant, arrive_by, collects, take_departure, clean_by, discard_by, take_changes, take_page, page_reply_by, take_effect, needs_to_keep, with_part}
+use Rattle.lrc_protocol.specs.Take.{request_by, learns, arrive_by, collects, clean_by, discard_by, page_reply_by, take_effect, needs_to_keep, with_part}
 
 -- a text stays where it is, or moves on by its next deed
 pub data Moves : Course → Option Deed → Course → Type 0 where
@@ -153,7 +153,7 @@ take-keeps node from (LockRequest m) = request-keeps node from m.lock m.time (re
 take-keeps node from (LockForward m) = sends-keeps _ _
 take-keeps node from (LockGrant m) = acts-keeps [] _
 take-keeps node from (Arrive m) = arrive-keeps node _
-take-keeps node from (Depart m) = 
+take-keeps node from (Depart m) =
     let knowing : Node = learns m.time m.intervals node in
     either node m.collect _ _ (collects-keeps m.time knowing) (acts-keeps [] (waiting nothing knowing))
 take-keeps node from (Clean episode) = clean-keeps node (clean_step node.barrier from episode)

@@ -1,5 +1,5 @@
 -- When a node expects a message. What it doesn't expect it refuses, and nothing changes.
-use Rattle.std.specs.Prelude.{ℕ, ◌+◌, ◌-◌, ◌==◌, ◌&&◌, Bool, true, false, not, Option, Some, None, is_some, unwrap_or, option_map, List, [], ◌∷◌, length, map, filter, nat_lt, nat_le}
+use Rattle.std.specs.Prelude.{ℕ, ◌+◌, ◌-◌, ◌==◌, ◌&&◌, Bool, true, false, not, is_some, unwrap_or, option_map, List, length, map, filter, nat_lt, nat_le}
 use Rattle.std.specs.List.{list_any, list_all, range_with_len}
 use lib.Pointwise.{pointwise}
 use Rattle.lrc_time.specs.Time.{entry, covers}
@@ -9,13 +9,13 @@ use Rattle.lrc_store.specs.Interval.{IntervalRecord, index_of}
 use Rattle.lrc_store.specs.Store.{notice_at}
 use Rattle.lrc_wire.specs.declared.message.Message.{Message}
 use Rattle.lrc_wire.specs.declared.message.Message.TheVariants.{LockRequest, LockForward, LockGrant, Arrive, Depart, Clean, Discard, ChangesRequest, ChangesReply, PageRequest, PageReply}
-use Rattle.lrc_wire.specs.Records.{IndexedChangesRecord, LockRequestRecord, LockForwardRecord, LockGrantRecord, ArriveRecord, DepartRecord, ChangesRequestRecord, ChangesReplyRecord, PageReplyRecord}
+use Rattle.lrc_wire.specs.Records.{IndexedChangesRecord, ArriveRecord, ChangesReplyRecord}
 use Rattle.lrc_lock.specs.Lock.{manager_of}
-use Rattle.lrc_lock.specs.Held.{LockStep, refuses, stays, passes, forwarded}
-use Rattle.lrc_barrier.specs.Barrier.{ArriveStep, is_accepted, CleanStep, refuses_clean, awaits, discards}
+use Rattle.lrc_lock.specs.Held.{LockStep, refuses, forwarded}
+use Rattle.lrc_barrier.specs.Barrier.{is_accepted, CleanStep, refuses_clean}
 use Rattle.lrc_protocol.specs.Memory.{base_at}
-use Rattle.lrc_protocol.specs.Fetch.{Need, awaits_changes, awaits_page}
-use Rattle.lrc_protocol.specs.Mail.{Wait, needs_of, awaits_grant, awaits_departure, awaits_discard}
+use Rattle.lrc_protocol.specs.Fetch.{awaits_changes, awaits_page}
+use Rattle.lrc_protocol.specs.Mail.{needs_of, awaits_grant, awaits_departure, awaits_discard}
 use Rattle.lrc_protocol.specs.Barrier.{arrive_step, clean_step, last_from}
 use Rattle.lrc_protocol.specs.Node.{Node}
 

@@ -1,13 +1,13 @@
 -- What a node fetches at an access miss, or as a keeper in a collection: the changes that its copy of a page lacks, of
 -- their makers, and for an absent page first the keeper's base copy (Amza et al. 1996).
-use Rattle.std.specs.Prelude.{ℕ, ◌==◌, ◌&&◌, Bool, true, false, not, Option, Some, None, is_none, List, [], ◌∷◌, ◌++◌, map, filter, filter_map, nat_lt, if◌then◌else◌}
-use Rattle.std.specs.List.{list_any, list_all, range_with_len}
+use Rattle.std.specs.Prelude.{ℕ, ◌==◌, ◌&&◌, Bool, true, false, not, Option, Some, None, is_none, List, [], ◌∷◌, map, filter, filter_map, nat_lt, if◌then◌else◌}
+use Rattle.std.specs.List.{list_any, range_with_len}
 use lib.Pointwise.{pointwise}
 use Rattle.lrc_store.specs.declared.key.Key.{Key}
 use Rattle.lrc_store.specs.Order.{ascending_part}
 use Rattle.lrc_store.specs.Store.{StoreRecord, changes_at}
-use Rattle.lrc_protocol.specs.Copy.{Copy, valid, written, invalid, absent, values_of}
-use Rattle.lrc_protocol.specs.Memory.{Memory, copy_at, with_copy, keeper_at, lacking, repaired, with_base}
+use Rattle.lrc_protocol.specs.Copy.{Copy, valid, absent, values_of}
+use Rattle.lrc_protocol.specs.Memory.{Memory, copy_at, with_copy, keeper_at, lacking, repaired}
 
 -- a base copy: not asked for, asked of its keeper, or come
 pub data Base : Type 0 where

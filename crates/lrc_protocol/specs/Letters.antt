@@ -1,15 +1,15 @@
 -- The messages that a node sends, and to whom.
-use Rattle.std.specs.Prelude.{ℕ, ◌&&◌, Bool, Option, List, [], ◌∷◌, ◌++◌, length, map, flat_map, nat_le, slice_set}
+use Rattle.std.specs.Prelude.{ℕ, ◌&&◌, Bool, Option, List, [], ◌∷◌, ◌++◌, length, map, nat_le, slice_set}
 use Rattle.std.specs.Option.{option_to_list}
 use Rattle.lrc_store.specs.Interval.{IntervalRecord}
-use Rattle.lrc_store.specs.Store.{StoreRecord, newer_of}
+use Rattle.lrc_store.specs.Store.{newer_of}
 use Rattle.lrc_wire.specs.declared.message.Message.{Message}
-use Rattle.lrc_wire.specs.declared.message.Message.TheVariants.{LockRequest, LockForward, LockGrant, Arrive, Depart, Clean, Discard, ChangesRequest, ChangesReply, PageRequest, PageReply}
+use Rattle.lrc_wire.specs.declared.message.Message.TheVariants.{LockRequest, LockForward, LockGrant, Arrive, Depart, Discard, ChangesRequest, ChangesReply, PageRequest, PageReply}
 use Rattle.lrc_lock.specs.declared.state.Pass.{Pass}
 use Rattle.lrc_lock.specs.Lock.{manager_of}
 use Rattle.lrc_barrier.specs.declared.departure.Departure.{Departure}
 use Rattle.lrc_protocol.specs.Memory.{changes_or_none}
-use Rattle.lrc_protocol.specs.Fetch.{Base, unneeded, due, come, Asked, Need}
+use Rattle.lrc_protocol.specs.Fetch.{Base, due, Asked, Need}
 use Rattle.lrc_protocol.specs.Mail.{Letter}
 use Rattle.lrc_protocol.specs.Node.{Node}
 

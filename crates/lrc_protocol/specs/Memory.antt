@@ -1,6 +1,6 @@
 -- What a node knows of the shared memory: intervals with their notices and changes, its copies of the pages, and who keeps
 -- a base copy of which page (Keleher, Cox, Dwarkadas and Zwaenepoel 1994; Amza et al. 1996).
-use Rattle.std.specs.Prelude.{ℕ, ◌==◌, ◌&&◌, Bool, true, Option, Some, None, not, unwrap_or, option_map, List, [], ◌∷◌, length, map, fold, filter, filter_map, min, nat_lt, replicate, slice_index, slice_index_or, slice_set, if◌then◌else◌}
+use Rattle.std.specs.Prelude.{ℕ, ◌==◌, ◌&&◌, Bool, Option, Some, None, unwrap_or, option_map, List, [], ◌∷◌, length, map, fold, filter, filter_map, min, replicate, slice_index, slice_index_or, slice_set, if◌then◌else◌}
 use Rattle.std.specs.List.{list_any, enumerate_from, range_with_len}
 use Rattle.lrc_time.specs.Time.{entry, zeros}
 use Rattle.lrc_page.specs.declared.changes.Change.{Change}
@@ -10,9 +10,8 @@ use Rattle.lrc_page.specs.Place.{page_of, offset_of}
 use Rattle.lrc_page.specs.Changes.{applied}
 use Rattle.lrc_store.specs.declared.key.Key.{Key}
 use Rattle.lrc_store.specs.Interval.{IntervalRecord}
-use Rattle.lrc_store.specs.Order.{ascending_part}
 use Rattle.lrc_store.specs.Store.{StoreRecord, empty_store, intervals_of, added, attached, changes_at, missing_of, discarded}
-use Rattle.lrc_protocol.specs.Copy.{Copy, valid, written, invalid, absent, values_of, after_write, changes_of, closed, invalidated, dropped}
+use Rattle.lrc_protocol.specs.Copy.{Copy, valid, invalid, absent, values_of, after_write, changes_of, closed, invalidated, dropped}
 
 -- the intervals that are known; for each page the copy, a base copy where one is kept, and who keeps one; and the time up
 -- to which intervals were collected

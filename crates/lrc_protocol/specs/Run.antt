@@ -1,8 +1,8 @@
 -- What a node does when it goes on by itself: one statement, or the beginning of one that waits.
-use Rattle.std.specs.Prelude.{ℕ, ◌+◌, ◌-◌, Option, Some, None, List, [], ◌∷◌, nat_lt, if◌then◌else◌}
+use Rattle.std.specs.Prelude.{ℕ, ◌+◌, ◌-◌, Option, Some, None, [], ◌∷◌, nat_lt, if◌then◌else◌}
 use Rattle.lrc_time.specs.Time.{entry}
 use Rattle.lrc_page.specs.Place.{page_of}
-use Rattle.lrc_exec.specs.Meaning.{Next, quiet, prints, reads, writes, acquires, releases, arrives, departs, traps, ends}
+use Rattle.lrc_exec.specs.Meaning.{Next, reads, writes, acquires, releases, arrives}
 use Rattle.lrc_lock.specs.Held.{lock_at, is_free, taken, asked, released, pass_of, held_after}
 use Rattle.lrc_protocol.specs.Copy.{is_readable}
 use Rattle.lrc_protocol.specs.Memory.{copy_at, with_interval}
@@ -11,7 +11,7 @@ use Rattle.lrc_protocol.specs.Mail.{MOST_NUMBER, grant, departure, access}
 use Rattle.lrc_protocol.specs.Course.{cost_of}
 use Rattle.lrc_protocol.specs.Locks.{ticked}
 use Rattle.lrc_protocol.specs.Barrier.{with_arrive}
-use Rattle.lrc_protocol.specs.Node.{Node, Effect, with_locks, with_barrier, with_tokens, waiting, sends, acts}
+use Rattle.lrc_protocol.specs.Node.{Node, Effect, with_barrier, with_tokens, waiting, sends, acts}
 use Rattle.lrc_protocol.specs.Letters.{request_of, grants_of, arrival_of, requests_of}
 use Rattle.lrc_protocol.specs.Waits.{waits_or_goes_on}
 

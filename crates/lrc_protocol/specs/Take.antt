@@ -5,14 +5,14 @@ use Rattle.lrc_store.specs.Interval.{IntervalRecord}
 use Rattle.lrc_store.specs.Store.{StoreRecord, attached}
 use Rattle.lrc_wire.specs.declared.message.Message.{Message}
 use Rattle.lrc_wire.specs.declared.message.Message.TheVariants.{LockRequest, LockForward, LockGrant, Arrive, Depart, Clean, Discard, ChangesRequest, ChangesReply, PageRequest, PageReply}
-use Rattle.lrc_wire.specs.Records.{IndexedChangesRecord, ArriveRecord, ChangesReplyRecord}
+use Rattle.lrc_wire.specs.Records.{IndexedChangesRecord, ChangesReplyRecord}
 use Rattle.lrc_lock.specs.Managed.{Requested, refuses as refuses_request, forwards, requested}
 use Rattle.lrc_lock.specs.Held.{LockStep, forwarded, granted, pass_of, held_after}
 use Rattle.lrc_barrier.specs.Barrier.{ArriveStep, refuses as refuses_arrival, waits, departs, CleanStep, refuses_clean, awaits, discards}
 use Rattle.lrc_protocol.specs.Copy.{is_readable}
-use Rattle.lrc_protocol.specs.Memory.{Memory, copy_at, learned, with_keepers, kept_pages, base_at, collected_at}
+use Rattle.lrc_protocol.specs.Memory.{copy_at, learned, with_keepers, kept_pages, base_at, collected_at}
 use Rattle.lrc_protocol.specs.Fetch.{Need, need_of, with_changes, with_page}
-use Rattle.lrc_protocol.specs.Mail.{Letter, Collection, Wait, nothing, upkeep, collection_of}
+use Rattle.lrc_protocol.specs.Mail.{Collection, nothing, upkeep, collection_of}
 use Rattle.lrc_protocol.specs.Locks.{with_time, with_managed}
 use Rattle.lrc_protocol.specs.Barrier.{with_manager, arrive_step, clean_step}
 use Rattle.lrc_protocol.specs.Node.{Node, Effect, with_locks, with_barrier, with_memory, with_tokens, waiting, sends, acts}
