@@ -6,3 +6,4 @@ pub mod Worlds
 pub mod Skips
 pub mod Texts
 pub mod Induction
+pub mod Times

@@ -12,6 +12,7 @@ use Rattle.lrc_wire.specs.declared.message.Message.TheVariants.{LockRequest, Loc
 use Rattle.lrc_wire.specs.Records.{IndexedChangesRecord, ArriveRecord, ChangesReplyRecord}
 use Rattle.lrc_lock.specs.Lock.{manager_of}
 use Rattle.lrc_lock.specs.Held.{LockStep, refuses, forwarded}
+use Rattle.lrc_barrier.specs.declared.arrival.Arrival.{Arrival}
 use Rattle.lrc_barrier.specs.Barrier.{is_accepted, CleanStep, refuses_clean}
 use Rattle.lrc_protocol.specs.Memory.{base_at}
 use Rattle.lrc_protocol.specs.Fetch.{awaits_changes, awaits_page}
@@ -87,7 +88,8 @@ is_clean _ = true
 -- the manager of barriers is here and accepts it
 abbrev pub is_arrival : Node → ℕ → ArriveRecord → Bool
 is_arrival node from m =
-    unwrap_or (option_map is_accepted (arrive_step node.barrier from (record { episode = m.episode; ask = m.ask; time = m.time; intervals = m.intervals }))) false
+    let arrival : Arrival = record { episode = m.episode; ask = m.ask; time = m.time; intervals = m.intervals } in
+    unwrap_or (option_map is_accepted (arrive_step node.barrier from arrival)) false
 
 -- the changes of this page are of offsets on a page, and asked of the sender, just these
 abbrev pub is_changes_reply : Node → ℕ → ChangesReplyRecord → Bool

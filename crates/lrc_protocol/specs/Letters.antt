@@ -3,6 +3,7 @@ use Rattle.std.specs.Prelude.{ℕ, ◌&&◌, Bool, Option, List, [], ◌∷◌, 
 use Rattle.std.specs.Option.{option_to_list}
 use Rattle.lrc_store.specs.Interval.{IntervalRecord}
 use Rattle.lrc_store.specs.Store.{newer_of}
+use Rattle.lrc_wire.specs.Records.{IndexedChangesRecord}
 use Rattle.lrc_wire.specs.declared.message.Message.{Message}
 use Rattle.lrc_wire.specs.declared.message.Message.TheVariants.{LockRequest, LockForward, LockGrant, Arrive, Depart, Discard, ChangesRequest, ChangesReply, PageRequest, PageReply}
 use Rattle.lrc_lock.specs.declared.state.Pass.{Pass}
@@ -72,12 +73,19 @@ page_request_of page _ = []
 abbrev pub requests_of : Need → List Letter
 requests_of need = page_request_of need.page need.base ++ map (changes_request_of need.page) need.asked
 
+-- what the node's own interval of this index changed in a page
+abbrev pub own_part : Node → ℕ → ℕ → IndexedChangesRecord
+own_part node page index = record {
+  index = index;
+  changes = changes_or_none node.memory.store (record { node = node.setting.me; index = index; page = page });
+}
+
 -- the reply to a request of changes that the node's own intervals made
 abbrev pub changes_reply_to : Node → ℕ → ℕ → List ℕ → Letter
 changes_reply_to node to page indices =
     letter to (ChangesReply (record {
       page = page;
-      parts = map (λ index. record { index = index; changes = changes_or_none node.memory.store (record { node = node.setting.me; index = index; page = page }) }) indices;
+      parts = map (own_part node page) indices;
     }))
 
 -- the reply to a request of a base copy
