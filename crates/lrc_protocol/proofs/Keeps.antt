@@ -1,14 +1,14 @@
 -- What every effect leaves as it was: the setting, the options, the counts of messages sent, and a text that moves on by
 -- its own next deed, or not at all.
-use Rattle.std.proofs.Common.{◌≡◌, ℕ, List, [], ◌∷◌, Bool, true, false, refl, sym, subst}
-use Rattle.std.specs.Prelude.{Option, Some, None, nat_lt, if◌then◌else◌, flat_map, map, fold}
+use Rattle.std.proofs.Common.{◌≡◌, ℕ, List, [], Bool, true, false, refl, sym, subst}
+use Rattle.std.specs.Prelude.{Option, Some, None, nat_lt, if◌then◌else◌, flat_map, fold}
 use Rattle.std.specs.List.{list_all}
 use Rattle.lrc_trace.specs.declared.act.Deed.{Deed}
 use Rattle.lrc_exec.specs.Meaning.{Setting, Thread, Next, quiet, prints, reads, writes, acquires, releases, arrives, departs, traps, ends, next_of}
 use Rattle.lrc_wire.specs.declared.message.Message.{Message}
 use Rattle.lrc_wire.specs.declared.message.Message.TheVariants.{LockRequest, LockForward, LockGrant, Arrive, Depart, Clean, Discard, ChangesRequest, ChangesReply, PageRequest, PageReply}
 use Rattle.lrc_lock.specs.Managed.{Requested, refuses as refuses_request, forwards, requested}
-use Rattle.lrc_lock.specs.Held.{LockStep, refuses, stays as token_stays, passes, forwarded, granted, held_after, lock_at, is_free, taken, asked, released}
+use Rattle.lrc_lock.specs.Held.{lock_at, is_free}
 use Rattle.lrc_barrier.specs.Barrier.{ArriveStep, refuses as refuses_arrival, waits, departs as all_depart, CleanStep, refuses_clean, awaits, discards}
 use Rattle.lrc_theory.specs.Follows.{Goes, quietly, printing, reading, writing, acquiring, releasing, arriving, departing, trapping, ending}
 use Rattle.lrc_protocol.specs.Copy.{is_readable}
@@ -16,13 +16,13 @@ use Rattle.lrc_protocol.specs.Memory.{copy_at, kept_pages, with_keepers, base_at
 use Rattle.lrc_protocol.specs.Fetch.{Need, need_of, is_met, with_changes, with_page}
 use Rattle.lrc_protocol.specs.Mail.{Letter, Wait, nothing, grant, departure, access, upkeep, discard, Collection, collection_of, MOST_NUMBER}
 use Rattle.lrc_protocol.specs.Course.{Course, going, trapped, ended, thread_of, deed_of, course_of}
-use Rattle.lrc_protocol.specs.Barrier.{arrive_step, clean_step}
+use Rattle.lrc_protocol.specs.Barrier.{clean_step}
 use Rattle.lrc_protocol.specs.Node.{Node, OptionsRecord, Effect, sends, acts, acts_by, value_read, with_memory, waiting}
 use Rattle.lrc_protocol.specs.Letters.{requests_of}
 use Rattle.lrc_protocol.specs.Waits.{waits_or_goes_on, with_needs}
-use Rattle.lrc_protocol.specs.Place.{page_of}
-use Rattle.lrc_protocol.specs.Run.{own_index, closes, closing, reaches, acquire_at, release_by, release_at, arrive_at, run_effect}
-use Rattle.lrc_protocol.specs.Take.{request_by, forward_by, learns, take_grant, arrive_by, collects, take_departure, clean_by, discard_by, take_changes, take_page, page_reply_by, take_effect, needs_to_keep, with_part}
+use Rattle.lrc_page.specs.Place.{page_of}
+use Rattle.lrc_protocol.specs.Run.{own_index, closes, closing, reaches, acquire_at, release_at, arrive_at, run_effect}
+use Rattle.lrc_protocol.specs.Take.{request_by, learns, arrive_by, collects, clean_by, discard_by, page_reply_by, take_effect, needs_to_keep, with_part}
 
 -- a text stays where it is, or moves on by its next deed
 pub data Moves : Course → Option Deed → Course → Type 0 where
@@ -103,18 +103,13 @@ reaches-keeps node page =
 acquire-keeps : (lock : ℕ) (node : Node) → Kept node (acquire_at lock node)
 acquire-keeps lock node = either node (is_free (lock_at node.locks.held lock)) _ _ (acts-keeps [] _) (sends-keeps _ _)
 
-release_by-keeps : (node : Node) (step : LockStep) → Kept node (release_by node step)
-release_by-keeps node (refuses fault) = acts-keeps [] node
-release_by-keeps node (token_stays held) = acts-keeps [] _
-release_by-keeps node (passes pass held) = acts-keeps _ _
-
 pub run-keeps : (node : Node) (next : Next) → KeptIf node (run_effect node next)
 run-keeps node (quiet after) = acts-keeps [] node
 run-keeps node (prints value after) = acts-keeps [] node
 run-keeps node (reads word after) = reaches-keeps node (page_of word node.options.size)
 run-keeps node (writes word value after) = reaches-keeps node (page_of word node.options.size)
 run-keeps node (acquires lock after) = closing-keeps node (acquire_at lock) (acquire-keeps lock)
-run-keeps node (releases lock after) = closing-keeps node (release_at lock) (λ m. release_by-keeps m (released m.locks.held lock m.locks.time))
+run-keeps node (releases lock after) = closing-keeps node (release_at lock) (λ m. acts-keeps _ _)
 run-keeps node (arrives after) = closing-keeps node arrive_at (λ m. acts-keeps _ _)
 run-keeps node (departs after) = acts-keeps [] node
 run-keeps node (traps cause) = acts-keeps [] node
@@ -125,11 +120,6 @@ run-keeps node ends = acts-keeps [] node
 request-keeps : (node : Node) (from lock : ℕ) (time : List ℕ) (r : Requested) → Kept node (request_by node from lock time r)
 request-keeps node from lock time (refuses_request fault) = sends-keeps [] node
 request-keeps node from lock time (forwards to managed) = sends-keeps _ _
-
-forward-keeps : (node : Node) (step : LockStep) → Kept node (forward_by node step)
-forward-keeps node (refuses fault) = sends-keeps [] node
-forward-keeps node (token_stays held) = sends-keeps [] _
-forward-keeps node (passes pass held) = sends-keeps _ _
 
 arrive-keeps : (node : Node) (step : Option ArriveStep) → Kept node (arrive_by node step)
 arrive-keeps node None = sends-keeps [] node
@@ -160,10 +150,10 @@ collects-keeps time node =
 
 pub take-keeps : (node : Node) (from : ℕ) (message : Message) → Kept node (take_effect node from message)
 take-keeps node from (LockRequest m) = request-keeps node from m.lock m.time (requested node.locks.managed m.lock from)
-take-keeps node from (LockForward m) = forward-keeps node (forwarded node.locks.held m.lock m.asker m.time)
+take-keeps node from (LockForward m) = sends-keeps _ _
 take-keeps node from (LockGrant m) = acts-keeps [] _
 take-keeps node from (Arrive m) = arrive-keeps node _
-take-keeps node from (Depart m) = 
+take-keeps node from (Depart m) =
     let knowing : Node = learns m.time m.intervals node in
     either node m.collect _ _ (collects-keeps m.time knowing) (acts-keeps [] (waiting nothing knowing))
 take-keeps node from (Clean episode) = clean-keeps node (clean_step node.barrier from episode)

@@ -5,3 +5,5 @@ pub mod Locally
 pub mod Worlds
 pub mod Skips
 pub mod Texts
+pub mod Induction
+pub mod Times

@@ -1,11 +1,10 @@
 -- The turns of one node: their deeds follow the text, and their messages are numbered one after another.
-use Rattle.std.proofs.Common.{◌≡◌, ℕ, zero, suc, ◌+◌, ◌<◌, List, [], ◌∷◌, ◌++◌, length, map, refl, sym, ap, subst, ◌∙◌, arith, add-zero, append-nil, append_assoc}
-use Rattle.std.specs.Prelude.{Option, Some, None, ◌==◌, option_map, filter, filter_map, flat_map, fold, slice_index, replicate}
+use Rattle.std.proofs.Common.{◌≡◌, ℕ, ◌+◌, ◌<◌, List, [], ◌∷◌, ◌++◌, length, map, refl, sym, ap, subst, ◌∙◌, append-nil}
+use Rattle.std.specs.Prelude.{Option, Some, None, ◌==◌, option_map, filter, filter_map, fold, slice_index}
 use Rattle.std.specs.List.{range_with_len}
 use Rattle.std.proofs.lemmas.List.{map-append, length-replicate, get_or-replicate}
 use Rattle.std.proofs.lemmas.List.Elements.{filter-append, filter_map-append}
-use Rattle.std.proofs.lemmas.Grind.{flat_map-append, fold-append}
-use Rattle.std.proofs.lemmas.Option.{same_Some}
+use Rattle.std.proofs.lemmas.Grind.{flat_map-append}
 use Rattle.lrc_lang.specs.declared.program.Program.{Program}
 use Rattle.lrc_trace.specs.declared.act.Act.{Act}
 use Rattle.lrc_trace.specs.declared.act.Deed.{Deed}
@@ -13,13 +12,13 @@ use Rattle.lrc_trace.specs.Run.{act_of}
 use Rattle.lrc_exec.specs.Meaning.{Setting, Thread}
 use Rattle.lrc_exec.specs.Plain.{setting_of, start_of}
 use Rattle.lrc_wire.specs.Envelope.{EnvelopeRecord}
-use Rattle.lrc_protocol.specs.Course.{Course, going, thread_of}
+use Rattle.lrc_protocol.specs.Course.{Course, thread_of}
 use Rattle.lrc_protocol.specs.Node.{Node, OptionsRecord, fresh_node}
 use Rattle.lrc_protocol.specs.Turn.{TurnRecord, Outcome, done, not_ready, unexpected, worn}
 use Rattle.lrc_protocol.specs.Log.{Input, outcome_of, Local, local_after, local_step, local}
 use Rattle.lrc_protocol.specs.Follows.{MakesTo, no_more, one_more, deeds_in, numbers_to, sent_in}
 use Rattle.lrc_protocol.proofs.Keeps.{Moves, stays, goes}
-use Rattle.lrc_protocol.proofs.Numbers.{GoOn, AreNumbered, ranges-append}
+use Rattle.lrc_protocol.proofs.Numbers.{GoOn, ranges-append}
 use Rattle.lrc_protocol.proofs.Turned.{Turned, Turns, turns}
 
 -- each act of these turns is the node's own
@@ -75,13 +74,13 @@ turned_more setting options start l turn after p t =
           (moved start (deeds_in l.turns) l.node.course after.course t.deed t.course p.makes);
       size = t.numbers.size ∙ p.size;
       numbers = λ to lt.
-        let g : GoOn l.node.options.first l.node.mail.sent turn.out after.mail.sent to = t.numbers.each to (subst (λ n. to < n) (sym p.size) lt) in
-        ap (numbers_to to) (flat_map-append (λ (turn : TurnRecord). turn.out) l.turns (turn ∷ []) ∙ ap (λ xs. sent_in l.turns ++ xs) (append-nil turn.out))
-        ∙ numbers-append to (sent_in l.turns) turn.out
-        ∙ ap (λ xs. xs ++ numbers_to to turn.out) (p.numbers to lt)
-        ∙ ap (λ xs. range_with_len options.first (slice_index l.node.mail.sent to) ++ xs)
-            (g.numbers ∙ ap (λ (o : OptionsRecord). range_with_len (o.first + slice_index l.node.mail.sent to) g.more) p.options_kept)
-        ∙ ranges-append options.first (slice_index l.node.mail.sent to) g.more (slice_index after.mail.sent to) g.counted;
+          let g : GoOn l.node.options.first l.node.mail.sent turn.out after.mail.sent to = t.numbers.each to (subst (λ n. to < n) (sym p.size) lt) in
+          ap (numbers_to to) (flat_map-append (λ (turn : TurnRecord). turn.out) l.turns (turn ∷ []) ∙ ap (λ xs. sent_in l.turns ++ xs) (append-nil turn.out))
+          ∙ numbers-append to (sent_in l.turns) turn.out
+          ∙ ap (λ xs. xs ++ numbers_to to turn.out) (p.numbers to lt)
+          ∙ ap (λ xs. range_with_len options.first (slice_index l.node.mail.sent to) ++ xs)
+          (g.numbers ∙ ap (λ (o : OptionsRecord). range_with_len (o.first + slice_index l.node.mail.sent to) g.more) p.options_kept)
+          ∙ ranges-append options.first (slice_index l.node.mail.sent to) g.more (slice_index after.mail.sent to) g.counted;
     }
 
 abbrev ProperIf : Setting → OptionsRecord → Option Thread → Option Local → Type 0

@@ -1,10 +1,9 @@
 -- Numbers of messages: to each node they go on one after another.
-use Rattle.std.proofs.Common.{◌≡◌, ℕ, zero, suc, ◌+◌, ◌<◌, List, [], ◌∷◌, ◌++◌, Bool, true, false, length, map, refl, sym, ap, subst, ◌∙◌, inl, inr, arith, add-zero, zero-add, add-one}
+use Rattle.std.proofs.Common.{◌≡◌, ℕ, zero, suc, ◌+◌, ◌<◌, List, [], ◌∷◌, ◌++◌, Bool, true, false, length, map, refl, sym, ap, subst, ◌∙◌, inl, inr, arith, add-zero, zero-add}
 use Rattle.std.specs.Prelude.{Option, Some, None, ◌==◌, nat_le, cond, filter, slice_index, slice_set, if◌then◌else◌, option_map}
 use Rattle.std.specs.List.{range_with_len}
 use Rattle.std.proofs.lemmas.Bool.{cases_eq, eq-eqb, ne_eqb}
 use Rattle.std.proofs.lemmas.List.{get_or-set_same, get_or-set_other, length-set}
-use Rattle.std.proofs.lemmas.Option.{same_Some}
 use Rattle.lrc_wire.specs.Envelope.{EnvelopeRecord}
 use Rattle.lrc_protocol.specs.Mail.{Letter, MOST_NUMBER, envelope_of, numbered}
 use Rattle.lrc_protocol.specs.Follows.{numbers_to}
@@ -73,12 +72,12 @@ module _ (me first : ℕ) where
   one_letter sent letter more after a = record {
     size = a.size ∙ length-set sent letter.to (slice_index sent letter.to + 1);
     each = λ to lt.
-      let rest : GoOn first (slice_set sent letter.to (slice_index sent letter.to + 1)) more after to = a.each to (subst (λ n. to < n) (sym (length-set sent letter.to (slice_index sent letter.to + 1))) lt) in
-      elim (cases_eq letter.to to) [
-        | inl e ↦ subst (λ t. GoOn first sent (envelope_of me (first + slice_index sent letter.to) letter ∷ more) after t) e
-            (here sent letter more after (subst (λ t. t < length sent) (sym e) lt) (subst (λ t. GoOn first (slice_set sent letter.to (slice_index sent letter.to + 1)) more after t) (sym e) rest))
-        | inr ne ↦ there sent letter more after to ne rest
-      ];
+        let rest : GoOn first (slice_set sent letter.to (slice_index sent letter.to + 1)) more after to = a.each to (subst (λ n. to < n) (sym (length-set sent letter.to (slice_index sent letter.to + 1))) lt) in
+        elim (cases_eq letter.to to) [
+          | inl e ↦ subst (λ t. GoOn first sent (envelope_of me (first + slice_index sent letter.to) letter ∷ more) after t) e
+              (here sent letter more after (subst (λ t. t < length sent) (sym e) lt) (subst (λ t. GoOn first (slice_set sent letter.to (slice_index sent letter.to + 1)) more after t) (sym e) rest))
+          | inr ne ↦ there sent letter more after to ne rest
+        ];
   }
 
   -- what is numbered, if it is

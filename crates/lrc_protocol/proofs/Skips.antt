@@ -1,21 +1,19 @@
 -- Nodes that are not ready, events that are skipped, and repeats.
-use Rattle.std.proofs.Common.{◌≡◌, ℕ, zero, suc, ◌+◌, ◌<◌, ◌≤◌, List, [], ◌∷◌, ◌++◌, Bool, true, false, length, map, refl, sym, ap, subst, ◌∙◌, inl, inr, arith, append-nil}
-use Rattle.std.specs.Prelude.{Option, Some, None, ◌≢◌, remove, is_some, slice_get, slice_set, nat_le, if◌then◌else◌}
+use Rattle.std.proofs.Common.{◌≡◌, ℕ, zero, suc, List, [], ◌∷◌, ◌++◌, Bool, true, false, map, refl, sym, ap, subst, ◌∙◌, append-nil}
+use Rattle.std.specs.Prelude.{Option, Some, None, ◌≢◌, remove, is_some, slice_get, slice_set, if◌then◌else◌}
 use Rattle.std.specs.Option.{option_to_list}
 use Rattle.std.proofs.lemmas.Option.{same_Some}
-use Rattle.lrc_trace.specs.declared.act.Act.{Act}
 use Rattle.lrc_exec.specs.Meaning.{Thread, Next, quiet, prints, reads, writes, acquires, releases, arrives, departs, traps, ends, next_of}
 use Rattle.lrc_wire.specs.Envelope.{EnvelopeRecord}
-use Rattle.lrc_protocol.specs.declared.event.Event.{Event}
 use Rattle.lrc_protocol.specs.declared.event.Event.TheVariants.{Run, Deliver, Repeat}
-use Rattle.lrc_protocol.specs.Course.{Course, going, trapped, ended}
+use Rattle.lrc_protocol.specs.Course.{going, trapped, ended}
 use Rattle.lrc_protocol.specs.Mail.{is_idle}
 use Rattle.lrc_protocol.specs.Node.{Node, Effect, begins_of, begins, may_begin}
 use Rattle.lrc_protocol.specs.Run.{run_effect, charged}
-use Rattle.lrc_protocol.specs.Turn.{TurnRecord, Outcome, done, not_ready, unexpected, worn, turn_with, turn_of, turn_if, turn_by, run_turn, take_turn, take_anew, empty_turn, is_ready, is_addressed, is_repeat}
+use Rattle.lrc_protocol.specs.Turn.{TurnRecord, Outcome, done, not_ready, unexpected, worn, turn_with, turn_if, turn_by, run_turn, take_turn, take_anew, empty_turn, is_ready, is_addressed, is_repeat}
 use Rattle.lrc_protocol.specs.Log.{Input, run, taken, EntryRecord, Logged, Logging, logged, refused, too_large, outcome_of, logging, logs, next_stamp}
-use Rattle.lrc_protocol.specs.World.{World, Flying, with_turn, with_mark, after_input, input_to, inputs, delivers, event_on}
-use Rattle.lrc_protocol.proofs.Worlds.{IsEntry, Entries, logs-entries, get_set_same}
+use Rattle.lrc_protocol.specs.World.{World, Flying, with_turn, with_mark, after_input, input_to, delivers, event_on}
+use Rattle.lrc_protocol.proofs.Worlds.{Entries, logs-entries}
 
 -- ---- readiness
 
@@ -104,9 +102,10 @@ refused_one world flight flying l e =
 pub refused-skipped : (world : World) (place : ℕ) (flying : Flying) (l : Logged) → slice_get world.flight place ≡ Some flying
     → slice_get world.nodes flying.envelope.to ≡ Some l → take_turn l.node flying.envelope ≡ unexpected
     → (event_on world (Deliver place) ≡ Some world) × (event_on world (Repeat place) ≡ Some world)
-refused-skipped world place flying l at there e =
-    (delivered world (remove world.flight place) (slice_get world.flight place) flying l at there ∙ refused_one world _ flying l e,
-    delivered world (with_mark world.flight place) (slice_get world.flight place) flying l at there ∙ refused_one world _ flying l e)
+refused-skipped world place flying l at there e = (
+  delivered world (remove world.flight place) (slice_get world.flight place) flying l at there ∙ refused_one world _ flying l e,
+  delivered world (with_mark world.flight place) (slice_get world.flight place) flying l at there ∙ refused_one world _ flying l e,
+)
 
 -- ---- repeats
 
@@ -142,10 +141,11 @@ IsSame world after =
 
 emptied : (world : World) (flight : List Flying) (n : ℕ) (l after : Logged) (entry : EntryRecord)
     → slice_get world.nodes n ≡ Some l → entry.turn ≡ empty_turn → after.node ≡ l.node → IsSame world (with_turn world flight n entry after)
-emptied world flight n l after entry at t m =
-    (ap (λ (turn : TurnRecord). world.acts ++ option_to_list turn.act) t ∙ append-nil world.acts,
-    ap (λ (turn : TurnRecord). world.times ++ map (λ act. after.node.locks.time) (option_to_list turn.act)) t ∙ append-nil world.times,
-    set_same world.nodes n l after at m)
+emptied world flight n l after entry at t m = (
+  ap (λ (turn : TurnRecord). world.acts ++ option_to_list turn.act) t ∙ append-nil world.acts,
+  ap (λ (turn : TurnRecord). world.times ++ map (λ act. after.node.locks.time) (option_to_list turn.act)) t ∙ append-nil world.times,
+  set_same world.nodes n l after at m,
+)
 
 same_after : (world : World) (flight : List Flying) (n : ℕ) (l : Logged) (input : Input) (r : Logging) (next : World)
     → slice_get world.nodes n ≡ Some l → outcome_of l.node input ≡ done empty_turn l.node → Entries l input r
@@ -153,8 +153,8 @@ same_after : (world : World) (flight : List Flying) (n : ℕ) (l : Logged) (inpu
 same_after world flight n l input (logged entry after) next at e i is =
     subst (IsSame world) (same_Some _ next is)
     (emptied world flight n l after entry at
-      (ap (λ o. turn_part o empty_turn) (sym i.turn_is ∙ e))
-      (ap (λ o. node_part o l.node) (sym i.turn_is ∙ e)))
+    (ap (λ o. turn_part o empty_turn) (sym i.turn_is ∙ e))
+    (ap (λ o. node_part o l.node) (sym i.turn_is ∙ e)))
 same_after world flight n l input refused next at e i is = subst (IsSame world) (same_Some world next is) (refl, refl, refl)
 same_after world flight n l input too_large next at e i is = cc
 

@@ -1,7 +1,6 @@
 -- What a turn of a node is: its text moves on by its act, and its messages go on in number.
-use Rattle.std.proofs.Common.{◌≡◌, ℕ, List, [], ◌∷◌, Bool, true, false, refl, sym, subst, ap, ◌∙◌}
+use Rattle.std.proofs.Common.{◌≡◌, ℕ, List, Bool, true, false, refl, subst, ap}
 use Rattle.std.specs.Prelude.{Option, Some, None, option_map, if◌then◌else◌}
-use Rattle.lrc_trace.specs.declared.act.Act.{Act}
 use Rattle.lrc_trace.specs.declared.act.Deed.{Deed}
 use Rattle.lrc_trace.specs.Run.{act_of}
 use Rattle.lrc_exec.specs.Meaning.{Setting, Next}
@@ -11,7 +10,7 @@ use Rattle.lrc_protocol.specs.Node.{Node, OptionsRecord, Effect, begins}
 use Rattle.lrc_protocol.specs.Run.{run_effect, charged}
 use Rattle.lrc_protocol.specs.Take.{take_effect}
 use Rattle.lrc_protocol.specs.Expected.{is_expected}
-use Rattle.lrc_protocol.specs.Turn.{TurnRecord, Outcome, done, not_ready, unexpected, worn, turn_with, turn_of, turn_if, turn_by, run_turn, take_anew, take_turn, taking, is_addressed, is_repeat, empty_turn}
+use Rattle.lrc_protocol.specs.Turn.{TurnRecord, Outcome, done, not_ready, unexpected, worn, turn_with, turn_of, turn_if, turn_by, take_anew, take_turn, taking, is_addressed, is_repeat, empty_turn}
 use Rattle.lrc_protocol.specs.Log.{Input, run, taken, outcome_of}
 use Rattle.lrc_protocol.proofs.Keeps.{Moves, stays, Kept, KeptIf, run-keeps, take-keeps}
 use Rattle.lrc_protocol.proofs.Numbers.{AreNumbered, Numbered, are_numbered, nothing_sent}

@@ -20,8 +20,8 @@ use Rattle.lrc_protocol.specs.declared.event.Event.{Event}
 use Rattle.lrc_protocol.specs.declared.event.Event.TheVariants.{Run, Deliver, Repeat}
 use Rattle.lrc_protocol.specs.Node.{Node, OptionsRecord, fresh_node}
 use Rattle.lrc_protocol.specs.Turn.{TurnRecord, Outcome, done, not_ready, unexpected, worn}
-use Rattle.lrc_protocol.specs.Log.{Input, run, taken, EntryRecord, Logged, Logging, logged, refused, too_large, outcome_of, MOST_STAMP, entered, logging, logs, next_stamp, Local, local_after, local_step, local}
-use Rattle.lrc_protocol.specs.World.{World, Flying, world_of, fresh_world, with_turn, after_input, input_to, inputs, delivers, with_mark, event_on, step_of, played, run_of}
+use Rattle.lrc_protocol.specs.Log.{Input, run, taken, EntryRecord, Logged, Logging, logged, refused, too_large, outcome_of, MOST_STAMP, logging, logs, next_stamp, Local, local_after, local_step, local}
+use Rattle.lrc_protocol.specs.World.{World, Flying, fresh_world, with_turn, after_input, input_to, delivers, with_mark, event_on, step_of, run_of}
 use Rattle.lrc_protocol.specs.Follows.{inputs_of, turns_of, deeds_in}
 use Rattle.lrc_protocol.proofs.Turned.{Turned, Turns, turns}
 use Rattle.lrc_protocol.proofs.Locally.{Proper, local-proper}
@@ -122,7 +122,7 @@ module _ (program : Program) (nodes : ℕ) (options : OptionsRecord) where
       ∙ ap (λ x. local_after (turns_of l.log) (outcome_of l.node x)) i.input_is
       ∙ ap (local_after (turns_of l.log)) i.turn_is
       ∙ ap (λ ts. Some (record { node = after.node; turns = ts }))
-        (sym (ap (λ log. turns_of log) i.log_is ∙ map-append (λ (x : EntryRecord). x.turn) l.log (entry ∷ [])))
+      (sym (ap (λ log. turns_of log) i.log_is ∙ map-append (λ (x : EntryRecord). x.turn) l.log (entry ∷ [])))
 
   -- the deed of an entry's turn, which is an act of the node
   entry_deed : (n : ℕ) (l after : Logged) (input : Input) (entry : EntryRecord) → IsEntry l input entry after

@@ -1,5 +1,5 @@
 -- A node's part in barriers. Arrivals at the manager are kept beside node 0's state, and reach it by its own departure.
-use Rattle.std.specs.Prelude.{ℕ, ◌+◌, ◌==◌, Option, Some, None, option_map, List, slice_index, unwrap_or, if◌then◌else◌}
+use Rattle.std.specs.Prelude.{ℕ, ◌+◌, ◌==◌, Option, Some, None, option_map, slice_index, unwrap_or, if◌then◌else◌}
 use Rattle.lrc_barrier.specs.declared.arrival.Arrival.{Arrival}
 use Rattle.lrc_barrier.specs.Barrier.{ManagerRecord, first_manager, ArriveStep, arrived, CleanStep, cleaned}
 

@@ -15,8 +15,7 @@ pub data Copy : Type 0 where
 abbrev pub is_readable : Copy → Bool
 is_readable (valid values) = true
 is_readable (written values twin) = true
-is_readable (invalid values since) = false
-is_readable absent = false
+is_readable _ = false
 
 -- the values that the copy has, whether or not they may be read
 abbrev pub values_of : Copy → List ℕ
@@ -29,33 +28,24 @@ values_of absent = []
 abbrev pub after_write : Copy → ℕ → ℕ → Copy
 after_write (valid values) offset value = written (slice_set values offset value) values
 after_write (written values twin) offset value = written (slice_set values offset value) twin
-after_write (invalid values since) offset value = invalid values since
-after_write absent offset value = absent
+after_write copy offset value = copy
 
 -- what a written copy has that its twin has not
 abbrev pub changes_of : Copy → Option (List Change)
-changes_of (valid values) = None
 changes_of (written values twin) = Some (changes_between twin values)
-changes_of (invalid values since) = None
-changes_of absent = None
+changes_of _ = None
 
 -- the copy once the interval is closed: its changes are made, and the twin is gone
 abbrev pub closed : Copy → Copy
-closed (valid values) = valid values
 closed (written values twin) = valid values
-closed (invalid values since) = invalid values since
-closed absent = absent
+closed copy = copy
 
 -- the copy once a notice of another node's write came, at a node whose time was this just before
 abbrev pub invalidated : List ℕ → Copy → Copy
 invalidated before (valid values) = invalid values before
-invalidated before (written values twin) = written values twin
-invalidated before (invalid values since) = invalid values since
-invalidated before absent = absent
+invalidated before copy = copy
 
 -- the copy once a collection is done: an invalid one is dropped
 abbrev pub dropped : Copy → Copy
-dropped (valid values) = valid values
-dropped (written values twin) = written values twin
 dropped (invalid values since) = absent
-dropped absent = absent
+dropped copy = copy

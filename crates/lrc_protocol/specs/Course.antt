@@ -3,7 +3,7 @@ use Rattle.std.specs.Prelude.{ℕ, Option, Some, None}
 use Rattle.lrc_trace.specs.declared.act.Cause.{Cause}
 use Rattle.lrc_trace.specs.declared.act.Deed.{Deed}
 use Rattle.lrc_trace.specs.declared.act.Deed.TheVariants.{Quiet, Print, Read, Write, Acquire, Release, Arrive, Depart, Trap, End}
-use Rattle.lrc_exec.specs.Meaning.{Thread, Next, quiet, prints, reads, writes, acquires, releases, arrives, departs, traps, ends, next_of}
+use Rattle.lrc_exec.specs.Meaning.{Thread, Next, quiet, prints, reads, writes, acquires, releases, arrives, departs, traps, ends}
 
 -- a thread that goes on; a trap and its cause; or the end of the text
 pub data Course : Type 0 where
@@ -45,13 +45,6 @@ course_of value ends = ended
 
 -- what it counts of a node's steps to begin this: the end of the text and a departure count none
 abbrev pub cost_of : Next → ℕ
-cost_of (quiet after) = 1
-cost_of (prints printed after) = 1
-cost_of (reads word after) = 1
-cost_of (writes word written after) = 1
-cost_of (acquires lock after) = 1
-cost_of (releases lock after) = 1
-cost_of (arrives after) = 1
 cost_of (departs after) = 0
-cost_of (traps cause) = 1
 cost_of ends = 0
+cost_of _ = 1

@@ -1,20 +1,22 @@
 -- When a node expects a message. What it doesn't expect it refuses, and nothing changes.
-use Rattle.std.specs.Prelude.{ℕ, ◌+◌, ◌-◌, ◌==◌, ◌&&◌, Bool, true, false, not, Option, Some, None, is_some, unwrap_or, option_map, List, [], ◌∷◌, length, map, filter, nat_lt, nat_le}
+use Rattle.std.specs.Prelude.{ℕ, ◌+◌, ◌-◌, ◌==◌, ◌&&◌, Bool, true, false, not, is_some, unwrap_or, option_map, List, length, map, filter, nat_lt, nat_le}
 use Rattle.std.specs.List.{list_any, list_all, range_with_len}
 use lib.Pointwise.{pointwise}
 use Rattle.lrc_time.specs.Time.{entry, covers}
+use Rattle.lrc_page.specs.Page.{words_of}
+use Rattle.lrc_page.specs.Place.{pages_of}
 use Rattle.lrc_store.specs.Interval.{IntervalRecord, index_of}
 use Rattle.lrc_store.specs.Store.{notice_at}
 use Rattle.lrc_wire.specs.declared.message.Message.{Message}
 use Rattle.lrc_wire.specs.declared.message.Message.TheVariants.{LockRequest, LockForward, LockGrant, Arrive, Depart, Clean, Discard, ChangesRequest, ChangesReply, PageRequest, PageReply}
-use Rattle.lrc_wire.specs.Records.{IndexedChangesRecord, LockRequestRecord, LockForwardRecord, LockGrantRecord, ArriveRecord, DepartRecord, ChangesRequestRecord, ChangesReplyRecord, PageReplyRecord}
+use Rattle.lrc_wire.specs.Records.{IndexedChangesRecord, ArriveRecord, ChangesReplyRecord}
 use Rattle.lrc_lock.specs.Lock.{manager_of}
-use Rattle.lrc_lock.specs.Held.{LockStep, refuses, stays, passes, forwarded}
-use Rattle.lrc_barrier.specs.Barrier.{ArriveStep, is_accepted, CleanStep, refuses_clean, awaits, discards}
-use Rattle.lrc_protocol.specs.Place.{pages_of}
+use Rattle.lrc_lock.specs.Held.{LockStep, refuses, forwarded}
+use Rattle.lrc_barrier.specs.declared.arrival.Arrival.{Arrival}
+use Rattle.lrc_barrier.specs.Barrier.{is_accepted, CleanStep, refuses_clean}
 use Rattle.lrc_protocol.specs.Memory.{base_at}
-use Rattle.lrc_protocol.specs.Fetch.{Need, awaits_changes, awaits_page}
-use Rattle.lrc_protocol.specs.Mail.{Wait, needs_of, awaits_grant, awaits_departure, awaits_discard}
+use Rattle.lrc_protocol.specs.Fetch.{awaits_changes, awaits_page}
+use Rattle.lrc_protocol.specs.Mail.{needs_of, awaits_grant, awaits_departure, awaits_discard}
 use Rattle.lrc_protocol.specs.Barrier.{arrive_step, clean_step, last_from}
 use Rattle.lrc_protocol.specs.Node.{Node}
 
@@ -40,7 +42,7 @@ is_interval node i = is_node node i.node && is_time node i.stamp && list_all (is
 
 -- changes of words of a page
 abbrev pub are_changes : Node → IndexedChangesRecord → Bool
-are_changes node part = list_all (λ change. nat_lt change.offset node.options.size) part.changes
+are_changes node part = list_all (λ change. nat_lt change.offset (words_of node.options.size)) part.changes
 
 -- ---- news: a time, and intervals
 
@@ -77,18 +79,17 @@ are_arriving node from time intervals =
 -- the call takes what comes
 abbrev pub is_taken : LockStep → Bool
 is_taken (refuses fault) = false
-is_taken (stays held) = true
-is_taken (passes pass held) = true
+is_taken _ = true
 
 abbrev pub is_clean : CleanStep → Bool
 is_clean (refuses_clean fault) = false
-is_clean (awaits manager) = true
-is_clean (discards episode manager) = true
+is_clean _ = true
 
 -- the manager of barriers is here and accepts it
 abbrev pub is_arrival : Node → ℕ → ArriveRecord → Bool
 is_arrival node from m =
-    unwrap_or (option_map is_accepted (arrive_step node.barrier from (record { episode = m.episode; ask = m.ask; time = m.time; intervals = m.intervals }))) false
+    let arrival : Arrival = record { episode = m.episode; ask = m.ask; time = m.time; intervals = m.intervals } in
+    unwrap_or (option_map is_accepted (arrive_step node.barrier from arrival)) false
 
 -- the changes of this page are of offsets on a page, and asked of the sender, just these
 abbrev pub is_changes_reply : Node → ℕ → ChangesReplyRecord → Bool
@@ -132,5 +133,5 @@ is_expected node from (PageRequest page) =
     is_page node page && not (from == node.setting.me) && is_some (base_at node.memory page)
 -- that page is awaited from its sender, with a value for each word
 is_expected node from (PageReply m) =
-    is_page node m.page && (length m.values == node.options.size)
+    is_page node m.page && (length m.values == words_of node.options.size)
     && list_any (awaits_page m.page from) (needs_of node.mail.wait)

@@ -1,13 +1,13 @@
 -- What a node fetches at an access miss, or as a keeper in a collection: the changes that its copy of a page lacks, of
 -- their makers, and for an absent page first the keeper's base copy (Amza et al. 1996).
-use Rattle.std.specs.Prelude.{ℕ, ◌==◌, ◌&&◌, Bool, true, false, not, Option, Some, None, is_none, List, [], ◌∷◌, ◌++◌, map, filter, filter_map, nat_lt, if◌then◌else◌}
-use Rattle.std.specs.List.{list_any, list_all, range_with_len}
+use Rattle.std.specs.Prelude.{ℕ, ◌==◌, ◌&&◌, Bool, true, false, not, Option, Some, None, is_none, List, [], ◌∷◌, map, filter, filter_map, nat_lt, if◌then◌else◌}
+use Rattle.std.specs.List.{list_any, range_with_len}
 use lib.Pointwise.{pointwise}
 use Rattle.lrc_store.specs.declared.key.Key.{Key}
 use Rattle.lrc_store.specs.Order.{ascending_part}
 use Rattle.lrc_store.specs.Store.{StoreRecord, changes_at}
-use Rattle.lrc_protocol.specs.Copy.{Copy, valid, written, invalid, absent, values_of}
-use Rattle.lrc_protocol.specs.Memory.{Memory, copy_at, with_copy, keeper_at, lacking, repaired, with_base}
+use Rattle.lrc_protocol.specs.Copy.{Copy, valid, absent, values_of}
+use Rattle.lrc_protocol.specs.Memory.{Memory, copy_at, with_copy, keeper_at, lacking, repaired}
 
 -- a base copy: not asked for, asked of its keeper, or come
 pub data Base : Type 0 where
@@ -32,10 +32,8 @@ pub record Need : Type 0 where
 
 -- an absent page's base copy is due from its keeper
 abbrev pub base_of : ℕ → Copy → Base
-base_of keeper (valid values) = unneeded
-base_of keeper (written values twin) = unneeded
-base_of keeper (invalid values since) = unneeded
 base_of keeper absent = due keeper
+base_of keeper _ = unneeded
 
 -- the indices of a maker's intervals among these keys, ascending
 abbrev pub indices_of : List Key → ℕ → List ℕ
@@ -69,9 +67,8 @@ need_of nodes memory page =
 
 -- whether a base copy is still to come
 abbrev pub is_due : Base → Bool
-is_due unneeded = false
 is_due (due keeper) = true
-is_due (come values) = false
+is_due _ = false
 
 -- whether there is nothing in a list
 abbrev pub is_nothing : {X : Type 0} → List X → Bool
@@ -92,9 +89,8 @@ awaits_changes page maker indices need = (need.page == page) && list_any (asks m
 
 -- a base copy is due from this keeper
 abbrev pub is_due_from : ℕ → Base → Bool
-is_due_from keeper unneeded = false
 is_due_from keeper (due asked) = asked == keeper
-is_due_from keeper (come values) = false
+is_due_from keeper _ = false
 
 -- the need awaits that page from that keeper
 abbrev pub awaits_page : ℕ → ℕ → Need → Bool
@@ -113,9 +109,8 @@ with_page page values need = if need.page == page then record need { base = come
 
 -- the values that the repair begins with: the base copy that came, and else the copy's own
 abbrev pub first_values : Copy → Base → List ℕ
-first_values copy unneeded = values_of copy
-first_values copy (due keeper) = values_of copy
 first_values copy (come values) = values
+first_values copy _ = values_of copy
 
 -- the memory once the page is repaired: valid, with all that its copy lacked applied in order
 abbrev pub mended : Memory → Need → Memory

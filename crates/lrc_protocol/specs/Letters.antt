@@ -1,15 +1,16 @@
 -- The messages that a node sends, and to whom.
-use Rattle.std.specs.Prelude.{ℕ, ◌&&◌, Bool, List, [], ◌∷◌, ◌++◌, length, map, flat_map, nat_le, slice_set}
-use Rattle.lrc_time.specs.Time.{entry}
+use Rattle.std.specs.Prelude.{ℕ, ◌&&◌, Bool, Option, List, [], ◌∷◌, ◌++◌, length, map, nat_le, slice_set}
+use Rattle.std.specs.Option.{option_to_list}
 use Rattle.lrc_store.specs.Interval.{IntervalRecord}
-use Rattle.lrc_store.specs.Store.{StoreRecord, newer_of}
+use Rattle.lrc_store.specs.Store.{newer_of}
+use Rattle.lrc_wire.specs.Records.{IndexedChangesRecord}
 use Rattle.lrc_wire.specs.declared.message.Message.{Message}
-use Rattle.lrc_wire.specs.declared.message.Message.TheVariants.{LockRequest, LockForward, LockGrant, Arrive, Depart, Clean, Discard, ChangesRequest, ChangesReply, PageRequest, PageReply}
+use Rattle.lrc_wire.specs.declared.message.Message.TheVariants.{LockRequest, LockForward, LockGrant, Arrive, Depart, Discard, ChangesRequest, ChangesReply, PageRequest, PageReply}
 use Rattle.lrc_lock.specs.declared.state.Pass.{Pass}
 use Rattle.lrc_lock.specs.Lock.{manager_of}
-use Rattle.lrc_barrier.specs.declared.arrival.Departure.{Departure}
+use Rattle.lrc_barrier.specs.declared.departure.Departure.{Departure}
 use Rattle.lrc_protocol.specs.Memory.{changes_or_none}
-use Rattle.lrc_protocol.specs.Fetch.{Base, unneeded, due, come, Asked, Need}
+use Rattle.lrc_protocol.specs.Fetch.{Base, due, Asked, Need}
 use Rattle.lrc_protocol.specs.Mail.{Letter}
 use Rattle.lrc_protocol.specs.Node.{Node}
 
@@ -30,6 +31,10 @@ forward_to to lock asker time = letter to (LockForward (record { lock = lock; as
 abbrev pub grant_of : Node → Pass → Letter
 grant_of node pass =
     letter pass.to (LockGrant (record { lock = pass.lock; time = pass.upto; intervals = newer_of node.memory.store pass.since pass.upto }))
+
+-- the grant of a pass, if there is one
+abbrev pub grants_of : Node → Option Pass → List Letter
+grants_of node pass = map (grant_of node) (option_to_list pass)
 
 -- a node asks for a collection where so many intervals are stored as the options say
 abbrev pub asks_for_collection : Node → Bool
@@ -61,20 +66,26 @@ changes_request_of page asked = letter asked.maker (ChangesRequest (record { pag
 
 -- what is asked of a keeper
 abbrev pub page_request_of : ℕ → Base → List Letter
-page_request_of page unneeded = []
 page_request_of page (due keeper) = letter keeper (PageRequest page) ∷ []
-page_request_of page (come values) = []
+page_request_of page _ = []
 
 -- the requests for a page: its keeper's first, then one for each maker, makers ascending
 abbrev pub requests_of : Need → List Letter
 requests_of need = page_request_of need.page need.base ++ map (changes_request_of need.page) need.asked
+
+-- what the node's own interval of this index changed in a page
+abbrev pub own_part : Node → ℕ → ℕ → IndexedChangesRecord
+own_part node page index = record {
+  index = index;
+  changes = changes_or_none node.memory.store (record { node = node.setting.me; index = index; page = page });
+}
 
 -- the reply to a request of changes that the node's own intervals made
 abbrev pub changes_reply_to : Node → ℕ → ℕ → List ℕ → Letter
 changes_reply_to node to page indices =
     letter to (ChangesReply (record {
       page = page;
-      parts = map (λ index. record { index = index; changes = changes_or_none node.memory.store (record { node = node.setting.me; index = index; page = page }) }) indices;
+      parts = map (own_part node page) indices;
     }))
 
 -- the reply to a request of a base copy

@@ -1,4 +1,3 @@
-pub mod Place
 pub mod Copy
 pub mod Memory
 pub mod Fetch

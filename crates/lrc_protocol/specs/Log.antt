@@ -1,6 +1,5 @@
 -- A node with the log of its turns. What it does depends on its own inputs alone.
-use Rattle.std.specs.Prelude.{ℕ, ◌+◌, Bool, Option, Some, None, option_map, option_and_then, max, nat_le, List, [], ◌∷◌, ◌++◌, fold, map, if◌then◌else◌}
-use Rattle.std.specs.List.{last_or}
+use Rattle.std.specs.Prelude.{ℕ, ◌+◌, Option, Some, None, max, nat_le, List, [], ◌∷◌, ◌++◌, fold, if◌then◌else◌}
 use Rattle.lrc_lang.specs.declared.program.Program.{Program}
 use Rattle.lrc_wire.specs.Envelope.{EnvelopeRecord}
 use Rattle.lrc_protocol.specs.Node.{Node, OptionsRecord, fresh_node}

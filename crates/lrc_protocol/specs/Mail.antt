@@ -1,5 +1,5 @@
 -- A node's mail: what it waits for, with what has come of it, and the numbers of messages sent and taken.
-use Rattle.std.specs.Prelude.{ℕ, ◌+◌, ◌==◌, Bool, true, false, Option, Some, None, is_some, option_map, List, [], ◌∷◌, ◌++◌, nat_le, replicate, slice_index, slice_index_or, slice_set, if◌then◌else◌}
+use Rattle.std.specs.Prelude.{ℕ, ◌+◌, ◌==◌, Bool, true, false, Option, Some, None, is_some, option_map, List, [], ◌∷◌, nat_le, replicate, slice_index, slice_index_or, slice_set, if◌then◌else◌}
 use Rattle.std.specs.List.{list_any}
 use Rattle.lrc_wire.specs.declared.message.Message.{Message}
 use Rattle.lrc_wire.specs.Envelope.{EnvelopeRecord}
@@ -37,47 +37,28 @@ fresh_mail nodes = record { wait = nothing; sent = replicate nodes 0; taken = re
 -- whether nothing is awaited
 abbrev pub is_idle : Wait → Bool
 is_idle nothing = true
-is_idle (grant lock) = false
-is_idle departure = false
-is_idle (access need) = false
-is_idle (upkeep collection needs) = false
-is_idle (discard collection) = false
+is_idle _ = false
 
 -- what is still needed of pages
 abbrev pub needs_of : Wait → List Need
-needs_of nothing = []
-needs_of (grant lock) = []
-needs_of departure = []
 needs_of (access need) = need ∷ []
 needs_of (upkeep collection needs) = needs
-needs_of (discard collection) = []
+needs_of _ = []
 
 -- whether this lock's grant is awaited
 abbrev pub awaits_grant : ℕ → Wait → Bool
-awaits_grant lock nothing = false
 awaits_grant lock (grant awaited) = awaited == lock
-awaits_grant lock departure = false
-awaits_grant lock (access need) = false
-awaits_grant lock (upkeep collection needs) = false
-awaits_grant lock (discard collection) = false
+awaits_grant lock _ = false
 
 -- whether the departure is awaited
 abbrev pub awaits_departure : Wait → Bool
-awaits_departure nothing = false
-awaits_departure (grant lock) = false
 awaits_departure departure = true
-awaits_departure (access need) = false
-awaits_departure (upkeep collection needs) = false
-awaits_departure (discard collection) = false
+awaits_departure _ = false
 
 -- the collection in which the word to discard is awaited
 abbrev pub collection_of : Wait → Option Collection
-collection_of nothing = None
-collection_of (grant lock) = None
-collection_of departure = None
-collection_of (access need) = None
-collection_of (upkeep collection needs) = None
 collection_of (discard collection) = Some collection
+collection_of _ = None
 
 -- whether the word to discard is awaited
 abbrev pub awaits_discard : Wait → Bool

@@ -1,16 +1,17 @@
 -- What a node knows of the shared memory: intervals with their notices and changes, its copies of the pages, and who keeps
 -- a base copy of which page (Keleher, Cox, Dwarkadas and Zwaenepoel 1994; Amza et al. 1996).
-use Rattle.std.specs.Prelude.{ℕ, ◌==◌, ◌&&◌, Bool, true, Option, Some, None, not, unwrap_or, option_map, List, [], ◌∷◌, length, map, fold, filter, filter_map, min, nat_lt, replicate, slice_index, slice_index_or, slice_set, if◌then◌else◌}
+use Rattle.std.specs.Prelude.{ℕ, ◌==◌, ◌&&◌, Bool, Option, Some, None, unwrap_or, option_map, List, [], ◌∷◌, length, map, fold, filter, filter_map, min, replicate, slice_index, slice_index_or, slice_set, if◌then◌else◌}
 use Rattle.std.specs.List.{list_any, enumerate_from, range_with_len}
-use Rattle.lrc_time.specs.Time.{entry, zeros, knows}
+use Rattle.lrc_time.specs.Time.{entry, zeros}
 use Rattle.lrc_page.specs.declared.changes.Change.{Change}
+use Rattle.lrc_page.specs.declared.size.Size.{Size}
+use Rattle.lrc_page.specs.Page.{zero_page}
+use Rattle.lrc_page.specs.Place.{page_of, offset_of}
 use Rattle.lrc_page.specs.Changes.{applied}
 use Rattle.lrc_store.specs.declared.key.Key.{Key}
-use Rattle.lrc_store.specs.Interval.{IntervalRecord, index_of}
-use Rattle.lrc_store.specs.Order.{ascending_part}
-use Rattle.lrc_store.specs.Store.{StoreRecord, empty_store, intervals_of, added, attached, changes_at, missing_of, interval_of}
-use Rattle.lrc_protocol.specs.Place.{page_of, offset_of, zero_page}
-use Rattle.lrc_protocol.specs.Copy.{Copy, valid, written, invalid, absent, values_of, after_write, changes_of, closed, invalidated, dropped}
+use Rattle.lrc_store.specs.Interval.{IntervalRecord}
+use Rattle.lrc_store.specs.Store.{StoreRecord, empty_store, intervals_of, added, attached, changes_at, missing_of, discarded}
+use Rattle.lrc_protocol.specs.Copy.{Copy, valid, invalid, absent, values_of, after_write, changes_of, closed, invalidated, dropped}
 
 -- the intervals that are known; for each page the copy, a base copy where one is kept, and who keeps one; and the time up
 -- to which intervals were collected
@@ -22,7 +23,7 @@ pub record Memory : Type 0 where
   pub collected : List ℕ
 
 -- at the start every node has a valid copy of zeros of every page, and node 0 keeps each
-abbrev pub fresh_memory : ℕ → ℕ → ℕ → Memory
+abbrev pub fresh_memory : ℕ → ℕ → Size → Memory
 fresh_memory nodes pages size = record {
   store = empty_store nodes pages;
   copies = replicate pages (valid (zero_page size));
@@ -42,11 +43,11 @@ abbrev pub with_copy : Memory → ℕ → Copy → Memory
 with_copy memory page copy = record memory { copies = slice_set memory.copies page copy }
 
 -- the value of a word in the copy of its page
-abbrev pub value_at : ℕ → Memory → ℕ → ℕ
+abbrev pub value_at : Size → Memory → ℕ → ℕ
 value_at size memory word = slice_index (values_of (copy_at memory (page_of word size))) (offset_of word size)
 
 -- the memory after a write of a word on a readable page
-abbrev pub with_word : ℕ → ℕ → ℕ → Memory → Memory
+abbrev pub with_word : Size → ℕ → ℕ → Memory → Memory
 with_word size word value memory =
     let page = page_of word size in
     with_copy memory page (after_write (copy_at memory page) (offset_of word size) value)
@@ -87,10 +88,9 @@ learned before intervals memory = record memory {
 -- the notices of a page that a copy of it lacks, in the order in which their changes are applied: by weight, node, index.
 -- An invalid copy has what its remembered time covers, an absent one what was collected.
 abbrev pub lacking_in : Memory → ℕ → Copy → List Key
-lacking_in memory page (valid values) = []
-lacking_in memory page (written values twin) = []
 lacking_in memory page (invalid values since) = missing_of memory.store page since
 lacking_in memory page absent = missing_of memory.store page memory.collected
+lacking_in memory page _ = []
 
 abbrev pub lacking : Memory → ℕ → List Key
 lacking memory page = lacking_in memory page (copy_at memory page)
@@ -104,10 +104,6 @@ abbrev pub repaired : StoreRecord → List ℕ → List Key → List ℕ
 repaired store values keys = fold applied values (map (changes_or_none store) keys)
 
 -- ---- collection
--- the store without the intervals that a time covers
-abbrev pub discarded : StoreRecord → List ℕ → StoreRecord
-discarded store time = record store { entries = filter (λ stored. not (knows time stored.node (index_of (interval_of stored)))) store.entries }
-
 -- the least of some numbers
 abbrev pub least : List ℕ → Option ℕ
 least [] = None

@@ -1,25 +1,26 @@
 -- A node of the protocol machine: its text, and four parts that know nothing of one another.
-use Rattle.std.specs.Prelude.{ℕ, ◌==◌, ◌-◌, ◌≤◌, Bool, true, false, Option, Some, None, List, [], nat_le, if◌then◌else◌}
+use Rattle.std.specs.Prelude.{ℕ, Bool, false, Option, Some, None, List, nat_le, if◌then◌else◌}
 use Rattle.lrc_lang.specs.declared.program.Program.{Program}
 use Rattle.lrc_lang.specs.declared.program.Statement.{Statement}
 use Rattle.lrc_trace.specs.declared.act.Deed.{Deed}
-use Rattle.lrc_exec.specs.Meaning.{Setting, thread_at_start, Thread, Next, quiet, prints, reads, writes, acquires, releases, arrives, departs, traps, ends, next_of}
+use Rattle.lrc_exec.specs.Meaning.{Setting, thread_at_start, Next, reads, writes, departs, next_of}
 use Rattle.lrc_exec.specs.Plain.{setting_of}
+use Rattle.lrc_page.specs.declared.size.Size.{Size}
+use Rattle.lrc_page.specs.Place.{pages_of}
 use Rattle.lrc_lock.specs.Held.{HeldRecord}
-use Rattle.lrc_protocol.specs.Place.{pages_of}
 use Rattle.lrc_protocol.specs.Memory.{Memory, fresh_memory, value_at, with_word}
 use Rattle.lrc_protocol.specs.Mail.{Mail, fresh_mail, Wait, is_idle, Letter}
-use Rattle.lrc_protocol.specs.Course.{Course, going, trapped, ended, thread_of, deed_of, course_of, cost_of}
+use Rattle.lrc_protocol.specs.Course.{Course, going, trapped, ended, deed_of, course_of, cost_of}
 use Rattle.lrc_protocol.specs.Locks.{Locks, fresh_locks, with_held}
 use Rattle.lrc_protocol.specs.Barrier.{Barrier, fresh_barrier}
 
 -- how many steps a node may make, from how many stored intervals on it asks for a collection (0: never), the number of
--- the first message from each node to each, and how many words a page has
+-- the first message from each node to each, and the size of a page
 pub record OptionsRecord : Type 0 where
   pub steps : ℕ
   pub collect : ℕ
   pub first : ℕ
-  pub size : ℕ
+  pub size : Size
 
 pub record Node : Type 0 where
   pub setting : Setting

@@ -1,9 +1,9 @@
 -- What a node does when it goes on by itself: one statement, or the beginning of one that waits.
-use Rattle.std.specs.Prelude.{ℕ, ◌+◌, ◌-◌, Option, Some, None, List, [], ◌∷◌, nat_lt, if◌then◌else◌}
+use Rattle.std.specs.Prelude.{ℕ, ◌+◌, ◌-◌, Option, Some, None, [], ◌∷◌, nat_lt, if◌then◌else◌}
 use Rattle.lrc_time.specs.Time.{entry}
-use Rattle.lrc_exec.specs.Meaning.{Next, quiet, prints, reads, writes, acquires, releases, arrives, departs, traps, ends}
-use Rattle.lrc_lock.specs.Held.{lock_at, is_free, taken, asked, LockStep, refuses, stays, passes, released}
-use Rattle.lrc_protocol.specs.Place.{page_of}
+use Rattle.lrc_page.specs.Place.{page_of}
+use Rattle.lrc_exec.specs.Meaning.{Next, reads, writes, acquires, releases, arrives}
+use Rattle.lrc_lock.specs.Held.{lock_at, is_free, taken, asked, released, pass_of, held_after}
 use Rattle.lrc_protocol.specs.Copy.{is_readable}
 use Rattle.lrc_protocol.specs.Memory.{copy_at, with_interval}
 use Rattle.lrc_protocol.specs.Fetch.{need_of}
@@ -11,8 +11,8 @@ use Rattle.lrc_protocol.specs.Mail.{MOST_NUMBER, grant, departure, access}
 use Rattle.lrc_protocol.specs.Course.{cost_of}
 use Rattle.lrc_protocol.specs.Locks.{ticked}
 use Rattle.lrc_protocol.specs.Barrier.{with_arrive}
-use Rattle.lrc_protocol.specs.Node.{Node, Effect, with_locks, with_barrier, with_tokens, waiting, sends, acts}
-use Rattle.lrc_protocol.specs.Letters.{request_of, grant_of, arrival_of, requests_of}
+use Rattle.lrc_protocol.specs.Node.{Node, Effect, with_barrier, with_tokens, waiting, sends, acts}
+use Rattle.lrc_protocol.specs.Letters.{request_of, grants_of, arrival_of, requests_of}
 use Rattle.lrc_protocol.specs.Waits.{waits_or_goes_on}
 
 -- ---- closing the open interval
@@ -48,13 +48,10 @@ acquire_at lock node =
     else sends (request_of node lock ∷ []) (waiting (grant lock) (with_tokens node (asked node.locks.held lock)))
 
 -- a release keeps the time with the token, or grants the lock to the successor
-abbrev pub release_by : Node → LockStep → Effect
-release_by node (refuses fault) = acts [] node
-release_by node (stays held) = acts [] (with_tokens node held)
-release_by node (passes pass held) = acts (grant_of node pass ∷ []) (with_tokens node held)
-
 abbrev pub release_at : ℕ → Node → Effect
-release_at lock node = release_by node (released node.locks.held lock node.locks.time)
+release_at lock node =
+    let step = released node.locks.held lock node.locks.time in
+    acts (grants_of node (pass_of step)) (with_tokens node (held_after node.locks.held lock step))
 
 -- an arrival tells the manager, and waits for the departure
 abbrev pub arrive_at : Node → Effect
@@ -64,16 +61,12 @@ arrive_at node =
 
 -- the effect of what a thread does next; none where a number would be too large. A trap closes nothing.
 abbrev pub run_effect : Node → Next → Option Effect
-run_effect node (quiet after) = Some (acts [] node)
-run_effect node (prints value after) = Some (acts [] node)
 run_effect node (reads word after) = Some (reaches node (page_of word node.options.size))
 run_effect node (writes word value after) = Some (reaches node (page_of word node.options.size))
 run_effect node (acquires lock after) = closing node (acquire_at lock)
 run_effect node (releases lock after) = closing node (release_at lock)
 run_effect node (arrives after) = closing node arrive_at
-run_effect node (departs after) = Some (acts [] node)
-run_effect node (traps cause) = Some (acts [] node)
-run_effect node ends = Some (acts [] node)
+run_effect node _ = Some (acts [] node)
 
 -- the node with the steps fewer that it costs to begin this
 abbrev pub charged : Node → Next → Node

@@ -5,18 +5,18 @@ use Rattle.lrc_store.specs.Interval.{IntervalRecord}
 use Rattle.lrc_store.specs.Store.{StoreRecord, attached}
 use Rattle.lrc_wire.specs.declared.message.Message.{Message}
 use Rattle.lrc_wire.specs.declared.message.Message.TheVariants.{LockRequest, LockForward, LockGrant, Arrive, Depart, Clean, Discard, ChangesRequest, ChangesReply, PageRequest, PageReply}
-use Rattle.lrc_wire.specs.Records.{IndexedChangesRecord, ArriveRecord, ChangesReplyRecord}
+use Rattle.lrc_wire.specs.Records.{IndexedChangesRecord, ChangesReplyRecord}
 use Rattle.lrc_lock.specs.Managed.{Requested, refuses as refuses_request, forwards, requested}
-use Rattle.lrc_lock.specs.Held.{LockStep, refuses, stays, passes, forwarded, granted, held_after}
+use Rattle.lrc_lock.specs.Held.{LockStep, forwarded, granted, pass_of, held_after}
 use Rattle.lrc_barrier.specs.Barrier.{ArriveStep, refuses as refuses_arrival, waits, departs, CleanStep, refuses_clean, awaits, discards}
 use Rattle.lrc_protocol.specs.Copy.{is_readable}
-use Rattle.lrc_protocol.specs.Memory.{Memory, copy_at, learned, with_keepers, kept_pages, base_at, collected_at}
+use Rattle.lrc_protocol.specs.Memory.{copy_at, learned, with_keepers, kept_pages, base_at, collected_at}
 use Rattle.lrc_protocol.specs.Fetch.{Need, need_of, with_changes, with_page}
-use Rattle.lrc_protocol.specs.Mail.{Letter, Collection, Wait, nothing, upkeep, collection_of}
+use Rattle.lrc_protocol.specs.Mail.{Collection, nothing, upkeep, collection_of}
 use Rattle.lrc_protocol.specs.Locks.{with_time, with_managed}
 use Rattle.lrc_protocol.specs.Barrier.{with_manager, arrive_step, clean_step}
 use Rattle.lrc_protocol.specs.Node.{Node, Effect, with_locks, with_barrier, with_memory, with_tokens, waiting, sends, acts}
-use Rattle.lrc_protocol.specs.Letters.{forward_to, grant_of, departure_of, discards_to, requests_of, changes_reply_to, page_reply_to}
+use Rattle.lrc_protocol.specs.Letters.{forward_to, grants_of, departure_of, discards_to, requests_of, changes_reply_to, page_reply_to}
 use Rattle.lrc_protocol.specs.Waits.{waits_or_goes_on, with_needs}
 
 -- ---- locks
@@ -28,10 +28,9 @@ request_by node from lock time (forwards to managed) =
     sends (forward_to to lock from time ∷ []) (with_locks node (with_managed managed node.locks))
 
 -- what is forwarded is granted at once, with the time of the last release here, or its asker is kept as successor
-abbrev pub forward_by : Node → LockStep → Effect
-forward_by node (refuses fault) = sends [] node
-forward_by node (stays held) = sends [] (with_tokens node held)
-forward_by node (passes pass held) = sends (grant_of node pass ∷ []) (with_tokens node held)
+abbrev pub forward_by : Node → ℕ → LockStep → Effect
+forward_by node lock step =
+    sends (grants_of node (pass_of step)) (with_tokens node (held_after node.locks.held lock step))
 
 -- the node learns news: intervals are stored, the pages that they name become invalid, and the times are joined
 abbrev pub learns : List ℕ → List IntervalRecord → Node → Node
@@ -43,7 +42,7 @@ learns time intervals node = record node {
 -- a grant brings the token and news, and the acquire is made
 abbrev pub take_grant : Node → ℕ → List ℕ → List IntervalRecord → Effect
 take_grant node lock time intervals =
-    acts [] (waiting nothing (learns time intervals (with_tokens node (held_after node.locks.held (granted node.locks.held lock)))))
+    acts [] (waiting nothing (learns time intervals (with_tokens node (held_after node.locks.held lock (granted node.locks.held lock)))))
 
 -- ---- barriers
 
@@ -114,7 +113,7 @@ page_reply_by node from page (Some values) = sends (page_reply_to from page valu
 abbrev pub take_effect : Node → ℕ → Message → Effect
 take_effect node from (LockRequest m) =
     request_by node from m.lock m.time (requested node.locks.managed m.lock from)
-take_effect node from (LockForward m) = forward_by node (forwarded node.locks.held m.lock m.asker m.time)
+take_effect node from (LockForward m) = forward_by node m.lock (forwarded node.locks.held m.lock m.asker m.time)
 take_effect node from (LockGrant m) = take_grant node m.lock m.time m.intervals
 take_effect node from (Arrive m) =
     arrive_by node (arrive_step node.barrier from (record { episode = m.episode; ask = m.ask; time = m.time; intervals = m.intervals }))

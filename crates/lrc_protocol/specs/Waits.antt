@@ -1,10 +1,10 @@
 -- How a node goes on once all that it waits for of pages has come.
-use Rattle.std.specs.Prelude.{ℕ, Bool, List, [], ◌∷◌, map, fold, flat_map, if◌then◌else◌}
+use Rattle.std.specs.Prelude.{ℕ, List, [], ◌∷◌, map, fold, if◌then◌else◌}
 use Rattle.std.specs.List.{list_all}
 use Rattle.lrc_wire.specs.declared.message.Message.TheVariants.{Clean}
 use Rattle.lrc_protocol.specs.Memory.{Memory, with_base}
 use Rattle.lrc_protocol.specs.Fetch.{Need, is_met, mended}
-use Rattle.lrc_protocol.specs.Mail.{Collection, Wait, nothing, grant, departure, access, upkeep, discard, Letter}
+use Rattle.lrc_protocol.specs.Mail.{Collection, Wait, nothing, access, upkeep, discard, Letter}
 use Rattle.lrc_protocol.specs.Node.{Node, Effect, with_memory, waiting, sends, acts}
 use Rattle.lrc_protocol.specs.Letters.{letter}
 
@@ -29,16 +29,10 @@ waits_or_goes_on letters node (upkeep collection needs) =
     if list_all is_met needs
     then cleans node collection needs
     else sends letters (waiting (upkeep collection needs) node)
-waits_or_goes_on letters node nothing = sends letters (waiting nothing node)
-waits_or_goes_on letters node (grant lock) = sends letters (waiting (grant lock) node)
-waits_or_goes_on letters node departure = sends letters (waiting departure node)
-waits_or_goes_on letters node (discard collection) = sends letters (waiting (discard collection) node)
+waits_or_goes_on letters node wait = sends letters (waiting wait node)
 
 -- what is awaited, once something came for what pages need
 abbrev pub with_needs : (Need → Need) → Wait → Wait
-with_needs change nothing = nothing
-with_needs change (grant lock) = grant lock
-with_needs change departure = departure
 with_needs change (access need) = access (change need)
 with_needs change (upkeep collection needs) = upkeep collection (map change needs)
-with_needs change (discard collection) = discard collection
+with_needs change wait = wait

@@ -1,5 +1,5 @@
 -- The run of all nodes: what each event does, and the run of a list of events.
-use Rattle.std.specs.Prelude.{ℕ, ◌+◌, ◌==◌, unwrap_or, Bool, true, false, not, Option, Some, None, is_some, option_and_then, option_map, List, [], ◌∷◌, ◌++◌, fold, filter, map, remove, slice_get, slice_set, if◌then◌else◌}
+use Rattle.std.specs.Prelude.{ℕ, ◌==◌, unwrap_or, Bool, true, false, not, Option, Some, None, option_map, List, [], ◌++◌, fold, filter, map, remove, slice_get, slice_set, if◌then◌else◌}
 use Rattle.std.specs.Option.{option_to_list}
 use Rattle.std.specs.List.{enumerate_from, range_with_len}
 use Rattle.lrc_lang.specs.declared.program.Program.{Program}
@@ -8,7 +8,7 @@ use Rattle.lrc_wire.specs.Envelope.{EnvelopeRecord}
 use Rattle.lrc_protocol.specs.declared.event.Event.{Event}
 use Rattle.lrc_protocol.specs.declared.event.Event.TheVariants.{Run, Deliver, Repeat}
 use Rattle.lrc_protocol.specs.Node.{Node, OptionsRecord, fresh_node}
-use Rattle.lrc_protocol.specs.Turn.{TurnRecord, is_repeat}
+use Rattle.lrc_protocol.specs.Turn.{is_repeat}
 use Rattle.lrc_protocol.specs.Log.{Input, run, taken, EntryRecord, Logged, Logging, logged, refused, too_large, logs}
 
 -- a message in flight, with the stamp of the turn that sent it, and whether it was delivered already

@@ -1,6 +1,6 @@
 // What the definitions have in common. Each function is a theorem: its body is empty, and its clauses are the law.
 
-ghost use Rattle.std.specs.Prelude.{◌≡◌, ◌≢◌, ℕ, ◌<◌, true, false, List, map, Some, None, slice_get, slice_index};
+ghost use Rattle.std.specs.Prelude.{◌≡◌, ◌≢◌, ℕ, ◌<◌, true, false, List, length, map, Some, None, slice_get, slice_index};
 ghost use Rattle.std.specs.List.{range_with_len};
 ghost use Rattle.lrc_lang.specs.declared.program.Program.{Program};
 ghost use Rattle.lrc_trace.specs.declared.act.Cause.{Cause};
@@ -82,4 +82,10 @@ pub fn acts_follow_the_text()
     ensures threads { (program : Program) (nodes : ℕ) (options : OptionsRecord) (events : List Event) (world : World)
         (n : ℕ) (l : Logged) → run_of program nodes options events ≡ Some world → slice_get world.nodes n ≡ Some l
         → MakesTo (Some (start_of program nodes n)) (deeds_of n world.acts) (thread_of l.node.course) }
+{}
+
+/// In every run there is a time for each act: that of its node just after it.
+pub fn each_act_has_its_time()
+    ensures { (program : Program) (nodes : ℕ) (options : OptionsRecord) (events : List Event) (world : World)
+        → run_of program nodes options events ≡ Some world → length world.times ≡ length world.acts }
 {}

@@ -6,6 +6,7 @@ use Rattle.lrc_lang.specs.declared.program.Expression.TheVariants.{Number, Priva
 use Rattle.lrc_lang.specs.declared.program.Statement.{Statement}
 use Rattle.lrc_lang.specs.declared.program.Statement.TheVariants.{Assign, Read, Write, Acquire, Release, Barrier, Print}
 use Rattle.lrc_trace.specs.declared.act.Deed.{Deed}
+use Rattle.lrc_page.specs.declared.size.Size.TheVariants.{Words64}
 use Rattle.lrc_page.specs.declared.changes.Change.{Change}
 use Rattle.lrc_store.specs.declared.key.Key.{Key}
 use Rattle.lrc_store.specs.Interval.{IntervalRecord}
@@ -56,7 +57,7 @@ twice times = flat_map (λ event. Repeat 0 ∷ event ∷ []) (deliver 0 times)
 
 -- how a run is made: with pages of 64 words and as many steps as there may be
 abbrev pub options_of : ℕ → ℕ → OptionsRecord
-options_of collect first = record { steps = 1000000; collect = collect; first = first; size = 64 }
+options_of collect first = record { steps = 1000000; collect = collect; first = first; size = Words64 }
 
 -- nodes with these texts
 abbrev pub nodes_of : OptionsRecord → ℕ → ℕ → List (List Statement) → List Node
