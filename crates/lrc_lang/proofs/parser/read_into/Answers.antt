@@ -1,5 +1,4 @@
-use Rattle.std.proofs.Common.{refl, subst, sym}
-use Rattle.lrc_lang.specs.Faults.{IsText}
+use Rattle.std.proofs.Common.{refl}
 use Rattle.lrc_lang.proofs.Behind.{IsBehind-start}
 use Rattle.lrc_lang.proofs.Reading.{IsRead-start, IsRead-more, IsText-end, fault_here, fault_answer}
 use Rattle.lrc_lang.proofs.parser.read_into.Goals as goal
