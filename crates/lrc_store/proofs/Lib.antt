@@ -1,6 +1,10 @@
 pub mod Chained
+pub mod Followed
 pub mod IntervalLists
+pub mod LinkedStores
 pub mod Lookups
+pub mod Newer
+pub mod NodeWalks
 pub mod Orders
 pub mod Places
 pub mod Ranks

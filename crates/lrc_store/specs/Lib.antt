@@ -2,5 +2,6 @@ pub mod Chains
 pub mod Interval
 pub mod Linked
 pub mod Links
+pub mod Lists
 pub mod Order
 pub mod Store

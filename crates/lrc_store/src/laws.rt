@@ -1,11 +1,12 @@
 // What always holds of stores. Each function is a law: its clauses are the statement, and there is nothing to do.
 
-ghost use Rattle.std.specs.Prelude.{◌≡◌, ◌≢◌, ◌+◌, ◌++◌, ◌∷◌, ℕ, Contains, IsTrue, List, None, Some, length, []};
+ghost use Rattle.std.specs.Prelude.{◌≡◌, ◌≢◌, ◌+◌, ◌++◌, ◌∷◌, ℕ, Contains, IsTrue, List, None, Some, filter, length, not, []};
 ghost use Rattle.lrc_time.specs.Time.{Covers, entry};
 ghost use Rattle.lrc_page.specs.declared.changes.Change.{Change};
 ghost use Rattle.lrc_store.specs.declared.key.Key.{Key};
 ghost use Rattle.lrc_store.specs.Interval.{IntervalRecord, by_weight, index_of};
-ghost use Rattle.lrc_store.specs.Store.{StoreRecord, IsMissing, IsNewer, IsStore, added, attached, intervals_of, key_of, missing_of, newer_of, notice_at, stored_at, unread, without_changes};
+ghost use Rattle.lrc_store.specs.Lists.{Follows, before_of, first_on_page_of, list_of, newest_of, next_on_page_of, nodes_of, pages_noted};
+ghost use Rattle.lrc_store.specs.Store.{StoreRecord, IsMissing, IsNewer, IsStore, added, attached, discarded, is_covered, intervals_of, key_of, missing_of, newer_of, notice_at, stored_at, unread, without_changes};
 
 /// An interval that follows the last one of its node gets an entry of its own, with notices without changes. All others
 /// stay.
@@ -55,4 +56,20 @@ pub fn one_list_is_missing()
 pub fn weight_order_extends_cover()
     ensures { (earlier later : IntervalRecord) → length earlier.stamp ≡ length later.stamp
         → Covers later.stamp earlier.stamp → earlier.stamp ≢ later.stamp → IsTrue (by_weight earlier later) }
+{}
+
+/// Following the links of a node ends, and gives the places of its intervals, newest first, each once. So it is with the
+/// notices of a page.
+pub fn links_run_through_the_lists()
+    ensures nodes { (store : StoreRecord) (node : ℕ)
+        → Follows (before_of store) (newest_of store node) (list_of (nodes_of store) node) }
+    ensures pages { (store : StoreRecord) (page : ℕ)
+        → Follows (next_on_page_of store) (first_on_page_of store page) (list_of (pages_noted store) page) }
+{}
+
+/// What is taken out is just what the time knows.
+pub fn discarding_takes_out_what_is_known()
+    ensures intervals { (store : StoreRecord) (time : List ℕ)
+        → intervals_of (discarded store time) ≡ filter (λ interval. not (is_covered time interval)) (intervals_of store) }
+    ensures sound { (store : StoreRecord) (time : List ℕ) → IsStore store → IsStore (discarded store time) }
 {}

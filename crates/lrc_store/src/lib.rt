@@ -9,9 +9,12 @@ pub mod key;
 pub mod laws;
 pub mod store;
 mod links;
+mod lists;
+mod link;
 mod stored;
 
 pub use interval::Interval;
 pub use intervals::Intervals;
 pub use key::Key;
+pub use link::{IntervalAt, NoticeAt};
 pub use store::Store;

@@ -1,9 +1,10 @@
 // What links the intervals and the notices of a store.
 
-ghost use Rattle.std.specs.Prelude.{◌≡◌, ◌<◌, ◌≤◌, ◌+◌, All, IfOk, OnErr, OnOk, [], ◌∷◌, ◌++◌, filter, length, map, not, vec_capacity, vec_len};
+ghost use Rattle.std.specs.Prelude.{◌≡◌, ◌<◌, ◌≤◌, ◌+◌, All, AllPairs, IfOk, OnErr, OnOk, [], ◌∷◌, ◌++◌, filter, length, map, not, vec_capacity, vec_len};
 ghost use Rattle.lrc_time.specs.Time.{knows};
 ghost use Rattle.lrc_store.specs.Interval.{index_of};
-ghost use Rattle.lrc_store.specs.Links.{page_named, ranked_pages, is_unknown_on};
+ghost use Rattle.lrc_store.specs.Links.{page_named, ranked_pages, is_newer_of, is_unknown_on};
+ghost use Rattle.lrc_store.specs.Store.{interval_of};
 
 use crate::chains::{Chains, MOST_ENTRIES};
 use crate::interval::Interval;
@@ -11,6 +12,29 @@ use crate::key::Key;
 use crate::stored::Stored;
 use lrc_time::Time;
 use std::alloc::{AllocError, Global};
+
+/// Makes room for an interval with this many notices. An error changes nothing.
+pub(crate) fn make_room(
+    by_node: &mut Chains,
+    by_page: &mut Chains,
+    notices: &mut Vec<(u64, Key)>,
+    more: usize,
+) -> Result<(), AllocError>
+    ensures node_keys { by_node.new.keys ≡ by_node.old.keys }
+    ensures node_lists { by_node.new.lists ≡ by_node.old.lists }
+    ensures page_keys { by_page.new.keys ≡ by_page.old.keys }
+    ensures page_lists { by_page.new.lists ≡ by_page.old.lists }
+    ensures notices { notices.new.items ≡ notices.old.items }
+    ensures node_room { OnOk result (length by_node.old.keys < by_node.new.room) }
+    ensures node_few { OnOk result (length by_node.old.keys < MOST_ENTRIES) }
+    ensures page_room { OnOk result (length by_page.old.keys + more ≤ by_page.new.room) }
+    ensures page_few { OnOk result (length by_page.old.keys + more ≤ MOST_ENTRIES) }
+    ensures room { OnOk result (vec_len notices.old + more ≤ vec_capacity notices.new) }
+{
+    by_node.reserve(1)?;
+    by_page.reserve(more)?;
+    notices.reserve(more)
+}
 
 /// Adds the interval's notices, for which there is room, each with the weight of the interval's stamp.
 pub(crate) fn add_notices(notices: &mut Vec<(u64, Key)>, by_page: &mut Chains, interval: &Interval)
@@ -85,6 +109,38 @@ pub(crate) fn unknown_on(
             found.push((weight, key))?;
         }
         next = by_page.next(at);
+    }
+    found.reverse();
+    Ok(found)
+}
+
+/// The intervals of a node that `upto` knows and `since` does not, oldest first, found along the node's list. The walk
+/// ends at the first that `since` knows.
+pub(crate) fn newer_of_node(
+    alloc: Global,
+    entries: &[Stored],
+    by_node: &Chains,
+    node: u8,
+    since: &Time,
+    upto: &Time,
+) -> Result<Vec<Interval>, AllocError>
+    requires linked { by_node.now.keys ≡ map (λ interval. interval.node) (map interval_of entries.now) }
+    requires ascending { AllPairs (λ a b. a.node ≡ b.node → index_of a < index_of b) (map interval_of entries.now) }
+    ensures { IfOk result (λ found. found.items
+        ≡ filter (is_newer_of node since.now upto.now) (map interval_of entries.now)) }
+{
+    let mut found = Vec::new(alloc);
+    let mut next = by_node.first(u16::from(node));
+    while let Some(at) = next {
+        let stored = &entries[at as usize];
+        if stored.is_known(since) {
+            next = None;
+        } else {
+            if stored.is_known(upto) {
+                found.push(stored.interval()?)?;
+            }
+            next = by_node.next(at);
+        }
     }
     found.reverse();
     Ok(found)

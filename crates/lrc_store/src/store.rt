@@ -5,9 +5,11 @@ ghost use Rattle.std.specs.Option.{option_copied};
 ghost use Rattle.lrc_time.specs.Time.{entry};
 ghost use Rattle.lrc_store.specs.Store.{is_at};
 
+use crate::chains::Chains;
 use crate::interval::Interval;
 use crate::intervals::Intervals;
 use crate::key::Key;
+use crate::links::{add_notices, is_known, link_nodes, link_pages, make_room, newer_of_node, unknown_on};
 use crate::stored::Stored;
 use lrc_page::{Changes, MOST_PAGES};
 use lrc_time::Time;
@@ -21,18 +23,23 @@ use std::marker::Model;
 pub struct Store {
     pages: u16,
     last: Time,
-    entries: Vec<Stored>,
+    pub(crate) entries: Vec<Stored>,
+    pub(crate) by_node: Chains,
+    pub(crate) by_page: Chains,
+    pub(crate) notices: Vec<(u64, Key)>,
 }
 
 impl Model for Store {
-    ghost use Rattle.lrc_store.specs.Store.{StoreRecord, IsStore};
+    ghost use Rattle.lrc_store.specs.Store.{StoreRecord};
+    ghost use Rattle.lrc_store.specs.Links.{IsLinkedUp};
 
     ghost Value = { StoreRecord };
 
     ghost view = { λ s. record { pages = s.pages; last = s.last; entries = s.entries.items } };
 
     ghost invariant = { λ s.
-        IsStore (record { pages = s.pages; last = s.last; entries = s.entries.items }) };
+        IsLinkedUp (record { pages = s.pages; last = s.last; entries = s.entries.items })
+            s.by_node s.by_page s.notices.items };
 }
 
 impl Store {
@@ -51,6 +58,9 @@ impl Store {
             pages,
             last: Time::new(nodes),
             entries: Vec::new(alloc),
+            by_node: Chains::new(alloc, usize::from(nodes))?,
+            by_page: Chains::new(alloc, usize::from(pages))?,
+            notices: Vec::new(alloc),
         })
     }
 
@@ -64,7 +74,11 @@ impl Store {
         ensures sound { IsStore self.new }
     {
         let stored = Stored::new(*self.entries.allocator(), interval)?;
+        let more = interval.pages.len();
+        make_room(&mut self.by_node, &mut self.by_page, &mut self.notices, more)?;
         self.entries.push(stored)?;
+        add_notices(&mut self.notices, &mut self.by_page, interval);
+        self.by_node.push(u16::from(interval.node));
         self.last.raise(interval.node, interval.index());
         Ok(())
     }
@@ -117,6 +131,10 @@ impl Store {
         ensures { self.new ≡ discarded self.old time.now }
     {
         self.entries.retain(|stored| !stored.is_known(time));
+        self.notices
+            .retain(|(_, key)| !is_known(time, key.node, key.index));
+        link_nodes(&mut self.by_node, &self.entries);
+        link_pages(&mut self.by_page, &self.notices);
     }
 
     /// The intervals that `upto` knows and `since` does not, ascending by node and index.
@@ -126,13 +144,12 @@ impl Store {
         ensures newer { IfOk result (λ found. IsNewer self.now since.now upto.now found) }
         ensures value { IfOk result (λ found. found ≡ newer_of self.now since.now upto.now) }
     {
-        let mut found = Vec::new(*self.entries.allocator());
-        for stored in &self.entries {
-            if !stored.is_known(since) && stored.is_known(upto) {
-                found.push(stored.interval()?)?;
-            }
+        let alloc = *self.entries.allocator();
+        let mut found = Vec::new(alloc);
+        for node in 0..self.last.nodes() {
+            let mut newer = newer_of_node(alloc, &self.entries, &self.by_node, node, since, upto)?;
+            found.append(&mut newer)?;
         }
-        found.sort_unstable_by_key(|interval| (interval.node, interval.index()));
         Ok(Intervals::from_ascending(found))
     }
 
@@ -144,12 +161,7 @@ impl Store {
         ensures value { IfOk result (λ found. found.items ≡ missing_of self.now page since.now) }
     {
         let alloc = *self.entries.allocator();
-        let mut found = Vec::new(alloc);
-        for stored in &self.entries {
-            if stored.names(page) && !stored.is_known(since) {
-                found.push((stored.weight(), stored.key(page)))?;
-            }
-        }
+        let mut found = unknown_on(alloc, &self.notices, &self.by_page, page, since)?;
         found.sort_unstable();
         keys_of(alloc, &found)
     }

@@ -1,1 +1,114 @@
 // The interval store.
+
+ghost use Rattle.std.specs.Prelude.{◌≡◌, ◌<◌, ◌≤◌, All, IfOk, length};
+ghost use Rattle.lrc_time.specs.Time.{entry};
+
+use lrc_page::{Changes, Pages};
+use lrc_store::{Interval, IntervalAt, Intervals, Key, NoticeAt, Store};
+use lrc_time::Time;
+use std::alloc::{AllocError, Global};
+use std::process::Abort;
+use std::test::Fail;
+
+fn time_of(rt: &impl Abort, entries: [u32; 3]) -> Time
+    ensures { length result ≡ 3 }
+{
+    let mut time = Time::new(3);
+    for node in 0..3u8 {
+        let index = entries[usize::from(node)];
+        if index > 0 {
+            assert!(rt; node < time.nodes());
+            assert!(rt; time.at(node) < index);
+            time.raise(node, index);
+        }
+    }
+    assert!(rt; time.nodes() == 3);
+    time
+}
+
+/// Page 0, page 1, both or none.
+fn pages_of(alloc: Global, zero: bool, one: bool) -> Result<Pages, AllocError>
+    ensures { IfOk result (λ pages. All (λ page. page < 2) pages) }
+{
+    let mut pages = Pages::empty(alloc);
+    if zero {
+        pages.push(0)?;
+    }
+    if one {
+        pages.push(1)?;
+    }
+    Ok(pages)
+}
+
+fn key_of(node: u8, index: u32, page: u16) -> Key {
+    Key { node, index, page }
+}
+
+/// Adds an interval with these pages.
+fn put(rt: &impl Abort, store: &mut Store, node: u8, stamp: [u32; 3], pages: Pages) -> Result<(), AllocError>
+    requires nodes { length store.old.last ≡ 3 }
+    requires few { store.old.pages ≡ 2 }
+    requires node { node < 3 }
+    requires in_range { All (λ page. page < 2) pages }
+    ensures nodes { length store.new.last ≡ 3 }
+    ensures few { store.new.pages ≡ 2 }
+{
+    let stamp = time_of(rt, stamp);
+    assert!(rt; stamp.at(node) >= 1);
+    let interval = Interval::new(node, stamp, pages);
+    assert!(rt; interval.index() - 1 == store.last(node));
+    store.add(&interval)
+}
+
+/// Three intervals of two nodes: the worked store.
+fn worked(rt: &impl Abort, alloc: Global) -> Result<Store, AllocError>
+    ensures nodes { IfOk result (λ store. length store.last ≡ 3) }
+    ensures few { IfOk result (λ store. store.pages ≡ 2) }
+{
+    let mut store = Store::new(alloc, 3, 2)?;
+    put(rt, &mut store, 0, [1, 0, 0], pages_of(alloc, true, false)?)?;
+    put(rt, &mut store, 1, [0, 1, 0], pages_of(alloc, true, true)?)?;
+    put(rt, &mut store, 0, [2, 1, 0], pages_of(alloc, false, true)?)?;
+    Ok(store)
+}
+
+/// The keys along a page's list, newest first, up to three.
+fn page_list(store: &Store, page: u16) -> [Option<Key>; 3] {
+    let Some(first) = store.first_on_page(page) else {
+        return [None, None, None];
+    };
+    let Some(second) = store.next_on_page(first) else {
+        return [store.key(first), None, None];
+    };
+    let third = match store.next_on_page(second) {
+        Some(third) => store.key(third),
+        None => None,
+    };
+    [store.key(first), store.key(second), third]
+}
+
+/// The indices along a node's list, newest first, up to two.
+fn node_list(store: &Store, node: u8) -> [Option<(u8, u32)>; 2] {
+    let Some(first) = store.newest(node) else {
+        return [None, None];
+    };
+    let second = match store.before(first) {
+        Some(second) => store.interval(second),
+        None => None,
+    };
+    [store.interval(first), second]
+}
+
+#[test]
+fn lists_run_through_the_worked_store(rt: HostRuntime) -> Result<(), Fail> {
+    let mut store = worked(&rt, rt.alloc())?;
+    assert!(rt; page_list(&store, 1) == [Some(key_of(0, 2, 1)), Some(key_of(1, 1, 1)), None]);
+    assert!(rt; node_list(&store, 0) == [Some((0, 2)), Some((0, 1))]);
+    let known = time_of(&rt, [1, 1, 0]);
+    store.discard(&known);
+    assert!(rt; page_list(&store, 0) == [None, None, None]);
+    assert!(rt; page_list(&store, 1) == [Some(key_of(0, 2, 1)), None, None]);
+    assert!(rt; node_list(&store, 0) == [Some((0, 2)), None]);
+    assert!(rt; node_list(&store, 1) == [None, None]);
+    Ok(())
+}

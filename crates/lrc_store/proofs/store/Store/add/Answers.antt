@@ -1,7 +1,9 @@
-use Rattle.std.proofs.Common.{◌≡◌, [], ◌∷◌, ◌++◌, set, sym, ap, ◌∙◌, subst}
+use Rattle.std.proofs.Common.{◌≡◌, ℕ, List, [], ◌∷◌, ◌++◌, set, sym, ap, ◌∙◌, subst}
 use Rattle.lrc_store.specs.Interval.{IntervalRecord, index_of}
-use Rattle.lrc_store.specs.Store.{StoredRecord, StoreRecord, IsStore, added, without_changes}
-use Rattle.lrc_store.proofs.Stores.{IsStore-added}
+use Rattle.lrc_store.specs.Store.{StoredRecord, StoreRecord, added, without_changes}
+use Rattle.lrc_store.specs.declared.key.Key.{Key}
+use Rattle.lrc_store.specs.Links.{IsLinkedUp, ranked_pages}
+use Rattle.lrc_store.proofs.LinkedStores.{IsLinkedUp-added}
 use Rattle.lrc_store.proofs.store.Store.add.Goals as goal
 use Rattle.lrc_store.proofs.store.Store.add.Goals.{After-raise}
 
@@ -28,18 +30,26 @@ entries_after : (c : After-raise)
     → c.push.new.self.items ≡ c.self.inside.entries.items ++ without_changes c.args.interval.now ∷ []
 entries_after c = c.in_ok-push.ensures.items ∙ ap (λ (s : StoredRecord). c.self.inside.entries.items ++ s ∷ []) c.in_ok-stored.ensures
 
-sound : (c : After-raise) → IsStore (after c)
-sound c =
+linked : (c : After-raise) → IsLinkedUp (after c) c.push-2.new.self c.add_notices.new.by_page c.add_notices.new.notices.items
+linked c =
     let store = before c in
     let interval = c.args.interval.now in
-    let same : after c ≡ added store interval = cc (last_after c, entries_after c) in
     let is : c.args.self.now ≡ store = sym c.self.view_is in
-    subst IsStore (sym same)
-    (IsStore-added store interval c.self.invariant c.index.ensures.interval
-    (rw is at c.requires.stamp) (rw is at c.requires.pages) (rw is at c.requires.next))
+    let same : after c ≡ added store interval = cc (last_after c, entries_after c) in
+    let node : c.from.result ≡ interval.node = c.from.ensures ∙ ap (λ (i : IntervalRecord). i.node) c.interval.view_is in
+    subst (λ (s : StoreRecord). IsLinkedUp s c.push-2.new.self c.add_notices.new.by_page c.add_notices.new.notices.items) (sym same)
+    (IsLinkedUp-added store c.self.inside.by_node c.self.inside.by_page c.push-2.new.self c.add_notices.new.by_page
+    c.self.inside.notices.items c.add_notices.new.notices.items interval c.self.invariant c.index.ensures.interval
+    (rw is at c.requires.stamp) (rw is at c.requires.pages) (rw is at c.requires.next)
+    (c.push-2.ensures.keys ∙ ap (λ n. c.make_room.new.by_node.keys ++ n ∷ []) node
+    ∙ ap (λ (l : List ℕ). l ++ interval.node ∷ []) c.make_room.ensures.node_keys)
+    (c.push-2.ensures.lists ∙ c.make_room.ensures.node_lists)
+    (c.add_notices.ensures.keys ∙ ap (λ (l : List ℕ). l ++ interval.pages) c.make_room.ensures.page_keys)
+    (c.add_notices.ensures.lists ∙ c.make_room.ensures.page_lists)
+    (c.add_notices.ensures.notices ∙ ap (λ (l : List (ℕ × Key)). l ++ ranked_pages interval) c.make_room.ensures.notices))
 
 pub invariant_of-self-2 : goal.invariant_of-self-2
-invariant_of-self-2 c = sound c
+invariant_of-self-2 c = linked c
 
 pub returns-clause-sound : goal.returns-clause-sound
-returns-clause-sound c = sound (goal.at.returns-clause-sound c).After-raise
+returns-clause-sound c = (linked (goal.at.returns-clause-sound c).After-raise).sound

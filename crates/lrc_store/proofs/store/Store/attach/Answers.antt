@@ -1,9 +1,11 @@
 use Rattle.std.proofs.Common.{◌≡◌, List, set, map, sym, ap, ◌∙◌, subst, Option, None, Some}
 use Rattle.std.specs.List.{position}
 use Rattle.std.specs.Option.{option_and_then}
-use Rattle.lrc_store.specs.Store.{StoredRecord, StoreRecord, IsStore, attached, is_at, notice_of, stored_with}
+use Rattle.lrc_store.specs.Store.{StoredRecord, StoreRecord, attached, is_at, notice_of, stored_with}
 use Rattle.lrc_store.proofs.Places.{find-position_none}
-use Rattle.lrc_store.proofs.Stores.{IsStore-attached, map-stored_with}
+use Rattle.lrc_store.specs.Links.{IsLinkedUp}
+use Rattle.lrc_store.proofs.LinkedStores.{IsLinkedUp-attached}
+use Rattle.lrc_store.proofs.Stores.{map-stored_with}
 use Rattle.lrc_store.proofs.store.Store.attach.Goals as goal
 use Rattle.lrc_store.proofs.store.Store.attach.Goals.{After-attach}
 
@@ -16,15 +18,16 @@ entries_after c =
     let found : position (is_at key.node key.index) items ≡ Some c.in-Some.place =
     ap (position (is_at key.node key.index)) (sym c.deref.ensures.value) ∙ sym c.place_of.ensures ∙ c.in-Some.is in
     ap (set items c.in-Some.place) c.attach.ensures
-    ∙ sym (map-stored_with items key c.args.changes c.in-Some.place c.self.invariant.ascending found
+    ∙ sym (map-stored_with items key c.args.changes c.in-Some.place c.self.invariant.sound.ascending found
     c.index_mut.result.now c.index_mut.ensures.value)
 
 pub invariant_of-self : goal.invariant_of-self
 invariant_of-self c =
     let a = (goal.at.invariant_of-self c).After-attach in
     let store : StoreRecord = record { pages = a.self.inside.pages; last = a.self.inside.last; entries = a.self.inside.entries.items } in
-    subst (λ (entries : List StoredRecord). IsStore (record store { entries = entries })) (sym (entries_after a))
-    (IsStore-attached store a.args.key a.args.changes a.self.invariant)
+    subst (λ (entries : List StoredRecord). IsLinkedUp (record store { entries = entries }) a.self.inside.by_node a.self.inside.by_page a.self.inside.notices.items)
+    (sym (entries_after a))
+    (IsLinkedUp-attached store a.self.inside.by_node a.self.inside.by_page a.self.inside.notices.items a.args.key a.args.changes a.self.invariant)
 
 pub returns-in-Some : goal.returns-in-Some
 returns-in-Some c =

@@ -1,10 +1,13 @@
-use Rattle.std.proofs.Common.{◌≡◌, List, not, sym, ap, ◌∙◌, subst, rules}
-use Rattle.std.specs.List.{filter}
+use Rattle.std.proofs.Common.{◌≡◌, ◌<◌, ℕ, List, map, not, sym, ap, ◌∙◌, subst, rules}
+use Rattle.std.specs.List.{All, filter}
+use Rattle.lrc_store.specs.declared.key.Key.{Key}
+use Rattle.std.proofs.lemmas.List.Elements.{All-filter}
 use Rattle.std.proofs.lemmas.Fn.{filter_same}
-use Rattle.lrc_store.specs.Store.{StoredRecord, StoreRecord, IsStore, discarded, interval_of, is_covered}
-use Rattle.lrc_store.proofs.Stores.{IsStore-discarded}
+use Rattle.lrc_store.specs.Store.{StoredRecord, StoreRecord, discarded, interval_of, is_covered}
+use Rattle.lrc_store.specs.Links.{IsLinkedUp, page_named}
+use Rattle.lrc_store.proofs.LinkedStores.{IsLinkedUp-discarded, nodes_in_range, pages_in_range, stays}
 use Rattle.lrc_store.proofs.store.Store.discard.Goals as goal
-use Rattle.lrc_store.proofs.store.Store.discard.Goals.{After-retain}
+use Rattle.lrc_store.proofs.store.Store.discard.Goals.{After-retain, After-retain-2}
 
 -- the entries that are left
 entries_after : (c : After-retain)
@@ -13,12 +16,46 @@ entries_after c =
     filter_same _ (λ stored. not (is_covered c.args.time.now (interval_of stored)))
     _ (λ x b f' h. (search rules, search rules)) c.self.inside.entries.items c.retain.new.self.items c.retain.ensures.filtered
 
+-- the notices that are left
+notices_after : (c : After-retain-2) → c.retain-2.new.self.items ≡ filter (stays c.args.time.now) c.self.inside.notices.items
+notices_after c =
+    filter_same _ (stays c.args.time.now)
+    _ (λ x b f' h. (search rules, search rules)) c.self.inside.notices.items c.retain-2.new.self.items c.retain-2.ensures.filtered
+
+-- the store by its fields
+abbrev before : After-retain → StoreRecord
+before c = record { pages = c.self.inside.pages; last = c.self.inside.last; entries = c.self.inside.entries.items }
+
 pub invariant_of-self : goal.invariant_of-self
 invariant_of-self c =
     let a = (goal.at.invariant_of-self c).After-retain in
-    let store : StoreRecord = record { pages = a.self.inside.pages; last = a.self.inside.last; entries = a.self.inside.entries.items } in
-    subst (λ (entries : List StoredRecord). IsStore (record store { entries = entries })) (sym (entries_after a))
-    (IsStore-discarded store a.args.time.now a.self.invariant)
+    let b = (goal.at.invariant_of-self c).After-retain-2 in
+    let store = before a in
+    let time = a.args.time.now in
+    subst (λ (entries : List StoredRecord). IsLinkedUp (record store { entries = entries }) c.link_nodes.new.by_node c.link_pages.new.by_page c.retain-2.new.self.items)
+    (sym (entries_after a))
+    (IsLinkedUp-discarded store a.self.inside.by_node a.self.inside.by_page c.link_nodes.new.by_node c.link_pages.new.by_page
+    a.self.inside.notices.items c.retain-2.new.self.items time a.self.invariant
+    (c.link_nodes.ensures.keys ∙ ap (map (λ (s : StoredRecord). s.node)) (c.deref.ensures.value ∙ entries_after a))
+    c.link_nodes.ensures.lists (notices_after b)
+    (c.link_pages.ensures.keys ∙ ap (map page_named) c.deref-2.ensures.value) c.link_pages.ensures.lists)
+
+pub link_nodes-requires-clause-in_range : goal.link_nodes-requires-clause-in_range
+link_nodes-requires-clause-in_range c =
+    let a = (goal.at.link_nodes-requires-clause-in_range c).After-retain in
+    let InRange : StoredRecord → Type 0 = λ stored. stored.node < a.self.inside.by_node.lists in
+    subst (All InRange) (sym (c.deref.ensures.value ∙ entries_after a))
+    (All-filter (λ stored. not (is_covered a.args.time.now (interval_of stored))) InRange a.self.inside.entries.items
+    (nodes_in_range (before a) a.self.inside.by_node a.self.inside.by_page a.self.inside.notices.items a.self.invariant))
+
+pub link_pages-requires-clause-in_range : goal.link_pages-requires-clause-in_range
+link_pages-requires-clause-in_range c =
+    let a = (goal.at.link_pages-requires-clause-in_range c).After-retain in
+    let b = (goal.at.link_pages-requires-clause-in_range c).After-retain-2 in
+    let InRange : ℕ × Key → Type 0 = λ notice. notice.1.page < a.self.inside.by_page.lists in
+    subst (All InRange) (sym (c.deref-2.ensures.value ∙ notices_after b))
+    (All-filter (stays a.args.time.now) InRange a.self.inside.notices.items
+    (pages_in_range (before a) a.self.inside.by_node a.self.inside.by_page a.self.inside.notices.items a.self.invariant))
 
 pub returns : goal.returns
 returns c =

@@ -1,0 +1,33 @@
+use Rattle.std.proofs.Common.{◌≡◌, ℕ, List, length, ap, sym, ◌∙◌, arith}
+use Rattle.std.proofs.lemmas.List.{length-map}
+use Rattle.lrc_store.specs.declared.key.Key.{Key}
+use Rattle.lrc_store.specs.Lists.{first_on_page_of, head_of, notices_of}
+use Rattle.lrc_store.specs.Store.{StoreRecord}
+use Rattle.lrc_store.proofs.Followed.{head_within}
+use Rattle.lrc_store.proofs.LinkedStores.{noted_pages}
+use Rattle.lrc_store.proofs.store.Store.first_on_page.Goals as goal
+use Rattle.lrc_store.proofs.store.Store.first_on_page.Goals.{After-first}
+
+-- where the page's list begins
+first : (c : After-first) → c.first.result ≡ first_on_page_of c.args.self.now c.args.page
+first c =
+    let store : StoreRecord = record { pages = c.self.inside.pages; last = c.self.inside.last; entries = c.self.inside.entries.items } in
+    c.first.ensures
+    ∙ ap (λ (keys : List ℕ). head_of keys c.args.page)
+    (noted_pages store c.self.inside.by_node c.self.inside.by_page c.self.inside.notices.items c.self.invariant)
+    ∙ ap (λ (s : StoreRecord). first_on_page_of s c.args.page) c.self.view_is
+
+pub returns-in_err-place-clause-first : goal.returns-in_err-place-clause-first
+returns-in_err-place-clause-first c =
+    c.from_residual.ensures ∙ sym c.in_err-place.was ∙ first (goal.at.returns-in_err-place-clause-first c).After-first
+
+pub returns-clause-first : goal.returns-clause-first
+returns-clause-first c = sym c.in_ok-place.was ∙ first (goal.at.returns-clause-first c).After-first
+
+pub returns-clause-in_use : goal.returns-clause-in_use
+returns-clause-in_use c = λ at is.
+    let store : StoreRecord = record { pages = c.self.inside.pages; last = c.self.inside.last; entries = c.self.inside.entries.items } in
+    let linked = noted_pages store c.self.inside.by_node c.self.inside.by_page c.self.inside.notices.items c.self.invariant in
+    let within = head_within c.self.inside.by_page.keys c.args.page at (sym c.first.ensures ∙ c.in_ok-place.was ∙ is) in
+    omega (arith, within, ap length linked, length-map (notices_of store) (λ (key : Key). key.page),
+      ap (λ (s : StoreRecord). length (notices_of s)) c.self.view_is)

@@ -1,0 +1,64 @@
+-- The lists that run through a store. A link is a place in the order of adding, and each list is followed from the newest.
+use Rattle.std.specs.Prelude.{◌≡◌, ℕ, ◌+◌, ◌==◌, Bool, Option, None, Some, option_map, List, [], ◌∷◌, map, flat_map, take, reverse, slice_get, slice_index, if◌then◌else◌}
+use Rattle.lrc_store.specs.declared.key.Key.{Key}
+use Rattle.lrc_store.specs.Chains.{last_at}
+use Rattle.lrc_store.specs.Interval.{IntervalRecord, index_of}
+use Rattle.lrc_store.specs.Store.{StoreRecord, intervals_of, key_of}
+
+-- the nodes of the intervals, in the order of adding
+abbrev pub nodes_of : StoreRecord → List ℕ
+nodes_of store = map (λ interval. interval.node) (intervals_of store)
+
+-- an interval's notices, by page
+abbrev pub keys_of : IntervalRecord → List Key
+keys_of interval = map (λ page. key_of page interval) interval.pages
+
+-- the notices, in the order of adding
+abbrev pub notices_of : StoreRecord → List Key
+notices_of store = flat_map keys_of (intervals_of store)
+
+-- the pages of the notices
+abbrev pub pages_noted : StoreRecord → List ℕ
+pages_noted store = map (λ key. key.page) (notices_of store)
+
+-- what a link stands for
+abbrev pub interval_at : StoreRecord → ℕ → Option (ℕ × ℕ)
+interval_at store at = option_map (λ interval. (interval.node, index_of interval)) (slice_get (intervals_of store) at)
+
+abbrev pub key_at : StoreRecord → ℕ → Option Key
+key_at store at = slice_get (notices_of store) at
+
+-- the newest of a key, and the one before an entry with the same key
+abbrev pub head_of : List ℕ → ℕ → Option ℕ
+head_of keys key = last_at (λ other. other == key) keys
+
+abbrev pub link_of : List ℕ → ℕ → Option ℕ
+link_of keys at = head_of (take at keys) (slice_index keys at)
+
+abbrev pub newest_of : StoreRecord → ℕ → Option ℕ
+newest_of store node = head_of (nodes_of store) node
+
+abbrev pub before_of : StoreRecord → ℕ → Option ℕ
+before_of store at = link_of (nodes_of store) at
+
+abbrev pub first_on_page_of : StoreRecord → ℕ → Option ℕ
+first_on_page_of store page = head_of (pages_noted store) page
+
+abbrev pub next_on_page_of : StoreRecord → ℕ → Option ℕ
+next_on_page_of store at = link_of (pages_noted store) at
+
+-- ---- the lists
+
+-- the places of a key, first to last, where the first element stands at this place
+abbrev pub places_from : ℕ → ℕ → List ℕ → List ℕ
+places_from key start [] = []
+places_from key start (x ∷ xs) = if x == key then start ∷ places_from key (start + 1) xs else places_from key (start + 1) xs
+
+-- the places of a key, newest first
+abbrev pub list_of : List ℕ → ℕ → List ℕ
+list_of keys key = reverse (places_from key 0 keys)
+
+-- following the links from the first ends, and gives just this list
+abbrev pub Follows : (ℕ → Option ℕ) → Option ℕ → List ℕ → Type 0
+Follows next first [] = first ≡ None
+Follows next first (at ∷ rest) = (first ≡ Some at) × Follows next (next at) rest

@@ -1,0 +1,70 @@
+// The lists that run through a store.
+
+ghost use Rattle.std.specs.Prelude.{◌≡◌, ◌<◌, length};
+ghost use Rattle.std.specs.Option.{ForSome};
+ghost use Rattle.lrc_store.specs.Lists.{interval_at, key_at, newest_of, before_of, first_on_page_of, next_on_page_of, notices_of};
+ghost use Rattle.lrc_store.specs.Store.{intervals_of};
+
+use crate::key::Key;
+use crate::link::{IntervalAt, NoticeAt};
+use crate::store::Store;
+
+impl Store {
+    /// The interval of a node that was added last.
+    pub fn newest(&self, node: u8) -> Option<IntervalAt>
+        ensures newest { result ≡ newest_of self.now node }
+        ensures in_use { ForSome result (λ at. at < length (intervals_of self.now)) }
+    {
+        let place = self.by_node.first(u16::from(node))?;
+        Some(IntervalAt { place })
+    }
+
+    /// The interval of the same node that was added before this one.
+    pub fn before(&self, at: IntervalAt) -> Option<IntervalAt>
+        requires { at < length (intervals_of self.now) }
+        ensures before { result ≡ before_of self.now at }
+        ensures in_use { ForSome result (λ earlier. earlier < at) }
+    {
+        let place = self.by_node.next(at.place)?;
+        Some(IntervalAt { place })
+    }
+
+    /// The notice of a page that was added last.
+    pub fn first_on_page(&self, page: u16) -> Option<NoticeAt>
+        ensures first { result ≡ first_on_page_of self.now page }
+        ensures in_use { ForSome result (λ at. at < length (notices_of self.now)) }
+    {
+        let place = self.by_page.first(page)?;
+        Some(NoticeAt { place })
+    }
+
+    /// The notice of the same page that was added before this one.
+    pub fn next_on_page(&self, at: NoticeAt) -> Option<NoticeAt>
+        requires { at < length (notices_of self.now) }
+        ensures next { result ≡ next_on_page_of self.now at }
+        ensures in_use { ForSome result (λ earlier. earlier < at) }
+    {
+        let place = self.by_page.next(at.place)?;
+        Some(NoticeAt { place })
+    }
+
+    /// The node and the index of an interval, or nothing where the link is not in use.
+    pub fn interval(&self, at: IntervalAt) -> Option<(u8, u32)>
+        ensures { result ≡ interval_at self.now at }
+    {
+        let stored = self.entries.get(at.place as usize)?;
+        Some((stored.node(), stored.index()))
+    }
+
+    /// The key of a notice, or nothing where the link is not in use.
+    pub fn key(&self, at: NoticeAt) -> Option<Key>
+        ensures { result ≡ key_at self.now at }
+    {
+        let place = at.place as usize;
+        if place < self.notices.len() {
+            Some(self.notices[place].1)
+        } else {
+            None
+        }
+    }
+}
