@@ -257,28 +257,6 @@ IsMissing-only store page since first second one other =
     IsAscendingPart-only by_weight IsStrictWeakOrder-by_weight (is_missing page since) (intervals_of store) one.0 other.0 one.1 other.1 in
     one.2 ∙ ap (map (key_of page)) same ∙ sym other.2
 
--- what a walk over the store gathers, one interval further
-pub gathered_more : (page : ℕ) (since : List ℕ) (entries : List StoredRecord) (i : ℕ) (stored : StoredRecord)
-    → i < length entries → stored ≡ get_or entries i stored
-    → map (ranked page) (filter (is_missing page since) (map interval_of (take (i + 1) entries)))
-    ≡ map (ranked page) (filter (is_missing page since) (map interval_of (take i entries)))
-    ++ cond (is_missing page since (interval_of stored)) (ranked page (interval_of stored) ∷ []) []
-gathered_more page since entries i stored within read =
-    let test = is_missing page since in
-    let here = interval_of stored in
-    let before = map interval_of (take i entries) in
-    ap (λ (l : List StoredRecord). map (ranked page) (filter test (map interval_of l)))
-    (take_more entries i stored within ∙ ap (λ (s : StoredRecord). take i entries ++ s ∷ []) (sym read))
-    ∙ ap (λ (l : List IntervalRecord). map (ranked page) (filter test l)) (map_push interval_of (take i entries) stored)
-    ∙ ap (map (ranked page)) (filter-append test before (here ∷ []))
-    ∙ map-append (ranked page) (filter test before) (filter test (here ∷ []))
-    ∙ ap (λ (l : List (ℕ × Key)). map (ranked page) (filter test before) ++ l) (one (test here))
-  where
-    one : (b : Bool)
-        → map (ranked page) (cond b (interval_of stored ∷ []) []) ≡ cond b (ranked page (interval_of stored) ∷ []) []
-    one true = refl
-    one false = refl
-
 -- ---- cover
 
 -- an interval that another's stamp covers is lighter

@@ -209,15 +209,3 @@ map-stored_with entries key changes place ascending found old read =
     false_from_ne_true _ (λ at. differ
     (once entries ascending key.node key.index k place d within passed.0 at (position-Some _ entries place d found).1)) in
     stored_with-other key changes (get_or entries k d) other)
-
--- ---- the stamps
-
--- each stamp has an entry for each node
-pub stamp_length : (store : StoreRecord) (i : ℕ) (stored : StoredRecord) → IsStore store → i < length store.entries
-    → stored ≡ get_or store.entries i stored → length stored.stamp ≡ length store.last
-stamp_length store i stored sound within read =
-    let all = intervals_of store in
-    let there : get_or all i (interval_of stored) ≡ interval_of stored =
-    get_or-map interval_of store.entries i stored (interval_of stored) within ∙ ap interval_of (sym read) in
-    ap (λ (interval : IntervalRecord). length interval.stamp) (sym there)
-    ∙ sound.stamps i (interval_of stored) (omega (arith, length-map store.entries interval_of))

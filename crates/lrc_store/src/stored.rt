@@ -1,14 +1,12 @@
 // One interval in a store.
 
 ghost use Rattle.std.specs.Prelude.{◌≡◌, ◌<◌, ◌==◌, All, IfOk, map, option_and_then, position};
-ghost use Rattle.std.specs.List.{list_any};
 ghost use Rattle.std.specs.Option.{option_copied};
-ghost use Rattle.lrc_time.specs.Time.{knows, weight_of};
+ghost use Rattle.lrc_time.specs.Time.{knows};
 ghost use Rattle.lrc_page.specs.Pages.{IsRising};
 ghost use Rattle.lrc_store.specs.Store.{unread};
 
 use crate::interval::Interval;
-use crate::key::Key;
 use lrc_page::{Changes, MOST_PAGES, Pages};
 use lrc_time::Time;
 use std::alloc::{AllocError, Global};
@@ -60,7 +58,7 @@ impl Model for Stored {
 
 impl Stored {
     ghost use Rattle.lrc_store.specs.Interval.{index_of};
-    ghost use Rattle.lrc_store.specs.Store.{interval_of, is_at, key_of, notice_of, notice_with, without_changes};
+    ghost use Rattle.lrc_store.specs.Store.{interval_of, is_at, notice_of, notice_with, without_changes};
 
     /// The interval, of which no changes are known yet.
     pub(crate) fn new(alloc: Global, interval: &Interval) -> Result<Self, AllocError>
@@ -99,24 +97,6 @@ impl Stored {
         self.stamp.at(self.node)
     }
 
-    /// The weight of the interval's stamp.
-    pub(crate) fn weight(&self) -> u64
-        ensures { result ≡ weight_of self.now.stamp }
-    {
-        self.stamp.weight()
-    }
-
-    /// The key of the interval's notice of this page.
-    pub(crate) fn key(&self, page: u16) -> Key
-        ensures { result ≡ key_of page (interval_of self.now) }
-    {
-        Key {
-            node: self.node,
-            index: self.index(),
-            page,
-        }
-    }
-
     /// Whether this is the interval of this node and index.
     pub(crate) fn is_at(&self, node: u8, index: u32) -> bool
         ensures { result ≡ is_at node index self.now }
@@ -129,13 +109,6 @@ impl Stored {
         ensures { result ≡ knows time.now self.now.node (index_of (interval_of self.now)) }
     {
         self.node < time.nodes() && self.index() <= time.at(self.node)
-    }
-
-    /// Whether the interval names this page.
-    pub(crate) fn names(&self, page: u16) -> bool
-        ensures { result ≡ list_any (λ named. named == page) (interval_of self.now).pages }
-    {
-        place_of(&self.notices, page).is_some()
     }
 
     /// The changes of this page, if they are known.
