@@ -1,6 +1,6 @@
 -- The readers of parts and of the values of a page agree with how these are spelled.
-use Rattle.std.proofs.Common.{◌≡◌, ◌∙◌, ℕ, ◌<◌, ◌≤◌, ◌||◌, true, eqb, ltb, List, ◌++◌, length, Option, Some, None, Ok, refl, sym, ap, subst, append_assoc, arith, inl, inr}
-use Rattle.std.specs.Prelude.{All, AllPairs}
+use Rattle.std.proofs.Common.{◌≡◌, ℕ, ◌<◌, ◌≤◌, ◌||◌, true, eqb, ltb, List, ◌++◌, length, Option, Some, None, Ok, refl, sym, subst, append_assoc, arith, inl, inr}
+use Rattle.std.specs.Prelude.{All}
 use Rattle.std.specs.Int.{w16, w32, w64}
 use Rattle.std.specs.List.{flat_map}
 use Rattle.std.proofs.lemmas.Bool.{ltb-true, lt-ltb, eqb-true, eq-eqb, or_cases, or_left, or_right}
@@ -12,11 +12,11 @@ use Rattle.lrc_wire.specs.declared.fault.WireFault.TheVariants.{BadCount}
 use Rattle.lrc_wire.specs.declared.version.Version.{Version}
 use Rattle.lrc_wire.specs.declared.version.Version.TheVariants.{One, Two}
 use Rattle.lrc_wire.specs.Versions.{words_in}
-use Rattle.lrc_wire.specs.Records.{IndexedChangesRecord, IsIndexedChanges, AreParts}
+use Rattle.lrc_wire.specs.Records.{IndexedChangesRecord, AreParts}
 use Rattle.lrc_wire.specs.Ranges.{HasBits, FitPart, FitParts, IsSize, FitValues}
 use Rattle.lrc_wire.specs.Runs.{runs_of}
-use Rattle.lrc_wire.specs.Spelling.{byte, number, numbers, changes, part, parts, page_values}
-use Rattle.lrc_wire.specs.Reading.{◌>>=◌, byte_at, number_at, tested, is_after, elements_at, count_at, next_index_at, changes_at, next_part_at, parts_at, values_at, size_at, page_values_at}
+use Rattle.lrc_wire.specs.Spelling.{number, numbers, changes, part, parts, page_values}
+use Rattle.lrc_wire.specs.Reading.{◌>>=◌, number_at, tested, is_after, elements_at, count_at, next_index_at, changes_at, next_part_at, parts_at, values_at, size_at, page_values_at}
 use Rattle.lrc_wire.proofs.Bytes.{IsBytes, Takes, Takes-then}
 use Rattle.lrc_wire.proofs.Steps.{ok_is}
 use Rattle.lrc_wire.proofs.Along.{Ascends, Follow, All-from_follow, AllPairs-from_follow, follow_from_pairs, lt-trans}
@@ -128,9 +128,10 @@ page_values_take One bytes vs rest fits e =
     (b.0, record { all = b.1.0; bits = b.1.1 })
 page_values_take Two bytes vs rest fits e =
     let a = step (λ bytes. tested (λ n. eqb n 64 || eqb n MOST_PAGE_WORDS) BadCount (number_at w16 bytes)) (number w16) (λ n. HasBits 16 n × ((eqb n 64 || eqb n MOST_PAGE_WORDS) ≡ true)) counted_agrees bytes (λ size. values_at size.0 size.1) (vs, rest) fits e in
-    let b = (values_agree a.value).takes a.rest vs rest a.took.rest_fits a.then in
-    (subst (λ (n : ℕ). Takes bytes (number w16 n ++ numbers w64 vs) rest) (sym b.1.0) (Takes-then bytes (number w16 a.value) a.rest (numbers w64 vs) rest a.took b.0),
-    record { all = subst (IsSize Two) (sym b.1.0) (is_size a.value a.fits.1); bits = b.1.1 })
+    let b = (values_agree a.value).takes a.rest vs rest a.took.rest_fits a.then in (
+      subst (λ (n : ℕ). Takes bytes (number w16 n ++ numbers w64 vs) rest) (sym b.1.0) (Takes-then bytes (number w16 a.value) a.rest (numbers w64 vs) rest a.took b.0),
+      record { all = subst (IsSize Two) (sym b.1.0) (is_size a.value a.fits.1); bits = b.1.1 },
+    )
 
 page_values_again : (v : Version) (vs rest : List ℕ) → FitValues v vs → page_values_at v (page_values v vs ++ rest) ≡ Ok (vs, rest)
 unfolding page_values_at size_at

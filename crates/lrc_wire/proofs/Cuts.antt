@@ -1,9 +1,9 @@
 -- The reader of changes in runs agrees with how the runs of changes are spelled.
-use Rattle.std.proofs.Common.{◌≡◌, ◌∙◌, ℕ, zero, suc, ◌+◌, ◌-◌, ◌<◌, ◌≤◌, true, ltb, leb, List, [], ◌∷◌, ◌++◌, length, Option, Some, None, Ok, refl, sym, ap, subst, append_assoc, arith}
+use Rattle.std.proofs.Common.{◌≡◌, ◌∙◌, ℕ, ◌+◌, ◌-◌, ◌<◌, ◌≤◌, true, ltb, leb, List, [], ◌∷◌, ◌++◌, length, Option, Some, None, Ok, refl, sym, ap, subst, append_assoc, arith}
 use Rattle.std.specs.Prelude.{All, IsSomeAnd}
 use Rattle.std.specs.Int.{w16, w64}
 use Rattle.std.specs.List.{flat_map}
-use Rattle.std.proofs.lemmas.Bool.{ltb-true, lt-ltb, leb-true, le-leb}
+use Rattle.std.proofs.lemmas.Bool.{ltb-true, lt-ltb, le-leb}
 use Rattle.lrc_page.specs.declared.TheConstants.{MOST_PAGE_WORDS}
 use Rattle.lrc_page.specs.declared.changes.Change.{Change}
 use Rattle.lrc_wire.specs.declared.limits.TheConstants.{MOST_RUNS}
@@ -16,7 +16,7 @@ use Rattle.lrc_wire.proofs.Bytes.{IsBytes, Takes, Takes-then}
 use Rattle.lrc_wire.proofs.Steps.{bind_ok, ok_is}
 use Rattle.lrc_wire.proofs.Along.{Along, elements_along, All-from_along, along_from_all}
 use Rattle.lrc_wire.proofs.Agrees.{Agrees, Agrees-as, Agrees-tested, step, byte_agrees, number16_agrees, number64_agrees, elements_agree}
-use Rattle.lrc_wire.proofs.Runs.{Runs, IsRun, IsSome, AreChanging, Changing, runs_of-whole, runs_of-apart, runs_of-only, few_runs, runs_changes, runs_weaker, are_changing, changing_from}
+use Rattle.lrc_wire.proofs.Runs.{Runs, IsRun, IsSome, AreChanging, runs_of-whole, runs_of-apart, runs_of-only, few_runs, runs_changes, runs_weaker, are_changing, changing_from}
 
 -- ---- values
 

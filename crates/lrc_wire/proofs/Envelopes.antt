@@ -3,7 +3,7 @@ use Rattle.std.proofs.Common.{◌≡◌, ◌∙◌, ℕ, ◌+◌, ◌-◌, ◌<�
 use Rattle.std.specs.Prelude.{ok_or, All}
 use Rattle.std.specs.Int.{w16, w32}
 use Rattle.std.specs.List.{flat_map}
-use Rattle.std.proofs.lemmas.Bool.{eqb-true, eq-eqb, ltb-false, lt-ltb, le-ltb, cases_lt, leb-true, le-leb}
+use Rattle.std.proofs.lemmas.Bool.{eqb-true, ltb-false, lt-ltb, le-ltb, cases_lt, leb-true, le-leb}
 use Rattle.std.proofs.lemmas.Bool.Decides.{eqb_tells}
 use Rattle.std.proofs.Math.Seq.{take-append-add}
 use Rattle.std.proofs.lemmas.List.{append-nil, nil_from_length, length-append, length-take, length-take-le, take_at}
@@ -396,12 +396,14 @@ envelope_takes bytes e fits h =
     let made : EnvelopeRecord = record { from = b.0.0.from; to = b.0.0.to; number = b.0.0.number; message = c.0 } in
     let len : length (body v runs_of c.0) ≡ b.0.0.body_len = ap length (sym w.0) ∙ w.1 in
     let head : header_of v made ≡ b.0.0 = same_header b.0.0 (kind_named c.0) (length (body v runs_of c.0)) w.3 len in
-    let spelled : bytes ≡ header v runs_of made ++ body v runs_of c.0 = t.0.parts ∙ ap (λ (x : HeaderRecord). spelled_header x ++ b.0.1) (sym head) ∙ ap (λ (x : List ℕ). x ++ b.0.1) (sym (header_is v made)) ∙ ap (λ (x : List ℕ). header v runs_of made ++ x) w.0 in
-    (v, subst (λ (y : EnvelopeRecord). Spells v y bytes) (ok_is made e c.2) (spells v made bytes (record {
-      fits = record { ends = record { from = t.1.from; to = t.1.to }; number = t.1.number; message = w.2 };
-      short = omega (arith, len, t.1.body_len);
-      spelled = spelled;
-    })))
+    let spelled : bytes ≡ header v runs_of made ++ body v runs_of c.0 = t.0.parts ∙ ap (λ (x : HeaderRecord). spelled_header x ++ b.0.1) (sym head) ∙ ap (λ (x : List ℕ). x ++ b.0.1) (sym (header_is v made)) ∙ ap (λ (x : List ℕ). header v runs_of made ++ x) w.0 in (
+      v,
+      subst (λ (y : EnvelopeRecord). Spells v y bytes) (ok_is made e c.2) (spells v made bytes (record {
+        fits = record { ends = record { from = t.1.from; to = t.1.to }; number = t.1.number; message = w.2 };
+        short = omega (arith, len, t.1.body_len);
+        spelled = spelled;
+      })),
+    )
 
 plain_again : (v : Version) (bytes : List ℕ) (e : EnvelopeRecord) → Plain v e bytes → envelope_of bytes ≡ Ok e
 unfolding envelope_of

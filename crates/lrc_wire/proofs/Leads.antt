@@ -9,7 +9,7 @@ use Rattle.std.specs.Int.{w64}
 use Rattle.std.proofs.lemmas.List.Concat.{flat_map-cons}
 use Rattle.std.proofs.lemmas.Option.{get_or_from_slice_get, slice_get_within}
 use Rattle.lrc_page.specs.declared.changes.Change.{Change}
-use Rattle.lrc_wire.specs.Runs.{Run, changes_of, in_front, runs_of, lead, first_run}
+use Rattle.lrc_wire.specs.Runs.{Run, changes_of, runs_of, lead, first_run}
 use Rattle.lrc_wire.specs.Spelling.{byte, numbers, run}
 
 -- ---- how many lead

@@ -27,8 +27,8 @@ pub use indices::Indices;
 pub use kind::Kind;
 pub use limits::{HEADER_BYTES, MOST_BODY_BYTES, MOST_LOCKS, MOST_NODES, MOST_RUNS};
 pub use message::{
-    Arrive, ChangesReply, ChangesRequest, Clean, Depart, Discard, LockForward, LockGrant, LockRequest,
-    Message, PageReply, PageRequest,
+    Arrive, ChangesReply, ChangesRequest, Clean, Depart, Discard, LockForward, LockGrant,
+    LockRequest, Message, PageReply, PageRequest,
 };
 pub use news::News;
 pub use parts::{IndexedChanges, Parts};

@@ -6,7 +6,9 @@ use bytes::Bytes;
 use lrc_page::Pages;
 use lrc_store::{Interval, Intervals};
 use lrc_time::Time;
-use lrc_wire::{Envelope, WireFault, decode, encode};
+use lrc_wire::{
+    ChangesRequest, EncodeFault, Envelope, Indices, Message, WireFault, decode, encode,
+};
 use std::alloc::{AllocError, Global};
 use std::process::Abort;
 use std::test::Fail;
@@ -423,5 +425,52 @@ fn the_longest_body_is_read_and_written(rt: HostRuntime) -> Result<(), Fail> {
     assert!(rt; bytes.len() == 12 + 16_777_214);
     let same = rewritten(alloc, &bytes)?.as_slice() == bytes.as_slice();
     assert!(rt; same);
+    Ok(())
+}
+
+/// Adds the index where it is above the last.
+fn add_index(indices: &mut Indices, index: u32) -> Result<bool, AllocError> {
+    let count = indices.len();
+    if index == 0 || count > 0 && indices.at(count - 1) >= index {
+        return Ok(false);
+    }
+    indices.push(index)?;
+    Ok(true)
+}
+
+/// Node 0 asks node 1 for what its intervals 1 to `count` changed in page 0.
+fn request_of(alloc: Global, count: u32) -> Result<Option<Envelope>, AllocError> {
+    let mut indices = Indices::empty(alloc);
+    for before in 0..count {
+        if !add_index(&mut indices, before + 1)? {
+            return Ok(None);
+        }
+    }
+    if indices.is_empty() {
+        return Ok(None);
+    }
+    let message = Message::ChangesRequest(ChangesRequest { page: 0, indices });
+    Ok(Some(Envelope {
+        from: 0,
+        to: 1,
+        number: 0,
+        message,
+    }))
+}
+
+/// What writing the request of so many intervals gives: how many bytes, or the fault.
+fn written(alloc: Global, count: u32) -> Result<Option<Result<usize, EncodeFault>>, AllocError> {
+    let Some(envelope) = request_of(alloc, count)? else {
+        return Ok(None);
+    };
+    Ok(Some(encode(alloc, &envelope).map(|bytes| bytes.len())))
+}
+
+// 2 bytes for the page, 4 for the count, and 4 for each index: 16,777,214 in all, and 4 more, which are too many.
+#[test]
+fn a_body_over_the_limit_is_not_written(rt: HostRuntime) -> Result<(), Fail> {
+    let fits = written(rt.alloc(), 4_194_302)?;
+    let over = written(rt.alloc(), 4_194_303)?;
+    assert!(rt; fits == Some(Ok(12 + 16_777_214)) && over == Some(Err(EncodeFault::TooLong)));
     Ok(())
 }

@@ -97,11 +97,7 @@ fn may_begin(before: Option<u8>, first: u8) -> bool
 
 /// A run after another, which ends at the offset `before`, as changes behind the others: its last offset.
 #[tactic(auto, unfolding(crate::specs::Reading::next_run_at, crate::specs::Reading::tested, crate::specs::Reading::is_after))]
-fn read_run(
-    before: Option<u8>,
-    changes: &mut Changes,
-    bytes: &mut &[u8],
-) -> Result<u8, WireFault>
+fn read_run(before: Option<u8>, changes: &mut Changes, bytes: &mut &[u8]) -> Result<u8, WireFault>
     requires { ForSome (last_change changes.old) (λ c. IsSomeAnd before (λ last. c.offset ≤ last)) }
     ensures put { PutsRun result (next_run_at before bytes.old.now) changes.old changes.new bytes.new.now }
     ensures last { IfOk result (λ last. ForSome (last_change changes.new) (λ c. c.offset ≤ last)) }

@@ -135,7 +135,11 @@ fn read_intervals(
 
 /// A time, and intervals that go with it.
 #[tactic(auto, unfolding(crate::specs::Reading::news_at))]
-pub(super) fn read_news(alloc: Global, version: Version, bytes: &mut &[u8]) -> Result<News, WireFault>
+pub(super) fn read_news(
+    alloc: Global,
+    version: Version,
+    bytes: &mut &[u8],
+) -> Result<News, WireFault>
     ensures { Gives (λ news. (news, bytes.new.now)) result (news_at version bytes.old.now) }
 {
     let time = read_time(bytes)?;

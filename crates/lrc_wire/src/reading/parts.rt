@@ -53,7 +53,11 @@ fn read_parts_of(
 
 /// What at least one interval changed.
 #[tactic(auto, unfolding(crate::specs::Reading::parts_at))]
-pub(super) fn read_parts(alloc: Global, version: Version, bytes: &mut &[u8]) -> Result<Parts, WireFault>
+pub(super) fn read_parts(
+    alloc: Global,
+    version: Version,
+    bytes: &mut &[u8],
+) -> Result<Parts, WireFault>
     ensures exact { Gives (λ v. (v, bytes.new.now)) result (parts_at version bytes.old.now) }
     ensures some { IfOk result (λ v. 1 ≤ length v) }
 {

@@ -72,12 +72,7 @@ fn put_run_values(
 
 /// The run from `start` on, up to `end`.
 #[tactic(auto, unfolding(crate::specs::Spelling::run, crate::specs::Spelling::byte))]
-fn put_run(
-    out: &mut Vec<u8>,
-    changes: &Changes,
-    start: usize,
-    end: usize,
-) -> Result<(), AllocError>
+fn put_run(out: &mut Vec<u8>, changes: &Changes, start: usize, end: usize) -> Result<(), AllocError>
     requires exact { end ≡ start + lead (drop start changes.now) }
     requires some { start < end }
     requires within { end ≤ length changes.now }

@@ -1,5 +1,4 @@
-use Rattle.std.proofs.Common.{◌≡◌, ◌∙◌, ◌+◌, ◌<◌, length, sym, arith}
-use Rattle.lrc_wire.specs.Runs.{Run}
+use Rattle.std.proofs.Common.{◌∙◌, ◌+◌, sym, arith}
 use Rattle.lrc_wire.proofs.Cuts.{begins_above, values_long, run_is_read}
 use Rattle.lrc_wire.proofs.reading.changes.read_run.Goals as goal
 

@@ -1,4 +1,3 @@
-use Rattle.std.proofs.Common.{arith}
 use Rattle.lrc_wire.proofs.Shapes.{indices_long, indices_begun, indices_increase}
 use Rattle.lrc_wire.proofs.reading.indices.read_indices.Goals as goal
 

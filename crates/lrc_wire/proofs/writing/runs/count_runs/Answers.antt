@@ -1,7 +1,7 @@
-use Rattle.std.proofs.Common.{◌≡◌, length, ap, arith}
+use Rattle.std.proofs.Common.{length, ap, arith}
 use Rattle.lrc_page.specs.declared.TheConstants.{MOST_PAGE_WORDS}
 use Rattle.lrc_wire.proofs.Along.{few_below}
-use Rattle.lrc_wire.proofs.Leads.{run_at, none_left}
+use Rattle.lrc_wire.proofs.Leads.{run_at}
 use Rattle.lrc_wire.proofs.writing.runs.count_runs.Goals as goal
 
 pub loop-start-preserved : goal.loop-start-preserved

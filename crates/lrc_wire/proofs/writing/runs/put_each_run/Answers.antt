@@ -1,9 +1,6 @@
-use Rattle.std.proofs.Common.{◌≡◌, ◌∙◌, ◌++◌, drop, ap, arith}
-use Rattle.std.specs.List.{flat_map}
-use Rattle.std.proofs.lemmas.List.{take_all, append-nil}
-use Rattle.lrc_wire.specs.Runs.{runs_of}
-use Rattle.lrc_wire.specs.Spelling.{run}
-use Rattle.lrc_wire.proofs.Leads.{run_written, none_left}
+use Rattle.std.proofs.Common.{◌∙◌, arith}
+use Rattle.std.proofs.lemmas.List.{take_all}
+use Rattle.lrc_wire.proofs.Leads.{run_written}
 use Rattle.lrc_wire.proofs.writing.runs.put_each_run.Goals as goal
 
 pub loop-start-preserved : goal.loop-start-preserved

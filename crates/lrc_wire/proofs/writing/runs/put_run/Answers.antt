@@ -1,4 +1,4 @@
-use Rattle.std.proofs.Common.{◌≡◌, ◌∙◌, ◌∷◌, ◌++◌, [], List, ℕ, sym, ap, append_assoc, arith}
+use Rattle.std.proofs.Common.{◌≡◌, ◌∙◌, ◌∷◌, ◌++◌, [], List, ℕ, append_assoc}
 use Rattle.lrc_wire.proofs.Written.{on_ok_so}
 use Rattle.lrc_wire.proofs.Leads.{run_text}
 use Rattle.lrc_wire.proofs.writing.runs.put_run.Goals as goal

@@ -1,4 +1,4 @@
-use Rattle.std.proofs.Common.{◌≡◌, ◌≤◌, ◌+◌, ◌-◌, length, drop, sym, ◌∙◌, arith}
+use Rattle.std.proofs.Common.{◌≡◌, ◌+◌, ◌-◌, sym, ◌∙◌, arith}
 use Rattle.lrc_page.specs.declared.TheConstants.{MOST_PAGE_WORDS}
 use Rattle.lrc_wire.proofs.Along.{few_below}
 use Rattle.lrc_wire.proofs.Leads.{lead_more_at, lead_over_at, lead_last}

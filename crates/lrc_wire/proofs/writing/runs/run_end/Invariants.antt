@@ -1,4 +1,4 @@
-use Rattle.std.proofs.Common.{◌≡◌, ◌+◌, ◌-◌, ◌≤◌, ◌<◌, length, drop}
+use Rattle.std.proofs.Common.{◌≡◌, ◌+◌, ◌-◌, drop}
 use Rattle.lrc_wire.specs.Runs.{lead}
 use Rattle.lrc_wire.proofs.writing.runs.run_end.Given as goal
 

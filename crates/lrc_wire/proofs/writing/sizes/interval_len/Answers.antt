@@ -1,4 +1,4 @@
-use Rattle.std.proofs.Common.{◌≤◌, length, arith}
+use Rattle.std.proofs.Common.{arith}
 use Rattle.lrc_page.specs.declared.TheConstants.{MOST_PAGES}
 use Rattle.lrc_wire.proofs.Along.{few_below}
 use Rattle.lrc_wire.proofs.Lengths.{length_interval}
