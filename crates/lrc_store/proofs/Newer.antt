@@ -106,7 +106,7 @@ IsNewer-by_nodes store by_node by_page notices since upto linked =
       exactly = λ x. (
         first_of since upto all (length store.last) x,
         λ both. found_in since upto all (length store.last) x both.0 both.1
-        (All-contains (λ i. i.node < length store.last) all x in_range both.0)
+            (All-contains (λ i. i.node < length store.last) all x in_range both.0),
       );
       ascending = ascending_all since upto all (length store.last) linked.sound.ascending;
     }

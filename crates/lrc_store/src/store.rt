@@ -9,7 +9,9 @@ use crate::chains::Chains;
 use crate::interval::Interval;
 use crate::intervals::Intervals;
 use crate::key::Key;
-use crate::links::{add_notices, is_known, link_nodes, link_pages, make_room, newer_of_node, unknown_on};
+use crate::links::{
+    add_notices, is_known, link_nodes, link_pages, make_room, newer_of_node, unknown_on,
+};
 use crate::stored::Stored;
 use lrc_page::{Changes, MOST_PAGES};
 use lrc_time::Time;
@@ -39,7 +41,7 @@ impl Model for Store {
 
     ghost invariant = { λ s.
         IsLinkedUp (record { pages = s.pages; last = s.last; entries = s.entries.items })
-            s.by_node s.by_page s.notices.items };
+        s.by_node s.by_page s.notices.items };
 }
 
 impl Store {
@@ -75,7 +77,12 @@ impl Store {
     {
         let stored = Stored::new(*self.entries.allocator(), interval)?;
         let more = interval.pages.len();
-        make_room(&mut self.by_node, &mut self.by_page, &mut self.notices, more)?;
+        make_room(
+            &mut self.by_node,
+            &mut self.by_page,
+            &mut self.notices,
+            more,
+        )?;
         self.entries.push(stored)?;
         add_notices(&mut self.notices, &mut self.by_page, interval);
         self.by_node.push(u16::from(interval.node));
