@@ -20,7 +20,8 @@ use std::marker::Model;
 
 /// The intervals that a node knows, each with its write notices, and the changes that came for some of these.
 ///
-/// The intervals stand in one list in the order of adding, so a look-up takes time linear in their number.
+/// Intervals and notices stand in the order of adding, each linked to the one before it of its node, or of its page. What
+/// is newer or missing is found along these lists; a look-up by key takes time linear in the number of intervals.
 #[derive(Drop)]
 pub struct Store {
     pages: u16,
@@ -66,7 +67,8 @@ impl Store {
         })
     }
 
-    /// Adds the interval that follows the last one added of its node. An error leaves the store as it was.
+    /// Adds the interval that follows the last one added of its node. An error leaves the store as it was; it also comes
+    /// where there would be more than 4,294,967,295 intervals or notices.
     pub fn add(&mut self, interval: &Interval) -> Result<(), AllocError>
         requires stamp { length interval.now.stamp ≡ length self.old.last }
         requires pages { All (λ page. page < self.old.pages) interval.now.pages }
@@ -132,7 +134,8 @@ impl Store {
         }
     }
 
-    /// Takes out the intervals that this time knows, with their notices. What was added last of each node stays known.
+    /// Takes out the intervals that this time knows, with their notices. The others move to the front and are linked
+    /// again, so links from before are no longer used. The greatest index added of each node stays known.
     pub fn discard(&mut self, time: &Time)
         requires { length time.now ≡ length self.old.last }
         ensures { self.new ≡ discarded self.old time.now }
