@@ -1,14 +1,13 @@
 -- The newer intervals, node by node.
-use Rattle.std.proofs.Common.{◌≡◌, ℕ, zero, suc, ◌+◌, ◌<◌, ◌≤◌, ◌⊎◌, ◌∙◌, Bool, true, false, not, ◌&&◌, eqb, eqb-true, nat_lt, List, [], ◌∷◌, ◌++◌, length, get_or, map, refl, ap, sym, subst, arith, ⊎_elim}
+use Rattle.std.proofs.Common.{◌≡◌, ℕ, zero, suc, ◌+◌, ◌<◌, ◌∙◌, true, eqb, eqb-true, nat_lt, List, [], ◌∷◌, ◌++◌, length, get_or, ap, sym, subst, arith, ⊎_elim}
 use Rattle.std.specs.Prelude.{IsTrue}
 use Rattle.std.specs.List.{All, AllPairs, Contains, filter}
 use Rattle.std.proofs.lemmas.Bool.{and_parts, and_from, cases_eq, eq-eqb, lt-ltb}
-use Rattle.std.proofs.lemmas.List.{get_or-map, length-map}
 use Rattle.std.proofs.lemmas.List.Elements.{All-append, All-contains, All-head, All-tail, All-weaker, Contains-append_cases, Contains-append_left, Contains-append_right, filter_passes}
 use Rattle.std.proofs.lemmas.List.Kept.{AllPairs-cons, AllPairs-filter}
 use Rattle.lrc_store.specs.Chains.{ChainsRecord}
 use Rattle.lrc_store.specs.declared.key.Key.{Key}
-use Rattle.lrc_store.specs.Interval.{IntervalRecord, IsInterval, by_node, index_of}
+use Rattle.lrc_store.specs.Interval.{IntervalRecord, by_node, index_of}
 use Rattle.lrc_store.specs.Links.{IsLinkedUp, is_newer_of}
 use Rattle.lrc_store.specs.Store.{StoreRecord, IsNewer, intervals_of, is_newer}
 use Rattle.lrc_store.proofs.Orders.{none_Contains, filter-Contains}
@@ -106,7 +105,7 @@ IsNewer-by_nodes store by_node by_page notices since upto linked =
       exactly = λ x. (
         first_of since upto all (length store.last) x,
         λ both. found_in since upto all (length store.last) x both.0 both.1
-        (All-contains (λ i. i.node < length store.last) all x in_range both.0)
+            (All-contains (λ i. i.node < length store.last) all x in_range both.0),
       );
       ascending = ascending_all since upto all (length store.last) linked.sound.ascending;
     }

@@ -1,5 +1,5 @@
 -- What a walk along a node's list has gathered.
-use Rattle.std.proofs.Common.{◌≡◌, ℕ, ◌+◌, ◌<◌, ◌≤◌, ◌∙◌, Bool, true, false, not, ◌&&◌, cond, eqb, eqb-true, Option, None, Some, List, [], ◌∷◌, ◌++◌, length, get_or, map, take, reverse, refl, ap, sym, subst, arith, ⊎_elim}
+use Rattle.std.proofs.Common.{◌≡◌, ℕ, ◌+◌, ◌<◌, ◌≤◌, ◌∙◌, Bool, true, false, not, ◌&&◌, cond, eqb, eqb-true, Option, None, Some, List, [], ◌∷◌, ◌++◌, length, get_or, map, take, reverse, refl, ap, sym, subst, arith}
 use Rattle.std.specs.List.{All, AllPairs, filter}
 use Rattle.std.proofs.lemmas.Bool.{leb-true, le-leb}
 use Rattle.std.proofs.lemmas.List.{get_or-map, get_or-take, get_or_default, length-take-le, take-map, take_all, reverse-append, append-nil, append_assoc}
@@ -41,12 +41,14 @@ module _ (node : ℕ) (since upto : List ℕ) (intervals : List IntervalRecord) 
       let whole : take (length intervals) intervals ≡ intervals = take_all (length intervals) intervals (omega arith) in
       let first : next ≡ last_at of_node (take (length intervals) intervals) =
       is ∙ ap (last_at (λ other. eqb other node)) linked ∙ last_at-map (λ other. eqb other node) (λ (i : IntervalRecord). i.node) intervals
-      ∙ ap (last_at of_node) (sym whole) in
-      (length intervals, omega arith,
-      subst (Reaches of_node (is_newer_of node since upto) intervals (length intervals)) (sym first)
-      (reaches of_node (is_newer_of node since upto) narrow intervals e (length intervals) (omega arith)),
-      sym (append-nil (filter (is_newer_of node since upto) intervals))
-      ∙ ap (λ (l : List IntervalRecord). filter (is_newer_of node since upto) l ++ []) (sym whole))
+      ∙ ap (last_at of_node) (sym whole) in (
+        length intervals,
+        omega arith,
+        subst (Reaches of_node (is_newer_of node since upto) intervals (length intervals)) (sym first)
+            (reaches of_node (is_newer_of node since upto) narrow intervals e (length intervals) (omega arith)),
+        sym (append-nil (filter (is_newer_of node since upto) intervals))
+            ∙ ap (λ (l : List IntervalRecord). filter (is_newer_of node since upto) l ++ []) (sym whole),
+      )
 
   pub walk_within : (at : ℕ) (found : List IntervalRecord) → IsWalked (Some at) found → at < length intervals
   walk_within at found walked = omega (arith, walked.2.0, walked.1)
@@ -87,11 +89,13 @@ module _ (node : ℕ) (since upto : List ℕ) (intervals : List IntervalRecord) 
       is_next ∙ ap (λ k. last_at (λ other. eqb other k) (take at keys)) key
       ∙ ap (λ (l : List ℕ). last_at (λ other. eqb other node) (take at l)) linked
       ∙ ap (last_at (λ other. eqb other node)) (take-map (λ (i : IntervalRecord). i.node) at intervals)
-      ∙ last_at-map (λ other. eqb other node) (λ (i : IntervalRecord). i.node) (take at intervals) in
-      (at, omega (arith, within),
-      subst (Reaches of_node (is_newer_of node since upto) intervals at) (sym here)
-      (reaches of_node (is_newer_of node since upto) narrow intervals d at (omega (arith, within))),
-      gathered at found more newer walked d is is_more)
+      ∙ last_at-map (λ other. eqb other node) (λ (i : IntervalRecord). i.node) (take at intervals) in (
+        at,
+        omega (arith, within),
+        subst (Reaches of_node (is_newer_of node since upto) intervals at) (sym here)
+            (reaches of_node (is_newer_of node since upto) narrow intervals d at (omega (arith, within))),
+        gathered at found more newer walked d is is_more,
+      )
 
   -- an interval before one that is known is not newer
   older : (at k : ℕ) (d : IntervalRecord) → AllPairs (λ a b. a.node ≡ b.node → index_of a < index_of b) intervals

@@ -1,18 +1,17 @@
 -- The orders of intervals are orders, by which the intervals of a store can be compared.
-use Rattle.std.proofs.Common.{◌≡◌, ◌≢◌, ℕ, ◌+◌, ◌<◌, ◌≤◌, ◌⊎◌, ◌∙◌, Bool, true, false, cond, nat_lt, eqb, ◌&&◌, ◌||◌, List, [], ◌∷◌, ◌++◌, length, get_or, map, take, refl, ap, sym, subst, inl, inr, ⊎_elim, arith, Ordering, Less, Equal, Greater}
+use Rattle.std.proofs.Common.{◌≡◌, ◌≢◌, ℕ, ◌+◌, ◌<◌, ◌≤◌, ◌⊎◌, ◌∙◌, Bool, true, false, cond, nat_lt, eqb, ◌&&◌, ◌||◌, List, length, get_or, map, refl, ap, sym, subst, inl, inr, ⊎_elim, arith, Ordering, Less, Equal, Greater}
 use Rattle.std.specs.Cmp.{IsStrictWeakOrder}
 use Rattle.std.specs.List.{AllPairs, filter}
 use Rattle.std.specs.List.Sorted.{IsPermutation, IsSortedBy}
 use Rattle.std.specs.Ordering.{is_lt, nat_cmp, ordering_then}
 use Rattle.std.proofs.lemmas.Bool.{true≢false, cases_lt, eq-eqb, ne_eqb, lt-ltb, le-ltb}
-use Rattle.std.proofs.lemmas.List.{get_or-map, length-map, map-append, map_push, take_more}
-use Rattle.std.proofs.lemmas.List.Elements.{filter-append}
+use Rattle.std.proofs.lemmas.List.{get_or-map, length-map}
 use Rattle.std.proofs.lemmas.List.Sorted.{IsStrictWeakOrder-by_number}
 use Rattle.lrc_time.specs.Time.{Covers, weight_of}
 use Rattle.lrc_time.proofs.Times.{weight-covers_strictly}
 use Rattle.lrc_store.specs.declared.key.Key.{Key}
 use Rattle.lrc_store.specs.Interval.{IntervalRecord, index_of, by_node, by_weight}
-use Rattle.lrc_store.specs.Store.{StoredRecord, StoreRecord, IsStore, IsMissing, IsNewer, interval_of, intervals_of, is_missing, is_newer, key_of, missing_of, newer_of}
+use Rattle.lrc_store.specs.Store.{StoreRecord, IsStore, IsMissing, IsNewer, intervals_of, is_missing, is_newer, key_of, missing_of, newer_of}
 use Rattle.lrc_store.specs.Links.{ranked}
 use Rattle.lrc_store.specs.Order.{ascending_part}
 use Rattle.lrc_store.proofs.Orders.{Comparable, IsAscendingPart-ascending_part, IsAscendingPart-only, IsAscendingPart-from_sort, IsPermutation-from_map, map-map}

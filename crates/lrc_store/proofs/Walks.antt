@@ -1,7 +1,7 @@
 -- What a walk along a page's list has gathered.
-use Rattle.std.proofs.Common.{◌≡◌, ℕ, ◌+◌, ◌<◌, ◌≤◌, ◌∙◌, Bool, true, false, not, ◌&&◌, cond, eqb, eqb-true, Option, None, Some, List, [], ◌∷◌, ◌++◌, length, get_or, map, take, reverse, refl, ap, sym, subst, arith}
+use Rattle.std.proofs.Common.{◌≡◌, ℕ, ◌+◌, ◌<◌, ◌≤◌, ◌∙◌, Bool, true, false, not, ◌&&◌, cond, eqb, eqb-true, Option, None, Some, List, [], ◌∷◌, ◌++◌, length, get_or, map, take, reverse, ap, sym, subst, arith}
 use Rattle.std.specs.List.{filter}
-use Rattle.std.proofs.lemmas.List.{get_or-map, length-map, take-map, take_all, reverse-append, append-nil, append_assoc}
+use Rattle.std.proofs.lemmas.List.{get_or-map, take-map, take_all, reverse-append, append-nil, append_assoc}
 use Rattle.lrc_time.specs.Time.{knows}
 use Rattle.lrc_store.specs.declared.key.Key.{Key}
 use Rattle.lrc_store.specs.Chains.{last_at}
@@ -34,12 +34,14 @@ module _ (page : ℕ) (since : List ℕ) (notices : List (ℕ × Key)) where
   pub walk_starts : (keys : List ℕ) (next : Option ℕ) → keys ≡ map page_named notices
       → next ≡ last_at (λ other. eqb other page) keys → IsWalked next []
   walk_starts keys next linked is =
-      let whole : take (length notices) notices ≡ notices = take_all (length notices) notices (omega arith) in
-      (length notices, omega arith,
-      is ∙ ap (last_at (λ other. eqb other page)) linked ∙ last_at-map (λ other. eqb other page) page_named notices
-      ∙ ap (last_at on_page) (sym whole),
-      sym (append-nil (filter (is_unknown_on page since) notices))
-      ∙ ap (λ (l : List (ℕ × Key)). filter (is_unknown_on page since) l ++ []) (sym whole))
+      let whole : take (length notices) notices ≡ notices = take_all (length notices) notices (omega arith) in (
+        length notices,
+        omega arith,
+        is ∙ ap (last_at (λ other. eqb other page)) linked ∙ last_at-map (λ other. eqb other page) page_named notices
+            ∙ ap (last_at on_page) (sym whole),
+        sym (append-nil (filter (is_unknown_on page since) notices))
+            ∙ ap (λ (l : List (ℕ × Key)). filter (is_unknown_on page since) l ++ []) (sym whole),
+      )
 
   pub walk_within : (at : ℕ) (found : List (ℕ × Key)) → IsWalked (Some at) found → at < length notices
   walk_within at found walked = let r = reached (Some at) found walked in omega (arith, r.0, walked.1)
@@ -75,13 +77,15 @@ module _ (page : ℕ) (since : List ℕ) (notices : List (ℕ × Key)) where
   walk_goes_on at found more known keys next d walked linked is_next is_known is_more =
       let within = walk_within at found walked in
       let key : get_or keys at 0 ≡ page =
-      ap (λ (l : List ℕ). get_or l at 0) linked ∙ get_or-map page_named notices at d 0 within ∙ here at found walked d in
-      (at, omega (arith, within),
-      is_next ∙ ap (λ k. last_at (λ other. eqb other k) (take at keys)) key
-      ∙ ap (λ (l : List ℕ). last_at (λ other. eqb other page) (take at l)) linked
-      ∙ ap (last_at (λ other. eqb other page)) (take-map page_named at notices)
-      ∙ last_at-map (λ other. eqb other page) page_named (take at notices),
-      gathered at found more known walked d is_known is_more)
+      ap (λ (l : List ℕ). get_or l at 0) linked ∙ get_or-map page_named notices at d 0 within ∙ here at found walked d in (
+        at,
+        omega (arith, within),
+        is_next ∙ ap (λ k. last_at (λ other. eqb other k) (take at keys)) key
+            ∙ ap (λ (l : List ℕ). last_at (λ other. eqb other page) (take at l)) linked
+            ∙ ap (last_at (λ other. eqb other page)) (take-map page_named at notices)
+            ∙ last_at-map (λ other. eqb other page) page_named (take at notices),
+        gathered at found more known walked d is_known is_more,
+      )
 
   pub walk_ends : (found : List (ℕ × Key)) → IsWalked None found → filter (is_unknown_on page since) notices ≡ reverse found
   walk_ends found walked =

@@ -1,5 +1,5 @@
 -- Lists that run through an arena: each entry is linked to the entry before it that has the same key.
-use Rattle.std.specs.Prelude.{ℕ, ◌+◌, ◌==◌, Bool, Option, Some, None, List, [], ◌∷◌, if◌then◌else◌}
+use Rattle.std.specs.Prelude.{ℕ, ◌+◌, Bool, Option, Some, None, List, [], ◌∷◌, if◌then◌else◌}
 use Rattle.std.specs.Option.{option_or}
 
 -- the place of the last element that passes, where the first stands at this place

@@ -1,5 +1,5 @@
 -- What is true of the links in an arena.
-use Rattle.std.specs.Prelude.{◌≡◌, ℕ, ◌<◌, ◌≤◌, ◌==◌, Option, None, List, length, map, take, slice_index_or, All}
+use Rattle.std.specs.Prelude.{◌≡◌, ℕ, ◌<◌, ◌≤◌, ◌==◌, Option, List, length, map, take, slice_index_or, All}
 use Rattle.lrc_store.specs.declared.chains.Entry.{Entry}
 use Rattle.lrc_store.specs.declared.chains.TheConstants.{MOST_ENTRIES}
 use Rattle.lrc_store.specs.Chains.{last_at}

@@ -1,5 +1,5 @@
 -- The lists that run through a store. A link is a place in the order of adding, and each list is followed from the newest.
-use Rattle.std.specs.Prelude.{◌≡◌, ℕ, ◌+◌, ◌==◌, Bool, Option, None, Some, option_map, List, [], ◌∷◌, map, flat_map, take, reverse, slice_get, slice_index, if◌then◌else◌}
+use Rattle.std.specs.Prelude.{◌≡◌, ℕ, ◌+◌, ◌==◌, Option, None, Some, option_map, List, [], ◌∷◌, map, flat_map, take, reverse, slice_get, slice_index, if◌then◌else◌}
 use Rattle.lrc_store.specs.declared.key.Key.{Key}
 use Rattle.lrc_store.specs.Chains.{last_at}
 use Rattle.lrc_store.specs.Interval.{IntervalRecord, index_of}

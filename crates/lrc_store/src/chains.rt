@@ -32,9 +32,10 @@ impl Model for Chains {
     ghost use Rattle.lrc_store.specs.Linked.{IsLinked};
 
     ghost view = { λ c. record {
-        lists = length c.newest.items;
-        keys = map (λ entry. entry.key) c.entries.items;
-        room = vec_capacity c.entries } };
+      lists = length c.newest.items;
+      keys = map (λ entry. entry.key) c.entries.items;
+      room = vec_capacity c.entries;
+    } };
 
     ghost invariant = { λ c. IsLinked c.newest.items c.entries.items };
 }

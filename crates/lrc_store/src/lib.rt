@@ -7,10 +7,10 @@ pub mod interval;
 pub mod intervals;
 pub mod key;
 pub mod laws;
-pub mod store;
+mod link;
 mod links;
 mod lists;
-mod link;
+pub mod store;
 mod stored;
 
 pub use interval::Interval;

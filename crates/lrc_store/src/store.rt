@@ -9,7 +9,9 @@ use crate::chains::Chains;
 use crate::interval::Interval;
 use crate::intervals::Intervals;
 use crate::key::Key;
-use crate::links::{add_notices, is_known, link_nodes, link_pages, make_room, newer_of_node, unknown_on};
+use crate::links::{
+    add_notices, is_known, link_nodes, link_pages, make_room, newer_of_node, unknown_on,
+};
 use crate::stored::Stored;
 use lrc_page::{Changes, MOST_PAGES};
 use lrc_time::Time;
@@ -18,7 +20,8 @@ use std::marker::Model;
 
 /// The intervals that a node knows, each with its write notices, and the changes that came for some of these.
 ///
-/// The intervals stand in one list in the order of adding, so a look-up takes time linear in their number.
+/// Intervals and notices stand in the order of adding, each linked to the one before it of its node, or of its page. What
+/// is newer or missing is found along these lists; a look-up by key takes time linear in the number of intervals.
 #[derive(Drop)]
 pub struct Store {
     pages: u16,
@@ -39,7 +42,7 @@ impl Model for Store {
 
     ghost invariant = { λ s.
         IsLinkedUp (record { pages = s.pages; last = s.last; entries = s.entries.items })
-            s.by_node s.by_page s.notices.items };
+        s.by_node s.by_page s.notices.items };
 }
 
 impl Store {
@@ -64,7 +67,8 @@ impl Store {
         })
     }
 
-    /// Adds the interval that follows the last one added of its node. An error leaves the store as it was.
+    /// Adds the interval that follows the last one added of its node. An error leaves the store as it was; it also comes
+    /// where there would be more than 4,294,967,295 intervals or notices.
     pub fn add(&mut self, interval: &Interval) -> Result<(), AllocError>
         requires stamp { length interval.now.stamp ≡ length self.old.last }
         requires pages { All (λ page. page < self.old.pages) interval.now.pages }
@@ -75,7 +79,12 @@ impl Store {
     {
         let stored = Stored::new(*self.entries.allocator(), interval)?;
         let more = interval.pages.len();
-        make_room(&mut self.by_node, &mut self.by_page, &mut self.notices, more)?;
+        make_room(
+            &mut self.by_node,
+            &mut self.by_page,
+            &mut self.notices,
+            more,
+        )?;
         self.entries.push(stored)?;
         add_notices(&mut self.notices, &mut self.by_page, interval);
         self.by_node.push(u16::from(interval.node));
@@ -125,7 +134,8 @@ impl Store {
         }
     }
 
-    /// Takes out the intervals that this time knows, with their notices. What was added last of each node stays known.
+    /// Takes out the intervals that this time knows, with their notices. The others move to the front and are linked
+    /// again, so links from before are no longer used. The greatest index added of each node stays known.
     pub fn discard(&mut self, time: &Time)
         requires { length time.now ≡ length self.old.last }
         ensures { self.new ≡ discarded self.old time.now }

@@ -3,8 +3,8 @@
 ghost use Rattle.std.specs.Prelude.{◌≡◌, ◌<◌, ◌≤◌, All, IfOk, length};
 ghost use Rattle.lrc_time.specs.Time.{entry};
 
-use lrc_page::{Changes, Pages};
-use lrc_store::{Interval, IntervalAt, Intervals, Key, NoticeAt, Store};
+use lrc_page::Pages;
+use lrc_store::{Interval, Intervals, Key, Store};
 use lrc_time::Time;
 use std::alloc::{AllocError, Global};
 use std::process::Abort;
@@ -45,7 +45,13 @@ fn key_of(node: u8, index: u32, page: u16) -> Key {
 }
 
 /// Adds an interval with these pages.
-fn put(rt: &impl Abort, store: &mut Store, node: u8, stamp: [u32; 3], pages: Pages) -> Result<(), AllocError>
+fn put(
+    rt: &impl Abort,
+    store: &mut Store,
+    node: u8,
+    stamp: [u32; 3],
+    pages: Pages,
+) -> Result<(), AllocError>
     requires nodes { length store.old.last ≡ 3 }
     requires few { store.old.pages ≡ 2 }
     requires node { node < 3 }
@@ -110,5 +116,62 @@ fn lists_run_through_the_worked_store(rt: HostRuntime) -> Result<(), Fail> {
     assert!(rt; page_list(&store, 1) == [Some(key_of(0, 2, 1)), None, None]);
     assert!(rt; node_list(&store, 0) == [Some((0, 2)), None]);
     assert!(rt; node_list(&store, 1) == [None, None]);
+    Ok(())
+}
+
+/// The nodes and indices of the intervals, up to three.
+fn ids_of(intervals: &Intervals) -> [Option<(u8, u32)>; 3] {
+    let mut ids = [None, None, None];
+    for place in 0..3usize {
+        if place < intervals.len() {
+            let interval = intervals.at(place);
+            ids[place] = Some((interval.node, interval.index()));
+        }
+    }
+    ids
+}
+
+#[test]
+fn finds_what_the_worked_store_lacks(rt: HostRuntime) -> Result<(), Fail> {
+    let store = worked(&rt, rt.alloc())?;
+    let zeros = time_of(&rt, [0, 0, 0]);
+    let of_page_0 = store.missing(0, &zeros)?;
+    assert!(rt; of_page_0.as_slice() == [key_of(0, 1, 0), key_of(1, 1, 0)].as_slice());
+    let of_page_1 = store.missing(1, &zeros)?;
+    assert!(rt; of_page_1.as_slice() == [key_of(1, 1, 1), key_of(0, 2, 1)].as_slice());
+    Ok(())
+}
+
+#[test]
+fn finds_what_is_newer(rt: HostRuntime) -> Result<(), Fail> {
+    let store = worked(&rt, rt.alloc())?;
+    let since = time_of(&rt, [1, 0, 0]);
+    let upto = time_of(&rt, [2, 1, 0]);
+    let newer = store.newer_than(&since, &upto)?;
+    assert!(rt; ids_of(&newer) == [Some((0, 2)), Some((1, 1)), None]);
+    Ok(())
+}
+
+#[test]
+fn what_is_discarded_is_gone(rt: HostRuntime) -> Result<(), Fail> {
+    let mut store = worked(&rt, rt.alloc())?;
+    let known = time_of(&rt, [1, 1, 0]);
+    store.discard(&known);
+    assert!(rt; (store.len(), store.last(1)) == (1, 1));
+    let zeros = time_of(&rt, [0, 0, 0]);
+    let of_page_1 = store.missing(1, &zeros)?;
+    assert!(rt; of_page_1.as_slice() == [key_of(0, 2, 1)].as_slice());
+    Ok(())
+}
+
+#[test]
+fn lighter_intervals_come_first(rt: HostRuntime) -> Result<(), Fail> {
+    let alloc = rt.alloc();
+    let mut store = Store::new(alloc, 3, 2)?;
+    put(&rt, &mut store, 0, [1, 0, 5], pages_of(alloc, true, false)?)?;
+    put(&rt, &mut store, 1, [0, 1, 0], pages_of(alloc, true, false)?)?;
+    let zeros = time_of(&rt, [0, 0, 0]);
+    let of_page_0 = store.missing(0, &zeros)?;
+    assert!(rt; of_page_0.as_slice() == [key_of(1, 1, 0), key_of(0, 1, 0)].as_slice());
     Ok(())
 }

@@ -1,5 +1,5 @@
-use Rattle.std.proofs.Common.{◌≡◌, ◌≤◌, ◌+◌, ◌++◌, length, map, take, Vec, Global}
-use Rattle.std.specs.Vec.{vec_capacity, vec_len}
+use Rattle.std.proofs.Common.{◌≡◌, ◌≤◌, ◌++◌, map, take}
+use Rattle.std.specs.Vec.{vec_capacity}
 use Rattle.lrc_store.specs.Links.{ranked}
 use Rattle.lrc_store.proofs.links.add_notices.Given as goal
 

@@ -1,7 +1,7 @@
-use Rattle.std.proofs.Common.{rules, ◌≡◌, ◌<◌, ◌≤◌, ◌∙◌, ◌++◌, ℕ, eqb, Bool, true, false, Option, Some, None, List, [], length, get_or, sym, ap, subst, arith, append-nil, Vec, Global}
+use Rattle.std.proofs.Common.{◌<◌, ◌≤◌, ◌∙◌, ℕ, eqb, true, false, Option, Some, length, get_or, sym, ap, subst, arith, append-nil, Vec, Global}
 use Rattle.std.proofs.lemmas.List.{length-map}
 use Rattle.lrc_store.specs.declared.key.Key.{Key}
-use Rattle.lrc_store.specs.Links.{page_named, is_unknown_on}
+use Rattle.lrc_store.specs.Links.{page_named}
 use Rattle.lrc_store.proofs.Chained.{reach, reach-taken}
 use Rattle.lrc_store.proofs.Walks.{IsWalked, walk_starts, walk_within, walk_goes_on, walk_ends}
 use Rattle.lrc_store.proofs.links.unknown_on.Goals as goal

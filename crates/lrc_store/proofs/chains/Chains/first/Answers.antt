@@ -1,4 +1,4 @@
-use Rattle.std.proofs.Common.{◌≡◌, ◌∙◌, sym, ap, eqb, arith}
+use Rattle.std.proofs.Common.{◌∙◌, sym, ap, eqb, arith}
 use Rattle.lrc_store.specs.Chains.{ChainsRecord, last_at}
 use Rattle.lrc_store.proofs.Chained.{last_at-beyond}
 use Rattle.lrc_store.proofs.chains.Chains.first.Goals as goal

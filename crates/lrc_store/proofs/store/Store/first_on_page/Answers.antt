@@ -29,5 +29,10 @@ returns-clause-in_use c = λ at is.
     let store : StoreRecord = record { pages = c.self.inside.pages; last = c.self.inside.last; entries = c.self.inside.entries.items } in
     let linked = noted_pages store c.self.inside.by_node c.self.inside.by_page c.self.inside.notices.items c.self.invariant in
     let within = head_within c.self.inside.by_page.keys c.args.page at (sym c.first.ensures ∙ c.in_ok-place.was ∙ is) in
-    omega (arith, within, ap length linked, length-map (notices_of store) (λ (key : Key). key.page),
-      ap (λ (s : StoreRecord). length (notices_of s)) c.self.view_is)
+    omega (
+      arith,
+      within,
+      ap length linked,
+      length-map (notices_of store) (λ (key : Key). key.page),
+      ap (λ (s : StoreRecord). length (notices_of s)) c.self.view_is,
+    )

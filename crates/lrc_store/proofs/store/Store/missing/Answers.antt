@@ -1,11 +1,8 @@
-use Rattle.std.proofs.Common.{◌≡◌, ℕ, ◌+◌, Bool, true, false, cond, not, ◌&&◌, List, [], ◌∷◌, ◌++◌, map, take, ap, sym, subst, ◌∙◌, refl, Vec, Global}
+use Rattle.std.proofs.Common.{◌≡◌, ℕ, List, map, ap, sym, subst, ◌∙◌}
 use Rattle.std.specs.List.{filter}
-use Rattle.std.proofs.lemmas.List.{take_all, append-nil}
 use Rattle.std.proofs.lemmas.Result.{IfOk-weaker}
 use Rattle.lrc_store.specs.declared.key.Key.{Key}
-use Rattle.lrc_store.specs.Interval.{index_of}
-use Rattle.lrc_time.specs.Time.{knows}
-use Rattle.lrc_store.specs.Store.{StoreRecord, StoredRecord, IsMissing, IsStore, interval_of, intervals_of, is_missing}
+use Rattle.lrc_store.specs.Store.{StoreRecord, IsMissing, IsStore, intervals_of, is_missing}
 use Rattle.lrc_store.specs.Links.{ranked, is_unknown_on}
 use Rattle.lrc_store.proofs.LinkedStores.{unknown_is_missing}
 use Rattle.lrc_store.proofs.Ranks.{IsMissing-from_sort, IsMissing-missing_of, IsMissing-only}

@@ -1,6 +1,6 @@
-use Rattle.std.proofs.Common.{◌≡◌, ◌<◌, ◌++◌, ℕ, List, length, map, ap, sym, subst, ◌∙◌, arith}
+use Rattle.std.proofs.Common.{◌≡◌, ◌<◌, List, map, ap, sym, subst, ◌∙◌, arith}
 use Rattle.std.specs.List.{AllPairs, filter}
-use Rattle.lrc_store.specs.Interval.{IntervalRecord, index_of}
+use Rattle.lrc_store.specs.Interval.{index_of}
 use Rattle.lrc_store.specs.Links.{is_newer_of}
 use Rattle.lrc_store.specs.Store.{StoreRecord, StoredRecord, IsNewer, IsStore, interval_of, intervals_of, newer_of}
 use Rattle.lrc_store.proofs.Newer.{IsNewer-found, by_nodes-more}

@@ -1,4 +1,4 @@
-use Rattle.std.proofs.Common.{◌≡◌, map}
+use Rattle.std.proofs.Common.{◌≡◌}
 use Rattle.lrc_store.specs.Store.{intervals_of}
 use Rattle.lrc_store.proofs.Newer.{by_nodes}
 use Rattle.lrc_store.proofs.store.Store.newer_than.Given as goal

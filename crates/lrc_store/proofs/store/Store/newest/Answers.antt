@@ -1,4 +1,4 @@
-use Rattle.std.proofs.Common.{◌≡◌, ◌∙◌, length, ap, sym, arith}
+use Rattle.std.proofs.Common.{◌∙◌, length, ap, sym, arith}
 use Rattle.std.proofs.lemmas.List.{length-map}
 use Rattle.lrc_store.specs.Interval.{IntervalRecord}
 use Rattle.lrc_store.specs.Store.{StoreRecord, intervals_of}
@@ -9,5 +9,10 @@ pub returns-clause-in_use : goal.returns-clause-in_use
 returns-clause-in_use c = λ at is.
     let within = head_within c.self.inside.by_node.keys c.from.result at (sym c.first.ensures ∙ c.in_ok-place.was ∙ is) in
     let store : StoreRecord = record { pages = c.self.inside.pages; last = c.self.inside.last; entries = c.self.inside.entries.items } in
-    omega (arith, within, ap length c.self.invariant.nodes, length-map (intervals_of store) (λ (i : IntervalRecord). i.node),
-      ap (λ (s : StoreRecord). length (intervals_of s)) c.self.view_is)
+    omega (
+      arith,
+      within,
+      ap length c.self.invariant.nodes,
+      length-map (intervals_of store) (λ (i : IntervalRecord). i.node),
+      ap (λ (s : StoreRecord). length (intervals_of s)) c.self.view_is,
+    )

@@ -1,4 +1,4 @@
-use Rattle.std.proofs.Common.{◌≡◌, ◌<◌, ℕ, List, length, map, ap, sym, ◌∙◌, arith}
+use Rattle.std.proofs.Common.{◌≡◌, ℕ, List, length, ap, sym, ◌∙◌, arith}
 use Rattle.std.proofs.lemmas.List.{length-map}
 use Rattle.lrc_store.specs.declared.key.Key.{Key}
 use Rattle.lrc_store.specs.Lists.{next_on_page_of, link_of, notices_of}
@@ -12,8 +12,14 @@ pub next-requires : goal.next-requires
 next-requires c =
     let store : StoreRecord = record { pages = c.self.inside.pages; last = c.self.inside.last; entries = c.self.inside.entries.items } in
     let linked = noted_pages store c.self.inside.by_node c.self.inside.by_page c.self.inside.notices.items c.self.invariant in
-    omega (arith, ap length linked, length-map (notices_of store) (λ (key : Key). key.page),
-      ap (λ (s : StoreRecord). length (notices_of s)) c.self.view_is, c.requires, c.at.view_is)
+    omega (
+      arith,
+      ap length linked,
+      length-map (notices_of store) (λ (key : Key). key.page),
+      ap (λ (s : StoreRecord). length (notices_of s)) c.self.view_is,
+      c.requires,
+      c.at.view_is,
+    )
 
 -- the next of the page's list
 next : (c : After-next) → c.next.result ≡ next_on_page_of c.args.self.now c.args.at
@@ -37,7 +43,13 @@ returns-clause-in_use c = λ earlier is.
     let store : StoreRecord = record { pages = c.self.inside.pages; last = c.self.inside.last; entries = c.self.inside.entries.items } in
     let linked = noted_pages store c.self.inside.by_node c.self.inside.by_page c.self.inside.notices.items c.self.invariant in
     let less = link_within c.self.inside.by_page.keys c.at.inside.place earlier
-    (omega (arith, ap length linked, length-map (notices_of store) (λ (key : Key). key.page),
-      ap (λ (s : StoreRecord). length (notices_of s)) c.self.view_is, c.requires, c.at.view_is))
+    (omega (
+      arith,
+      ap length linked,
+      length-map (notices_of store) (λ (key : Key). key.page),
+      ap (λ (s : StoreRecord). length (notices_of s)) c.self.view_is,
+      c.requires,
+      c.at.view_is,
+    ))
     (sym c.next.ensures ∙ c.in_ok-place.was ∙ is) in
     omega (arith, less, c.at.view_is)
