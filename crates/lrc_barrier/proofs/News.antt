@@ -44,7 +44,8 @@ filter_end test (x ∷ xs) zero within old new =
 filter_end test (x ∷ xs) (suc n) within old new =
     let first : test x ≡ false = old 0 x (omega arith) in
     rw first
-    (filter_end test xs n (omega (arith, within)) (λ k d h. old (suc k) d (omega (arith, h))) (λ k d h i. new (suc k) d (omega (arith, h)) (omega (arith, i))))
+    (filter_end test xs n (omega (arith, within)) (λ k d h. old (suc k) d (omega (arith, h)))
+    (λ k d h i. new (suc k) d (omega (arith, h)) (omega (arith, i))))
 
 -- of ascending intervals of one node, those before one that the time knows are known too
 pub known_before : (node : ℕ) (since : List ℕ) (xs : List IntervalRecord) (n : ℕ) → n ≤ length xs

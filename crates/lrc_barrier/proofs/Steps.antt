@@ -44,7 +44,8 @@ all_depart manager from arrival within next here all =
     arrivals_with arrival manager.arrivals from within (none_here (get_or manager.arrivals from None) here) all in
     rw (next, here, all) (ap (λ arrivals. departs (departures_of arrivals) (departed (with_arrival manager from arrival))) others)
 
-pub all_departed : (manager : ManagerRecord) (from : ℕ) (arrival : Arrival) (own : ℕ) (collect : Bool) → own ≡ entry arrival.time from → from < length manager.arrivals
+pub all_departed : (manager : ManagerRecord) (from : ℕ) (arrival : Arrival) (own : ℕ) (collect : Bool)
+    → own ≡ entry arrival.time from → from < length manager.arrivals
     → has_arrived manager from ≡ false → list_all is_some (set manager.arrivals from (Some arrival)) ≡ true
     → collect ≡ asks (all_with arrival manager.arrivals)
     → record {
@@ -115,17 +116,20 @@ All-flat_map P f [] each = All-nil P
 All-flat_map P f (x ∷ xs) each =
     All-append P (f x) (flat_map f xs) (each 0 x (omega arith)) (All-flat_map P f xs (λ k d h. each (suc k) d (omega (arith, h))))
 
+nobody : Arrival
+nobody = record { episode = 0; ask = false; time = []; intervals = [] }
+
 pub are_departures : (nodes : ℕ) (arrivals : List Arrival) → length arrivals ≡ nodes → AreArrivals nodes arrivals
     → All (IsDeparture nodes) (departures_of arrivals)
 are_departures nodes arrivals count are k d h =
     let places = enumerate_from 0 arrivals in
     let long : length places ≡ length arrivals = length-enumerate_from 0 arrivals in
     let inside : k < length places = omega (arith, h, length-map places (departure_to arrivals)) in
-    let some : Arrival = get_or arrivals k (record { episode = 0; ask = false; time = []; intervals = [] }) in
-    let own : IsArrival nodes k some = are k (record { episode = 0; ask = false; time = []; intervals = [] }) (omega (arith, inside, long, count)) in
+    let some : Arrival = get_or arrivals k (nobody) in
+    let own : IsArrival nodes k some = are k (nobody) (omega (arith, inside, long, count)) in
     let told : get_or (departures_of arrivals) k d ≡ departure_to arrivals (k, some) =
-    get_or-map (departure_to arrivals) places k (0, record { episode = 0; ask = false; time = []; intervals = [] }) d inside
-    ∙ ap (departure_to arrivals) (get_or-enumerate_from 0 arrivals k (0, record { episode = 0; ask = false; time = []; intervals = [] }) (omega (arith, inside, long))
+    get_or-map (departure_to arrivals) places k (0, nobody) d inside
+    ∙ ap (departure_to arrivals) (get_or-enumerate_from 0 arrivals k (0, nobody) (omega (arith, inside, long))
     ∙ ap (λ n. (n, some)) (zero-add k)) in
     let times : All (λ (a : Arrival). length a.time ≡ nodes) arrivals =
     λ i a within. (are i a (omega (arith, within, count))).counted in
