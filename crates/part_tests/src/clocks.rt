@@ -21,14 +21,16 @@ fn times(alloc: Global, acts: &[Act], nodes: u8) -> Result<Option<Vec<Time>>, Al
 // Whether the time has these entries, for the first nodes.
 fn is_time(time: &Time, entries: &[u32]) -> bool {
     entries.len() == usize::from(time.nodes())
-        && entries
-            .iter()
-            .enumerate()
-            .all(|(node, entry)| node < 16 && at(time, node as u8) == *entry)
+        && entries.iter().enumerate().all(|(node, entry)| node < 16
+            && at(time, node as u8) == *entry)
 }
 
 fn at(time: &Time, node: u8) -> u32 {
-    if node < time.nodes() { time.at(node) } else { 0 }
+    if node < time.nodes() {
+        time.at(node)
+    } else {
+        0
+    }
 }
 
 // Whether the run has times, and that at the position has these entries.
