@@ -52,16 +52,19 @@ module _ (nodes : ℕ) (run : List Act) (times : List (List ℕ)) where
       last-stays nodes (releases_at run l) times 0 j (omega arith) (λ k least most holds.
       let (q, does) = releases_at-act run k l holds in none k q most does)
 
-  join-step : (number j : ℕ) → ((p : ℕ) → Does run j p Arrive → arrives_before run p j ≡ number → ⊥) → arrived_time nodes run times number (suc j) ≡ arrived_time nodes run times number j
+  join-step : (number j : ℕ) → ((p : ℕ) → Does run j p Arrive → arrives_before run p j ≡ number → ⊥)
+      → arrived_time nodes run times number (suc j) ≡ arrived_time nodes run times number j
   join-step number j none =
       elim (cases_Bool (arrives_at run number j)) [
-        | inr fails ↦ cond-false (arrives_at run number j) (joined (arrived_time nodes run times number j) (time_at times j)) (arrived_time nodes run times number j) fails
+        | inr fails ↦ cond-false (arrives_at run number j) (joined (arrived_time nodes run times number j) (time_at times j))
+            (arrived_time nodes run times number j) fails
         | inl holds ↦ let (p, does, same) = arrives_at-act run j number holds in absurd (none p does same)
       ]
 
 module _ {nodes : ℕ} {run : List Act} {times : List (List ℕ)} (keeps : KeepsTime nodes run times) where
   -- once every node has made its arrive with a number, the time of that barrier is settled
-  pub arrived-settled : (number i j : ℕ) → i ≤ j → ((p : ℕ) → p < nodes → number < arrives_before run p i) → arrived_time nodes run times number j ≡ arrived_time nodes run times number i
+  pub arrived-settled : (number i j : ℕ) → i ≤ j → ((p : ℕ) → p < nodes → number < arrives_before run p i)
+      → arrived_time nodes run times number j ≡ arrived_time nodes run times number i
   arrived-settled number i zero le all = let e : 0 ≡ i = omega arith in ap (λ k. arrived_time nodes run times number k) e
   arrived-settled number i (suc j) le all =
       elim (cases_eq i (suc j)) [
@@ -74,7 +77,8 @@ module _ {nodes : ℕ} {run : List Act} {times : List (List ℕ)} (keeps : Keeps
       ]
 
   -- the times of barriers rise
-  pub barriers_rise : (number j : ℕ) → j ≤ length run → ((p : ℕ) → p < nodes → number + 1 < arrives_before run p j) → Covers (arrived_time nodes run times (number + 1) j) (arrived_time nodes run times number j)
+  pub barriers_rise : (number j : ℕ) → j ≤ length run → ((p : ℕ) → p < nodes → number + 1 < arrives_before run p j)
+      → Covers (arrived_time nodes run times (number + 1) j) (arrived_time nodes run times number j)
   barriers_rise number j within all =
       arrived-least keeps (arrived_time nodes run times (number + 1) j) j number (λ i p lt does same.
       let (m, less, does', same') = numbered_arrive run p j (number + 1) within (all p (keeps.in_range i p Arrive does)) in
@@ -111,7 +115,8 @@ module _ {nodes : ℕ} {run : List Act} {times : List (List ℕ)} (keeps : Keeps
 
   module _ (ws : IsWellSynchronized nodes run) where
     -- a node that has taken the time of a barrier, and has not departed yet
-    pub meeting-sound : (j node number q k : ℕ) → 1 ≤ k → k ≤ entry (joined (time_before nodes run times node j) (arrived_time nodes run times number j)) q → IsClosedBefore run q k node j ⊎ IsClosedAtArrive run q k number j
+    pub meeting-sound : (j node number q k : ℕ) → 1 ≤ k → k ≤ entry (joined (time_before nodes run times node j) (arrived_time nodes run times number j)) q
+        → IsClosedBefore run q k node j ⊎ IsClosedAtArrive run q k number j
     meeting-sound j node number q k some known =
         let is = entry-joined (time_before nodes run times node j) (arrived_time nodes run times number j) q in
         elim (cases_lt (entry (time_before nodes run times node j) q) k) [
@@ -119,7 +124,8 @@ module _ {nodes : ℕ} {run : List Act} {times : List (List ℕ)} (keeps : Keeps
           | inl less ↦ inr (sound-arrived keeps j number q k some (omega arith))
         ]
 
-    pub meeting-complete : (j node number q k : ℕ) → IsClosedBefore run q k node j ⊎ IsClosedAtArrive run q k number j → k ≤ entry (joined (time_before nodes run times node j) (arrived_time nodes run times number j)) q
+    pub meeting-complete : (j node number q k : ℕ) → IsClosedBefore run q k node j ⊎ IsClosedAtArrive run q k number j
+        → k ≤ entry (joined (time_before nodes run times node j) (arrived_time nodes run times number j)) q
     meeting-complete j node number q k (inl h) =
         let is = entry-joined (time_before nodes run times node j) (arrived_time nodes run times number j) q in
         let known = complete-before keeps ws j node q k h in omega arith
@@ -129,7 +135,8 @@ module _ {nodes : ℕ} {run : List Act} {times : List (List ℕ)} (keeps : Keeps
 
     module _ (waits : WaitsAtBarriers run) where
       -- nobody knows more of a node at an arrive than the node at its own arrive with that number
-      knows_no_more : (a i p q number : ℕ) → Does run a q Arrive → arrives_before run q a ≡ number → Does run i p Arrive → arrives_before run p i ≡ number → (k c : ℕ) → 1 ≤ k → ClosesAt run q k c → c ≤ i → k ≤ entry (time_at times a) q
+      knows_no_more : (a i p q number : ℕ) → Does run a q Arrive → arrives_before run q a ≡ number → Does run i p Arrive → arrives_before run p i ≡ number
+          → (k c : ℕ) → 1 ≤ k → ClosesAt run q k c → c ≤ i → k ≤ entry (time_at times a) q
       knows_no_more a i p q number arrives same arrives' same' k c some closer le =
           elim (cases_lt a c) [
             | inr before ↦
@@ -151,7 +158,8 @@ module _ {nodes : ℕ} {run : List Act} {times : List (List ℕ)} (keeps : Keeps
           ]
 
       -- so the time of a barrier has for each node what the node knew of itself at its arrive
-      pub barrier-own : (j number a q : ℕ) → a < j → Does run a q Arrive → arrives_before run q a ≡ number → entry (arrived_time nodes run times number j) q ≡ entry (time_at times a) q
+      pub barrier-own : (j number a q : ℕ) → a < j → Does run a q Arrive → arrives_before run q a ≡ number
+          → entry (arrived_time nodes run times number j) q ≡ entry (time_at times a) q
       barrier-own j number a q lt arrives same =
           let least = arrived-covers keeps a j q number lt arrives same q in
           let most : entry (arrived_time nodes run times number j) q ≤ entry (time_at times a) q =

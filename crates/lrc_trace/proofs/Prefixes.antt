@@ -1,13 +1,13 @@
 -- Intervals, holders, races and what may be read, on a prefix of a run and by one act more.
-use Rattle.std.proofs.Common.{◌≡◌, ℕ, ◌+◌, ◌<◌, ◌≤◌, ◌⊎◌, List, [], ◌∷◌, ◌++◌, length, inl, inr, sym, subst, ap, arith}
+use Rattle.std.proofs.Common.{◌≡◌, ℕ, false, ◌+◌, ◌<◌, ◌≤◌, ◌⊎◌, List, [], ◌∷◌, ◌++◌, ◌∙◌, length, inl, inr, sym, subst, ap, arith}
 use Rattle.std.proofs.lemmas.List.{take-append-le}
 use Rattle.lrc_trace.specs.declared.act.Act.{Act}
 use Rattle.lrc_trace.specs.declared.act.Deed.TheVariants.{Read}
-use Rattle.lrc_trace.specs.Run.{count_of, arrives_before, departs_before}
+use Rattle.lrc_trace.specs.Run.{is_depart, count_of, arrives_before, departs_before}
 use Rattle.lrc_trace.specs.Conflict.{Writes, Accesses, Races}
 use Rattle.lrc_trace.specs.Reading.{WrittenBefore, AreOrdered, MayRead, ReadsLazily}
 use Rattle.lrc_trace.specs.Interval.{closes, interval_at}
-use Rattle.lrc_trace.specs.Synchronization.{Holds, IsWellSynchronized, MayGoOn}
+use Rattle.lrc_trace.specs.Synchronization.{Holds, IsWellSynchronized, WaitsAtBarriers, MayGoOn}
 use Rattle.lrc_trace.proofs.Positions.{Does-within, Does-longer, Does-shorter, Does-deed, Does-last, Does-cases, arrives_before-prefix, departs_before-prefix}
 use Rattle.lrc_trace.proofs.HappensBefore.{forward, longer, shorter}
 
@@ -178,3 +178,38 @@ module _ (run : List Act) (act : Act) where
 
   pub MayRead-last : ReadsLazily longer_run → (word value : ℕ) → act.deed ≡ Read word value → MayRead longer_run (length run) word value
   MayRead-last lazily word value is = lazily (length run) word value (act.node, Does-deed is (Does-last run act))
+
+  pub WaitsAtBarriers-more : WaitsAtBarriers run → (is_depart act.deed ≡ false
+      → arrives_before run act.node (length run) ≤ departs_before run act.node (length run))
+      → WaitsAtBarriers longer_run
+  WaitsAtBarriers-more waits last = record {
+    departed = λ j node d h other.
+        elim (Does-cases h) [
+          | inl (lt, h') ↦
+              let arrives = arrives_before-prefix run (act ∷ []) node j (omega arith) in
+              let departs = departs_before-prefix run (act ∷ []) node j (omega arith) in
+              let few = waits.departed j node d h' other in omega arith
+          | inr (here, own, is) ↦
+              let arrives = arrives_before-prefix run (act ∷ []) act.node (length run) (omega arith) in
+              let departs = departs_before-prefix run (act ∷ []) act.node (length run) (omega arith) in
+              let few = last (ap is_depart is ∙ other) in
+              subst (λ k. arrives_before longer_run node k ≤ departs_before longer_run node k) (sym here)
+              (subst (λ p. arrives_before longer_run p (length run) ≤ departs_before longer_run p (length run)) own (omega arith))
+        ];
+  }
+
+  pub WaitsAtBarriers-shorter : WaitsAtBarriers longer_run → WaitsAtBarriers run
+  WaitsAtBarriers-shorter waits = record {
+    departed = λ j node d h other.
+        let lt = Does-within h in
+        let arrives = arrives_before-prefix run (act ∷ []) node j (omega arith) in
+        let departs = departs_before-prefix run (act ∷ []) node j (omega arith) in
+        let few = waits.departed j node d (Does-longer (act ∷ []) h) other in omega arith;
+  }
+
+  pub WaitsAtBarriers-last : WaitsAtBarriers longer_run → is_depart act.deed ≡ false
+      → arrives_before run act.node (length run) ≤ departs_before run act.node (length run)
+  WaitsAtBarriers-last waits other =
+      let arrives = arrives_before-prefix run (act ∷ []) act.node (length run) (omega arith) in
+      let departs = departs_before-prefix run (act ∷ []) act.node (length run) (omega arith) in
+      let few = waits.departed (length run) act.node act.deed (Does-last run act) other in omega arith

@@ -1,16 +1,16 @@
 // Laws of the definitions on runs. Each function is a theorem: its body is empty, and its clause is the law.
 
-ghost use Rattle.std.specs.Prelude.{◌≡◌, ◌≢◌, ℕ, ◌<◌, ◌≤◌, ◌++◌, ◌↔◌, ◌⊎◌, List, [], ◌∷◌, IsTrue, length};
+ghost use Rattle.std.specs.Prelude.{◌≡◌, ◌≢◌, ℕ, ◌<◌, ◌≤◌, ◌++◌, ◌↔◌, ◌⊎◌, List, [], ◌∷◌, false, IsTrue, length};
 ghost use Rattle.lrc_trace.specs.declared.act.Act.{Act};
 ghost use Rattle.lrc_trace.specs.declared.act.Deed.{Deed};
 ghost use Rattle.lrc_trace.specs.declared.act.Deed.TheVariants.{Read};
 ghost use Rattle.lrc_trace.specs.declared.race.Race.{Race};
-ghost use Rattle.lrc_trace.specs.Run.{Does};
+ghost use Rattle.lrc_trace.specs.Run.{Does, is_depart, arrives_before, departs_before};
 ghost use Rattle.lrc_trace.specs.Order.{HappensBefore};
 ghost use Rattle.lrc_trace.specs.Conflict.{Accesses, Conflict, Races};
 ghost use Rattle.lrc_trace.specs.Reading.{AreOrdered, MayRead, ReadsLazily};
 ghost use Rattle.lrc_trace.specs.Interval.{closes, interval_at, IsNamedRace};
-ghost use Rattle.lrc_trace.specs.Synchronization.{Holds, IsWellSynchronized, MayGoOn};
+ghost use Rattle.lrc_trace.specs.Synchronization.{Holds, IsWellSynchronized, WaitsAtBarriers, MayGoOn};
 
 /// Happens before goes forward in the run.
 pub fn happens_before_goes_forward()
@@ -73,6 +73,14 @@ pub fn definitions_on_a_prefix()
 pub fn well_synchronized_by_one_act_more()
     ensures { (nodes : ℕ) (run : List Act) (act : Act)
         → (IsWellSynchronized nodes (run ++ act ∷ []) ↔ (IsWellSynchronized nodes run × MayGoOn nodes run act)) }
+{}
+
+/// In a run with one act more every node waits at its barriers exactly where it does in the run, and that act is a depart
+/// or of a node that has departed as often as it has arrived.
+pub fn waiting_at_barriers_by_one_act_more()
+    ensures { (run : List Act) (act : Act)
+        → (WaitsAtBarriers (run ++ act ∷ []) ↔ (WaitsAtBarriers run × (is_depart act.deed ≡ false
+        → arrives_before run act.node (length run) ≤ departs_before run act.node (length run)))) }
 {}
 
 /// A run with one act more reads lazily exactly where the run does, and that act, if it is a read, gives a value that it
