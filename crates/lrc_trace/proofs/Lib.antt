@@ -8,3 +8,4 @@ pub mod Holding
 pub mod Prefixes
 pub mod Locks
 pub mod Counts
+pub mod Named
