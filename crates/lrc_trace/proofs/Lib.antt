@@ -9,3 +9,4 @@ pub mod Prefixes
 pub mod Locks
 pub mod Counts
 pub mod Named
+pub mod Outlines

@@ -10,6 +10,7 @@ ghost use Rattle.lrc_trace.specs.Order.{HappensBefore};
 ghost use Rattle.lrc_trace.specs.Conflict.{Accesses, Conflict, Races, IsRaceFree};
 ghost use Rattle.lrc_trace.specs.Reading.{AreOrdered, MayRead, ReadsLazily};
 ghost use Rattle.lrc_trace.specs.Interval.{closes, interval_at, IsNamedRace};
+ghost use Rattle.lrc_trace.specs.Outline.{SameButValues};
 ghost use Rattle.lrc_trace.specs.Synchronization.{Holds, IsWellSynchronized, WaitsAtBarriers, MayGoOn};
 
 /// Happens before goes forward in the run.
@@ -105,4 +106,14 @@ pub fn a_lock_has_one_holder()
 /// One position happens before another, or it does not.
 pub fn happens_before_is_decided()
     ensures { (run : List Act) (i j : ℕ) → HappensBefore run i j ⊎ (¬ HappensBefore run i j) }
+{}
+
+/// Values make no difference to the order of a run and to its races: runs that do the same but for the values printed, read
+/// and written have the same positions ordered, the same positions that race, and name the same races.
+pub fn races_do_not_depend_on_values()
+    ensures order { (run other : List Act) (i j : ℕ) → SameButValues run other
+        → (HappensBefore run i j ↔ HappensBefore other i j) }
+    ensures races { (run other : List Act) (i j : ℕ) → SameButValues run other → (Races run i j ↔ Races other i j) }
+    ensures names { (run other : List Act) (race : Race) → SameButValues run other
+        → (IsNamedRace run race ↔ IsNamedRace other race) }
 {}
