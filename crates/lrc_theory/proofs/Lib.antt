@@ -7,4 +7,4 @@ pub mod Lazy
 pub mod Runs
 pub mod Plainly
 pub mod UpToRace
-pub mod OneNode
+pub mod InOrder

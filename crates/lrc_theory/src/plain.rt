@@ -42,3 +42,15 @@ pub fn one_node_that_reads_in_order_reads_lazily()
     ensures { (run : List Act) → ((k node : ℕ) (deed : Deed) → Does run k node deed → node ≡ 0) → ReadsInOrder run
         → ReadsLazily run }
 {}
+
+/// In a run without a race that reads what was written last, every read is lazy.
+pub fn a_run_without_a_race_that_reads_in_order_reads_lazily()
+    ensures { (run : List Act) → IsRaceFree run → ReadsInOrder run → ReadsLazily run }
+{}
+
+/// What the plain machine makes on any number of nodes reads lazily where it has no race: with what it follows and how it
+/// is synchronized, it meets every premise of `lazy_run_without_a_race_is_plain`.
+pub fn a_plain_run_without_a_race_reads_lazily()
+    ensures { (program : Program) (nodes : ℕ) (order : List ℕ) (run : List Act) → plain program nodes order ≡ Some run
+        → IsRaceFree run → ReadsLazily run }
+{}
