@@ -8,3 +8,4 @@ pub mod Runs
 pub mod Plainly
 pub mod UpToRace
 pub mod InOrder
+pub mod Waiting

@@ -7,7 +7,7 @@ ghost use Rattle.lrc_trace.specs.declared.act.Deed.{Deed};
 ghost use Rattle.lrc_trace.specs.Run.{Does};
 ghost use Rattle.lrc_trace.specs.Conflict.{Races, IsRaceFree};
 ghost use Rattle.lrc_trace.specs.Reading.{ReadsLazily};
-ghost use Rattle.lrc_trace.specs.Synchronization.{IsWellSynchronized};
+ghost use Rattle.lrc_trace.specs.Synchronization.{IsWellSynchronized, WaitsAtBarriers};
 ghost use Rattle.lrc_exec.specs.Plain.{plain};
 ghost use Rattle.lrc_theory.specs.Follows.{FollowsText, nodes_of};
 ghost use Rattle.lrc_theory.specs.Kinds.{PlainUpTo};
@@ -53,4 +53,9 @@ pub fn a_run_without_a_race_that_reads_in_order_reads_lazily()
 pub fn a_plain_run_without_a_race_reads_lazily()
     ensures { (program : Program) (nodes : ℕ) (order : List ℕ) (run : List Act) → plain program nodes order ≡ Some run
         → IsRaceFree run → ReadsLazily run }
+{}
+
+/// Where each node's acts are those of the text, a node that has come to a barrier does nothing until it departs.
+pub fn a_run_that_follows_the_text_waits_at_barriers()
+    ensures { (program : Program) (nodes : ℕ) (run : List Act) → FollowsText program nodes run → WaitsAtBarriers run }
 {}
