@@ -7,4 +7,5 @@ pub mod Lazy
 pub mod Runs
 pub mod Plainly
 pub mod UpToRace
-pub mod OneNode
+pub mod InOrder
+pub mod Waiting

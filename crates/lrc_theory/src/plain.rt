@@ -7,7 +7,7 @@ ghost use Rattle.lrc_trace.specs.declared.act.Deed.{Deed};
 ghost use Rattle.lrc_trace.specs.Run.{Does};
 ghost use Rattle.lrc_trace.specs.Conflict.{Races, IsRaceFree};
 ghost use Rattle.lrc_trace.specs.Reading.{ReadsLazily};
-ghost use Rattle.lrc_trace.specs.Synchronization.{IsWellSynchronized};
+ghost use Rattle.lrc_trace.specs.Synchronization.{IsWellSynchronized, WaitsAtBarriers};
 ghost use Rattle.lrc_exec.specs.Plain.{plain};
 ghost use Rattle.lrc_theory.specs.Follows.{FollowsText, nodes_of};
 ghost use Rattle.lrc_theory.specs.Kinds.{PlainUpTo};
@@ -41,4 +41,21 @@ pub fn plain_run_is_well_synchronized()
 pub fn one_node_that_reads_in_order_reads_lazily()
     ensures { (run : List Act) → ((k node : ℕ) (deed : Deed) → Does run k node deed → node ≡ 0) → ReadsInOrder run
         → ReadsLazily run }
+{}
+
+/// In a run without a race that reads what was written last, every read is lazy.
+pub fn a_run_without_a_race_that_reads_in_order_reads_lazily()
+    ensures { (run : List Act) → IsRaceFree run → ReadsInOrder run → ReadsLazily run }
+{}
+
+/// What the plain machine makes on any number of nodes reads lazily where it has no race: with what it follows and how it
+/// is synchronized, it meets every premise of `lazy_run_without_a_race_is_plain`.
+pub fn a_plain_run_without_a_race_reads_lazily()
+    ensures { (program : Program) (nodes : ℕ) (order : List ℕ) (run : List Act) → plain program nodes order ≡ Some run
+        → IsRaceFree run → ReadsLazily run }
+{}
+
+/// Where each node's acts are those of the text, a node that has come to a barrier does nothing until it departs.
+pub fn a_run_that_follows_the_text_waits_at_barriers()
+    ensures { (program : Program) (nodes : ℕ) (run : List Act) → FollowsText program nodes run → WaitsAtBarriers run }
 {}

@@ -8,3 +8,5 @@ pub mod Holding
 pub mod Prefixes
 pub mod Locks
 pub mod Counts
+pub mod Named
+pub mod Outlines

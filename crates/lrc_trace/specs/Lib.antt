@@ -4,3 +4,4 @@ pub mod Conflict
 pub mod Reading
 pub mod Synchronization
 pub mod Interval
+pub mod Outline

@@ -7,9 +7,10 @@ ghost use Rattle.lrc_trace.specs.declared.act.Deed.TheVariants.{Read};
 ghost use Rattle.lrc_trace.specs.declared.race.Race.{Race};
 ghost use Rattle.lrc_trace.specs.Run.{Does, is_depart, arrives_before, departs_before};
 ghost use Rattle.lrc_trace.specs.Order.{HappensBefore};
-ghost use Rattle.lrc_trace.specs.Conflict.{Accesses, Conflict, Races};
+ghost use Rattle.lrc_trace.specs.Conflict.{Accesses, Conflict, Races, IsRaceFree};
 ghost use Rattle.lrc_trace.specs.Reading.{AreOrdered, MayRead, ReadsLazily};
 ghost use Rattle.lrc_trace.specs.Interval.{closes, interval_at, IsNamedRace};
+ghost use Rattle.lrc_trace.specs.Outline.{SameButValues};
 ghost use Rattle.lrc_trace.specs.Synchronization.{Holds, IsWellSynchronized, WaitsAtBarriers, MayGoOn};
 
 /// Happens before goes forward in the run.
@@ -89,4 +90,30 @@ pub fn reads_lazily_by_one_act_more()
     ensures { (run : List Act) (act : Act)
         → (ReadsLazily (run ++ act ∷ []) ↔ (ReadsLazily run × ((word value : ℕ) → act.deed ≡ Read word value
         → MayRead (run ++ act ∷ []) (length run) word value))) }
+{}
+
+/// A run that names no race has none, and the reverse.
+pub fn a_run_that_names_no_race_is_race_free()
+    ensures { (run : List Act) → (((race : Race) → ¬ IsNamedRace run race) ↔ IsRaceFree run) }
+{}
+
+/// In a well-synchronized run a lock has one holder at most.
+pub fn a_lock_has_one_holder()
+    ensures { (nodes : ℕ) (run : List Act) → IsWellSynchronized nodes run
+        → (position p q l : ℕ) → Holds run position p l → Holds run position q l → p ≡ q }
+{}
+
+/// One position happens before another, or it does not.
+pub fn happens_before_is_decided()
+    ensures { (run : List Act) (i j : ℕ) → HappensBefore run i j ⊎ (¬ HappensBefore run i j) }
+{}
+
+/// Values make no difference to the order of a run and to its races: runs that do the same but for the values printed, read
+/// and written have the same positions ordered, the same positions that race, and name the same races.
+pub fn races_do_not_depend_on_values()
+    ensures order { (run other : List Act) (i j : ℕ) → SameButValues run other
+        → (HappensBefore run i j ↔ HappensBefore other i j) }
+    ensures races { (run other : List Act) (i j : ℕ) → SameButValues run other → (Races run i j ↔ Races other i j) }
+    ensures names { (run other : List Act) (race : Race) → SameButValues run other
+        → (IsNamedRace run race ↔ IsNamedRace other race) }
 {}
