@@ -10,7 +10,6 @@ use Rattle.lrc_world.specs.Ends.{ends_of}
 use Rattle.lrc_world.specs.declared.report.Event.{Event}
 use Rattle.lrc_world.specs.declared.report.Options.{Options}
 use Rattle.lrc_world.specs.declared.report.Report.{Report}
-use Rattle.lrc_world.specs.declared.report.TheConstants.{MOST_EVENTS}
 use Rattle.lrc_cli.specs.EventsText.{Reads}
 use Rattle.lrc_cli.specs.ReportText.{report_text, status_of}
 use Rattle.lrc_cli.specs.declared.choice.Choice.{Choice}
@@ -42,10 +41,10 @@ abbrev pub IsReportOf : ℕ → List Act → List ℕ → ℕ → Type 0
 IsReportOf nodes acts out status =
     (out ≡ report_text acts (ends_of nodes acts)) × (status ≡ status_of (ends_of nodes acts))
 
--- no node is ready after these events, unless there are as many as there may be
+-- no node is ready after these events, unless there are 100,000,000, of which there are no more
 pub record AreAll (program : Program) (steps : ℕ) (events : List Event) : Type 0 where
-  pub few : length events ≤ MOST_EVENTS
-  pub over : length events < MOST_EVENTS → is_ready (run_of program (options_of steps).steps events).node ≡ false
+  pub few : length events ≤ 100000000
+  pub over : length events < 100000000 → is_ready (run_of program (options_of steps).steps events).node ≡ false
 
 -- the events of a run are those that a text names; without one, some after which nothing is left to do
 abbrev pub ArePlayed : Program → ℕ → Option (List ℕ) → List Event → Type 0
