@@ -1,5 +1,5 @@
 -- What a writer has in the middle of a text.
-use Rattle.std.proofs.Common.{◌≡◌, ◌∙◌, ◌<◌, ◌+◌, ℕ, refl, sym, ap, subst, arith, List, [], ◌∷◌, ◌++◌, length, take, drop, Option, Some, None, Result, Ok, Err, OnOk, OnErr, ◌==◌, true, append-nil, get_or, Vec, rules, tests}
+use Rattle.std.proofs.Common.{◌≡◌, ◌∙◌, ◌<◌, ◌+◌, ℕ, refl, sym, ap, subst, arith, List, [], ◌∷◌, ◌++◌, length, take, drop, Option, Some, None, Result, Ok, Err, OnOk, OnErr, ◌==◌, true, false, append-nil, length-append, length-drop, get_or, Vec, rules, tests}
 use Rattle.std.specs.Io.KnownBytes.{Appends, Keeps, WriteAppends}
 use Rattle.std.proofs.lemmas.List.{append_assoc, drop_more, take_at, take-append-drop}
 use Rattle.lrc_cli.specs.Output.{AppendsFront}
@@ -48,9 +48,11 @@ pub way_ends : (old new : Option (List ℕ)) (text rest : List ℕ) → rest ≡
 way_ends old new text rest none way =
     subst (Appends old new) (sym (way.whole ∙ ap (λ l. way.front ++ l) none ∙ append-nil way.front)) way.written
 
-pub way_front : (old new : Option (List ℕ)) (text rest : List ℕ) → IsUnderWay old new text rest → AppendsFront old new text
-way_front old new text rest way =
-    (length way.front, subst (Appends old new) (sym (ap (take (length way.front)) way.whole ∙ take_at way.front rest (length way.front) refl)) way.written)
+pub way_front : (old new : Option (List ℕ)) (text rest : List ℕ) → 0 < length rest → IsUnderWay old new text rest → AppendsFront old new text
+way_front old new text rest some way =
+    let counts : length text ≡ length way.front + length rest = ap length way.whole ∙ length-append way.front rest in
+    let less : length way.front < length text = omega arith in
+    (length way.front, less, subst (Appends old new) (sym (ap (take (length way.front)) way.whole ∙ take_at way.front rest (length way.front) refl)) way.written)
 
 pub way_written : {E : Type 0} (old mid new : Option (List ℕ)) (text rest : List ℕ) (r : Result ℕ E) (count : ℕ) → r ≡ Ok count → IsUnderWay old mid text rest
     → WriteAppends mid new r rest → IsUnderWay old new text (drop count rest)
@@ -68,6 +70,10 @@ pub nil_of : (text : List ℕ) → true ≡ (length text == 0) → text ≡ []
 nil_of [] e = refl
 nil_of (b ∷ text) e = let zero : length (b ∷ text) ≡ 0 = search (rules, tests) in absurd (omega arith)
 
+pub some_of : (text : List ℕ) → false ≡ (length text == 0) → 0 < length text
+some_of [] e = absurd cc
+some_of (b ∷ text) e = omega arith
+
 -- the next part of the text is written, or a front of it
 pub way_part : (old mid new : Option (List ℕ)) (text first rest : List ℕ) → IsUnderWay old mid text (first ++ rest) → Appends mid new first → IsUnderWay old new text rest
 way_part old mid new text first rest way h = record {
@@ -81,8 +87,10 @@ way_stops old mid new text first rest way h =
     let count = h.0 in
     let split : first ++ rest ≡ take count first ++ (drop count first ++ rest) =
     ap (λ l. l ++ rest) (sym (take-append-drop count first)) ∙ append_assoc (take count first) (drop count first) rest in
-    way_front old new text (drop count first ++ rest)
-    (way_part old mid new text (take count first) (drop count first ++ rest) (subst (IsUnderWay old mid text) split way) h.1)
+    let fewer : count < length first = h.1 in
+    let some : 0 < length (drop count first ++ rest) = omega (arith, length-append (drop count first) rest, length-drop count first) in
+    way_front old new text (drop count first ++ rest) some
+    (way_part old mid new text (take count first) (drop count first ++ rest) (subst (IsUnderWay old mid text) split way) h.2)
 
 -- the parts from the i-th on
 pub parts_at : (parts : List (Vec ℕ Global)) (i : ℕ) (d : Vec ℕ Global) → i < length parts

@@ -8,8 +8,8 @@ use Rattle.lrc_trace.specs.declared.act.Act.{Act}
 use Rattle.lrc_world.specs.Alone.{is_ready, run_of}
 use Rattle.lrc_world.specs.Ends.{ends_of}
 use Rattle.lrc_world.specs.declared.report.Event.{Event}
+use Rattle.lrc_world.specs.declared.report.Options.{Options}
 use Rattle.lrc_world.specs.declared.report.Report.{Report}
-use Rattle.lrc_world.specs.declared.report.TheConstants.{MOST_EVENTS}
 use Rattle.lrc_cli.specs.EventsText.{Reads}
 use Rattle.lrc_cli.specs.ReportText.{report_text, status_of}
 use Rattle.lrc_cli.specs.declared.choice.Choice.{Choice}
@@ -28,19 +28,23 @@ names_events (Simulate run) = is_some run.events
 abbrev pub IsTextOf : List ℕ → Program → Type 0
 IsTextOf text program = IsText text (program_of program)
 
+-- the options of a run of so many steps: it asks for no collection, and its messages are numbered from 0
+abbrev pub options_of : ℕ → Options
+options_of count = record { steps = count; collect = 0; first = 0 }
+
 -- what the events of a program make
 abbrev pub acts_of : Program → ℕ → List Event → List Act
-acts_of program steps events = (run_of program steps events).acts
+acts_of program steps events = (run_of program (options_of steps).steps events).acts
 
 -- the text and the status are those of these acts
 abbrev pub IsReportOf : ℕ → List Act → List ℕ → ℕ → Type 0
 IsReportOf nodes acts out status =
     (out ≡ report_text acts (ends_of nodes acts)) × (status ≡ status_of (ends_of nodes acts))
 
--- no node is ready after these events, unless there are as many as there may be
+-- no node is ready after these events, unless there are 100,000,000, of which there are no more
 pub record AreAll (program : Program) (steps : ℕ) (events : List Event) : Type 0 where
-  pub few : length events ≤ MOST_EVENTS
-  pub over : length events < MOST_EVENTS → is_ready (run_of program steps events).node ≡ false
+  pub few : length events ≤ 100000000
+  pub over : length events < 100000000 → is_ready (run_of program (options_of steps).steps events).node ≡ false
 
 -- the events of a run are those that a text names; without one, some after which nothing is left to do
 abbrev pub ArePlayed : Program → ℕ → Option (List ℕ) → List Event → Type 0

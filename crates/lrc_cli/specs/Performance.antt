@@ -7,7 +7,8 @@ use Rattle.lrc_cli.specs.Output.{AppendsFront}
 use Rattle.lrc_cli.specs.declared.choice.Choice.{Choice}
 use Rattle.lrc_cli.specs.declared.fault.Fault.{Fault}
 
--- The text is written, and the result is this status; or a write failed, a front of the text is written, and it is 1.
+-- The text is written, and the result is this status; or a write failed,
+-- not all of the text is written but a front of it, and the result is 1.
 abbrev pub IsWritten : Option (List ℕ) → Option (List ℕ) → List ℕ → ℕ → ℕ → Type 0
 IsWritten old new text status result =
     (Appends old new text × (result ≡ status)) ⊎ (AppendsFront old new text × (result ≡ 1))

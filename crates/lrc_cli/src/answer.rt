@@ -1,7 +1,7 @@
 // What the program answers to a choice, before anything is written.
 
 ghost use Rattle.std.specs.Prelude.{◌≡◌, IfErr, IfOk, None, Some, is_some, option_map};
-ghost use Rattle.lrc_cli.specs.Answer.{IsFault, IsPrintoutOfRounds, IsRunFault, IsRunOf, Prints, names_events};
+ghost use Rattle.lrc_cli.specs.Answer.{IsFault, IsPrintoutOfRounds, IsRunFault, IsRunOf, Prints, names_events, options_of};
 ghost use Rattle.lrc_cli.specs.ReportText.{report_text, status_of, whole_text};
 ghost use Rattle.lrc_cli.specs.declared.fault.Fault.TheVariants.{NoMemory};
 
@@ -125,7 +125,7 @@ fn driven(alloc: Global, run: &Simulation<'_>, program: &Program) -> Result<Repo
 }
 
 fn options_of(run: &Simulation<'_>) -> Options
-    ensures { result.steps ≡ run.now.steps.count }
+    ensures { result ≡ options_of run.now.steps.count }
 {
     Options {
         steps: run.steps.count,

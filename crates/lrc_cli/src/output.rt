@@ -19,7 +19,7 @@ pub(crate) fn put_parts<W: Write>(writer: &mut W, parts: &[Vec<u8>]) -> io::Resu
     Ok(())
 }
 
-/// Writes a text and flushes it. Unlike `write_all` it says what a failed write leaves: some bytes from the front of the text.
+/// Writes a text. Unlike `write_all` it says what a failed write leaves: some bytes from the front of the text, not all.
 pub(crate) fn put<W: Write>(writer: &mut W, text: &[u8]) -> io::Result<()>
     ensures ok { OnOk result (Appends (W.contents writer.old) (W.contents writer.new) text.now) }
     ensures err { OnErr result (AppendsFront (W.contents writer.old) (W.contents writer.new) text.now) }
@@ -27,7 +27,7 @@ pub(crate) fn put<W: Write>(writer: &mut W, text: &[u8]) -> io::Result<()>
     let mut rest = text;
     for _turn in 0..u64::MAX {
         if rest.is_empty() {
-            return writer.flush();
+            return Ok(());
         }
         match writer.write(rest) {
             Ok(0) => return Err(io::Error::from(ErrorKind::WriteZero)),
@@ -36,5 +36,9 @@ pub(crate) fn put<W: Write>(writer: &mut W, text: &[u8]) -> io::Result<()>
             Err(error) => return Err(error),
         }
     }
-    Err(io::Error::from(ErrorKind::TimedOut))
+    if rest.is_empty() {
+        Ok(())
+    } else {
+        Err(io::Error::from(ErrorKind::TimedOut))
+    }
 }

@@ -16,7 +16,8 @@ use std::io::Write;
 
 /// Does what a choice asks for, with the text of its FILE, and that of its events where it names them. What it prints
 /// goes to `out`; where there is a fault, its line goes to `err`, and nothing to `out`. The answer is the status with
-/// which the program ends: 1 after a fault. After a failed write nothing more is written, and the answer is 1.
+/// which the program ends: 1 after a fault. After a failed write nothing more is written, and the answer is 1. The parts
+/// of a text are written one by one, and neither writer is flushed.
 pub fn perform<W: Write, E: Write>(
     alloc: Global,
     choice: &Choice<'_>,

@@ -8,7 +8,7 @@ use lrc_cli::choice::{Choice, ChooseFault};
 use lrc_cli::{choose, perform};
 use std::alloc::Global;
 use std::fs::Files;
-use std::io::{BufWriter, ErrorKind, Read};
+use std::io::{ErrorKind, Read};
 use std::process::ExitCode;
 use std::rt::Env;
 use std::{env, fs, io};
@@ -101,22 +101,20 @@ fn refuse(rt: &impl Eprint, fault: &ChooseFault) -> u8 {
     }
 }
 
-/// Reads what a choice names and performs it. What a failed write leaves in the buffer is never written.
+/// Reads what a choice names and performs it. Neither output has a buffer: what is written to it is with the system.
 fn play(rt: &HostRuntime, choice: &Choice<'_>) -> Result<u8, ReadFault> {
     let text = read_text(rt, file_of(choice))?;
     let events = read_events(rt, choice)?;
-    let mut out = BufWriter::new(rt.alloc(), rt.stdout())?;
+    let mut out = rt.stdout();
     let mut err = rt.stderr();
-    let status = perform(
+    Ok(perform(
         rt.alloc(),
         choice,
         &text,
         events.as_deref(),
         &mut out,
         &mut err,
-    );
-    let (_stdout, _unwritten) = out.into_parts();
-    Ok(status)
+    ))
 }
 
 /// The file of the program's text.

@@ -1,7 +1,7 @@
-use Rattle.std.proofs.Common.{◌≡◌, ◌∙◌, ℕ, List, drop, sym, ap, subst}
+use Rattle.std.proofs.Common.{◌≡◌, ◌∙◌, ℕ, List, Ok, drop, sym, ap, subst, rules, tests}
 use Rattle.std.proofs.lemmas.List.{take_rest}
 use Rattle.std.specs.Borrow.{Bor}
-use Rattle.lrc_cli.proofs.WriteLemmas.{IsUnderWay, nil_of, on_err, on_ok, way_begins, way_ends, way_front, way_kept, way_more, way_refused, way_written}
+use Rattle.lrc_cli.proofs.WriteLemmas.{IsUnderWay, nil_of, some_of, way_begins, way_ends, way_front, way_kept, way_more, way_refused, way_written}
 use Rattle.lrc_cli.proofs.output.put.Goals as goal
 use Rattle.lrc_cli.proofs.output.put.Goals.{in-Ok, in-Err}
 
@@ -10,24 +10,17 @@ loop-turn-init g c = way_begins _ c.args.text.now
 
 pub returns-then-is_empty-clause-ok : goal.returns-then-is_empty-clause-ok
 returns-then-is_empty-clause-ok g c =
-    on_ok c.flush.result _
-    (way_ends _ _ c.args.text.now c.loop-turn.rest.now (nil_of c.loop-turn.rest.now c.if-is_empty.ensures)
-    (way_kept _ _ _ c.args.text.now c.loop-turn.rest.now c.loop-turn.invariant c.flush.ensures.bytes))
-
-pub returns-then-is_empty-clause-err : goal.returns-then-is_empty-clause-err
-returns-then-is_empty-clause-err g c =
-    on_err c.flush.result _
-    (way_front _ _ c.args.text.now c.loop-turn.rest.now
-    (way_kept _ _ _ c.args.text.now c.loop-turn.rest.now c.loop-turn.invariant c.flush.ensures.bytes))
+    way_ends _ _ c.args.text.now c.loop-turn.rest.now (nil_of c.loop-turn.rest.now c.if-is_empty.ensures) c.loop-turn.invariant
 
 pub returns-in-Ok-eq0-clause-err : goal.returns-in-Ok-eq0-clause-err
 returns-in-Ok-eq0-clause-err g c =
-    way_front _ _ c.args.text.now _
-    (way_written _ _ _ c.args.text.now c.loop-turn.rest.now c.write.result c.in-Ok-eq0.field-0 c.in-Ok-eq0.is c.loop-turn.invariant c.write.ensures.bytes)
+    let none : c.in-Ok-eq0.field-0 ≡ 0 = search (rules, tests) in
+    way_front _ _ c.args.text.now c.loop-turn.rest.now (some_of c.loop-turn.rest.now c.if-is_empty.ensures)
+    (way_written _ _ _ c.args.text.now c.loop-turn.rest.now c.write.result 0 (c.in-Ok-eq0.is ∙ ap Ok none) c.loop-turn.invariant c.write.ensures.bytes)
 
 pub returns-in-Err-2-clause-err : goal.returns-in-Err-2-clause-err
 returns-in-Err-2-clause-err g c =
-    way_front _ _ c.args.text.now _
+    way_front _ _ c.args.text.now c.loop-turn.rest.now (some_of c.loop-turn.rest.now c.if-is_empty.ensures)
     (way_refused _ _ _ c.args.text.now c.loop-turn.rest.now c.write.result c.in-Err-2.error c.in-Err-2.is c.loop-turn.invariant c.write.ensures.bytes)
 
 pub loop-turn-preserved : goal.loop-turn-preserved
@@ -41,5 +34,10 @@ loop-turn-preserved g c = elim c.match-write.branch [
       (way_kept _ _ _ c.args.text.now c.loop-turn.rest.now c.loop-turn.invariant w.in-Err.ensures.bytes)
 ]
 
-pub returns-clause-err : goal.returns-clause-err
-returns-clause-err g c = way_front _ _ c.args.text.now c.loop-turn.rest.now c.loop-turn.invariant
+pub returns-then-is_empty-2-clause-ok : goal.returns-then-is_empty-2-clause-ok
+returns-then-is_empty-2-clause-ok g c =
+    way_ends _ _ c.args.text.now c.loop-turn.rest.now (nil_of c.loop-turn.rest.now c.if-is_empty-2.ensures) c.loop-turn.invariant
+
+pub returns-else-is_empty-2-clause-err : goal.returns-else-is_empty-2-clause-err
+returns-else-is_empty-2-clause-err g c =
+    way_front _ _ c.args.text.now c.loop-turn.rest.now (some_of c.loop-turn.rest.now c.if-is_empty-2.ensures) c.loop-turn.invariant
