@@ -1,17 +1,11 @@
 // Laws of the definitions that the judge computes. Each function is a theorem: its body is empty, and its clause is the
 // law.
-ghost use Rattle.std.specs.Prelude.{ℕ, ◌↔◌, ◌⊎◌, List};
+ghost use Rattle.std.specs.Prelude.{ℕ, ◌↔◌, List};
 ghost use Rattle.lrc_trace.specs.declared.act.Act.{Act};
-ghost use Rattle.lrc_trace.specs.Order.{HappensBefore};
 ghost use Rattle.lrc_trace.specs.Reading.{ReadsLazily};
 ghost use Rattle.lrc_trace.specs.Synchronization.{IsWellSynchronized};
 ghost use Rattle.lrc_judge.specs.Reading.{Misreads};
 ghost use Rattle.lrc_judge.specs.Synchronization.{Breaks};
-
-/// One position happens before another, or it does not.
-pub fn happens_before_is_decided()
-    ensures { (run : List Act) (i j : ℕ) → HappensBefore run i j ⊎ (¬ HappensBefore run i j) }
-{}
 
 /// No read gives a value that it may not give, exactly where the run reads lazily.
 pub fn no_misread_is_lazy_reading()

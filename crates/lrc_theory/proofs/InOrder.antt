@@ -1,9 +1,8 @@
--- Where every write to a word that comes earlier happens before the read, what was written last is what happens before last:
--- in a run of one node, whose program order is the order of the run, and in a run without a race.
+-- Where every write to a word that comes earlier happens before the read, what was written last is what happens before last.
+-- It is so in a run without a race.
 use Rattle.std.proofs.Common.{◌≡◌, ℕ, ◌<◌, List, inl, inr, sym, subst, ◌∙◌, arith}
 use Rattle.std.proofs.lemmas.Bool.{cases_eq, cases_order}
 use Rattle.lrc_trace.specs.declared.act.Act.{Act}
-use Rattle.lrc_trace.specs.declared.act.Deed.{Deed}
 use Rattle.lrc_trace.specs.declared.act.Deed.TheVariants.{Read, Write}
 use Rattle.lrc_trace.specs.Run.{Does}
 use Rattle.lrc_trace.specs.Order.{HappensBefore, base, program}
@@ -16,7 +15,7 @@ use Rattle.lrc_theory.specs.InOrder.{last_value, ReadsInOrder}
 use Rattle.lrc_theory.proofs.LastValue.{Written, Found, found}
 
 -- every write happens before the later reads of its word
-abbrev OrdersReads : List Act → Type 0
+abbrev pub OrdersReads : List Act → Type 0
 OrdersReads run = (i j p q word v u : ℕ) → i < j → Does run i p (Write word v) → Does run j q (Read word u) → HappensBefore run i j
 
 module _ (run : List Act) (before : OrdersReads run) where
@@ -49,16 +48,8 @@ module _ (run : List Act) (before : OrdersReads run) where
         };
       }
 
-  lazily_by_order : ReadsInOrder run → ReadsLazily run
+  pub lazily_by_order : ReadsInOrder run → ReadsLazily run
   lazily_by_order in_order j word value (q, here) = let within = Does-within here in may_read j q word value here (in_order j word value (q, here)) (found run word j (omega arith))
-
--- of one node, whatever is done earlier happens before
-one_node : (run : List Act) → ((k node : ℕ) (deed : Deed) → Does run k node deed → node ≡ 0) → OrdersReads run
-one_node run alone i j p q word v u lt h k =
-    base (program lt h (subst (λ n. Does run j n (Read word u)) (alone j q (Read word u) k ∙ sym (alone i p (Write word v) h)) k))
-
-pub lazily : (run : List Act) → ((k node : ℕ) (deed : Deed) → Does run k node deed → node ≡ 0) → ReadsInOrder run → ReadsLazily run
-lazily run alone = lazily_by_order run (one_node run alone)
 
 -- without a race, a write is of the reader's own node, or in order with the read
 race_free : (run : List Act) → IsRaceFree run → OrdersReads run

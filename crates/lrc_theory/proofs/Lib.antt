@@ -8,4 +8,5 @@ pub mod Runs
 pub mod Plainly
 pub mod UpToRace
 pub mod InOrder
+pub mod OneNode
 pub mod Waiting

@@ -1,4 +1,4 @@
-use Rattle.lrc_theory.proofs.InOrder.{lazily}
+use Rattle.lrc_theory.proofs.OneNode.{lazily}
 use Rattle.lrc_theory.proofs.plain.one_node_that_reads_in_order_reads_lazily.Goals as goal
 
 pub returns : goal.returns

@@ -1,5 +1,0 @@
-use Rattle.lrc_trace.proofs.Decided.{HappensBefore-decided}
-use Rattle.lrc_judge.proofs.laws.happens_before_is_decided.Goals as goal
-
-pub returns : goal.returns
-returns c = λ run i j. HappensBefore-decided run i j
