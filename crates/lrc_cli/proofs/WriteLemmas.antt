@@ -1,5 +1,5 @@
 -- What a writer has in the middle of a text.
-use Rattle.std.proofs.Common.{◌≡◌, ◌∙◌, ◌<◌, ◌+◌, ℕ, refl, sym, ap, subst, arith, List, [], ◌∷◌, ◌++◌, length, take, drop, Option, Some, None, Result, Ok, Err, OnOk, OnErr, ◌==◌, true, false, append-nil, length-append, length-drop, get_or, Vec, rules, tests}
+use Rattle.std.proofs.Common.{◌≡◌, ◌∙◌, ◌<◌, ◌+◌, ℕ, refl, sym, ap, subst, arith, List, [], ◌∷◌, ◌++◌, length, take, drop, Option, Some, None, Result, Ok, Err, OnErr, ◌==◌, true, false, append-nil, length-append, length-drop, get_or, Vec, rules, tests}
 use Rattle.std.specs.Io.KnownBytes.{Appends, Keeps, WriteAppends}
 use Rattle.std.proofs.lemmas.List.{append_assoc, drop_more, take_at, take-append-drop}
 use Rattle.lrc_cli.specs.Output.{AppendsFront}
@@ -96,10 +96,6 @@ way_stops old mid new text first rest way h =
 pub parts_at : (parts : List (Vec ℕ Global)) (i : ℕ) (d : Vec ℕ Global) → i < length parts
     → whole_text (drop i parts) ≡ (get_or parts i d).items ++ whole_text (drop (i + 1) parts)
 parts_at parts i d lt = ap whole_text (drop_more parts i d lt)
-
-pub on_ok : {T E : Type 0} (r : Result T E) (P : Type 0) → P → OnOk r P
-on_ok (Ok x) P h = h
-on_ok (Err e) P h = tt
 
 pub on_err : {T E : Type 0} (r : Result T E) (P : Type 0) → P → OnErr r P
 on_err (Ok x) P h = tt

@@ -1,7 +1,7 @@
 // Writing a text whole, or knowing that only its front was written.
 
 ghost use Rattle.std.specs.Prelude.{OnOk, OnErr};
-ghost use Rattle.std.specs.Io.KnownBytes.{Appends, Keeps};
+ghost use Rattle.std.specs.Io.KnownBytes.{Appends};
 ghost use Rattle.lrc_cli.specs.Output.{AppendsFront};
 ghost use Rattle.lrc_cli.specs.ReportText.{whole_text};
 
