@@ -10,5 +10,6 @@ pub mod Places
 pub mod Ranks
 pub mod Records
 pub mod Risings
+pub mod Sought
 pub mod Stores
 pub mod Walks
