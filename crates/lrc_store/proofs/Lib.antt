@@ -2,6 +2,7 @@ pub mod Chained
 pub mod Followed
 pub mod IntervalLists
 pub mod LinkedStores
+pub mod ListPlaces
 pub mod Lookups
 pub mod Newer
 pub mod NodeWalks
