@@ -1,5 +1,5 @@
 -- A search along a node's list for the interval of an index.
-use Rattle.std.proofs.Common.{◌≡◌, ℕ, ◌+◌, ◌<◌, ◌≤◌, ◌∙◌, Bool, true, false, ◌&&◌, ◌||◌, cond, eqb, eqb-true, Option, None, Some, List, [], ◌∷◌, length, get_or, map, take, refl, ap, sym, subst, arith}
+use Rattle.std.proofs.Common.{◌≡◌, ℕ, ◌<◌, ◌≤◌, ◌∙◌, Bool, true, false, ◌&&◌, ◌||◌, cond, eqb, eqb-true, Option, None, Some, List, [], ◌∷◌, length, get_or, map, take, refl, ap, sym, subst, arith}
 use Rattle.std.specs.List.{AllPairs, filter, list_any, position}
 use Rattle.std.specs.Option.{is_some}
 use Rattle.std.proofs.lemmas.Bool.{true≢false}
