@@ -147,12 +147,7 @@ pub(crate) fn newer_of_node(
 }
 
 /// Where the interval of this node and index stands, found along the node's list.
-pub(crate) fn place_of(
-    entries: &[Stored],
-    by_node: &Chains,
-    node: u8,
-    index: u32,
-) -> Option<usize>
+pub(crate) fn place_of(entries: &[Stored], by_node: &Chains, node: u8, index: u32) -> Option<usize>
     requires linked { by_node.now.keys ≡ map (λ interval. interval.node) (map interval_of entries.now) }
     requires ascending { AllPairs (λ a b. a.node ≡ b.node → index_of a < index_of b) (map interval_of entries.now) }
     ensures { result ≡ position (is_at node index) entries.now }
