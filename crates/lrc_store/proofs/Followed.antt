@@ -18,7 +18,7 @@ places_from-push key start (y ∷ ys) x =
     by_test true rest = refl
     by_test false rest = refl
 
-list_of-push : (key : ℕ) (xs : List ℕ) (x : ℕ) (b : Bool) → eqb x key ≡ b
+pub list_of-push : (key : ℕ) (xs : List ℕ) (x : ℕ) (b : Bool) → eqb x key ≡ b
     → list_of (xs ++ x ∷ []) key ≡ cond b (length xs ∷ list_of xs key) (list_of xs key)
 list_of-push key xs x true is =
     ap reverse (places_from-push key 0 xs x ∙ ap (λ b. places_from key 0 xs ++ cond b ((0 + length xs) ∷ []) []) is)

@@ -2,6 +2,7 @@ pub mod Chained
 pub mod Followed
 pub mod IntervalLists
 pub mod LinkedStores
+pub mod ListPlaces
 pub mod Lookups
 pub mod Newer
 pub mod NodeWalks
@@ -10,5 +11,6 @@ pub mod Places
 pub mod Ranks
 pub mod Records
 pub mod Risings
+pub mod Sought
 pub mod Stores
 pub mod Walks

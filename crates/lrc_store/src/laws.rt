@@ -1,6 +1,6 @@
 // What always holds of stores. Each function is a law: its clauses are the statement, and there is nothing to do.
 
-ghost use Rattle.std.specs.Prelude.{◌≡◌, ◌≢◌, ◌+◌, ◌++◌, ◌∷◌, ℕ, Contains, IsTrue, List, None, Some, filter, length, not, []};
+ghost use Rattle.std.specs.Prelude.{◌≡◌, ◌≢◌, ◌+◌, ◌++◌, ◌∷◌, ◌<◌, ◌↔◌, ℕ, AllPairs, Contains, IsTrue, List, None, Some, filter, length, not, slice_index, []};
 ghost use Rattle.lrc_time.specs.Time.{Covers, entry};
 ghost use Rattle.lrc_page.specs.declared.changes.Change.{Change};
 ghost use Rattle.lrc_store.specs.declared.key.Key.{Key};
@@ -65,6 +65,13 @@ pub fn links_run_through_the_lists()
         → Follows (before_of store) (newest_of store node) (list_of (nodes_of store) node) }
     ensures pages { (store : StoreRecord) (page : ℕ)
         → Follows (next_on_page_of store) (first_on_page_of store page) (list_of (pages_noted store) page) }
+{}
+
+/// A list has exactly the places of its key, newest first, each once.
+pub fn lists_have_exactly_their_places()
+    ensures exactly { (keys : List ℕ) (key place : ℕ)
+        → Contains (list_of keys key) place ↔ ((place < length keys) × (slice_index keys place ≡ key)) }
+    ensures newest_first { (keys : List ℕ) (key : ℕ) → AllPairs (λ a b. b < a) (list_of keys key) }
 {}
 
 /// What is taken out is just what the time knows.

@@ -1,10 +1,10 @@
 // What links the intervals and the notices of a store.
 
-ghost use Rattle.std.specs.Prelude.{◌≡◌, ◌<◌, ◌≤◌, ◌+◌, All, AllPairs, IfOk, OnErr, OnOk, [], ◌∷◌, ◌++◌, filter, length, map, not, vec_capacity, vec_len};
+ghost use Rattle.std.specs.Prelude.{◌≡◌, ◌<◌, ◌≤◌, ◌+◌, All, AllPairs, IfOk, OnErr, OnOk, [], ◌∷◌, ◌++◌, filter, length, map, not, position, vec_capacity, vec_len};
 ghost use Rattle.lrc_time.specs.Time.{knows};
 ghost use Rattle.lrc_store.specs.Interval.{index_of};
 ghost use Rattle.lrc_store.specs.Links.{page_named, ranked_pages, is_newer_of, is_unknown_on};
-ghost use Rattle.lrc_store.specs.Store.{interval_of};
+ghost use Rattle.lrc_store.specs.Store.{interval_of, is_at};
 
 use crate::chains::{Chains, MOST_ENTRIES};
 use crate::interval::Interval;
@@ -144,6 +144,23 @@ pub(crate) fn newer_of_node(
     }
     found.reverse();
     Ok(found)
+}
+
+/// Where the interval of this node and index stands, found along the node's list.
+pub(crate) fn place_of(entries: &[Stored], by_node: &Chains, node: u8, index: u32) -> Option<usize>
+    requires linked { by_node.now.keys ≡ map (λ interval. interval.node) (map interval_of entries.now) }
+    requires ascending { AllPairs (λ a b. a.node ≡ b.node → index_of a < index_of b) (map interval_of entries.now) }
+    ensures { result ≡ position (is_at node index) entries.now }
+{
+    let mut next = by_node.first(u16::from(node));
+    while let Some(at) = next {
+        let place = at as usize;
+        if entries[place].is_at(node, index) {
+            return Some(place);
+        }
+        next = by_node.next(at);
+    }
+    None
 }
 
 /// Whether the time knows the interval of this node and index. Of a node that it does not count it knows none.

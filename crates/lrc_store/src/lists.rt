@@ -1,13 +1,14 @@
 // The lists that run through a store.
 
-ghost use Rattle.std.specs.Prelude.{◌≡◌, ◌<◌, length};
-ghost use Rattle.std.specs.Option.{ForSome};
+ghost use Rattle.std.specs.Prelude.{◌≡◌, ◌<◌, length, None, Some, option_and_then};
+ghost use Rattle.std.specs.Option.{ForSome, option_copied};
 ghost use Rattle.lrc_store.specs.Lists.{interval_at, key_at, newest_of, before_of, first_on_page_of, next_on_page_of, notices_of};
-ghost use Rattle.lrc_store.specs.Store.{intervals_of};
+ghost use Rattle.lrc_store.specs.Store.{attached, changes_at, intervals_of, notice_at};
 
 use crate::key::Key;
 use crate::link::{IntervalAt, NoticeAt};
 use crate::store::Store;
+use lrc_page::Changes;
 
 impl Store {
     /// The interval of a node that was added last.
@@ -65,6 +66,26 @@ impl Store {
             Some(self.notices[place].1)
         } else {
             None
+        }
+    }
+
+    /// The changes of a notice, if they are known. Nothing where the link is not in use.
+    pub fn changes_at(&self, at: NoticeAt) -> Option<&Changes>
+        ensures { option_copied result ≡ option_and_then (changes_at self.now) (key_at self.now at) }
+    {
+        let key = self.key(at)?;
+        self.changes(key)
+    }
+
+    /// Keeps the changes of a notice that has none yet.
+    pub fn attach_at(&mut self, at: NoticeAt, changes: Changes)
+        requires in_use { at < length (notices_of self.old) }
+        requires without { ForSome (key_at self.old at)
+            (λ key. notice_at self.old key ≡ Some (record { page = key.page; changes = None })) }
+        ensures { ForSome (key_at self.old at) (λ key. self.new ≡ attached self.old key changes) }
+    {
+        if let Some(key) = self.key(at) {
+            self.attach(key, changes);
         }
     }
 }

@@ -1,16 +1,15 @@
 // The intervals that a node knows.
 
-ghost use Rattle.std.specs.Prelude.{◌≡◌, ◌+◌, ◌<◌, ◌≤◌, ◌↔◌, All, IfOk, IsTrue, OnErr, OnOk, length, map, position, []};
+ghost use Rattle.std.specs.Prelude.{◌≡◌, ◌+◌, ◌<◌, ◌≤◌, ◌↔◌, All, IfOk, IsTrue, OnErr, OnOk, length, map, []};
 ghost use Rattle.std.specs.Option.{option_copied};
 ghost use Rattle.lrc_time.specs.Time.{entry};
-ghost use Rattle.lrc_store.specs.Store.{is_at};
 
 use crate::chains::Chains;
 use crate::interval::Interval;
 use crate::intervals::Intervals;
 use crate::key::Key;
 use crate::links::{
-    add_notices, is_known, link_nodes, link_pages, make_room, newer_of_node, unknown_on,
+    add_notices, is_known, link_nodes, link_pages, make_room, newer_of_node, place_of, unknown_on,
 };
 use crate::stored::Stored;
 use lrc_page::{Changes, MOST_PAGES};
@@ -119,7 +118,7 @@ impl Store {
     pub fn changes(&self, key: Key) -> Option<&Changes>
         ensures { option_copied result ≡ changes_at self.now key }
     {
-        let place = place_of(&self.entries, key.node, key.index)?;
+        let place = place_of(&self.entries, &self.by_node, key.node, key.index)?;
         let stored = &self.entries[place];
         stored.changes(key.page)
     }
@@ -129,7 +128,7 @@ impl Store {
         requires { notice_at self.old key ≡ Some (record { page = key.page; changes = None }) }
         ensures { self.new ≡ attached self.old key changes }
     {
-        if let Some(place) = place_of(&self.entries, key.node, key.index) {
+        if let Some(place) = place_of(&self.entries, &self.by_node, key.node, key.index) {
             self.entries[place].attach(key.page, changes);
         }
     }
@@ -175,13 +174,6 @@ impl Store {
         found.sort_unstable();
         keys_of(alloc, &found)
     }
-}
-
-/// Where the interval of this node and index stands.
-fn place_of(entries: &[Stored], node: u8, index: u32) -> Option<usize>
-    ensures { result ≡ position (is_at node index) entries.now }
-{
-    entries.iter().position(|stored| stored.is_at(node, index))
 }
 
 /// The key of each pair.

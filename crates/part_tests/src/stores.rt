@@ -1,9 +1,10 @@
 // The interval store.
 
-ghost use Rattle.std.specs.Prelude.{◌≡◌, ◌<◌, ◌≤◌, All, IfOk, length};
+ghost use Rattle.std.specs.Prelude.{◌≡◌, ◌<◌, ◌≤◌, ◌∷◌, All, IfOk, length, []};
 ghost use Rattle.lrc_time.specs.Time.{entry};
+ghost use Rattle.lrc_store.specs.Store.{added, empty_store};
 
-use lrc_page::Pages;
+use lrc_page::{Changes, Pages};
 use lrc_store::{Interval, Intervals, Key, Store};
 use lrc_time::Time;
 use std::alloc::{AllocError, Global};
@@ -173,5 +174,115 @@ fn lighter_intervals_come_first(rt: HostRuntime) -> Result<(), Fail> {
     let zeros = time_of(&rt, [0, 0, 0]);
     let of_page_0 = store.missing(0, &zeros)?;
     assert!(rt; of_page_0.as_slice() == [key_of(1, 1, 0), key_of(0, 1, 0)].as_slice());
+    Ok(())
+}
+
+#[test]
+fn discards_nothing_and_everything(rt: HostRuntime) -> Result<(), Fail> {
+    let mut store = worked(&rt, rt.alloc())?;
+    let none = time_of(&rt, [0, 0, 0]);
+    store.discard(&none);
+    assert!(rt; store.len() == 3);
+    assert!(rt; page_list(&store, 1) == [Some(key_of(0, 2, 1)), Some(key_of(1, 1, 1)), None]);
+    let all = time_of(&rt, [2, 1, 0]);
+    store.discard(&all);
+    assert!(rt; (store.is_empty(), store.last(0), store.last(1)) == (true, 2, 1));
+    assert!(rt; page_list(&store, 1) == [None, None, None]);
+    assert!(rt; node_list(&store, 0) == [None, None]);
+    Ok(())
+}
+
+#[test]
+fn adds_again_after_a_discard(rt: HostRuntime) -> Result<(), Fail> {
+    let alloc = rt.alloc();
+    let mut store = worked(&rt, alloc)?;
+    let known = time_of(&rt, [1, 1, 0]);
+    store.discard(&known);
+    put(&rt, &mut store, 1, [1, 2, 0], pages_of(alloc, true, true)?)?;
+    assert!(rt; page_list(&store, 0) == [Some(key_of(1, 2, 0)), None, None]);
+    assert!(rt; page_list(&store, 1) == [Some(key_of(1, 2, 1)), Some(key_of(0, 2, 1)), None]);
+    assert!(rt; node_list(&store, 1) == [Some((1, 2)), None]);
+    Ok(())
+}
+
+#[test]
+fn a_duplicate_is_equal(rt: HostRuntime) -> Result<(), Fail> {
+    let store = worked(&rt, rt.alloc())?;
+    let since = time_of(&rt, [0, 0, 0]);
+    let upto = time_of(&rt, [2, 1, 0]);
+    let newer = store.newer_than(&since, &upto)?;
+    let second = newer.duplicate()?;
+    assert!(rt; ids_of(&second) == [Some((0, 1)), Some((0, 2)), Some((1, 1))]);
+    assert!(rt; second == newer);
+    Ok(())
+}
+
+/// One change: 7 at offset 3.
+fn seven(alloc: Global) -> Result<Changes, AllocError> {
+    let mut changes = Changes::empty(alloc);
+    changes.push(3, 7)?;
+    Ok(changes)
+}
+
+/// Whether the changes are there and are those of `seven`.
+fn is_seven(changes: Option<&Changes>) -> bool {
+    match changes {
+        Some(changes) => {
+            if changes.len() == 1 {
+                let change = changes.at(0);
+                (change.offset, change.value) == (3, 7)
+            } else {
+                false
+            }
+        }
+        None => false,
+    }
+}
+
+/// One interval, of node 0, that wrote page 1.
+fn one_written(alloc: Global) -> Result<Store, AllocError>
+    ensures { IfOk result (λ store. store
+        ≡ added (empty_store 3 2) (record { node = 0; stamp = 1 ∷ 0 ∷ 0 ∷ []; pages = 1 ∷ [] })) }
+{
+    let mut store = Store::new(alloc, 3, 2)?;
+    let mut stamp = Time::new(3);
+    stamp.raise(0, 1);
+    let mut pages = Pages::empty(alloc);
+    pages.push(1)?;
+    let interval = Interval::new(0, stamp, pages);
+    store.add(&interval)?;
+    Ok(store)
+}
+
+#[test]
+fn keeps_the_changes_of_a_key(rt: HostRuntime) -> Result<(), Fail> {
+    let alloc = rt.alloc();
+    let mut store = one_written(alloc)?;
+    let key = Key {
+        node: 0,
+        index: 1,
+        page: 1,
+    };
+    assert!(rt; store.changes(key).is_none());
+    let changes = seven(alloc)?;
+    store.attach(key, changes);
+    assert!(rt; is_seven(store.changes(key)));
+    assert!(rt; store.changes(key_of(0, 1, 0)).is_none());
+    Ok(())
+}
+
+#[test]
+fn keeps_the_changes_of_a_link(rt: HostRuntime) -> Result<(), Fail> {
+    let alloc = rt.alloc();
+    let mut store = one_written(alloc)?;
+    let at = store.first_on_page(1);
+    if let Some(at) = at {
+        assert!(rt; store.changes_at(at).is_none());
+        let changes = seven(alloc)?;
+        store.attach_at(at, changes);
+        assert!(rt; is_seven(store.changes_at(at)));
+    }
+    assert!(rt; at.is_some());
+    assert!(rt; is_seven(store.changes(key_of(0, 1, 1))));
     Ok(())
 }
