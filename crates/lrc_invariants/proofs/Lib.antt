@@ -1,0 +1,4 @@
+pub mod Shift
+pub mod Inputs
+pub mod Waiting
+pub mod Shape

@@ -1,0 +1,30 @@
+// What holds of every run, whatever its events. Each function is a theorem: its body is empty, and its clauses are the law.
+
+ghost use Rattle.std.specs.Prelude.{◌≡◌, ℕ, List, Some, slice_get};
+ghost use Rattle.lrc_lang.specs.declared.program.Program.{Program};
+ghost use Rattle.lrc_protocol.specs.declared.event.Event.{Event};
+ghost use Rattle.lrc_protocol.specs.Node.{OptionsRecord};
+ghost use Rattle.lrc_protocol.specs.Log.{Logged};
+ghost use Rattle.lrc_protocol.specs.World.{World, run_of};
+ghost use Rattle.lrc_exec.specs.Plain.{setting_of};
+ghost use Rattle.lrc_invariants.specs.Shape.{HasShape};
+ghost use Rattle.lrc_invariants.specs.Waiting.{next_in, FixesNext};
+
+/// In every run each node keeps its setting and its options, and its time, its tokens and the askers that it notes have a
+/// place for each node or lock.
+pub fn nodes_keep_their_shape()
+    ensures setting { (program : Program) (nodes : ℕ) (options : OptionsRecord) (events : List Event) (world : World)
+        (n : ℕ) (l : Logged) → run_of program nodes options events ≡ Some world → slice_get world.nodes n ≡ Some l
+        → (l.node.setting ≡ setting_of program nodes n) × (l.node.options ≡ options) }
+    ensures shape { (program : Program) (nodes : ℕ) (options : OptionsRecord) (events : List Event) (world : World)
+        (n : ℕ) (l : Logged) → run_of program nodes options events ≡ Some world → slice_get world.nodes n ≡ Some l
+        → HasShape (setting_of program nodes n) l.node.locks }
+{}
+
+/// In every run what a node waits for fixes what its text does next: who waits for a lock's grant acquires that lock, who
+/// waits at a miss makes an access, and who is inside a barrier departs.
+pub fn waiting_fixes_the_next_act()
+    ensures { (program : Program) (nodes : ℕ) (options : OptionsRecord) (events : List Event) (world : World)
+        (n : ℕ) (l : Logged) → run_of program nodes options events ≡ Some world → slice_get world.nodes n ≡ Some l
+        → FixesNext l.node.mail.wait (next_in l.node.course) }
+{}
