@@ -2,3 +2,5 @@ pub mod Shift
 pub mod Inputs
 pub mod Waiting
 pub mod Shape
+pub mod Counts
+pub mod OwnEntry

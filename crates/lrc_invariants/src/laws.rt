@@ -1,6 +1,6 @@
 // What holds of every run, whatever its events. Each function is a theorem: its body is empty, and its clauses are the law.
 
-ghost use Rattle.std.specs.Prelude.{◌≡◌, ℕ, List, Some, slice_get};
+ghost use Rattle.std.specs.Prelude.{◌≡◌, ℕ, ◌+◌, List, Some, slice_get};
 ghost use Rattle.lrc_lang.specs.declared.program.Program.{Program};
 ghost use Rattle.lrc_protocol.specs.declared.event.Event.{Event};
 ghost use Rattle.lrc_protocol.specs.Node.{OptionsRecord};
@@ -8,6 +8,9 @@ ghost use Rattle.lrc_protocol.specs.Log.{Logged};
 ghost use Rattle.lrc_protocol.specs.World.{World, run_of};
 ghost use Rattle.lrc_exec.specs.Plain.{setting_of};
 ghost use Rattle.lrc_invariants.specs.Shape.{HasShape};
+ghost use Rattle.lrc_time.specs.Time.{entry};
+ghost use Rattle.lrc_theory.specs.Follows.{deeds_of};
+ghost use Rattle.lrc_invariants.specs.Counts.{closes, count, awaits_acquire};
 ghost use Rattle.lrc_invariants.specs.Waiting.{next_in, FixesNext};
 
 /// In every run each node keeps its setting and its options, and its time, its tokens and the askers that it notes have a
@@ -27,4 +30,12 @@ pub fn waiting_fixes_the_next_act()
     ensures { (program : Program) (nodes : ℕ) (options : OptionsRecord) (events : List Event) (world : World)
         (n : ℕ) (l : Logged) → run_of program nodes options events ≡ Some world → slice_get world.nodes n ≡ Some l
         → FixesNext l.node.mail.wait (next_in l.node.course) }
+{}
+
+/// In every run a node's own entry of its time counts the acts of its that close an interval, and one more exactly while
+/// it waits for a grant: the interval is closed when the lock is asked for, and the acquire comes with the grant.
+pub fn own_entry_counts_closes()
+    ensures { (program : Program) (nodes : ℕ) (options : OptionsRecord) (events : List Event) (world : World)
+        (n : ℕ) (l : Logged) → run_of program nodes options events ≡ Some world → slice_get world.nodes n ≡ Some l
+        → entry l.node.locks.time n ≡ count closes (deeds_of n world.acts) + awaits_acquire l.node.mail.wait }
 {}
