@@ -4,3 +4,4 @@ pub mod Waiting
 pub mod Shape
 pub mod Counts
 pub mod OwnEntry
+pub mod Episodes

@@ -10,7 +10,7 @@ ghost use Rattle.lrc_exec.specs.Plain.{setting_of};
 ghost use Rattle.lrc_invariants.specs.Shape.{HasShape};
 ghost use Rattle.lrc_time.specs.Time.{entry};
 ghost use Rattle.lrc_theory.specs.Follows.{deeds_of};
-ghost use Rattle.lrc_invariants.specs.Counts.{closes, count, awaits_acquire};
+ghost use Rattle.lrc_invariants.specs.Counts.{closes, is_arrive, is_depart, count, awaits_acquire, is_inside};
 ghost use Rattle.lrc_invariants.specs.Waiting.{next_in, FixesNext};
 
 /// In every run each node keeps its setting and its options, and its time, its tokens and the askers that it notes have a
@@ -38,4 +38,15 @@ pub fn own_entry_counts_closes()
     ensures { (program : Program) (nodes : ℕ) (options : OptionsRecord) (events : List Event) (world : World)
         (n : ℕ) (l : Logged) → run_of program nodes options events ≡ Some world → slice_get world.nodes n ≡ Some l
         → entry l.node.locks.time n ≡ count closes (deeds_of n world.acts) + awaits_acquire l.node.mail.wait }
+{}
+
+/// In every run a node's episode counts its arrivals at barriers, and it has departed as often, or once less exactly while
+/// it is inside a barrier.
+pub fn arrives_and_departs_count()
+    ensures arrives { (program : Program) (nodes : ℕ) (options : OptionsRecord) (events : List Event) (world : World)
+        (n : ℕ) (l : Logged) → run_of program nodes options events ≡ Some world → slice_get world.nodes n ≡ Some l
+        → l.node.barrier.episode ≡ count is_arrive (deeds_of n world.acts) }
+    ensures departs { (program : Program) (nodes : ℕ) (options : OptionsRecord) (events : List Event) (world : World)
+        (n : ℕ) (l : Logged) → run_of program nodes options events ≡ Some world → slice_get world.nodes n ≡ Some l
+        → count is_arrive (deeds_of n world.acts) ≡ count is_depart (deeds_of n world.acts) + is_inside l.node.mail.wait }
 {}
