@@ -5,3 +5,4 @@ pub mod Shape
 pub mod Counts
 pub mod OwnEntry
 pub mod Episodes
+pub mod Holding

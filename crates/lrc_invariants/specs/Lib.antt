@@ -1,3 +1,4 @@
 pub mod Shape
 pub mod Waiting
 pub mod Counts
+pub mod Tokens
