@@ -39,7 +39,7 @@ Goes t (acquires lock next) after = Takes t lock after
 Goes t (releases lock next) after = Drops t lock after
 Goes t _ after = Same t after
 
-abbrev Leads : Thread → Next → Type 0
+abbrev pub Leads : Thread → Next → Type 0
 Leads t (quiet after) = Same t after
 Leads t (prints v after) = Same t after
 Leads t (reads w after) = (v : ℕ) → Same t (after v)
@@ -103,7 +103,7 @@ leads t = leads_by t t.arrived
 
 -- ---- where a course goes on
 
-going_same : (t after : Thread) → going t ≡ going after → t ≡ after
+pub going_same : (t after : Thread) → going t ≡ going after → t ≡ after
 going_same t after e = same_Some t after (ap thread_of e)
 
 goes_by : (t : Thread) (value : ℕ) (next : Next) (after : Thread) → Leads t next → course_of value next ≡ going after → Goes t next after
@@ -137,3 +137,26 @@ went_by ended value next t n e = cc
 -- a text that goes on after its act came from a thread that went so
 pub went : (c after : Course) (deed : Option Deed) (next : Next) (t : Thread) → Acted c deed after → next_in c ≡ Some next → after ≡ going t → Went c next t
 went c after deed next t a n e = went_by c a.value next t n (sym a.course_is ∙ e)
+
+-- what a text does next, its thread does
+pub record Stands (c : Course) (next : Next) : Type 0 where
+  pub thread : Thread
+  pub course_is : c ≡ going thread
+  pub leads_so : Leads thread next
+
+pub stands : (c : Course) (next : Next) → next_in c ≡ Some next → Stands c next
+stands (going t) next n = record { thread = t; course_is = refl; leads_so = subst (Leads t) (same_Some (next_of t) next n) (leads t) }
+stands (trapped cause) next n = cc
+stands ended next n = cc
+
+trapped_goes : (cause : Cause) (t : Thread) → trapped cause ≡ going t → ⊥
+trapped_goes cause t e = cc
+
+ended_goes : (t : Thread) → ended ≡ going t → ⊥
+ended_goes t e = cc
+
+-- a text that goes on after an act came from one that went on
+pub goes_now : (c after : Course) (deed : Option Deed) (t : Thread) → Acted c deed after → after ≡ going t → (next : Next) × Went c next t
+goes_now (going t0) after deed t a e = (next_of t0, went (going t0) after deed (next_of t0) t a refl e)
+goes_now (trapped cause) after deed t a e = absurd (trapped_goes cause t (sym a.course_is ∙ e))
+goes_now ended after deed t a e = absurd (ended_goes t (sym a.course_is ∙ e))

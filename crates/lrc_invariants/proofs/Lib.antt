@@ -6,3 +6,6 @@ pub mod Counts
 pub mod OwnEntry
 pub mod Episodes
 pub mod Holding
+pub mod Tokens
+pub mod TextHolds
+pub mod Held

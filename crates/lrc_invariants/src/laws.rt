@@ -11,6 +11,7 @@ ghost use Rattle.lrc_invariants.specs.Shape.{HasShape};
 ghost use Rattle.lrc_time.specs.Time.{entry};
 ghost use Rattle.lrc_theory.specs.Follows.{deeds_of};
 ghost use Rattle.lrc_invariants.specs.Counts.{closes, is_arrive, is_depart, count, awaits_acquire, is_inside};
+ghost use Rattle.lrc_invariants.specs.Tokens.{HoldsTokens, AwaitsOne};
 ghost use Rattle.lrc_invariants.specs.Waiting.{next_in, FixesNext};
 
 /// In every run each node keeps its setting and its options, and its time, its tokens and the askers that it notes have a
@@ -49,4 +50,19 @@ pub fn arrives_and_departs_count()
     ensures departs { (program : Program) (nodes : ℕ) (options : OptionsRecord) (events : List Event) (world : World)
         (n : ℕ) (l : Logged) → run_of program nodes options events ≡ Some world → slice_get world.nodes n ≡ Some l
         → count is_arrive (deeds_of n world.acts) ≡ count is_depart (deeds_of n world.acts) + is_inside l.node.mail.wait }
+{}
+
+/// In every run, while a node's text goes on, it holds just the locks whose tokens its node holds.
+pub fn text_holds_what_is_held()
+    ensures { (program : Program) (nodes : ℕ) (options : OptionsRecord) (events : List Event) (world : World)
+        (n : ℕ) (l : Logged) → run_of program nodes options events ≡ Some world → slice_get world.nodes n ≡ Some l
+        → HoldsTokens l.node.course l.node.locks.held }
+{}
+
+/// In every run a node that waits for a lock's grant awaits that lock's token and no other, and a node that waits for no
+/// grant awaits none.
+pub fn waits_for_one_lock()
+    ensures { (program : Program) (nodes : ℕ) (options : OptionsRecord) (events : List Event) (world : World)
+        (n : ℕ) (l : Logged) → run_of program nodes options events ≡ Some world → slice_get world.nodes n ≡ Some l
+        → AwaitsOne l.node.mail.wait l.node.locks.held }
 {}
