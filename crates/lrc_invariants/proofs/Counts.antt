@@ -43,7 +43,7 @@ count_more test turns turn =
 
 -- ---- the deed that is made
 
-deed_next : (value : ℕ) (c : Course) (next : Next) → next_in c ≡ Some next → deed_in value c ≡ Some (deed_of value next)
+pub deed_next : (value : ℕ) (c : Course) (next : Next) → next_in c ≡ Some next → deed_in value c ≡ Some (deed_of value next)
 deed_next value (going t) next e = ap (λ n. Some (deed_of value n)) (same_Some (next_of t) next e)
 deed_next value (trapped cause) next e = cc
 deed_next value ended next e = cc
@@ -174,10 +174,10 @@ module _ (p : Part) (lt : p.me < length p.locks.time) (fits : FixesNext p.wait (
       let a : (after : Thread) × (next_in p.course ≡ Some (departs after)) = departure_next (next_in p.course) (next_then departure w) in
       stands (joined p.locks.time time) nothing deed (learned_entry p time l)
       (ap (λ x. x + 0) (made closes p.course after deed (departs a.0) 0 m a.1 (λ v. refl)) ∙ sym (was departure w))
-  own-kept _ _ _ _ deed after (collecting time {collection = c} {needs = ns} w l) m =
+  own-kept _ _ _ _ deed after (collecting time {collection = c} {needs = ns} w l same) m =
       stands (joined p.locks.time time) (upkeep c ns) deed (learned_entry p time l)
       (ap (λ x. x + 0) (none_made closes p.course after deed m) ∙ sym (was departure w))
-  own-kept _ _ _ _ deed after (clean_at_once time {collection = c} w l) m =
+  own-kept _ _ _ _ deed after (clean_at_once time {collection = c} w l same) m =
       stands (joined p.locks.time time) (discard c) deed (learned_entry p time l)
       (ap (λ x. x + 0) (none_made closes p.course after deed m) ∙ sym (was departure w))
   own-kept _ _ _ _ deed after (discarding collection w) m =
@@ -190,9 +190,9 @@ module _ (p : Part) (lt : p.me < length p.locks.time) (fits : FixesNext p.wait (
       (ap (λ x. x + 0) (made closes p.course after deed a.0 0 m a.1.0 (λ v. closes-plain v a.0 a.1.1)) ∙ sym (was (access need) w))
   own-kept _ _ _ _ deed after (still_misses before {need = need} w) m =
       stands p.locks.time (access need) deed refl (ap (λ x. x + 0) (none_made closes p.course after deed m) ∙ sym (was (access before) w))
-  own-kept _ _ _ _ deed after (still_collects before had {collection = c} {needs = ns} w) m =
+  own-kept _ _ _ _ deed after (still_collects before had {collection = c} {needs = ns} w same) m =
       stands p.locks.time (upkeep c ns) deed refl (ap (λ x. x + 0) (none_made closes p.course after deed m) ∙ sym (was (upkeep before had) w))
-  own-kept _ _ _ _ deed after (cleaning before had {collection = c} w) m =
+  own-kept _ _ _ _ deed after (cleaning before had {collection = c} w same) m =
       stands p.locks.time (discard c) deed refl (ap (λ x. x + 0) (none_made closes p.course after deed m) ∙ sym (was (upkeep before had) w))
   own-kept _ _ _ _ deed after rests m =
       stands p.locks.time p.wait deed refl (ap (λ x. x + awaits_acquire p.wait) (none_made closes p.course after deed m) ∙ omega arith)

@@ -98,8 +98,8 @@ module _ (p : Part) (fits : FixesNext p.wait (next_in p.course)) where
   steps-kept _ _ _ _ deed after (departing time w l) m =
       let a : (after : Thread) × (next_in p.course ≡ Some (departs after)) = departure_next (next_in p.course) (next_then departure w) in
       acted departure nothing p.episode deed after (departs a.0) 0 1 w m a.1 (λ v. refl) (λ v. refl) (omega arith) refl
-  steps-kept _ _ _ _ deed after (collecting time {collection = c} {needs = ns} w l) m = rested departure (upkeep c ns) deed after w m refl
-  steps-kept _ _ _ _ deed after (clean_at_once time {collection = c} w l) m = rested departure (discard c) deed after w m refl
+  steps-kept _ _ _ _ deed after (collecting time {collection = c} {needs = ns} w l same) m = rested departure (upkeep c ns) deed after w m refl
+  steps-kept _ _ _ _ deed after (clean_at_once time {collection = c} w l same) m = rested departure (discard c) deed after w m refl
   steps-kept _ _ _ _ deed after (discarding collection w) m =
       let a : (after : Thread) × (next_in p.course ≡ Some (departs after)) = departure_next (next_in p.course) (next_then (discard collection) w) in
       acted (discard collection) nothing p.episode deed after (departs a.0) 0 1 w m a.1 (λ v. refl) (λ v. refl) (omega arith) refl
@@ -107,8 +107,8 @@ module _ (p : Part) (fits : FixesNext p.wait (next_in p.course)) where
       let a : (next : Next) × ((next_in p.course ≡ Some next) × (is_plain next ≡ true)) = access_next (next_in p.course) (next_then (access need) w) in
       acted (access need) nothing p.episode deed after a.0 0 0 w m a.1.0 (λ v. arrive-plain v a.0 a.1.1) (λ v. depart-plain v a.0 a.1.1) (omega arith) refl
   steps-kept _ _ _ _ deed after (still_misses before {need = need} w) m = rested (access before) (access need) deed after w m refl
-  steps-kept _ _ _ _ deed after (still_collects before had {collection = c} {needs = ns} w) m = rested (upkeep before had) (upkeep c ns) deed after w m refl
-  steps-kept _ _ _ _ deed after (cleaning before had {collection = c} w) m = rested (upkeep before had) (discard c) deed after w m refl
+  steps-kept _ _ _ _ deed after (still_collects before had {collection = c} {needs = ns} w same) m = rested (upkeep before had) (upkeep c ns) deed after w m refl
+  steps-kept _ _ _ _ deed after (cleaning before had {collection = c} w same) m = rested (upkeep before had) (discard c) deed after w m refl
   steps-kept _ _ _ _ deed after rests m = rested p.wait p.wait deed after refl m refl
 
 rearranged : (k was a d is : ℕ) → was + a ≡ d + is → (k + was) + a ≡ (k + d) + is

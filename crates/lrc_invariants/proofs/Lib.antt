@@ -9,3 +9,4 @@ pub mod Holding
 pub mod Tokens
 pub mod TextHolds
 pub mod Held
+pub mod Present

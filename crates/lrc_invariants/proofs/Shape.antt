@@ -126,13 +126,13 @@ shape-kept p s e _ _ _ _ (grants lock time w k) h =
     learns_so s (with_held (held_after p.locks.held lock (granted p.locks.held lock)) p.locks) time (k.counted ∙ e)
     (holds s p.locks _ (step-place p.locks.held lock (granted p.locks.held lock)) h)
 shape-kept p s e _ _ _ _ (departing time w k) h = learns_so s p.locks time (k.counted ∙ e) h
-shape-kept p s e _ _ _ _ (collecting time w k) h = learns_so s p.locks time (k.counted ∙ e) h
-shape-kept p s e _ _ _ _ (clean_at_once time w k) h = learns_so s p.locks time (k.counted ∙ e) h
+shape-kept p s e _ _ _ _ (collecting time w k same) h = learns_so s p.locks time (k.counted ∙ e) h
+shape-kept p s e _ _ _ _ (clean_at_once time w k same) h = learns_so s p.locks time (k.counted ∙ e) h
 shape-kept p s e _ _ _ _ (discarding collection w) h = h
 shape-kept p s e _ _ _ _ (accessing need w) h = h
 shape-kept p s e _ _ _ _ (still_misses before w) h = h
-shape-kept p s e _ _ _ _ (still_collects before had w) h = h
-shape-kept p s e _ _ _ _ (cleaning before had w) h = h
+shape-kept p s e _ _ _ _ (still_collects before had w same) h = h
+shape-kept p s e _ _ _ _ (cleaning before had w same) h = h
 shape-kept p s e _ _ _ _ rests h = h
 
 -- of a node

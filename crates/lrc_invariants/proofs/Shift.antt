@@ -120,16 +120,16 @@ pub data Shift (p : Part) : Bool → Wait → Locks → ℕ → Type 0 where
   grants : (lock : ℕ) (time : List ℕ) → p.wait ≡ grant lock → Learnable p time
       → Shift p true nothing (with_time time (with_held (held_after p.locks.held lock (granted p.locks.held lock)) p.locks)) p.episode
   departing : (time : List ℕ) → p.wait ≡ departure → Learnable p time → Shift p true nothing (with_time time p.locks) p.episode
-  collecting : (time : List ℕ) {collection : Collection} {needs : List Need} → p.wait ≡ departure → Learnable p time
+  collecting : (time : List ℕ) {collection : Collection} {needs : List Need} → p.wait ≡ departure → Learnable p time → collection.time ≡ time
       → Shift p false (upkeep collection needs) (with_time time p.locks) p.episode
-  clean_at_once : (time : List ℕ) {collection : Collection} → p.wait ≡ departure → Learnable p time
+  clean_at_once : (time : List ℕ) {collection : Collection} → p.wait ≡ departure → Learnable p time → collection.time ≡ time
       → Shift p false (discard collection) (with_time time p.locks) p.episode
   discarding : (collection : Collection) → p.wait ≡ discard collection → Shift p true nothing p.locks p.episode
   accessing : (need : Need) → p.wait ≡ access need → Shift p true nothing p.locks p.episode
   still_misses : (before : Need) {need : Need} → p.wait ≡ access before → Shift p false (access need) p.locks p.episode
-  still_collects : (before : Collection) (had : List Need) {collection : Collection} {needs : List Need} → p.wait ≡ upkeep before had
+  still_collects : (before : Collection) (had : List Need) {collection : Collection} {needs : List Need} → p.wait ≡ upkeep before had → collection.time ≡ before.time
       → Shift p false (upkeep collection needs) p.locks p.episode
-  cleaning : (before : Collection) (had : List Need) {collection : Collection} → p.wait ≡ upkeep before had
+  cleaning : (before : Collection) (had : List Need) {collection : Collection} → p.wait ≡ upkeep before had → collection.time ≡ before.time
       → Shift p false (discard collection) p.locks p.episode
   rests : Shift p false p.wait p.locks p.episode
 
@@ -276,8 +276,8 @@ comes-shifts p node change (access need) e c l b =
     (λ unmet. sends-shifts p [] _ c (subst (λ locks. Shift p false (access (change need)) locks node.barrier.episode) (sym l) (subst (Shift p false (access (change need)) p.locks) (sym b) (still_misses need e))))
 comes-shifts p node change (upkeep collection needs) e c l b =
     either p (list_all is_met (map change needs)) _ _
-    (λ met. sends-shifts p _ _ c (subst (λ locks. Shift p false (discard collection) locks node.barrier.episode) (sym l) (subst (Shift p false (discard collection) p.locks) (sym b) (cleaning collection needs e))))
-    (λ unmet. sends-shifts p [] _ c (subst (λ locks. Shift p false (upkeep collection (map change needs)) locks node.barrier.episode) (sym l) (subst (Shift p false (upkeep collection (map change needs)) p.locks) (sym b) (still_collects collection needs e))))
+    (λ met. sends-shifts p _ _ c (subst (λ locks. Shift p false (discard collection) locks node.barrier.episode) (sym l) (subst (Shift p false (discard collection) p.locks) (sym b) (cleaning collection needs e refl))))
+    (λ unmet. sends-shifts p [] _ c (subst (λ locks. Shift p false (upkeep collection (map change needs)) locks node.barrier.episode) (sym l) (subst (Shift p false (upkeep collection (map change needs)) p.locks) (sym b) (still_collects collection needs e refl))))
 comes-shifts p node change nothing e c l b = same_wait p node nothing e c l b
 comes-shifts p node change (grant lock) e c l b = same_wait p node (grant lock) e c l b
 comes-shifts p node change departure e c l b = same_wait p node departure e c l b
@@ -318,8 +318,8 @@ depart-shifts node collect time intervals w k =
     let collection : Collection = record { time = time; kept = kept } in
     either (part_of node) collect _ _
     (λ c. either (part_of node) (list_all is_met needs) _ _
-    (λ met. sends-shifts (part_of node) _ _ refl (clean_at_once time {collection = collection} w k))
-    (λ unmet. sends-shifts (part_of node) _ _ refl (collecting time {collection = collection} {needs = needs} w k)))
+    (λ met. sends-shifts (part_of node) _ _ refl (clean_at_once time {collection = collection} w k refl))
+    (λ unmet. sends-shifts (part_of node) _ _ refl (collecting time {collection = collection} {needs = needs} w k refl)))
     (λ c. acts-shifts (part_of node) [] _ refl (departing time w k))
 
 -- an expected message, its number taken

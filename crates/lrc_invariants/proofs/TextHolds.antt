@@ -187,8 +187,8 @@ module _ (p : Part) (s : Setting) (few : s.locks ≤ 64) (count : length p.locks
   holds-kept _ _ _ _ deed after (departing time w k) m =
       let next : (x : Thread) × (next_in p.course ≡ Some (departs x)) = departure_next (next_in p.course) (next_then departure w) in
       acted deed after (departs next.0) m next.1 (λ t x g. g)
-  holds-kept _ _ _ _ deed after (collecting time w k) m = rested p.locks.held deed after m (λ l. refl)
-  holds-kept _ _ _ _ deed after (clean_at_once time w k) m = rested p.locks.held deed after m (λ l. refl)
+  holds-kept _ _ _ _ deed after (collecting time w k same) m = rested p.locks.held deed after m (λ l. refl)
+  holds-kept _ _ _ _ deed after (clean_at_once time w k same) m = rested p.locks.held deed after m (λ l. refl)
   holds-kept _ _ _ _ deed after (discarding collection w) m =
       let next : (x : Thread) × (next_in p.course ≡ Some (departs x)) = departure_next (next_in p.course) (next_then (discard collection) w) in
       acted deed after (departs next.0) m next.1 (λ t x g. g)
@@ -196,6 +196,6 @@ module _ (p : Part) (s : Setting) (few : s.locks ≤ 64) (count : length p.locks
       let next : (next : Next) × ((next_in p.course ≡ Some next) × (is_plain next ≡ true)) = access_next (next_in p.course) (next_then (access need) w) in
       acted deed after next.0 m next.1.0 (λ t x g. plain_same t x next.0 next.1.1 g)
   holds-kept _ _ _ _ deed after (still_misses before w) m = rested p.locks.held deed after m (λ l. refl)
-  holds-kept _ _ _ _ deed after (still_collects before had w) m = rested p.locks.held deed after m (λ l. refl)
-  holds-kept _ _ _ _ deed after (cleaning before had w) m = rested p.locks.held deed after m (λ l. refl)
+  holds-kept _ _ _ _ deed after (still_collects before had w same) m = rested p.locks.held deed after m (λ l. refl)
+  holds-kept _ _ _ _ deed after (cleaning before had w same) m = rested p.locks.held deed after m (λ l. refl)
   holds-kept _ _ _ _ deed after rests m = rested p.locks.held deed after m (λ l. refl)

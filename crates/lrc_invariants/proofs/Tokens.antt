@@ -159,11 +159,11 @@ module _ (p : Part) (s : Setting) (count : length p.locks.held.locks ≡ s.locks
       (subst (λ k. lock < k) (sym count) (below lock (subst (λ w. FixesNext w (next_in p.course)) w fits)))
       (awaits_it p.locks.held lock it) it
   awaits-kept below _ _ _ _ (departing time w k) = awaits_for p departure w a
-  awaits-kept below _ _ _ _ (collecting time w k) = awaits_for p departure w a
-  awaits-kept below _ _ _ _ (clean_at_once time w k) = awaits_for p departure w a
+  awaits-kept below _ _ _ _ (collecting time w k same) = awaits_for p departure w a
+  awaits-kept below _ _ _ _ (clean_at_once time w k same) = awaits_for p departure w a
   awaits-kept below _ _ _ _ (discarding collection w) = awaits_for p (discard collection) w a
   awaits-kept below _ _ _ _ (accessing need w) = awaits_for p (access need) w a
   awaits-kept below _ _ _ _ (still_misses before w) = awaits_for p (access before) w a
-  awaits-kept below _ _ _ _ (still_collects before had w) = awaits_for p (upkeep before had) w a
-  awaits-kept below _ _ _ _ (cleaning before had w) = awaits_for p (upkeep before had) w a
+  awaits-kept below _ _ _ _ (still_collects before had w same) = awaits_for p (upkeep before had) w a
+  awaits-kept below _ _ _ _ (cleaning before had w same) = awaits_for p (upkeep before had) w a
   awaits-kept below _ _ _ _ rests = a

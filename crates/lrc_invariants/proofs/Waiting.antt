@@ -203,16 +203,16 @@ fits-kept p _ _ _ _ deed after (grants lock time w k) m f =
     after_act p.course after deed m ∙ not_by_lock (next_in p.course) lock (awaited p (grant lock) w f)
 fits-kept p _ _ _ _ deed after (departing time w k) m f =
     after_act p.course after deed m ∙ not_by_departure (next_in p.course) (awaited p departure w f)
-fits-kept p _ _ _ _ deed after (collecting time {collection = c} {needs = ns} w k) m f = rested (upkeep c ns) p.course after deed m (awaited p departure w f)
-fits-kept p _ _ _ _ deed after (clean_at_once time {collection = c} w k) m f = rested (discard c) p.course after deed m (awaited p departure w f)
+fits-kept p _ _ _ _ deed after (collecting time {collection = c} {needs = ns} w k same) m f = rested (upkeep c ns) p.course after deed m (awaited p departure w f)
+fits-kept p _ _ _ _ deed after (clean_at_once time {collection = c} w k same) m f = rested (discard c) p.course after deed m (awaited p departure w f)
 fits-kept p _ _ _ _ deed after (discarding collection w) m f =
     after_act p.course after deed m ∙ not_by_departure (next_in p.course) (awaited p (discard collection) w f)
 fits-kept p _ _ _ _ deed after (accessing need w) m f =
     after_act p.course after deed m ∙ not_by_access (next_in p.course) (awaited p (access need) w f)
 fits-kept p _ _ _ _ deed after (still_misses before {need = need} w) m f = rested (access need) p.course after deed m (awaited p (access before) w f)
-fits-kept p _ _ _ _ deed after (still_collects before had {collection = c} {needs = ns} w) m f =
+fits-kept p _ _ _ _ deed after (still_collects before had {collection = c} {needs = ns} w same) m f =
     rested (upkeep c ns) p.course after deed m (awaited p (upkeep before had) w f)
-fits-kept p _ _ _ _ deed after (cleaning before had {collection = c} w) m f = rested (discard c) p.course after deed m (awaited p (upkeep before had) w f)
+fits-kept p _ _ _ _ deed after (cleaning before had {collection = c} w same) m f = rested (discard c) p.course after deed m (awaited p (upkeep before had) w f)
 fits-kept p _ _ _ _ deed after rests m f = rested p.wait p.course after deed m f
 
 -- of a node

@@ -2,3 +2,4 @@ pub mod Shape
 pub mod Waiting
 pub mod Counts
 pub mod Tokens
+pub mod Present
