@@ -10,3 +10,4 @@ pub mod Tokens
 pub mod TextHolds
 pub mod Held
 pub mod Present
+pub mod PresentTimes

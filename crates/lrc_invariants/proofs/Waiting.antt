@@ -189,7 +189,7 @@ rested : (w : Wait) (before after : Course) (deed : Option Deed) → Rested befo
     → FixesNext w (next_in before) → FixesNext w (next_in after)
 rested w before after deed r f = subst (λ c. FixesNext w (next_in c)) (sym r.course_is) f
 
-fits-kept : (p : Part) (acts : Bool) (wait : Wait) (locks : Locks) (episode : ℕ) (deed : Option Deed) (after : Course)
+pub fits-kept : (p : Part) (acts : Bool) (wait : Wait) (locks : Locks) (episode : ℕ) (deed : Option Deed) (after : Course)
     → Shift p acts wait locks episode → Moved acts p.course deed after → Fits p → FixesNext wait (next_in after)
 fits-kept p _ _ _ _ deed after (plain next w n is) m f = after_act p.course after deed m ∙ ap is_arriving n ∙ plain_arrives next is
 fits-kept p _ _ _ _ deed after (misses {need = need} w n) m f = rested (access need) p.course after deed m n

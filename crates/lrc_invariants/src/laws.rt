@@ -1,6 +1,6 @@
 // What holds of every run, whatever its events. Each function is a theorem: its body is empty, and its clauses are the law.
 
-ghost use Rattle.std.specs.Prelude.{◌≡◌, ℕ, ◌+◌, List, Some, slice_get};
+ghost use Rattle.std.specs.Prelude.{◌≡◌, ℕ, ◌+◌, List, Some, length, slice_get};
 ghost use Rattle.lrc_lang.specs.declared.program.Program.{Program};
 ghost use Rattle.lrc_protocol.specs.declared.event.Event.{Event};
 ghost use Rattle.lrc_protocol.specs.Node.{OptionsRecord};
@@ -12,6 +12,8 @@ ghost use Rattle.lrc_time.specs.Time.{entry};
 ghost use Rattle.lrc_theory.specs.Follows.{deeds_of};
 ghost use Rattle.lrc_invariants.specs.Counts.{closes, is_arrive, is_depart, count, awaits_acquire, is_inside};
 ghost use Rattle.lrc_invariants.specs.Tokens.{HoldsTokens, AwaitsOne};
+ghost use Rattle.lrc_invariants.specs.Present.{IsPresent};
+ghost use Rattle.lrc_clock.specs.Times.{time_before};
 ghost use Rattle.lrc_invariants.specs.Waiting.{next_in, FixesNext};
 
 /// In every run each node keeps its setting and its options, and its time, its tokens and the askers that it notes have a
@@ -65,4 +67,12 @@ pub fn waits_for_one_lock()
     ensures { (program : Program) (nodes : ℕ) (options : OptionsRecord) (events : List Event) (world : World)
         (n : ℕ) (l : Logged) → run_of program nodes options events ≡ Some world → slice_get world.nodes n ≡ Some l
         → AwaitsOne l.node.mail.wait l.node.locks.held }
+{}
+
+/// In every run a node's time is that of its last act, or zeros before any. Where it waits for a grant its own entry is one
+/// greater, for the interval that it has closed; and in a collection it has learned the barrier's time already.
+pub fn node_time_is_that_of_its_last_act()
+    ensures { (program : Program) (nodes : ℕ) (options : OptionsRecord) (events : List Event) (world : World)
+        (n : ℕ) (l : Logged) → run_of program nodes options events ≡ Some world → slice_get world.nodes n ≡ Some l
+        → IsPresent n l.node.mail.wait (time_before nodes world.acts world.times n (length world.acts)) l.node.locks.time }
 {}
