@@ -208,7 +208,8 @@ module _ (program : Program) (nodes : ℕ) (options : OptionsRecord) where
 
   -- ---- at the start
 
-  fresh_at : (a k n : ℕ) (l : Logged)
+  -- the fresh node at a place
+  pub fresh_at : (a k n : ℕ) (l : Logged)
       → slice_get (map (λ (node : Node). record { node = node; log = [] }) (map (fresh_node program nodes options) (range_with_len a k))) n ≡ Some l
       → l ≡ record { node = fresh_node program nodes options (a + n); log = [] }
   fresh_at a zero n l e = cc

@@ -1,0 +1,13 @@
+pub mod Shift
+pub mod Inputs
+pub mod Waiting
+pub mod Shape
+pub mod Counts
+pub mod OwnEntry
+pub mod Episodes
+pub mod Holding
+pub mod Tokens
+pub mod TextHolds
+pub mod Held
+pub mod Present
+pub mod PresentTimes

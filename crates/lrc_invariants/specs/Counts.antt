@@ -1,0 +1,36 @@
+-- Counts of what a node has done: intervals closed, arrivals and departures.
+use Rattle.std.specs.Prelude.{◌≡◌, ℕ, ◌+◌, Bool, true, false, List, length, filter}
+use Rattle.lrc_trace.specs.declared.act.Deed.{Deed}
+use Rattle.lrc_trace.specs.declared.act.Deed.TheVariants.{Acquire, Release, Arrive, Depart}
+use Rattle.lrc_protocol.specs.Mail.{Wait, nothing, grant, departure, access, upkeep, discard}
+
+-- whether a deed closes an interval, arrives at a barrier, or departs from it
+abbrev pub closes : Deed → Bool
+closes (Acquire lock) = true
+closes (Release lock) = true
+closes Arrive = true
+closes _ = false
+
+abbrev pub is_arrive : Deed → Bool
+is_arrive Arrive = true
+is_arrive _ = false
+
+abbrev pub is_depart : Deed → Bool
+is_depart Depart = true
+is_depart _ = false
+
+-- how many of these deeds are so
+abbrev pub count : (Deed → Bool) → List Deed → ℕ
+count test deeds = length (filter test deeds)
+
+-- 1 for who waits for a grant: the interval is closed, and the acquire is still to come
+abbrev pub awaits_acquire : Wait → ℕ
+awaits_acquire (grant lock) = 1
+awaits_acquire _ = 0
+
+-- 1 for who is inside a barrier: it has arrived, and the departure is still to come
+abbrev pub is_inside : Wait → ℕ
+is_inside departure = 1
+is_inside (upkeep collection needs) = 1
+is_inside (discard collection) = 1
+is_inside _ = 0

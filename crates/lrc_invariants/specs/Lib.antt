@@ -1,0 +1,5 @@
+pub mod Shape
+pub mod Waiting
+pub mod Counts
+pub mod Tokens
+pub mod Present

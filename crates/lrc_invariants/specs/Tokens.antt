@@ -1,0 +1,23 @@
+-- The tokens at one node: what the text holds, and what is awaited.
+use Rattle.std.specs.Prelude.{◌≡◌, ℕ, Bool, true, false}
+use Rattle.lrc_exec.specs.Meaning.{Thread, holds}
+use Rattle.lrc_lock.specs.declared.state.LockState.{LockState}
+use Rattle.lrc_lock.specs.declared.state.LockState.TheVariants.{Away, Awaited, Free, Held}
+use Rattle.lrc_lock.specs.Held.{HeldRecord, lock_at, is_held}
+use Rattle.lrc_protocol.specs.Course.{Course, going}
+use Rattle.lrc_protocol.specs.Mail.{Wait, awaits_grant}
+
+-- the node has asked for the token, and it has not come
+abbrev pub is_awaited : LockState → Bool
+is_awaited Away = false
+is_awaited (Awaited successor) = true
+is_awaited (Free kept) = false
+is_awaited (Held successor) = false
+
+-- a text that goes on holds just the locks whose tokens are held
+abbrev pub HoldsTokens : Course → HeldRecord → Type 0
+HoldsTokens course held = (thread : Thread) → course ≡ going thread → (lock : ℕ) → holds thread lock ≡ is_held (lock_at held lock)
+
+-- who waits for a lock's grant awaits that token and no other, and nobody else awaits one
+abbrev pub AwaitsOne : Wait → HeldRecord → Type 0
+AwaitsOne wait held = (lock : ℕ) → is_awaited (lock_at held lock) ≡ awaits_grant lock wait

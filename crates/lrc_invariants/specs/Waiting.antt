@@ -1,0 +1,36 @@
+-- What a node waits for fixes what its text does next.
+use Rattle.std.specs.Prelude.{◌≡◌, ℕ, Bool, true, false, Option, Some, None}
+use Rattle.lrc_exec.specs.Meaning.{Next, quiet, prints, reads, writes, acquires, releases, arrives, departs, traps, ends, next_of}
+use Rattle.lrc_protocol.specs.Course.{Course, going, trapped, ended}
+use Rattle.lrc_protocol.specs.Mail.{Wait, nothing, grant, departure, access, upkeep, discard}
+
+-- what a text does next, and none once it has stopped
+abbrev pub next_in : Course → Option Next
+next_in (going thread) = Some (next_of thread)
+next_in (trapped cause) = None
+next_in ended = None
+
+-- whether that is a departure, and whether it is a read or a write
+abbrev pub is_departing : Option Next → Bool
+is_departing (Some (departs after)) = true
+is_departing _ = false
+
+abbrev pub is_access : Option Next → Bool
+is_access (Some (reads word after)) = true
+is_access (Some (writes word value after)) = true
+is_access _ = false
+
+-- the lock that the text acquires next
+abbrev pub acquiring : Option Next → Option ℕ
+acquiring (Some (acquires lock after)) = Some lock
+acquiring _ = None
+
+-- Who waits for a lock's grant acquires that lock next; who waits for pages at a miss makes an access; who is inside a
+-- barrier departs next, and nobody else does.
+abbrev pub FixesNext : Wait → Option Next → Type 0
+FixesNext nothing next = is_departing next ≡ false
+FixesNext (grant lock) next = acquiring next ≡ Some lock
+FixesNext departure next = is_departing next ≡ true
+FixesNext (access need) next = is_access next ≡ true
+FixesNext (upkeep collection needs) next = is_departing next ≡ true
+FixesNext (discard collection) next = is_departing next ≡ true

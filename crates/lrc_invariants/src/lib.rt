@@ -1,0 +1,4 @@
+//! What holds of every run of the protocol machine, whatever its events: the invariants of synchronization. Laws alone.
+#![tactic(auto)]
+
+pub mod laws;
