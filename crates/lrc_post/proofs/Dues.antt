@@ -1,7 +1,6 @@
 -- What changes in a list of numbers, each as often as it is due, when one number is due once less.
 use Rattle.std.proofs.Common.{◌≡◌, ℕ, zero, suc, ◌+◌, ◌-◌, ◌<◌, ◌∙◌, ◌⊎◌, inl, inr, List, [], ◌∷◌, ◌++◌, length, get_or, take, drop, replicate, refl, sym, ap, ⊎_elim, arith}
 use Rattle.std.specs.Prelude.{Some, slice_get}
-use Rattle.std.proofs.lemmas.Bool.{cases_eq}
 use Rattle.std.proofs.lemmas.Grind.{common_steps, replicate_next}
 use Rattle.std.proofs.lemmas.List.{append-nil, append_cancel_right, get_or_push, take_more, take_all, length-append}
 use Rattle.std.proofs.lemmas.Option.{slice_get_within, get_or_from_slice_get}
@@ -36,13 +35,13 @@ first_due f zero p rest is = grind (arith, ap length is)
 first_due f (suc n) p rest is =
     ⊎_elim
     (λ (none : (each_due f n ≡ []) × (replicate (f n) n ≡ p ∷ rest)).
-        let copy = first_copy n p (f n) rest none.1 in
-        let here : n ≡ p = copy.2 in
-        let many : f n ≡ suc copy.0 = copy.1 in
-        (omega (arith, here), rw (sym here) (omega (arith, many))))
+    let copy = first_copy n p (f n) rest none.1 in
+    let here : n ≡ p = copy.2 in
+    let many : f n ≡ suc copy.0 = copy.1 in
+    (omega (arith, here), rw (sym here) (omega (arith, many))))
     (λ (some : (more : List ℕ) × (each_due f n ≡ p ∷ more) × (more ++ replicate (f n) n ≡ rest)).
-        let before = first_due f n p some.0 some.1 in
-        (omega (arith, before.0), before.1))
+    let before = first_due f n p some.0 some.1 in
+    (omega (arith, before.0), before.1))
     (first_of p rest (each_due f n) (replicate (f n) n) is)
 
 -- once the first is due once less, the others are left
@@ -53,27 +52,27 @@ oldest_given f g zero p rest is same less = grind (arith, ap length is)
 oldest_given f g (suc n) p rest is same less =
     ⊎_elim
     (λ (none : (each_due f n ≡ []) × (replicate (f n) n ≡ p ∷ rest)).
-        let copy = first_copy n p (f n) rest none.1 in
-        let here : n ≡ p = copy.2 in
-        let many : f n ≡ suc copy.0 = copy.1 in
-        let less_here : f n ≡ suc (g n) = rw here less in
-        let left : g n ≡ copy.0 = omega (arith, many, less_here) in
-        let below : each_due g n ≡ each_due f n = same_due f g n (λ k h. same k (omega arith) (λ e. omega (arith, e, here))) in
-        ap (λ xs. xs ++ replicate (g n) n) (below ∙ none.0) ∙ ap (λ m. replicate m n) left ∙ copy.3)
+    let copy = first_copy n p (f n) rest none.1 in
+    let here : n ≡ p = copy.2 in
+    let many : f n ≡ suc copy.0 = copy.1 in
+    let less_here : f n ≡ suc (g n) = rw here less in
+    let left : g n ≡ copy.0 = omega (arith, many, less_here) in
+    let below : each_due g n ≡ each_due f n = same_due f g n (λ k h. same k (omega arith) (λ e. omega (arith, e, here))) in
+    ap (λ xs. xs ++ replicate (g n) n) (below ∙ none.0) ∙ ap (λ m. replicate m n) left ∙ copy.3)
     (λ (some : (more : List ℕ) × (each_due f n ≡ p ∷ more) × (more ++ replicate (f n) n ≡ rest)).
-        let before = first_due f n p some.0 some.1 in
-        let below : each_due g n ≡ some.0 = oldest_given f g n p some.0 some.1 (λ k h. same k (omega arith)) less in
-        let here : g n ≡ f n = same n (omega arith) (λ e. omega (arith, e, before.0)) in
-        ap (λ xs. xs ++ replicate (g n) n) below ∙ ap (λ m. some.0 ++ replicate m n) here ∙ some.2)
+    let before = first_due f n p some.0 some.1 in
+    let below : each_due g n ≡ some.0 = oldest_given f g n p some.0 some.1 (λ k h. same k (omega arith)) less in
+    let here : g n ≡ f n = same n (omega arith) (λ e. omega (arith, e, before.0)) in
+    ap (λ xs. xs ++ replicate (g n) n) below ∙ ap (λ m. some.0 ++ replicate m n) here ∙ some.2)
     (first_of p rest (each_due f n) (replicate (f n) n) is)
 
 -- two lists with a last element are the same only where both parts are
 same_last : (xs ys : List ℕ) (x y : ℕ) → xs ++ x ∷ [] ≡ ys ++ y ∷ [] → (xs ≡ ys) × (x ≡ y)
 same_last xs ys x y is =
     let long : length xs ≡ length ys =
-        omega (arith, sym (length-append xs (x ∷ [])) ∙ ap length is ∙ length-append ys (y ∷ [])) in
+    omega (arith, sym (length-append xs (x ∷ [])) ∙ ap length is ∙ length-append ys (y ∷ [])) in
     let same : x ≡ y =
-        sym (get_or_push xs x 0 (length xs) refl) ∙ ap (λ l. get_or l (length xs) 0) is ∙ get_or_push ys y 0 (length xs) (sym long) in
+    sym (get_or_push xs x 0 (length xs) refl) ∙ ap (λ l. get_or l (length xs) 0) is ∙ get_or_push ys y 0 (length xs) (sym long) in
     (append_cancel_right xs ys (y ∷ []) (ap (λ z. xs ++ z ∷ []) (sym same) ∙ is), same)
 
 -- no numbers have no last
@@ -103,11 +102,11 @@ last_due f zero p front is = absurd (no_last front p is)
 last_due f (suc n) p front is =
     ⊎_elim
     (λ (none : f n ≡ 0).
-        let before = last_due f n p front (sym (none_here f n none) ∙ is) in
-        (omega (arith, before.0), before.1))
+    let before = last_due f n p front (sym (none_here f n none) ∙ is) in
+    (omega (arith, before.0), before.1))
     (λ (some : (j : ℕ) × (f n ≡ suc j)).
-        let here : n ≡ p = (same_last (each_due f n ++ replicate some.0 n) front n p (sym (last_copy f n some.0 some.1) ∙ is)).1 in
-        (omega (arith, here), rw (sym here) (omega (arith, some.1))))
+    let here : n ≡ p = (same_last (each_due f n ++ replicate some.0 n) front n p (sym (last_copy f n some.0 some.1) ∙ is)).1 in
+    (omega (arith, here), rw (sym here) (omega (arith, some.1))))
     (due_or_not (f n))
 
 -- once the last is due once less, the others are left
@@ -118,17 +117,17 @@ newest_given f g zero p front is same less = absurd (no_last front p is)
 newest_given f g (suc n) p front is same less =
     ⊎_elim
     (λ (none : f n ≡ 0).
-        let was : each_due f n ≡ front ++ p ∷ [] = sym (none_here f n none) ∙ is in
-        let before = last_due f n p front was in
-        let here : g n ≡ f n = same n (omega arith) (λ e. omega (arith, e, before.0)) in
-        none_here g n (here ∙ none) ∙ newest_given f g n p front was (λ k h. same k (omega arith)) less)
+    let was : each_due f n ≡ front ++ p ∷ [] = sym (none_here f n none) ∙ is in
+    let before = last_due f n p front was in
+    let here : g n ≡ f n = same n (omega arith) (λ e. omega (arith, e, before.0)) in
+    none_here g n (here ∙ none) ∙ newest_given f g n p front was (λ k h. same k (omega arith)) less)
     (λ (some : (j : ℕ) × (f n ≡ suc j)).
-        let parts = same_last (each_due f n ++ replicate some.0 n) front n p (sym (last_copy f n some.0 some.1) ∙ is) in
-        let here : n ≡ p = parts.1 in
-        let less_here : f n ≡ suc (g n) = rw here less in
-        let left : g n ≡ some.0 = omega (arith, some.1, less_here) in
-        let below : each_due g n ≡ each_due f n = same_due f g n (λ k h. same k (omega arith) (λ e. omega (arith, e, here))) in
-        ap (λ xs. xs ++ replicate (g n) n) below ∙ ap (λ m. each_due f n ++ replicate m n) left ∙ parts.0)
+    let parts = same_last (each_due f n ++ replicate some.0 n) front n p (sym (last_copy f n some.0 some.1) ∙ is) in
+    let here : n ≡ p = parts.1 in
+    let less_here : f n ≡ suc (g n) = rw here less in
+    let left : g n ≡ some.0 = omega (arith, some.1, less_here) in
+    let below : each_due g n ≡ each_due f n = same_due f g n (λ k h. same k (omega arith) (λ e. omega (arith, e, here))) in
+    ap (λ xs. xs ++ replicate (g n) n) below ∙ ap (λ m. each_due f n ++ replicate m n) left ∙ parts.0)
     (due_or_not (f n))
 
 -- a list that has a first element

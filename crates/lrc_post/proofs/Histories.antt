@@ -1,13 +1,12 @@
 -- What a put and a take do to a legal history and to what is in flight.
-use Rattle.std.proofs.Common.{◌≡◌, ℕ, zero, suc, ◌+◌, ◌-◌, ◌<◌, ◌≤◌, ◌∙◌, ◌⊎◌, inl, inr, cond, Bool, false, true, List, [], ◌∷◌, ◌++◌, length, replicate, refl, sym, ap, subst, ⊎_elim, arith, length-append}
-use Rattle.std.specs.Prelude.{Option, Some, None, slice_get, ◌==◌}
+use Rattle.std.proofs.Common.{◌≡◌, ℕ, zero, suc, ◌+◌, ◌-◌, ◌<◌, ◌≤◌, ◌∙◌, cond, Bool, false, List, [], ◌∷◌, ◌++◌, length, replicate, refl, sym, ap, subst, ⊎_elim, arith, length-append}
+use Rattle.std.specs.Prelude.{Option, Some, None, slice_get}
 use Rattle.std.specs.List.{count_by}
 use Rattle.std.proofs.lemmas.Bool.{cases_eq, eq-eqb, ne_eqb}
 use Rattle.std.proofs.lemmas.List.{append-nil}
 use Rattle.std.proofs.lemmas.List.Sums.{sum_by_push, sum_by-cons}
 use Rattle.std.proofs.lemmas.Option.{slice_get_within, same_Some}
 use Rattle.lrc_wire.specs.declared.picker.Picker.{Picker}
-use Rattle.lrc_wire.specs.declared.picker.Picker.TheVariants.{Oldest, Newest, Twice}
 use Rattle.lrc_post.specs.declared.parcel.Parcel.{Parcel}
 use Rattle.lrc_post.specs.declared.parcel.Wire.{Wire}
 use Rattle.lrc_post.specs.declared.parcel.Wire.TheVariants.{Put, Took}
@@ -33,9 +32,11 @@ length_more history more = grind (arith, length-append history (more ∷ []))
 stays_legal : (owner : ℕ) (history : List Wire) (more : Wire) (place : ℕ) (wire : Wire) → place ≤ length history
     → IsLegalAt owner history place wire → IsLegalAt owner (history ++ more ∷ []) place wire
 stays_legal owner history more place (Put from to stamp bytes) within legal = legal
-stays_legal owner history more place (Took me put) within legal =
-    (legal.0, legal.1,
-    subst (IsPutFor owner) (sym (get_front history more put (omega (arith, within, legal.1)))) legal.2)
+stays_legal owner history more place (Took me put) within legal = (
+  legal.0,
+  legal.1,
+  subst (IsPutFor owner) (sym (get_front history more put (omega (arith, within, legal.1)))) legal.2,
+)
 
 legal_more : (owner : ℕ) (history : List Wire) (more : Wire) → IsLegal owner history
     → IsLegalAt owner history (length history) more → IsLegal owner (history ++ more ∷ [])
@@ -43,14 +44,14 @@ legal_more owner history more legal next place wire at =
     let within : place < length history + 1 = omega (arith, slice_get_within (history ++ more ∷ []) place wire at, length_more history more) in
     ⊎_elim
     (λ (here : place ≡ length history).
-        let same : more ≡ wire =
-            same_Some more wire (sym (get_last history more) ∙ ap (slice_get (history ++ more ∷ [])) (sym here) ∙ at) in
-        stays_legal owner history more place wire (omega (arith, within))
-        (subst (IsLegalAt owner history place) same (subst (λ p. IsLegalAt owner history p more) (sym here) next)))
+    let same : more ≡ wire =
+    same_Some more wire (sym (get_last history more) ∙ ap (slice_get (history ++ more ∷ [])) (sym here) ∙ at) in
+    stays_legal owner history more place wire (omega (arith, within))
+    (subst (IsLegalAt owner history place) same (subst (λ p. IsLegalAt owner history p more) (sym here) next)))
     (λ (other : place ≡ length history → ⊥).
-        let below : place < length history = omega (arith, within, other) in
-        stays_legal owner history more place wire (omega (arith, within))
-        (legal place wire (sym (get_front history more place below) ∙ at)))
+    let below : place < length history = omega (arith, within, other) in
+    stays_legal owner history more place wire (omega (arith, within))
+    (legal place wire (sym (get_front history more place below) ∙ at)))
     (cases_eq place (length history))
 
 -- ---- how often a parcel was given
@@ -86,7 +87,7 @@ due_front : (picker : Picker) (history : List Wire) (more : Wire) (place : ℕ) 
     → takes place more ≡ false → due picker (history ++ more ∷ []) place ≡ due picker history place
 due_front picker history more place below other =
     let count : count_by (takes place) (history ++ more ∷ []) ≡ count_by (takes place) history =
-        given_more place history more ∙ ap (λ b. count_by (takes place) history + cond b 1 0) other ∙ omega arith in
+    given_more place history more ∙ ap (λ b. count_by (takes place) history + cond b 1 0) other ∙ omega arith in
     ap (λ e. if_put e (times picker - count_by (takes place) (history ++ more ∷ []))) (get_front history more place below)
     ∙ ap (λ n. if_put (slice_get history place) (times picker - n)) count
 
@@ -125,10 +126,10 @@ due_less : (picker : Picker) (owner : ℕ) (history : List Wire) (place : ℕ) �
 due_less picker owner history place below some =
     let more = Took owner place in
     let count : count_by (takes place) (history ++ more ∷ []) ≡ count_by (takes place) history + 1 =
-        given_more place history more ∙ ap (λ b. count_by (takes place) history + cond b 1 0) (eq-eqb place place refl) in
+    given_more place history more ∙ ap (λ b. count_by (takes place) history + cond b 1 0) (eq-eqb place place refl) in
     let few : due picker history place ≤ times picker - count_by (takes place) history = few_of (slice_get history place) _ in
     let less : times picker - count_by (takes place) history ≡ suc (times picker - count_by (takes place) (history ++ more ∷ [])) =
-        omega (arith, count, few, some) in
+    omega (arith, count, few, some) in
     less_of (slice_get history place) _ _ some less
     ∙ ap suc (ap (λ e. if_put e (times picker - count_by (takes place) (history ++ more ∷ []))) (sym (get_front history more place below)))
 
@@ -148,9 +149,9 @@ pub kept_put : (owner : ℕ) (picker : Picker) (history : List Wire) (flight : L
 kept_put owner picker history flight from parcel kept to =
     let more = put_of from parcel in
     let none : count_by (takes (length history)) (history ++ more ∷ []) ≡ 0 =
-        given_more (length history) history more ∙ ap (λ n. n + 0) (none_ahead owner history kept.legal) in
+    given_more (length history) history more ∙ ap (λ n. n + 0) (none_ahead owner history kept.legal) in
     let here : due picker (history ++ more ∷ []) (length history) ≡ times picker =
-        due_here picker history more ∙ ap (λ n. times picker - n) none ∙ omega arith in
+    due_here picker history more ∙ ap (λ n. times picker - n) none ∙ omega arith in
     record {
       legal = legal_more owner history more kept.legal to;
       queued =
@@ -183,10 +184,10 @@ kept_take owner picker history flight place kept next =
     let more = Took owner place in
     let at = next_in_flight owner picker history flight place kept next in
     let left : each_due (due picker (history ++ more ∷ [])) (length history) ≡ without_next picker (in_flight picker history) =
-        next_given picker (due picker history) (due picker (history ++ more ∷ [])) (length history) place
-        (ap (next_of picker) (sym kept.queued) ∙ next)
-        (λ k below other. due_front picker history more k below (ne_eqb place k (λ e. other (sym e))))
-        (due_less picker owner history place at.0 at.1) in
+    next_given picker (due picker history) (due picker (history ++ more ∷ [])) (length history) place
+    (ap (next_of picker) (sym kept.queued) ∙ next)
+    (λ k below other. due_front picker history more k below (ne_eqb place k (λ e. other (sym e))))
+    (due_less picker owner history place at.0 at.1) in
     record {
       legal = legal_more owner history more kept.legal (refl, at.0, next_is_put owner picker history flight place kept next);
       queued =
@@ -201,8 +202,8 @@ pub kept_new : (owner : ℕ) (picker : Picker) → IsKept owner picker [] []
 unfolding each_due
 kept_new owner picker = record { legal = (λ place wire at. absurd (none_there place wire at)); queued = refl }
   where
-  none_there : (place : ℕ) (wire : Wire) → None ≡ Some wire → ⊥
-  none_there place wire at = cc
+    none_there : (place : ℕ) (wire : Wire) → None ≡ Some wire → ⊥
+    none_there place wire at = cc
 
 -- ---- the same of lists known by equations
 

@@ -5,7 +5,7 @@ use Rattle.std.proofs.lemmas.List.{reverse-append, map-append}
 use Rattle.std.proofs.lemmas.List.Elements.{All-head, All-tail}
 use Rattle.lrc_post.specs.declared.parcel.Parcel.{Parcel}
 use Rattle.lrc_post.specs.Wires.{put_of}
-use Rattle.lrc_post.specs.Mailbox.{MailboxRecord, with_more, with_puts, IsCutShort}
+use Rattle.lrc_post.specs.Mailbox.{MailboxRecord, with_puts}
 
 -- the parcel taken off the end comes next
 next_parcel : (all put left rest : List Parcel) (p : Parcel) → all ≡ put ++ reverse left → left ≡ rest ++ p ∷ []
@@ -23,7 +23,7 @@ pub for_owner : (owner : ℕ) (all put left rest : List Parcel) (p : Parcel) →
     → all ≡ put ++ reverse left → left ≡ rest ++ p ∷ [] → p.to ≡ owner
 for_owner owner all put left rest p each is popped =
     let here : All (λ (x : Parcel). x.to ≡ owner) (put ++ p ∷ reverse rest) =
-        subst (All (λ (x : Parcel). x.to ≡ owner)) (next_parcel all put left rest p is popped) each in
+    subst (All (λ (x : Parcel). x.to ≡ owner)) (next_parcel all put left rest p is popped) each in
     All-head (λ (x : Parcel). x.to ≡ owner) p (reverse rest) (all_back (λ (x : Parcel). x.to ≡ owner) put (p ∷ reverse rest) here)
 
 -- once it is put, those after it are left

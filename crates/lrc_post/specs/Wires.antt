@@ -1,5 +1,5 @@
 -- What was put into one mailbox and taken out of it, in order.
-use Rattle.std.specs.Prelude.{◌≡◌, ℕ, zero, suc, ◌-◌, ◌<◌, ◌==◌, Bool, false, List, [], ◌∷◌, ◌++◌, length, replicate, take, drop, slice_get, Option, Some, None}
+use Rattle.std.specs.Prelude.{◌≡◌, ℕ, zero, suc, ◌-◌, ◌<◌, ◌==◌, Bool, false, List, [], ◌++◌, length, replicate, take, drop, slice_get, Option, Some, None}
 use Rattle.std.specs.List.{count_by}
 use Rattle.lrc_wire.specs.declared.picker.Picker.{Picker}
 use Rattle.lrc_wire.specs.declared.picker.Picker.TheVariants.{Oldest, Newest, Twice}

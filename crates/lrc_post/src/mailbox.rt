@@ -38,7 +38,13 @@ impl Mailbox {
     pub fn new(owner: u8, picker: Picker, alloc: Global) -> Self
         ensures { result ≡ record { owner = owner; picker = picker; closed = false; history = [] } }
     {
-        Mailbox { owner, picker, closed: false, history: Vec::new(alloc), flight: VecDeque::new(alloc) }
+        Mailbox {
+            owner,
+            picker,
+            closed: false,
+            history: Vec::new(alloc),
+            flight: VecDeque::new(alloc),
+        }
     }
 
     /// Whose mailbox it is.
@@ -59,11 +65,17 @@ impl Mailbox {
             × IsCutShort self.old from parcels.items u.parcels.items self.new) }
     {
         if self.closed {
-            return Err(Unput { fault: PostFault::Closed, parcels });
+            return Err(Unput {
+                fault: PostFault::Closed,
+                parcels,
+            });
         }
         match self.put_each(from, parcels) {
             Ok(()) => Ok(()),
-            Err(parcels) => Err(Unput { fault: PostFault::NoMemory, parcels }),
+            Err(parcels) => Err(Unput {
+                fault: PostFault::NoMemory,
+                parcels,
+            }),
         }
     }
 
@@ -83,7 +95,11 @@ impl Mailbox {
         };
         self.history.reserve(1)?;
         let parcel = parcel_at(&self.history, place)?;
-        let Ok(()) = self.history.push(Wire::Took { me: self.owner, place }) else {
+        let Ok(()) = self.history.push(Wire::Took {
+            me: self.owner,
+            place,
+        })
+        else {
             unreachable!()
         };
         drop_next(&mut self.flight, self.picker);
@@ -114,7 +130,9 @@ impl Mailbox {
         parcels.reverse();
         while let Some(parcel) = parcels.pop() {
             if let Err(refused) = self.put(from, parcel) {
-                let Ok(()) = parcels.push(refused) else { unreachable!() };
+                let Ok(()) = parcels.push(refused) else {
+                    unreachable!()
+                };
                 parcels.reverse();
                 return Err(parcels);
             }
@@ -133,8 +151,15 @@ impl Mailbox {
             return Err(parcel);
         }
         let place = self.history.len();
-        let put = Wire::Put { from, to: parcel.to, stamp: parcel.stamp, bytes: parcel.bytes };
-        let Ok(()) = self.history.push(put) else { unreachable!() };
+        let put = Wire::Put {
+            from,
+            to: parcel.to,
+            stamp: parcel.stamp,
+            bytes: parcel.bytes,
+        };
+        let Ok(()) = self.history.push(put) else {
+            unreachable!()
+        };
         line_up(&mut self.flight, self.picker, place);
         Ok(())
     }

@@ -11,7 +11,10 @@ use std::alloc::AllocError;
 use std::collections::VecDeque;
 
 /// Makes room for one entry more, and for its place two times.
-pub(crate) fn make_room(history: &mut Vec<Wire>, flight: &mut VecDeque<usize>) -> Result<(), AllocError>
+pub(crate) fn make_room(
+    history: &mut Vec<Wire>,
+    flight: &mut VecDeque<usize>,
+) -> Result<(), AllocError>
     ensures history { history.new.items ≡ history.old.items }
     ensures flight { flight.new.items ≡ flight.old.items }
     ensures entry { OnOk result (vec_len history.new + 1 ≤ vec_capacity history.new) }
@@ -26,9 +29,13 @@ pub(crate) fn line_up(flight: &mut VecDeque<usize>, picker: Picker, place: usize
     requires room { deque_len flight.old + 2 ≤ deque_capacity flight.old }
     ensures { flight.new.items ≡ flight.old.items ++ replicate (times picker) place }
 {
-    let Ok(()) = flight.push_back(place) else { unreachable!() };
+    let Ok(()) = flight.push_back(place) else {
+        unreachable!()
+    };
     if picker == Picker::Twice {
-        let Ok(()) = flight.push_back(place) else { unreachable!() };
+        let Ok(()) = flight.push_back(place) else {
+            unreachable!()
+        };
     }
 }
 
@@ -57,6 +64,20 @@ pub(crate) fn parcel_at(history: &[Wire], place: usize) -> Result<Parcel, AllocE
     requires { (owner : _) × IsPutFor owner (slice_get history.now place) }
     ensures { IfOk result (λ parcel. IsPutOf (slice_get history.now place) parcel) }
 {
-    let Some(Wire::Put { to, stamp, bytes, .. }) = history.get(place) else { unreachable!() };
-    Ok(Parcel { to: *to, stamp: *stamp, bytes: bytes.clone()? })
+    let Some(
+        Wire::Put {
+            to,
+            stamp,
+            bytes,
+            ..
+        },
+    ) = history.get(place)
+    else {
+        unreachable!()
+    };
+    Ok(Parcel {
+        to: *to,
+        stamp: *stamp,
+        bytes: bytes.clone()?,
+    })
 }

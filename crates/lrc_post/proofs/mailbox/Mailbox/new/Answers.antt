@@ -1,4 +1,3 @@
-use Rattle.std.proofs.Common.{rules}
 use Rattle.lrc_post.proofs.Histories.{kept_new}
 use Rattle.lrc_post.proofs.mailbox.Mailbox.new.Goals as goal
 

@@ -1,7 +1,5 @@
-use Rattle.std.proofs.Common.{◌≡◌, ◌∙◌, ◌++◌, ◌∷◌, [], sym, ap, subst, rules}
-use Rattle.std.specs.Prelude.{All}
+use Rattle.std.proofs.Common.{◌∙◌, ◌++◌, ◌∷◌, [], sym, ap, rules}
 use Rattle.lrc_post.specs.Mailbox.{MailboxRecord}
-use Rattle.lrc_post.specs.declared.parcel.Parcel.{Parcel}
 use Rattle.lrc_post.proofs.Puts.{for_owner, one_more, puts_more}
 use Rattle.lrc_post.proofs.mailbox.Mailbox.put_each.Goals as goal
 
@@ -12,9 +10,10 @@ put-requires c =
     ∙ sym (ap (λ (m : MailboxRecord). m.owner) c.loop-parcel.invariant.2)
 
 pub loop-parcel-preserved : goal.loop-parcel-preserved
-loop-parcel-preserved c =
-    (c.loop-parcel.invariant.0 ++ c.in-Some.parcel ∷ [],
-    one_more c.args.parcels.items c.loop-parcel.invariant.0 c.loop-parcel.parcels.items
-    c.pop.new.self.items c.in-Some.parcel c.loop-parcel.invariant.1 c.in-Some.ensures.items,
-    puts_more c.args.self.now c.loop-parcel.self c.put.new.self c.args.from c.loop-parcel.invariant.0 c.in-Some.parcel
-    c.loop-parcel.invariant.2 (search rules))
+loop-parcel-preserved c = (
+  c.loop-parcel.invariant.0 ++ c.in-Some.parcel ∷ [],
+  one_more c.args.parcels.items c.loop-parcel.invariant.0 c.loop-parcel.parcels.items
+      c.pop.new.self.items c.in-Some.parcel c.loop-parcel.invariant.1 c.in-Some.ensures.items,
+  puts_more c.args.self.now c.loop-parcel.self c.put.new.self c.args.from c.loop-parcel.invariant.0 c.in-Some.parcel
+      c.loop-parcel.invariant.2 (search rules),
+)
