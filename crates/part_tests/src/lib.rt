@@ -18,6 +18,8 @@ mod messages;
 #[cfg(test)]
 mod pages;
 #[cfg(test)]
+mod posts;
+#[cfg(test)]
 mod protocol;
 #[cfg(test)]
 mod races;

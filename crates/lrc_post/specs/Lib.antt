@@ -1,0 +1,2 @@
+pub mod Wires
+pub mod Mailbox

@@ -1,0 +1,166 @@
+// One node's mailbox.
+
+ghost use Rattle.std.specs.Prelude.{◌≡◌, [], ◌∷◌, true, false, IfOk, IfErr, IsErrAnd, OnErr, OnOk, All, IsTrue};
+ghost use Rattle.lrc_post.specs.declared.fault.PostFault.TheVariants.{Closed, NoMemory};
+ghost use Rattle.lrc_post.specs.Mailbox.{with_puts, IsCutShort, Gives};
+ghost use Rattle.lrc_post.specs.Wires.{IsLegal};
+
+use crate::fault::{PostFault, Unput};
+use crate::parcel::{Parcel, Wire};
+use crate::queue::{drop_next, line_up, make_room, next_place, parcel_at};
+use lrc_wire::Picker;
+use std::alloc::{AllocError, Global};
+use std::collections::VecDeque;
+use std::marker::Model;
+
+/// One node's mailbox, with all that was put into it and taken out of it. Each take names an earlier put for the owner.
+#[derive(Drop)]
+pub struct Mailbox {
+    owner: u8,
+    picker: Picker,
+    closed: bool,
+    history: Vec<Wire>,
+    flight: VecDeque<usize>,
+}
+
+impl Model for Mailbox {
+    ghost use Rattle.lrc_post.specs.Mailbox.{MailboxRecord, IsKept};
+
+    ghost Value = { MailboxRecord };
+
+    ghost view = { λ m. record { owner = m.owner; picker = m.picker; closed = m.closed; history = m.history.items } };
+
+    ghost invariant = { λ m. IsKept m.owner m.picker m.history.items m.flight.items };
+}
+
+impl Mailbox {
+    /// An empty mailbox, which is open. It takes no memory.
+    pub fn new(owner: u8, picker: Picker, alloc: Global) -> Self
+        ensures { result ≡ record { owner = owner; picker = picker; closed = false; history = [] } }
+    {
+        Mailbox {
+            owner,
+            picker,
+            closed: false,
+            history: Vec::new(alloc),
+            flight: VecDeque::new(alloc),
+        }
+    }
+
+    /// Whose mailbox it is.
+    pub fn owner(&self) -> u8
+        ensures { result ≡ self.now.owner }
+    {
+        self.owner
+    }
+
+    /// Puts parcels for the owner, in order. A closed mailbox refuses with `Closed` and stays as it was; for want of
+    /// memory the parcels before the refused one are put. The refused parcel and all after it come back.
+    pub fn put_all(&mut self, from: u8, parcels: Vec<Parcel>) -> Result<(), Unput>
+        requires { All (λ p. p.to ≡ self.old.owner) parcels.items }
+        ensures ok { OnOk result (self.new ≡ with_puts self.old from parcels.items) }
+        ensures closed { self.old.closed ≡ true → IsErrAnd result (λ u. (u.fault ≡ Closed) × (u.parcels.items ≡ parcels.items)) }
+        ensures unchanged { self.old.closed ≡ true → self.new ≡ self.old }
+        ensures open { self.old.closed ≡ false → IfErr result (λ u. (u.fault ≡ NoMemory)
+            × IsCutShort self.old from parcels.items u.parcels.items self.new) }
+    {
+        if self.closed {
+            return Err(Unput {
+                fault: PostFault::Closed,
+                parcels,
+            });
+        }
+        match self.put_each(from, parcels) {
+            Ok(()) => Ok(()),
+            Err(parcels) => Err(Unput {
+                fault: PostFault::NoMemory,
+                parcels,
+            }),
+        }
+    }
+
+    /// Gives the owner its next parcel: the oldest or newest in flight, or with `Twice` the oldest, which stays in
+    /// flight after it was given once. There is none if none is in flight or the mailbox is closed. For want of memory
+    /// nothing changes.
+    pub fn give(&mut self) -> Result<Option<Parcel>, PostFault>
+        ensures ok { IfOk result (λ parcel. Gives self.old parcel self.new) }
+        ensures err { OnErr result (self.new ≡ self.old) }
+        ensures fault { IfErr result (λ fault. fault ≡ NoMemory) }
+    {
+        if self.closed {
+            return Ok(None);
+        }
+        let Some(place) = next_place(&self.flight, self.picker) else {
+            return Ok(None);
+        };
+        self.history.reserve(1)?;
+        let parcel = parcel_at(&self.history, place)?;
+        let Ok(()) = self.history.push(Wire::Took {
+            me: self.owner,
+            place,
+        })
+        else {
+            unreachable!()
+        };
+        drop_next(&mut self.flight, self.picker);
+        Ok(Some(parcel))
+    }
+
+    /// Closes the mailbox. What was put and taken stays.
+    pub fn close(&mut self)
+        ensures { self.new ≡ record self.old { closed = true } }
+    {
+        self.closed = true;
+    }
+
+    /// All that was put and taken, in order.
+    pub fn history(&self) -> &[Wire]
+        ensures all { result.now ≡ self.now.history }
+        ensures legal { IsLegal self.now.owner self.now.history }
+    {
+        self.history.as_slice()
+    }
+
+    // Puts parcels in order, until memory is wanted: then those that were not put come back.
+    fn put_each(&mut self, from: u8, mut parcels: Vec<Parcel>) -> Result<(), Vec<Parcel>>
+        requires { All (λ p. p.to ≡ self.old.owner) parcels.items }
+        ensures ok { OnOk result (self.new ≡ with_puts self.old from parcels.items) }
+        ensures err { IfErr result (λ back. IsCutShort self.old from parcels.items back.items self.new) }
+    {
+        parcels.reverse();
+        while let Some(parcel) = parcels.pop() {
+            if let Err(refused) = self.put(from, parcel) {
+                let Ok(()) = parcels.push(refused) else {
+                    unreachable!()
+                };
+                parcels.reverse();
+                return Err(parcels);
+            }
+        }
+        Ok(())
+    }
+
+    // Puts one parcel, which comes back for want of memory.
+    fn put(&mut self, from: u8, parcel: Parcel) -> Result<(), Parcel>
+        requires { parcel.to ≡ self.old.owner }
+        ensures ok { OnOk result (self.new ≡ with_puts self.old from (parcel ∷ [])) }
+        ensures err { OnErr result (self.new ≡ self.old) }
+        ensures back { IfErr result (λ refused. refused ≡ parcel) }
+    {
+        if make_room(&mut self.history, &mut self.flight).is_err() {
+            return Err(parcel);
+        }
+        let place = self.history.len();
+        let put = Wire::Put {
+            from,
+            to: parcel.to,
+            stamp: parcel.stamp,
+            bytes: parcel.bytes,
+        };
+        let Ok(()) = self.history.push(put) else {
+            unreachable!()
+        };
+        line_up(&mut self.flight, self.picker, place);
+        Ok(())
+    }
+}
