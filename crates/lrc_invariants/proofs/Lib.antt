@@ -11,3 +11,4 @@ pub mod TextHolds
 pub mod Held
 pub mod Present
 pub mod PresentTimes
+pub mod Numbers
