@@ -12,3 +12,4 @@ pub mod Held
 pub mod Present
 pub mod PresentTimes
 pub mod Numbers
+pub mod InFlight
