@@ -11,3 +11,5 @@ pub mod TextHolds
 pub mod Held
 pub mod Present
 pub mod PresentTimes
+pub mod Numbers
+pub mod InFlight

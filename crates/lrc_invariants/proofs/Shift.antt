@@ -1,7 +1,7 @@
 -- What a turn does to the part of a node that synchronizes: what it waits for, its clock and tokens, and how often it has
 -- arrived. One case for each kind of turn.
 use Rattle.std.proofs.Common.{◌≡◌, ℕ, ◌+◌, ◌≤◌, List, [], ◌∷◌, Bool, true, false, length, refl, sym, ap, subst, ◌∙◌}
-use Rattle.std.specs.Prelude.{Option, Some, None, not, option_map, ◌==◌, ◌&&◌, nat_lt, nat_le, if◌then◌else◌, fold, flat_map, map}
+use Rattle.std.specs.Prelude.{Option, Some, None, not, option_map, ◌==◌, ◌&&◌, nat_lt, nat_le, if◌then◌else◌, fold, flat_map, map, slice_index, slice_set}
 use Rattle.std.specs.List.{list_all}
 use Rattle.std.proofs.lemmas.Bool.{and_parts, eqb-true, leb-true}
 use Rattle.lrc_trace.specs.declared.act.Act.{Act}
@@ -20,7 +20,7 @@ use Rattle.lrc_barrier.specs.Barrier.{ArriveStep, refuses as refuses_arrival, wa
 use Rattle.lrc_protocol.specs.Copy.{is_readable}
 use Rattle.lrc_protocol.specs.Memory.{copy_at, kept_pages, with_keepers, base_at}
 use Rattle.lrc_protocol.specs.Fetch.{Need, need_of, is_met, with_changes, with_page}
-use Rattle.lrc_protocol.specs.Mail.{Letter, Wait, nothing, grant, departure, access, upkeep, discard, Collection, collection_of, is_idle, awaits_grant, awaits_departure, MOST_NUMBER}
+use Rattle.lrc_protocol.specs.Mail.{envelope_of, numbered, Letter, Wait, nothing, grant, departure, access, upkeep, discard, Collection, collection_of, is_idle, awaits_grant, awaits_departure, MOST_NUMBER}
 use Rattle.lrc_protocol.specs.Course.{Course, going, trapped, ended, deed_of, course_of, cost_of}
 use Rattle.lrc_protocol.specs.Locks.{Locks, ticked, with_time, with_held, with_managed, next_time}
 use Rattle.lrc_protocol.specs.Barrier.{clean_step}
@@ -353,11 +353,38 @@ take-shifts node envelope from (PageReply m) e =
 abbrev pub deed_made : TurnRecord → Option Deed
 deed_made turn = option_map (λ act. act.deed) turn.act
 
--- what a turn does to the part that synchronizes
+-- each of these messages is from this node
+abbrev pub AllFrom : ℕ → List EnvelopeRecord → Type 0
+AllFrom me [] = Unit {0}
+AllFrom me (envelope ∷ more) = (envelope.from ≡ me) × AllFrom me more
+
+abbrev FromIf : ℕ → Option (List EnvelopeRecord × List ℕ) → Type 0
+FromIf me None = Unit {0}
+FromIf me (Some (out, sent)) = AllFrom me out
+
+from-one : (me : ℕ) (envelope : EnvelopeRecord) → envelope.from ≡ me → (o : Option (List EnvelopeRecord × List ℕ)) → FromIf me o
+    → FromIf me (option_map (λ more. (envelope ∷ more.0, more.1)) o)
+from-one me envelope e None h = tt
+from-one me envelope e (Some (out, sent)) h = (e, h)
+
+from-room : (me : ℕ) (b : Bool) (o : Option (List EnvelopeRecord × List ℕ)) → FromIf me o → FromIf me (if b then o else None)
+from-room me true o h = h
+from-room me false o h = tt
+
+numbered-from : (me first : ℕ) (sent : List ℕ) (letters : List Letter) → FromIf me (numbered me first sent letters)
+numbered-from me first sent [] = tt
+numbered-from me first sent (letter ∷ letters) =
+    let before : ℕ = slice_index sent letter.to in
+    let more : Option (List EnvelopeRecord × List ℕ) = numbered me first (slice_set sent letter.to (before + 1)) letters in
+    from-room me (nat_le (first + before) MOST_NUMBER) (option_map (λ more. (envelope_of me (first + before) letter ∷ more.0, more.1)) more)
+    (from-one me (envelope_of me (first + before) letter) refl more (numbered-from me first (slice_set sent letter.to (before + 1)) letters))
+
+-- what a turn does to the part that synchronizes, and whose messages it sends
 pub record Shifted (node : Node) (turn : TurnRecord) (after : Node) : Type 0 where
   pub acts : Bool
   pub moved : Moved acts node.course (deed_made turn) after.course
   pub shift : Shift (part_of node) acts after.mail.wait after.locks after.barrier.episode
+  pub from : AllFrom after.setting.me turn.out
 
 abbrev pub ShiftedIf : Node → Outcome → Type 0
 ShiftedIf node (done turn after) = Shifted node turn after
@@ -369,16 +396,20 @@ deed_back : (me : ℕ) (deed : Option Deed) → option_map (λ (act : Act). act.
 deed_back me None = refl
 deed_back me (Some d) = refl
 
-numbered-shifts : (node : Node) (e : Effect) → Shifts (part_of node) e → (n : Option (List EnvelopeRecord × List ℕ)) → ShiftedIf node (turn_with e n)
-numbered-shifts node e s None = tt
-numbered-shifts node e s (Some (out, sent)) = record {
+numbered-shifts : (node : Node) (e : Effect) → Shifts (part_of node) e → (n : Option (List EnvelopeRecord × List ℕ))
+    → FromIf e.node.setting.me n → ShiftedIf node (turn_with e n)
+numbered-shifts node e s None f = tt
+numbered-shifts node e s (Some (out, sent)) f = record {
   acts = s.acts;
   moved = subst (λ d. Moved s.acts node.course d e.node.course) (sym (deed_back e.node.setting.me e.deed)) s.moved;
   shift = s.shift;
+  from = f;
 }
 
 effect-shifts : (node : Node) (e : Effect) → Shifts (part_of node) e → ShiftedIf node (turn_of e)
-effect-shifts node e s = numbered-shifts node e s _
+effect-shifts node e s =
+    numbered-shifts node e s (numbered e.node.setting.me e.node.options.first e.node.mail.sent e.letters)
+    (numbered-from e.node.setting.me e.node.options.first e.node.mail.sent e.letters)
 
 effect_if-shifts : (node : Node) (o : Option Effect) → ShiftsIf (part_of node) o → ShiftedIf node (turn_if o)
 effect_if-shifts node None s = tt
@@ -422,7 +453,7 @@ expected_or_not node true o h = h refl
 expected_or_not node false o h = tt
 
 repeated_or_not : (node : Node) (b : Bool) (o : Outcome) → ShiftedIf node o → ShiftedIf node (if b then done empty_turn node else o)
-repeated_or_not node true o h = record { acts = false; moved = record { deed_is = refl; course_is = refl }; shift = rests }
+repeated_or_not node true o h = record { acts = false; moved = record { deed_is = refl; course_is = refl }; shift = rests; from = tt }
 repeated_or_not node false o h = h
 
 taken-shifts : (node : Node) (envelope : EnvelopeRecord) → ShiftedIf node (take_turn node envelope)

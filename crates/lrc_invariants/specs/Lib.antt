@@ -3,3 +3,4 @@ pub mod Waiting
 pub mod Counts
 pub mod Tokens
 pub mod Present
+pub mod Numbers

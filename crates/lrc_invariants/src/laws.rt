@@ -1,11 +1,11 @@
 // What holds of every run, whatever its events. Each function is a theorem: its body is empty, and its clauses are the law.
 
-ghost use Rattle.std.specs.Prelude.{◌≡◌, ℕ, ◌+◌, List, Some, length, slice_get};
+ghost use Rattle.std.specs.Prelude.{◌≡◌, ℕ, ◌+◌, ◌<◌, List, Some, length, map, slice_get, slice_index};
 ghost use Rattle.lrc_lang.specs.declared.program.Program.{Program};
 ghost use Rattle.lrc_protocol.specs.declared.event.Event.{Event};
 ghost use Rattle.lrc_protocol.specs.Node.{OptionsRecord};
 ghost use Rattle.lrc_protocol.specs.Log.{Logged};
-ghost use Rattle.lrc_protocol.specs.World.{World, run_of};
+ghost use Rattle.lrc_protocol.specs.World.{World, Flying, run_of};
 ghost use Rattle.lrc_exec.specs.Plain.{setting_of};
 ghost use Rattle.lrc_invariants.specs.Shape.{HasShape};
 ghost use Rattle.lrc_time.specs.Time.{entry};
@@ -14,6 +14,7 @@ ghost use Rattle.lrc_invariants.specs.Counts.{closes, is_arrive, is_depart, coun
 ghost use Rattle.lrc_invariants.specs.Tokens.{HoldsTokens, AwaitsOne};
 ghost use Rattle.lrc_invariants.specs.Present.{IsPresent};
 ghost use Rattle.lrc_clock.specs.Times.{time_before};
+ghost use Rattle.lrc_invariants.specs.Numbers.{numbers_between, Rises};
 ghost use Rattle.lrc_invariants.specs.Waiting.{next_in, FixesNext};
 
 /// In every run each node keeps its setting and its options, and its time, its tokens and the askers that it notes have a
@@ -75,4 +76,13 @@ pub fn node_time_is_that_of_its_last_act()
     ensures { (program : Program) (nodes : ℕ) (options : OptionsRecord) (events : List Event) (world : World)
         (n : ℕ) (l : Logged) → run_of program nodes options events ≡ Some world → slice_get world.nodes n ≡ Some l
         → IsPresent n l.node.mail.wait (time_before nodes world.acts world.times n (length world.acts)) l.node.locks.time }
+{}
+
+/// In every run the messages in flight from one node to another stand in the order of their numbers, no two with the same,
+/// and each number is among those that were sent: from `first` on, as many as the sender has counted.
+pub fn messages_in_flight_have_their_own_numbers()
+    ensures { (program : Program) (nodes : ℕ) (options : OptionsRecord) (events : List Event) (world : World)
+        (from to : ℕ) (l : Logged) → run_of program nodes options events ≡ Some world → slice_get world.nodes from ≡ Some l
+        → to < nodes → Rises options.first (options.first + slice_index l.node.mail.sent to)
+        (numbers_between from to (map (λ (flying : Flying). flying.envelope) world.flight)) }
 {}

@@ -1,0 +1,12 @@
+-- Numbers of messages in flight.
+use Rattle.std.specs.Prelude.{ℕ, ◌+◌, ◌<◌, ◌≤◌, ◌==◌, ◌&&◌, List, [], ◌∷◌, map, filter}
+use Rattle.lrc_wire.specs.Envelope.{EnvelopeRecord}
+
+-- the numbers of the messages from one node to another, in their order
+abbrev pub numbers_between : ℕ → ℕ → List EnvelopeRecord → List ℕ
+numbers_between from to envelopes = map (λ envelope. envelope.number) (filter (λ envelope. (envelope.from == from) && (envelope.to == to)) envelopes)
+
+-- numbers that rise, one after another greater, from this least number on and below that bound
+abbrev pub Rises : ℕ → ℕ → List ℕ → Type 0
+Rises least bound [] = Unit {0}
+Rises least bound (x ∷ xs) = (least ≤ x) × (x < bound) × Rises (x + 1) bound xs
