@@ -75,7 +75,7 @@ module _ (program : Program) (nodes : ℕ) (options : OptionsRecord) where
         (sym (last_other nodes world.acts world.times timed n time m ne deed)) h.present;
   }
 
-  deed_back : (me : ℕ) (deed : Option Deed) → option_map (λ (act : Act). act.deed) (option_map (act_of me) deed) ≡ deed
+  pub deed_back : (me : ℕ) (deed : Option Deed) → option_map (λ (act : Act). act.deed) (option_map (act_of me) deed) ≡ deed
   deed_back me None = refl
   deed_back me (Some d) = refl
 
@@ -88,7 +88,7 @@ module _ (program : Program) (nodes : ℕ) (options : OptionsRecord) where
       subst (λ act. AtPresent (setting_of program nodes m) (world.acts ++ option_to_list act) (world.times ++ map (λ (a : Act). after.node.locks.time) (option_to_list act)) node)
       (sym e) h
 
-  all-kept : KeptByTurns AllPresent
+  pub all-kept : KeptByTurns AllPresent
   all-kept world flight n l after input entry at comes i h =
       let t : Turned l.node entry.turn after.node = subst (Turns l.node) i.turn_is (turns l.node input) in
       let sh : Shifted l.node entry.turn after.node = subst (ShiftedIf l.node) i.turn_is (shifts l.node input) in
@@ -112,7 +112,7 @@ module _ (program : Program) (nodes : ℕ) (options : OptionsRecord) where
   fresh-present : (n : ℕ) → AtPresent (setting_of program nodes n) [] [] (fresh_node program nodes options n)
   fresh-present n = record { setting = refl; fits = departs_arrived (start_of program nodes n); present = refl }
 
-  all-fresh : AllPresent (fresh_world program nodes options)
+  pub all-fresh : AllPresent (fresh_world program nodes options)
   all-fresh = record {
     timed = refl;
     each = λ n l is.
