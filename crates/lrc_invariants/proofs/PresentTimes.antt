@@ -1,5 +1,5 @@
 -- In every run each node's time is that of its last act, but for what it waits for.
-use Rattle.std.proofs.Common.{◌≡◌, ℕ, ◌+◌, ◌<◌, List, [], ◌∷◌, ◌++◌, length, map, refl, sym, ap, subst, ◌∙◌, inl, inr, arith}
+use Rattle.std.proofs.Common.{◌≡◌, ℕ, List, [], ◌++◌, length, map, refl, sym, ap, subst, ◌∙◌, inl, inr, arith}
 use Rattle.std.specs.Prelude.{Option, Some, None, slice_get, slice_set, option_map}
 use Rattle.std.specs.Option.{option_to_list}
 use Rattle.std.proofs.lemmas.Bool.{cases_eq}
@@ -14,12 +14,12 @@ use Rattle.lrc_exec.specs.Plain.{setting_of, start_of}
 use Rattle.lrc_protocol.specs.declared.event.Event.{Event}
 use Rattle.lrc_protocol.specs.Node.{Node, OptionsRecord, fresh_node}
 use Rattle.lrc_protocol.specs.Turn.{TurnRecord}
-use Rattle.lrc_protocol.specs.Log.{Input, EntryRecord, Logged}
+use Rattle.lrc_protocol.specs.Log.{EntryRecord, Logged}
 use Rattle.lrc_protocol.specs.World.{World, Flying, fresh_world, with_turn, run_of}
-use Rattle.lrc_protocol.proofs.Worlds.{IsEntry, get_set_same, get_set_other, fresh_at}
+use Rattle.lrc_protocol.proofs.Worlds.{get_set_same, get_set_other, fresh_at}
 use Rattle.lrc_protocol.proofs.Turned.{Turned, Turns, turns}
 use Rattle.lrc_protocol.proofs.Times.{IsTimed, timed-kept}
-use Rattle.lrc_protocol.proofs.Induction.{Comes, KeptByTurns, by_turns}
+use Rattle.lrc_protocol.proofs.Induction.{KeptByTurns, by_turns}
 use Rattle.lrc_invariants.specs.Waiting.{next_in, FixesNext}
 use Rattle.lrc_invariants.specs.Present.{IsPresent}
 use Rattle.lrc_invariants.proofs.Shift.{part_of, Shifted, ShiftedIf, shifts, deed_made}

@@ -1,6 +1,6 @@
 -- What an act does to its node's time: by the kind of turn, and then at each position of a run.
-use Rattle.std.proofs.Common.{◌≡◌, ℕ, ◌+◌, ◌<◌, ◌≤◌, List, [], ◌∷◌, ◌++◌, Bool, true, false, length, map, refl, sym, ap, subst, ◌∙◌, inl, inr, arith, append-nil}
-use Rattle.std.specs.Prelude.{Option, Some, None, slice_get, option_map}
+use Rattle.std.proofs.Common.{◌≡◌, ℕ, ◌<◌, ◌≤◌, List, [], ◌∷◌, ◌++◌, Bool, true, length, map, refl, sym, ap, subst, ◌∙◌, inl, inr, arith, append-nil}
+use Rattle.std.specs.Prelude.{Option, Some, None, option_map}
 use Rattle.std.specs.Option.{option_to_list}
 use Rattle.std.proofs.lemmas.List.{get_or_push}
 use Rattle.std.proofs.lemmas.Option.{same_Some}
@@ -17,14 +17,12 @@ use Rattle.lrc_exec.specs.Meaning.{Setting, Thread, Next, quiet, prints, reads, 
 use Rattle.lrc_exec.specs.Plain.{setting_of}
 use Rattle.lrc_protocol.specs.declared.event.Event.{Event}
 use Rattle.lrc_protocol.specs.Course.{Course, deed_of}
-use Rattle.lrc_protocol.specs.Mail.{Wait, nothing, grant, departure, access, upkeep, discard}
+use Rattle.lrc_protocol.specs.Mail.{Wait, nothing, grant, departure, access, discard}
 use Rattle.lrc_protocol.specs.Locks.{Locks}
 use Rattle.lrc_protocol.specs.Node.{OptionsRecord}
-use Rattle.lrc_protocol.specs.Log.{Input, EntryRecord, Logged}
-use Rattle.lrc_protocol.specs.World.{World, Flying, with_turn, run_of}
-use Rattle.lrc_protocol.proofs.Worlds.{IsEntry}
+use Rattle.lrc_protocol.specs.World.{World, run_of}
 use Rattle.lrc_protocol.proofs.Turned.{Turned, Turns, turns}
-use Rattle.lrc_protocol.proofs.Induction.{Comes, KeptByTurns, by_turns}
+use Rattle.lrc_protocol.proofs.Induction.{KeptByTurns, by_turns}
 use Rattle.lrc_invariants.specs.Waiting.{next_in, FixesNext}
 use Rattle.lrc_invariants.specs.Present.{IsPresent}
 use Rattle.lrc_invariants.specs.Rules.{FollowsRule}
