@@ -1,5 +1,5 @@
 -- A node's own entry counts the intervals that it has closed; its episode counts its arrivals.
-use Rattle.std.proofs.Common.{◌≡◌, ℕ, ◌+◌, ◌<◌, ◌≤◌, List, [], ◌∷◌, ◌++◌, Bool, true, false, length, refl, sym, ap, subst, ◌∙◌, arith, length-append, append-nil}
+use Rattle.std.proofs.Common.{◌≡◌, ℕ, ◌+◌, ◌<◌, ◌≤◌, List, [], ◌∷◌, ◌++◌, Bool, true, false, length, refl, sym, ap, subst, ◌∙◌, arith, length-append}
 use Rattle.std.specs.Prelude.{Option, Some, None, max, cond, option_map, filter, filter_map}
 use Rattle.std.proofs.lemmas.List.Elements.{filter-append, filter_map-append}
 use Rattle.std.proofs.lemmas.Option.{same_Some}
@@ -14,7 +14,7 @@ use Rattle.lrc_protocol.specs.Locks.{Locks, next_time}
 use Rattle.lrc_protocol.specs.Turn.{TurnRecord}
 use Rattle.lrc_protocol.specs.Follows.{deeds_in}
 use Rattle.lrc_invariants.specs.Waiting.{next_in, is_departing, is_access, acquiring, FixesNext}
-use Rattle.lrc_invariants.specs.Counts.{closes, is_arrive, is_depart, count, awaits_acquire, is_inside}
+use Rattle.lrc_invariants.specs.Counts.{closes, count, awaits_acquire}
 use Rattle.lrc_invariants.proofs.Shift.{Part, Acted, Rested, Moved, is_plain, deed_in, Learnable, Shift, plain, misses, takes, asks, releasing, arriving, manages, forwarding, grants, departing, collecting, clean_at_once, discarding, accessing, still_misses, still_collects, cleaning, rests}
 
 -- ---- one deed more

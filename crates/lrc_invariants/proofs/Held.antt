@@ -1,26 +1,23 @@
 -- In every run the text of a node holds the locks whose tokens it holds, and who waits for a grant awaits that token alone.
-use Rattle.std.proofs.Common.{◌≡◌, ℕ, zero, suc, ◌<◌, ◌≤◌, List, [], ◌∷◌, Bool, true, false, length, map, refl, sym, ap, subst, ◌∙◌}
-use Rattle.std.specs.Prelude.{Option, Some, None, ◌==◌, option_map, replicate, slice_get, slice_index_or, if◌then◌else◌}
+use Rattle.std.proofs.Common.{◌≡◌, ℕ, zero, suc, ◌≤◌, List, [], ◌∷◌, Bool, true, false, map, refl, sym, ap, subst, ◌∙◌}
+use Rattle.std.specs.Prelude.{Some, ◌==◌, replicate, slice_get, slice_index_or, if◌then◌else◌}
 use Rattle.std.specs.List.{range_with_len}
 use Rattle.std.proofs.lemmas.List.{length-replicate}
 use Rattle.lrc_lang.specs.declared.program.Program.{Program}
 use Rattle.lrc_time.specs.Time.{zeros}
-use Rattle.lrc_trace.specs.declared.act.Act.{Act}
 use Rattle.lrc_exec.specs.Meaning.{Setting, Thread}
 use Rattle.lrc_exec.specs.Plain.{setting_of, start_of}
 use Rattle.lrc_lock.specs.declared.state.LockState.{LockState}
-use Rattle.lrc_lock.specs.declared.state.LockState.TheVariants.{Away, Awaited, Free, Held}
+use Rattle.lrc_lock.specs.declared.state.LockState.TheVariants.{Away, Free}
 use Rattle.lrc_lock.specs.Lock.{manager_of}
 use Rattle.lrc_lock.specs.Held.{is_held, first_state}
 use Rattle.lrc_protocol.specs.declared.event.Event.{Event}
-use Rattle.lrc_protocol.specs.Course.{Course, going, thread_of}
-use Rattle.lrc_protocol.specs.Node.{Node, OptionsRecord, fresh_node}
-use Rattle.lrc_protocol.specs.Turn.{TurnRecord}
+use Rattle.lrc_protocol.specs.Node.{OptionsRecord, fresh_node}
 use Rattle.lrc_protocol.specs.Log.{Local, Logged}
 use Rattle.lrc_protocol.specs.World.{World, run_of}
 use Rattle.lrc_protocol.specs.Follows.{turns_of}
 use Rattle.lrc_invariants.specs.Tokens.{is_awaited, HoldsTokens, AwaitsOne}
-use Rattle.lrc_invariants.proofs.Shift.{part_of, Shifted}
+use Rattle.lrc_invariants.proofs.Shift.{part_of}
 use Rattle.lrc_invariants.proofs.Inputs.{KeptByShifts, at_each}
 use Rattle.lrc_invariants.proofs.Waiting.{NodeFits, node-fits, departs_arrived}
 use Rattle.lrc_invariants.proofs.Shape.{NodeShape, node-shape, fresh_node-shape}

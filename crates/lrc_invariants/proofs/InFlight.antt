@@ -1,6 +1,6 @@
 -- In every run the messages in flight from one node to another have numbers of their own, all among those that were sent.
-use Rattle.std.proofs.Common.{◌≡◌, ℕ, ◌+◌, ◌<◌, ◌≤◌, List, [], ◌∷◌, ◌++◌, length, map, refl, sym, ap, subst, ◌∙◌, inl, inr, arith, append-nil}
-use Rattle.std.specs.Prelude.{Option, Some, None, slice_get, slice_set, slice_index}
+use Rattle.std.proofs.Common.{◌≡◌, ℕ, ◌+◌, ◌<◌, List, [], ◌++◌, length, refl, sym, ap, subst, ◌∙◌, inl, inr, arith, append-nil}
+use Rattle.std.specs.Prelude.{Some, slice_get, slice_set, slice_index}
 use Rattle.std.specs.List.{range_with_len}
 use Rattle.std.proofs.lemmas.Bool.{cases_eq}
 use Rattle.std.proofs.lemmas.List.{length-replicate}
@@ -12,13 +12,12 @@ use Rattle.lrc_wire.specs.Envelope.{EnvelopeRecord}
 use Rattle.lrc_protocol.specs.declared.event.Event.{Event}
 use Rattle.lrc_protocol.specs.Node.{Node, OptionsRecord, fresh_node}
 use Rattle.lrc_protocol.specs.Turn.{TurnRecord}
-use Rattle.lrc_protocol.specs.Log.{Input, EntryRecord, Logged}
-use Rattle.lrc_protocol.specs.World.{World, Flying, fresh_world, with_turn, sent_by, run_of}
-use Rattle.lrc_protocol.specs.Follows.{numbers_to}
-use Rattle.lrc_protocol.proofs.Numbers.{GoOn, AreNumbered}
-use Rattle.lrc_protocol.proofs.Worlds.{IsEntry, get_set_same, get_set_other, fresh_at}
+use Rattle.lrc_protocol.specs.Log.{Logged}
+use Rattle.lrc_protocol.specs.World.{World, fresh_world, sent_by, run_of}
+use Rattle.lrc_protocol.proofs.Numbers.{GoOn}
+use Rattle.lrc_protocol.proofs.Worlds.{get_set_same, get_set_other, fresh_at}
 use Rattle.lrc_protocol.proofs.Turned.{Turned, Turns, turns}
-use Rattle.lrc_protocol.proofs.Induction.{Comes, KeptByTurns, by_turns}
+use Rattle.lrc_protocol.proofs.Induction.{KeptByTurns, by_turns}
 use Rattle.lrc_invariants.specs.Numbers.{numbers_between, Rises}
 use Rattle.lrc_invariants.proofs.Shift.{AllFrom, Shifted, ShiftedIf, shifts}
 use Rattle.lrc_invariants.proofs.Numbers.{envelopes_in, rises-append, rises-range, between-sent, comes-rises, between-own, between-other}

@@ -13,3 +13,4 @@ pub mod Present
 pub mod PresentTimes
 pub mod Numbers
 pub mod InFlight
+pub mod Rules

@@ -1,6 +1,6 @@
 -- Numbers of messages in flight, as messages are sent, delivered and repeated.
-use Rattle.std.proofs.Common.{◌≡◌, ℕ, zero, suc, ◌+◌, ◌<◌, ◌≤◌, List, [], ◌∷◌, ◌++◌, Bool, true, false, length, map, refl, sym, ap, subst, ◌∙◌, arith, append-nil}
-use Rattle.std.specs.Prelude.{Option, Some, None, ◌==◌, ◌&&◌, cond, remove, take, drop, filter, slice_get, if◌then◌else◌}
+use Rattle.std.proofs.Common.{◌≡◌, ℕ, zero, suc, ◌+◌, ◌<◌, ◌≤◌, List, [], ◌∷◌, ◌++◌, Bool, true, false, map, refl, sym, ap, subst, ◌∙◌, arith}
+use Rattle.std.specs.Prelude.{◌==◌, ◌&&◌, cond, remove, filter, if◌then◌else◌}
 use Rattle.std.specs.List.{range_with_len, enumerate_from}
 use Rattle.std.proofs.lemmas.Bool.{eq-eqb, ne_eqb}
 use Rattle.std.proofs.lemmas.List.{map-append}
@@ -8,7 +8,7 @@ use Rattle.std.proofs.lemmas.List.Elements.{filter-append}
 use Rattle.lrc_wire.specs.Envelope.{EnvelopeRecord}
 use Rattle.lrc_protocol.specs.Follows.{numbers_to}
 use Rattle.lrc_protocol.specs.Log.{Input, EntryRecord}
-use Rattle.lrc_protocol.specs.World.{World, Flying, marked, with_mark, sent_by}
+use Rattle.lrc_protocol.specs.World.{World, Flying, marked, sent_by}
 use Rattle.lrc_protocol.proofs.Induction.{Comes, named, delivered, repeated}
 use Rattle.lrc_invariants.specs.Numbers.{numbers_between, Rises}
 use Rattle.lrc_invariants.proofs.Shift.{AllFrom}

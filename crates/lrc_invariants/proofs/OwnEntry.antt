@@ -1,31 +1,26 @@
 -- The own entry of a node's time counts the intervals that it has closed, in every run.
-use Rattle.std.proofs.Common.{◌≡◌, ℕ, ◌+◌, ◌<◌, List, [], ◌∷◌, ◌++◌, length, refl, sym, ap, subst, ◌∙◌}
-use Rattle.std.specs.Prelude.{Option, Some, None, slice_get, option_map}
+use Rattle.std.proofs.Common.{◌≡◌, ℕ, ◌+◌, ◌<◌, List, [], length, sym, ap, subst, ◌∙◌}
+use Rattle.std.specs.Prelude.{Some, slice_get}
 use Rattle.std.proofs.lemmas.Option.{slice_get_within}
 use Rattle.lrc_lang.specs.declared.program.Program.{Program}
-use Rattle.lrc_trace.specs.declared.act.Act.{Act}
 use Rattle.lrc_time.specs.Time.{entry}
 use Rattle.lrc_time.proofs.Times.{entry-zeros}
 use Rattle.lrc_exec.specs.Meaning.{Setting}
 use Rattle.lrc_exec.specs.Plain.{setting_of, start_of}
 use Rattle.lrc_theory.specs.Follows.{deeds_of}
 use Rattle.lrc_protocol.specs.declared.event.Event.{Event}
-use Rattle.lrc_protocol.specs.Node.{Node, OptionsRecord, fresh_node}
-use Rattle.lrc_protocol.specs.Turn.{TurnRecord}
+use Rattle.lrc_protocol.specs.Node.{OptionsRecord, fresh_node}
 use Rattle.lrc_protocol.specs.Log.{Local, Logged}
 use Rattle.lrc_protocol.specs.World.{World, run_of}
 use Rattle.lrc_protocol.specs.Follows.{turns_of, deeds_in}
 use Rattle.lrc_protocol.proofs.Worlds.{Whole, run-whole}
 use Rattle.lrc_protocol.proofs.Texts.{follows_at}
-use Rattle.lrc_protocol.proofs.Turned.{Turned}
-use Rattle.lrc_invariants.specs.Shape.{HasShape}
-use Rattle.lrc_invariants.specs.Waiting.{next_in, FixesNext}
-use Rattle.lrc_invariants.specs.Counts.{closes, is_arrive, is_depart, count, awaits_acquire, is_inside}
-use Rattle.lrc_invariants.proofs.Shift.{Part, part_of, Shifted}
+use Rattle.lrc_invariants.specs.Counts.{closes, count, awaits_acquire}
+use Rattle.lrc_invariants.proofs.Shift.{part_of}
 use Rattle.lrc_invariants.proofs.Inputs.{KeptByShifts, at_each}
 use Rattle.lrc_invariants.proofs.Waiting.{NodeFits, node-fits, departs_arrived}
 use Rattle.lrc_invariants.proofs.Shape.{NodeShape, node-shape, fresh_node-shape}
-use Rattle.lrc_invariants.proofs.Counts.{Own, own-kept, number, count_more}
+use Rattle.lrc_invariants.proofs.Counts.{Own, own-kept, count_more}
 
 -- a node of this setting, with what is carried beside
 pub record Owned (s : Setting) (o : OptionsRecord) (l : Local) : Type 0 where

@@ -1,6 +1,6 @@
 -- A node's time is that of its last act, but for what it waits for.
-use Rattle.std.proofs.Common.{◌≡◌, ℕ, ◌+◌, ◌<◌, ◌≤◌, List, [], ◌∷◌, ◌++◌, Bool, true, false, length, map, refl, sym, ap, subst, ◌∙◌, inl, inr, arith, append-nil}
-use Rattle.std.specs.Prelude.{Option, Some, None, ◌==◌, slice_get, option_map}
+use Rattle.std.proofs.Common.{◌≡◌, ℕ, ◌≤◌, List, [], ◌∷◌, ◌++◌, Bool, length, map, refl, sym, ap, subst, ◌∙◌, arith, append-nil}
+use Rattle.std.specs.Prelude.{Option, Some, None, ◌==◌, option_map}
 use Rattle.std.specs.Option.{option_to_list}
 use Rattle.std.proofs.lemmas.Bool.{eq-eqb, ne_eqb}
 use Rattle.std.proofs.lemmas.List.{get_or_push, length_push}
@@ -9,12 +9,12 @@ use Rattle.lrc_trace.specs.declared.act.Deed.{Deed}
 use Rattle.lrc_trace.specs.Run.{act_of}
 use Rattle.lrc_trace.proofs.Positions.{slice_get-seam}
 use Rattle.lrc_time.specs.Time.{joined}
-use Rattle.lrc_clock.specs.Times.{time_at, is_act, acts_at, raised, last_time, time_before}
+use Rattle.lrc_clock.specs.Times.{is_act, acts_at, raised, time_before}
 use Rattle.lrc_clock.proofs.Lasting.{last-here, last-not_here}
 use Rattle.lrc_clock.proofs.Prefixes.{time_before-prefix}
 use Rattle.lrc_exec.specs.Meaning.{Thread, Next, acquires, releases, arrives, departs}
 use Rattle.lrc_protocol.specs.Course.{Course, deed_of}
-use Rattle.lrc_protocol.specs.Mail.{Wait, nothing, grant, departure, access, upkeep, discard, Collection}
+use Rattle.lrc_protocol.specs.Mail.{Wait, nothing, grant, departure, access, upkeep, discard}
 use Rattle.lrc_protocol.specs.Locks.{Locks}
 use Rattle.lrc_invariants.specs.Waiting.{next_in, FixesNext}
 use Rattle.lrc_invariants.specs.Present.{IsPresent}

@@ -1,5 +1,5 @@
 -- In every run each node's time is that of its last act, but for what it waits for.
-use Rattle.std.proofs.Common.{◌≡◌, ℕ, ◌+◌, ◌<◌, List, [], ◌∷◌, ◌++◌, length, map, refl, sym, ap, subst, ◌∙◌, inl, inr, arith}
+use Rattle.std.proofs.Common.{◌≡◌, ℕ, List, [], ◌++◌, length, map, refl, sym, ap, subst, ◌∙◌, inl, inr, arith}
 use Rattle.std.specs.Prelude.{Option, Some, None, slice_get, slice_set, option_map}
 use Rattle.std.specs.Option.{option_to_list}
 use Rattle.std.proofs.lemmas.Bool.{cases_eq}
@@ -14,12 +14,12 @@ use Rattle.lrc_exec.specs.Plain.{setting_of, start_of}
 use Rattle.lrc_protocol.specs.declared.event.Event.{Event}
 use Rattle.lrc_protocol.specs.Node.{Node, OptionsRecord, fresh_node}
 use Rattle.lrc_protocol.specs.Turn.{TurnRecord}
-use Rattle.lrc_protocol.specs.Log.{Input, EntryRecord, Logged}
+use Rattle.lrc_protocol.specs.Log.{EntryRecord, Logged}
 use Rattle.lrc_protocol.specs.World.{World, Flying, fresh_world, with_turn, run_of}
-use Rattle.lrc_protocol.proofs.Worlds.{IsEntry, get_set_same, get_set_other, fresh_at}
+use Rattle.lrc_protocol.proofs.Worlds.{get_set_same, get_set_other, fresh_at}
 use Rattle.lrc_protocol.proofs.Turned.{Turned, Turns, turns}
 use Rattle.lrc_protocol.proofs.Times.{IsTimed, timed-kept}
-use Rattle.lrc_protocol.proofs.Induction.{Comes, KeptByTurns, by_turns}
+use Rattle.lrc_protocol.proofs.Induction.{KeptByTurns, by_turns}
 use Rattle.lrc_invariants.specs.Waiting.{next_in, FixesNext}
 use Rattle.lrc_invariants.specs.Present.{IsPresent}
 use Rattle.lrc_invariants.proofs.Shift.{part_of, Shifted, ShiftedIf, shifts, deed_made}
@@ -75,7 +75,7 @@ module _ (program : Program) (nodes : ℕ) (options : OptionsRecord) where
         (sym (last_other nodes world.acts world.times timed n time m ne deed)) h.present;
   }
 
-  deed_back : (me : ℕ) (deed : Option Deed) → option_map (λ (act : Act). act.deed) (option_map (act_of me) deed) ≡ deed
+  pub deed_back : (me : ℕ) (deed : Option Deed) → option_map (λ (act : Act). act.deed) (option_map (act_of me) deed) ≡ deed
   deed_back me None = refl
   deed_back me (Some d) = refl
 
@@ -88,7 +88,7 @@ module _ (program : Program) (nodes : ℕ) (options : OptionsRecord) where
       subst (λ act. AtPresent (setting_of program nodes m) (world.acts ++ option_to_list act) (world.times ++ map (λ (a : Act). after.node.locks.time) (option_to_list act)) node)
       (sym e) h
 
-  all-kept : KeptByTurns AllPresent
+  pub all-kept : KeptByTurns AllPresent
   all-kept world flight n l after input entry at comes i h =
       let t : Turned l.node entry.turn after.node = subst (Turns l.node) i.turn_is (turns l.node input) in
       let sh : Shifted l.node entry.turn after.node = subst (ShiftedIf l.node) i.turn_is (shifts l.node input) in
@@ -112,7 +112,7 @@ module _ (program : Program) (nodes : ℕ) (options : OptionsRecord) where
   fresh-present : (n : ℕ) → AtPresent (setting_of program nodes n) [] [] (fresh_node program nodes options n)
   fresh-present n = record { setting = refl; fits = departs_arrived (start_of program nodes n); present = refl }
 
-  all-fresh : AllPresent (fresh_world program nodes options)
+  pub all-fresh : AllPresent (fresh_world program nodes options)
   all-fresh = record {
     timed = refl;
     each = λ n l is.

@@ -10,8 +10,8 @@ use Rattle.lrc_lang.specs.declared.program.Program.{Program}
 use Rattle.lrc_time.specs.Time.{entry}
 use Rattle.lrc_time.proofs.Times.{length-zeros, length-joined_same}
 use Rattle.lrc_lock.specs.declared.state.LockState.{LockState}
-use Rattle.lrc_lock.specs.declared.state.LockState.TheVariants.{Away, Awaited, Free, Held}
-use Rattle.lrc_lock.specs.Held.{HeldRecord, SamePlace, LockStep, refuses, stays, passes, lock_at, is_free, with_lock, first_state, taken, asked, released, forwarded, granted, held_after}
+use Rattle.lrc_lock.specs.declared.state.LockState.TheVariants.{Away, Awaited, Held}
+use Rattle.lrc_lock.specs.Held.{HeldRecord, SamePlace, LockStep, refuses, stays, passes, lock_at, is_free, with_lock, first_state, taken, released, forwarded, granted, held_after}
 use Rattle.lrc_lock.specs.Lock.{manager_of}
 use Rattle.lrc_lock.specs.Managed.{ManagedRecord, SameManager, Requested, refuses as refuses_request, forwards, requested}
 use Rattle.lrc_exec.specs.Meaning.{Setting}
@@ -24,7 +24,7 @@ use Rattle.lrc_protocol.specs.Log.{Local, Logged}
 use Rattle.lrc_protocol.specs.World.{World, run_of}
 use Rattle.lrc_protocol.specs.Follows.{turns_of}
 use Rattle.lrc_invariants.specs.Shape.{HasShape}
-use Rattle.lrc_invariants.proofs.Shift.{Part, part_of, Learnable, Shift, plain, misses, takes, asks, releasing, arriving, manages, forwarding, grants, departing, collecting, clean_at_once, discarding, accessing, still_misses, still_collects, cleaning, rests}
+use Rattle.lrc_invariants.proofs.Shift.{Part, part_of, Shift, plain, misses, takes, asks, releasing, arriving, manages, forwarding, grants, departing, collecting, clean_at_once, discarding, accessing, still_misses, still_collects, cleaning, rests}
 use Rattle.lrc_invariants.proofs.Inputs.{KeptByShifts, at_each}
 
 -- ---- tokens

@@ -1,21 +1,21 @@
 -- The text holds the locks whose tokens are held.
-use Rattle.std.proofs.Common.{◌≡◌, ℕ, zero, suc, ◌+◌, ◌<◌, ◌≤◌, List, [], ◌∷◌, ◌++◌, Bool, true, false, length, map, refl, sym, ap, subst, ◌∙◌, inl, inr, arith}
-use Rattle.std.specs.Prelude.{Option, Some, None, ◌==◌, replicate, slice_get, slice_set, slice_index_or, if◌then◌else◌}
-use Rattle.std.proofs.lemmas.Bool.{cases_eq, eq-eqb, ne_eqb}
-use Rattle.std.proofs.lemmas.List.{get_or-set_same, get_or-set_other, length-set, length-replicate}
+use Rattle.std.proofs.Common.{◌≡◌, ℕ, ◌<◌, ◌≤◌, List, Bool, true, false, length, refl, sym, ap, subst, ◌∙◌, inl, inr, arith}
+use Rattle.std.specs.Prelude.{Option, Some, None, slice_set, slice_index_or}
+use Rattle.std.proofs.lemmas.Bool.{cases_eq}
+use Rattle.std.proofs.lemmas.List.{get_or-set_same, get_or-set_other, length-set}
 use Rattle.lrc_trace.specs.declared.act.Deed.{Deed}
 use Rattle.lrc_exec.specs.Meaning.{Setting, Thread, Next, quiet, prints, reads, writes, acquires, releases, arrives, departs, traps, ends, holds}
 use Rattle.lrc_lock.specs.declared.state.LockState.{LockState}
 use Rattle.lrc_lock.specs.declared.state.LockState.TheVariants.{Away, Awaited, Free, Held}
-use Rattle.lrc_lock.specs.Held.{HeldRecord, lock_at, is_free, is_held, with_lock, held_after, taken, asked, released, released_at, forwarded, granted, granted_at}
+use Rattle.lrc_lock.specs.Held.{HeldRecord, lock_at, is_held, with_lock, held_after, asked, released, released_at, forwarded, granted, granted_at}
 use Rattle.lrc_protocol.specs.Course.{Course, going}
-use Rattle.lrc_protocol.specs.Mail.{Wait, nothing, grant, departure, access, upkeep, discard}
+use Rattle.lrc_protocol.specs.Mail.{Wait, grant, departure, access, discard}
 use Rattle.lrc_protocol.specs.Locks.{Locks, next_time}
-use Rattle.lrc_invariants.specs.Waiting.{next_in, is_departing, is_access, acquiring, FixesNext}
+use Rattle.lrc_invariants.specs.Waiting.{next_in, acquiring, FixesNext}
 use Rattle.lrc_invariants.specs.Tokens.{is_awaited, HoldsTokens, AwaitsOne}
-use Rattle.lrc_invariants.proofs.Shift.{Part, Acted, Rested, Moved, is_plain, Shift, plain, misses, takes, asks, releasing, arriving, manages, forwarding, grants, departing, collecting, clean_at_once, discarding, accessing, still_misses, still_collects, cleaning, rests}
+use Rattle.lrc_invariants.proofs.Shift.{Part, Moved, is_plain, Shift, plain, misses, takes, asks, releasing, arriving, manages, forwarding, grants, departing, collecting, clean_at_once, discarding, accessing, still_misses, still_collects, cleaning, rests}
 use Rattle.lrc_invariants.proofs.Counts.{lock_next, departure_next, access_next}
-use Rattle.lrc_invariants.proofs.Holding.{Same, Takes, Drops, Goes, Leads, Went, went, Stands, stands, goes_now}
+use Rattle.lrc_invariants.proofs.Holding.{Same, Takes, Drops, Goes, Went, went, Stands, stands, goes_now}
 use Rattle.lrc_invariants.proofs.Tokens.{set_kept, forward_held, taken_is, awaits_it, awaits_for}
 
 -- ---- a text's setting

@@ -1,25 +1,19 @@
 -- The tokens at one node: the text holds those that are held, and who waits for a grant awaits that one token alone.
-use Rattle.std.proofs.Common.{◌≡◌, ℕ, zero, suc, ◌+◌, ◌<◌, ◌≤◌, List, [], ◌∷◌, ◌++◌, Bool, true, false, length, map, refl, sym, ap, subst, ◌∙◌, inl, inr, arith}
-use Rattle.std.specs.Prelude.{Option, Some, None, ◌==◌, replicate, slice_get, slice_set, slice_index_or, if◌then◌else◌}
-use Rattle.std.specs.List.{range_with_len}
+use Rattle.std.proofs.Common.{◌≡◌, ℕ, zero, suc, ◌<◌, List, [], ◌∷◌, Bool, true, false, length, refl, sym, ap, subst, ◌∙◌, inl, inr}
+use Rattle.std.specs.Prelude.{Some, None, ◌==◌, slice_set, slice_index_or, if◌then◌else◌}
 use Rattle.std.proofs.lemmas.Bool.{cases_eq, eq-eqb, ne_eqb}
-use Rattle.std.proofs.lemmas.List.{get_or-set_same, get_or-set_other, length-set, length-replicate}
-use Rattle.lrc_trace.specs.declared.act.Deed.{Deed}
-use Rattle.lrc_exec.specs.Meaning.{Setting, Thread, Next, quiet, prints, reads, writes, acquires, releases, arrives, departs, traps, ends, holds}
+use Rattle.std.proofs.lemmas.List.{get_or-set_same, get_or-set_other}
+use Rattle.lrc_exec.specs.Meaning.{Setting}
 use Rattle.lrc_lock.specs.declared.state.LockState.{LockState}
 use Rattle.lrc_lock.specs.declared.state.LockState.TheVariants.{Away, Awaited, Free, Held}
 use Rattle.lrc_lock.specs.declared.state.Waiter.{Waiter}
 use Rattle.lrc_lock.specs.declared.fault.LockFault.TheVariants.{NotMine}
-use Rattle.lrc_lock.specs.Lock.{manager_of}
-use Rattle.lrc_lock.specs.Held.{HeldRecord, LockStep, refuses, stays, passes, lock_at, is_free, is_held, with_lock, state_after, held_after, first_state, taken, asked, released, released_at, forwarded, forwarded_at, granted, granted_at}
-use Rattle.lrc_protocol.specs.Course.{Course, going}
+use Rattle.lrc_lock.specs.Held.{HeldRecord, LockStep, refuses, stays, passes, lock_at, is_free, is_held, with_lock, state_after, held_after, taken, asked, released, released_at, forwarded, forwarded_at, granted_at}
 use Rattle.lrc_protocol.specs.Mail.{Wait, nothing, grant, departure, access, upkeep, discard, awaits_grant}
 use Rattle.lrc_protocol.specs.Locks.{Locks, next_time}
-use Rattle.lrc_invariants.specs.Waiting.{next_in, is_departing, is_access, acquiring, FixesNext}
-use Rattle.lrc_invariants.specs.Tokens.{is_awaited, HoldsTokens, AwaitsOne}
-use Rattle.lrc_invariants.proofs.Shift.{Part, Acted, Rested, Moved, is_plain, Shift, plain, misses, takes, asks, releasing, arriving, manages, forwarding, grants, departing, collecting, clean_at_once, discarding, accessing, still_misses, still_collects, cleaning, rests}
-use Rattle.lrc_invariants.proofs.Counts.{lock_next, departure_next, access_next}
-use Rattle.lrc_invariants.proofs.Holding.{Same, Takes, Drops, Goes, Went, went}
+use Rattle.lrc_invariants.specs.Waiting.{next_in, acquiring, FixesNext}
+use Rattle.lrc_invariants.specs.Tokens.{is_awaited, AwaitsOne}
+use Rattle.lrc_invariants.proofs.Shift.{Part, Shift, plain, misses, takes, asks, releasing, arriving, manages, forwarding, grants, departing, collecting, clean_at_once, discarding, accessing, still_misses, still_collects, cleaning, rests}
 
 -- ---- one lock's state, by a test
 

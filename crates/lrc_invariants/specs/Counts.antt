@@ -1,8 +1,8 @@
 -- Counts of what a node has done: intervals closed, arrivals and departures.
-use Rattle.std.specs.Prelude.{◌≡◌, ℕ, ◌+◌, Bool, true, false, List, length, filter}
+use Rattle.std.specs.Prelude.{ℕ, Bool, true, false, List, length, filter}
 use Rattle.lrc_trace.specs.declared.act.Deed.{Deed}
 use Rattle.lrc_trace.specs.declared.act.Deed.TheVariants.{Acquire, Release, Arrive, Depart}
-use Rattle.lrc_protocol.specs.Mail.{Wait, nothing, grant, departure, access, upkeep, discard}
+use Rattle.lrc_protocol.specs.Mail.{Wait, grant, departure, upkeep, discard}
 
 -- whether a deed closes an interval, arrives at a barrier, or departs from it
 abbrev pub closes : Deed → Bool

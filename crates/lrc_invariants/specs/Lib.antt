@@ -4,3 +4,4 @@ pub mod Counts
 pub mod Tokens
 pub mod Present
 pub mod Numbers
+pub mod Rules

@@ -13,8 +13,11 @@ ghost use Rattle.lrc_theory.specs.Follows.{deeds_of};
 ghost use Rattle.lrc_invariants.specs.Counts.{closes, is_arrive, is_depart, count, awaits_acquire, is_inside};
 ghost use Rattle.lrc_invariants.specs.Tokens.{HoldsTokens, AwaitsOne};
 ghost use Rattle.lrc_invariants.specs.Present.{IsPresent};
-ghost use Rattle.lrc_clock.specs.Times.{time_before};
+ghost use Rattle.lrc_clock.specs.Times.{time_at, time_before};
 ghost use Rattle.lrc_invariants.specs.Numbers.{numbers_between, Rises};
+ghost use Rattle.lrc_trace.specs.declared.act.Deed.{Deed};
+ghost use Rattle.lrc_trace.specs.Run.{Does};
+ghost use Rattle.lrc_invariants.specs.Rules.{FollowsRule};
 ghost use Rattle.lrc_invariants.specs.Waiting.{next_in, FixesNext};
 
 /// In every run each node keeps its setting and its options, and its time, its tokens and the askers that it notes have a
@@ -85,4 +88,12 @@ pub fn messages_in_flight_have_their_own_numbers()
         (from to : ℕ) (l : Logged) → run_of program nodes options events ≡ Some world → slice_get world.nodes from ≡ Some l
         → to < nodes → Rises options.first (options.first + slice_index l.node.mail.sent to)
         (numbers_between from to (map (λ (flying : Flying). flying.envelope) world.flight)) }
+{}
+
+/// In every run each act does to its node's time what its kind does: a release and an arrive raise the own entry, an
+/// acquire does so and learns some time, a depart learns some time, and any other act leaves it as it is.
+pub fn each_act_follows_its_rule()
+    ensures { (program : Program) (nodes : ℕ) (options : OptionsRecord) (events : List Event) (world : World)
+        (j node : ℕ) (deed : Deed) → run_of program nodes options events ≡ Some world → Does world.acts j node deed
+        → FollowsRule node (time_before nodes world.acts world.times node j) deed (time_at world.times j) }
 {}
