@@ -14,3 +14,4 @@ pub mod PresentTimes
 pub mod Numbers
 pub mod InFlight
 pub mod Rules
+pub mod Calls
