@@ -15,3 +15,4 @@ pub mod Numbers
 pub mod InFlight
 pub mod Rules
 pub mod Calls
+pub mod TakenNumbers
