@@ -16,3 +16,4 @@ pub mod InFlight
 pub mod Rules
 pub mod Calls
 pub mod TakenNumbers
+pub mod TakenBelow
