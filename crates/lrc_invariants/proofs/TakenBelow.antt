@@ -77,3 +77,84 @@ taken-below world n node _ _ a least bound (repeats envelope) c r h = h
 taken-below world n node _ _ a least bound (anew envelope new) c r h =
     below-set node.mail.taken envelope.from a envelope.number bound
     (λ e. c least bound (subst (λ a. Rises least bound (numbers_between a n (envelopes_in world.flight))) (sym e) r)) h
+
+-- ---- every run
+
+-- a node before another's turn, or its own
+record Before (nodes : ℕ) (world : World) (m : ℕ) (lm : Logged) : Type 0 where
+  old : Logged
+  at : slice_get world.nodes m ≡ Some old
+  grows : (to : ℕ) → to < nodes → slice_index old.node.mail.sent to ≤ slice_index lm.node.mail.sent to
+  takes_more : (a least bound : ℕ) → Rises least bound (numbers_between a m (envelopes_in world.flight)) → Below bound (slice_index_or old.node.mail.taken a [])
+      → Below bound (slice_index_or lm.node.mail.taken a [])
+
+module _ (program : Program) (nodes : ℕ) (options : OptionsRecord) where
+  pub record AllTaken (world : World) : Type 0 where
+    pub count : length world.nodes ≡ nodes
+    pub sends : AllSend program nodes options world
+    pub below : (a b : ℕ) (la lb : Logged) → slice_get world.nodes a ≡ Some la → slice_get world.nodes b ≡ Some lb
+        → Below (options.first + slice_index la.node.mail.sent b) (slice_index_or lb.node.mail.taken a [])
+
+  own_before : (world : World) (flight : List Flying) (n : ℕ) (l after : Logged) (input : Input) (entry : EntryRecord)
+      → slice_get world.nodes n ≡ Some l → Comes world n input flight → IsEntry l input entry after → AllTaken world → Before nodes world n after
+  own_before world flight n l after input entry at comes i h =
+      let t : Turned l.node entry.turn after.node = subst (Turns l.node) i.turn_is (turns l.node input) in
+      let k : Takes l.node input after.node.mail.taken = subst (TakesIf l.node input) i.turn_is (takes l.node input) in
+      let size : length l.node.mail.sent ≡ nodes = (h.sends.each n l at).size in
+      record {
+        old = l;
+        at = at;
+        grows = λ to lt.
+            let g : GoOn l.node.options.first l.node.mail.sent entry.turn.out after.node.mail.sent to = t.numbers.each to (subst (λ k. to < k) (sym size) lt) in
+            let counted : slice_index after.node.mail.sent to ≡ slice_index l.node.mail.sent to + g.more = g.counted in
+            omega (arith, counted);
+        takes_more = λ a least bound r b. taken-below world n l.node input after.node.mail.taken a least bound k (came world n input flight comes) r b;
+      }
+
+  before : (world : World) (flight : List Flying) (n : ℕ) (l after : Logged) (input : Input) (entry : EntryRecord)
+      → slice_get world.nodes n ≡ Some l → Comes world n input flight → IsEntry l input entry after → AllTaken world
+      → (m : ℕ) (lm : Logged) → slice_get (slice_set world.nodes n after) m ≡ Some lm → Before nodes world m lm
+  before world flight n l after input entry at comes i h m lm is = elim (cases_eq n m) [
+    | inl e ↦
+        let same : after ≡ lm = same_Some after lm (sym (get_set_same world.nodes n l after at) ∙ ap (slice_get (slice_set world.nodes n after)) e ∙ is) in
+        subst (λ k. Before nodes world k lm) e (subst (Before nodes world n) same (own_before world flight n l after input entry at comes i h))
+    | inr ne ↦ record {
+        old = lm;
+        at = sym (get_set_other world.nodes n m after ne) ∙ is;
+        grows = λ to lt. omega arith;
+        takes_more = λ a least bound r b. b;
+      }
+  ]
+
+  taken-kept : KeptByTurns AllTaken
+  taken-kept world flight n l after input entry at comes i h = record {
+    count = length-set world.nodes n after ∙ h.count;
+    sends = all-kept program nodes options world flight n l after input entry at comes i h.sends;
+    below = λ a b la lb at_a at_b.
+        let oa : Before nodes world a la = before world flight n l after input entry at comes i h a la at_a in
+        let ob : Before nodes world b lb = before world flight n l after input entry at comes i h b lb at_b in
+        let lt : b < nodes = subst (λ k. b < k) h.count (slice_get_within world.nodes b ob.old ob.at) in
+        let grown : slice_index oa.old.node.mail.sent b ≤ slice_index la.node.mail.sent b = oa.grows b lt in
+        below-more (options.first + slice_index oa.old.node.mail.sent b) (options.first + slice_index la.node.mail.sent b) (slice_index_or lb.node.mail.taken a [])
+        (omega (arith, grown))
+        (ob.takes_more a options.first (options.first + slice_index oa.old.node.mail.sent b)
+        ((h.sends.each a oa.old oa.at).numbers b lt) (h.below a b oa.old ob.old oa.at ob.at));
+  }
+
+  none_taken : (k a bound : ℕ) → Below bound (slice_index_or (replicate k []) a [])
+  none_taken zero a bound = tt
+  none_taken (suc k) zero bound = tt
+  none_taken (suc k) (suc a) bound = none_taken k a bound
+
+  taken-fresh : AllTaken (fresh_world program nodes options)
+  taken-fresh = record {
+    count = (run-whole program nodes options [] (fresh_world program nodes options) refl).count;
+    sends = all-fresh program nodes options;
+    below = λ a b la lb at_a at_b.
+        subst (λ (x : Logged). Below (options.first + slice_index la.node.mail.sent b) (slice_index_or x.node.mail.taken a []))
+        (sym (fresh_at program nodes options 0 nodes b lb at_b))
+        (none_taken nodes a (options.first + slice_index la.node.mail.sent b));
+  }
+
+  pub all_taken : (events : List Event) (world : World) → run_of program nodes options events ≡ Some world → AllTaken world
+  all_taken events world e = by_turns AllTaken taken-kept program nodes options events world taken-fresh e

@@ -1,6 +1,6 @@
 // What holds of every run, whatever its events. Each function is a theorem: its body is empty, and its clauses are the law.
 
-ghost use Rattle.std.specs.Prelude.{◌≡◌, ℕ, ◌+◌, ◌<◌, true, false, List, Some, length, map, slice_get, slice_index};
+ghost use Rattle.std.specs.Prelude.{◌≡◌, ℕ, ◌+◌, ◌<◌, true, false, List, Some, length, map, slice_get, slice_index, slice_index_or, []};
 ghost use Rattle.lrc_lang.specs.declared.program.Program.{Program};
 ghost use Rattle.lrc_protocol.specs.declared.event.Event.{Event};
 ghost use Rattle.lrc_protocol.specs.Node.{OptionsRecord};
@@ -17,7 +17,7 @@ ghost use Rattle.lrc_protocol.specs.Mail.{grant};
 ghost use Rattle.lrc_invariants.specs.Tokens.{is_awaited, HoldsTokens, AwaitsOne};
 ghost use Rattle.lrc_invariants.specs.Present.{IsPresent};
 ghost use Rattle.lrc_clock.specs.Times.{time_at, time_before};
-ghost use Rattle.lrc_invariants.specs.Numbers.{numbers_between, Rises};
+ghost use Rattle.lrc_invariants.specs.Numbers.{numbers_between, Rises, Below};
 ghost use Rattle.lrc_trace.specs.declared.act.Deed.{Deed};
 ghost use Rattle.lrc_trace.specs.Run.{Does};
 ghost use Rattle.lrc_invariants.specs.Rules.{FollowsRule};
@@ -116,4 +116,13 @@ pub fn locks_are_called_in_turn()
         (n : ℕ) (l : Logged) (lock : ℕ) → run_of program nodes options events ≡ Some world
         → slice_get world.nodes n ≡ Some l → l.node.mail.wait ≡ grant lock
         → is_awaited (lock_at l.node.locks.held lock) ≡ true }
+{}
+
+/// In every run the numbers that a node has taken from another are all below the next one that the sender will give: what
+/// was taken was sent.
+pub fn messages_taken_were_sent()
+    ensures { (program : Program) (nodes : ℕ) (options : OptionsRecord) (events : List Event) (world : World)
+        (from to : ℕ) (sender receiver : Logged) → run_of program nodes options events ≡ Some world
+        → slice_get world.nodes from ≡ Some sender → slice_get world.nodes to ≡ Some receiver
+        → Below (options.first + slice_index sender.node.mail.sent to) (slice_index_or receiver.node.mail.taken from []) }
 {}
