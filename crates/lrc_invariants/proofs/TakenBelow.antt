@@ -1,24 +1,21 @@
 -- In every run the numbers that a node has taken from another are among those that were sent to it.
-use Rattle.std.proofs.Common.{◌≡◌, ℕ, zero, suc, ◌+◌, ◌<◌, ◌≤◌, List, [], ◌∷◌, Bool, true, false, length, map, refl, sym, ap, subst, ◌∙◌, inl, inr, arith}
-use Rattle.std.specs.Prelude.{Option, Some, None, ◌==◌, ◌&&◌, cond, replicate, filter, slice_get, slice_set, slice_index, slice_index_or}
+use Rattle.std.proofs.Common.{◌≡◌, ℕ, zero, suc, ◌+◌, ◌<◌, ◌≤◌, List, [], ◌∷◌, Bool, true, false, length, refl, sym, ap, subst, ◌∙◌, inl, inr, arith}
+use Rattle.std.specs.Prelude.{Some, ◌==◌, cond, replicate, filter, slice_get, slice_set, slice_index, slice_index_or}
 use Rattle.std.proofs.lemmas.Bool.{cases_eq, eq-eqb, and_from}
 use Rattle.std.proofs.lemmas.List.{length-set}
 use Rattle.std.proofs.lemmas.Option.{same_Some, slice_get_within}
 use Rattle.lrc_lang.specs.declared.program.Program.{Program}
-use Rattle.lrc_exec.specs.Plain.{setting_of}
-use Rattle.lrc_wire.specs.Envelope.{EnvelopeRecord}
 use Rattle.lrc_protocol.specs.declared.event.Event.{Event}
-use Rattle.lrc_protocol.specs.Node.{Node, OptionsRecord, fresh_node}
-use Rattle.lrc_protocol.specs.Turn.{taking}
-use Rattle.lrc_protocol.specs.Log.{Input, run, taken, outcome_of, EntryRecord, Logged}
-use Rattle.lrc_protocol.specs.World.{World, Flying, fresh_world, with_turn, run_of}
+use Rattle.lrc_protocol.specs.Node.{Node, OptionsRecord}
+use Rattle.lrc_protocol.specs.Log.{Input, run, taken, EntryRecord, Logged}
+use Rattle.lrc_protocol.specs.World.{World, Flying, fresh_world, run_of}
 use Rattle.lrc_protocol.proofs.Numbers.{GoOn}
-use Rattle.lrc_protocol.proofs.Worlds.{Whole, run-whole, IsEntry, get_set_same, get_set_other, fresh_at}
+use Rattle.lrc_protocol.proofs.Worlds.{run-whole, IsEntry, get_set_same, get_set_other, fresh_at}
 use Rattle.lrc_protocol.proofs.Turned.{Turned, Turns, turns}
 use Rattle.lrc_protocol.proofs.Induction.{Comes, named, delivered, repeated, KeptByTurns, by_turns}
 use Rattle.lrc_invariants.specs.Numbers.{numbers_between, Rises, Below}
 use Rattle.lrc_invariants.proofs.Numbers.{envelopes_in, are_between, map_cond}
-use Rattle.lrc_invariants.proofs.InFlight.{Sends, AllSend, all-kept, all-fresh}
+use Rattle.lrc_invariants.proofs.InFlight.{AllSend, all-kept, all-fresh}
 use Rattle.lrc_invariants.proofs.TakenNumbers.{Takes, TakesIf, by_itself, repeats, anew, takes}
 
 below-more : (b c : ℕ) (xs : List ℕ) → b ≤ c → Below b xs → Below c xs
@@ -55,8 +52,8 @@ in_flight (g ∷ flight) zero f least bound at r =
 in_flight (g ∷ flight) (suc place) f least bound at r =
     let c : Bool = are_between f.envelope.from f.envelope.to g.envelope in
     let rest : (lower : ℕ) × Rises lower bound (numbers_between f.envelope.from f.envelope.to (envelopes_in flight)) =
-        later c least bound g.envelope.number (numbers_between f.envelope.from f.envelope.to (envelopes_in flight))
-        (subst (Rises least bound) (map_cond c g.envelope (filter (are_between f.envelope.from f.envelope.to) (envelopes_in flight))) r) in
+    later c least bound g.envelope.number (numbers_between f.envelope.from f.envelope.to (envelopes_in flight))
+    (subst (Rises least bound) (map_cond c g.envelope (filter (are_between f.envelope.from f.envelope.to) (envelopes_in flight))) r) in
     in_flight flight place f rest.0 bound at rest.1
 
 -- what comes has a number that was sent
@@ -119,11 +116,11 @@ module _ (program : Program) (nodes : ℕ) (options : OptionsRecord) where
         let same : after ≡ lm = same_Some after lm (sym (get_set_same world.nodes n l after at) ∙ ap (slice_get (slice_set world.nodes n after)) e ∙ is) in
         subst (λ k. Before nodes world k lm) e (subst (Before nodes world n) same (own_before world flight n l after input entry at comes i h))
     | inr ne ↦ record {
-        old = lm;
-        at = sym (get_set_other world.nodes n m after ne) ∙ is;
-        grows = λ to lt. omega arith;
-        takes_more = λ a least bound r b. b;
-      }
+      old = lm;
+      at = sym (get_set_other world.nodes n m after ne) ∙ is;
+      grows = λ to lt. omega arith;
+      takes_more = λ a least bound r b. b;
+    }
   ]
 
   taken-kept : KeptByTurns AllTaken

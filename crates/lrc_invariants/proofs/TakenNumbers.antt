@@ -2,29 +2,27 @@
 use Rattle.std.proofs.Common.{◌≡◌, ℕ, List, [], Bool, true, false, refl, sym, subst}
 use Rattle.std.specs.Prelude.{Option, Some, None, nat_lt, if◌then◌else◌, flat_map, fold}
 use Rattle.std.specs.List.{list_all}
-use Rattle.lrc_trace.specs.declared.act.Deed.{Deed}
-use Rattle.lrc_exec.specs.Meaning.{Setting, Thread, Next, quiet, prints, reads, writes, acquires, releases, arrives, departs, traps, ends, next_of}
+use Rattle.lrc_exec.specs.Meaning.{Next, quiet, prints, reads, writes, acquires, releases, arrives, departs, traps, ends}
 use Rattle.lrc_wire.specs.declared.message.Message.{Message}
 use Rattle.lrc_wire.specs.declared.message.Message.TheVariants.{LockRequest, LockForward, LockGrant, Arrive, Depart, Clean, Discard, ChangesRequest, ChangesReply, PageRequest, PageReply}
 use Rattle.lrc_lock.specs.Managed.{Requested, refuses as refuses_request, forwards, requested}
 use Rattle.lrc_lock.specs.Held.{lock_at, is_free}
 use Rattle.lrc_barrier.specs.Barrier.{ArriveStep, refuses as refuses_arrival, waits, departs as all_depart, CleanStep, refuses_clean, awaits, discards}
-use Rattle.lrc_theory.specs.Follows.{Goes, quietly, printing, reading, writing, acquiring, releasing, arriving, departing, trapping, ending}
 use Rattle.lrc_protocol.specs.Copy.{is_readable}
 use Rattle.lrc_protocol.specs.Memory.{copy_at, kept_pages, with_keepers, base_at}
 use Rattle.lrc_protocol.specs.Fetch.{Need, need_of, is_met, with_changes, with_page}
 use Rattle.lrc_protocol.specs.Mail.{numbered, Letter, Wait, nothing, grant, departure, access, upkeep, discard, Collection, collection_of, MOST_NUMBER}
-use Rattle.lrc_protocol.specs.Course.{Course, going, trapped, ended, thread_of, deed_of, course_of}
+use Rattle.lrc_protocol.specs.Course.{Course, going, trapped, ended}
 use Rattle.lrc_protocol.specs.Barrier.{clean_step}
-use Rattle.lrc_protocol.specs.Node.{Node, Effect, begins, sends, acts, acts_by, value_read, with_memory, waiting}
+use Rattle.lrc_protocol.specs.Node.{Node, Effect, begins, acts, acts_by, with_memory, waiting}
 use Rattle.lrc_protocol.specs.Letters.{requests_of}
 use Rattle.lrc_protocol.specs.Waits.{waits_or_goes_on, with_needs}
 use Rattle.lrc_page.specs.Place.{page_of}
-use Rattle.lrc_protocol.specs.Run.{charged, own_index, closes, closing, reaches, acquire_at, release_at, arrive_at, run_effect}
+use Rattle.lrc_protocol.specs.Run.{charged, own_index, closes, reaches, acquire_at, release_at, arrive_at, run_effect}
 use Rattle.lrc_protocol.specs.Take.{request_by, learns, arrive_by, collects, clean_by, discard_by, page_reply_by, take_effect, needs_to_keep, with_part}
 use Rattle.lrc_wire.specs.Envelope.{EnvelopeRecord}
 use Rattle.lrc_protocol.specs.Expected.{is_expected}
-use Rattle.lrc_protocol.specs.Turn.{TurnRecord, Outcome, done, not_ready, unexpected, worn, turn_with, turn_of, turn_if, turn_by, take_anew, take_turn, taking, is_addressed, is_repeat, empty_turn}
+use Rattle.lrc_protocol.specs.Turn.{Outcome, done, not_ready, unexpected, worn, turn_with, turn_of, turn_if, turn_by, take_anew, take_turn, taking, is_addressed, is_repeat, empty_turn}
 use Rattle.lrc_protocol.specs.Log.{Input, run, taken, outcome_of}
 
 -- the numbers taken are these
