@@ -48,7 +48,7 @@ module _ (program : Program) (nodes : ℕ) (options : OptionsRecord) where
       (subst (Rises (options.first + before) (options.first + slice_index after.mail.sent to)) (sym numbers)
       (rises-range (options.first + before) g.more (options.first + slice_index after.mail.sent to) (omega (arith, counted))))
 
-  all-kept : KeptByTurns AllSend
+  pub all-kept : KeptByTurns AllSend
   all-kept world flight n l after input entry at comes i h =
       let t : Turned l.node entry.turn after.node = subst (Turns l.node) i.turn_is (turns l.node input) in
       let sh : Shifted l.node entry.turn after.node = subst (ShiftedIf l.node) i.turn_is (shifts l.node input) in
@@ -89,7 +89,7 @@ module _ (program : Program) (nodes : ℕ) (options : OptionsRecord) where
   fresh-sends : (n : ℕ) → Sends (setting_of program nodes n) options [] (fresh_node program nodes options n)
   fresh-sends n = record { setting = refl; options = refl; size = length-replicate nodes 0; numbers = λ to lt. tt }
 
-  all-fresh : AllSend (fresh_world program nodes options)
+  pub all-fresh : AllSend (fresh_world program nodes options)
   all-fresh = record {
     each = λ n l is.
         subst (λ (x : Logged). Sends (setting_of program nodes n) options [] x.node)

@@ -14,3 +14,6 @@ pub mod PresentTimes
 pub mod Numbers
 pub mod InFlight
 pub mod Rules
+pub mod Calls
+pub mod TakenNumbers
+pub mod TakenBelow

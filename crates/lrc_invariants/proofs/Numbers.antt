@@ -75,7 +75,7 @@ cond_drops : (c : Bool) (least bound x : ℕ) (rest : List ℕ) → Rises least 
 cond_drops true least bound x rest r = let at_least : least ≤ x = r.0 in rises-lower (x + 1) least bound rest (omega (arith, at_least)) r.2
 cond_drops false least bound x rest r = r
 
-map_cond : (c : Bool) (e : EnvelopeRecord) (rest : List EnvelopeRecord)
+pub map_cond : (c : Bool) (e : EnvelopeRecord) (rest : List EnvelopeRecord)
     → map (λ (e : EnvelopeRecord). e.number) (cond c (e ∷ rest) rest) ≡ cond c (e.number ∷ map (λ (e : EnvelopeRecord). e.number) rest) (map (λ (e : EnvelopeRecord). e.number) rest)
 map_cond true e rest = refl
 map_cond false e rest = refl

@@ -10,3 +10,8 @@ numbers_between from to envelopes = map (λ envelope. envelope.number) (filter (
 abbrev pub Rises : ℕ → ℕ → List ℕ → Type 0
 Rises least bound [] = Unit {0}
 Rises least bound (x ∷ xs) = (least ≤ x) × (x < bound) × Rises (x + 1) bound xs
+
+-- numbers that are all below a bound
+abbrev pub Below : ℕ → List ℕ → Type 0
+Below bound [] = Unit {0}
+Below bound (x ∷ xs) = (x < bound) × Below bound xs

@@ -1,6 +1,6 @@
 // What holds of every run, whatever its events. Each function is a theorem: its body is empty, and its clauses are the law.
 
-ghost use Rattle.std.specs.Prelude.{◌≡◌, ℕ, ◌+◌, ◌<◌, List, Some, length, map, slice_get, slice_index};
+ghost use Rattle.std.specs.Prelude.{◌≡◌, ℕ, ◌+◌, ◌<◌, true, false, List, Some, length, map, slice_get, slice_index, slice_index_or, []};
 ghost use Rattle.lrc_lang.specs.declared.program.Program.{Program};
 ghost use Rattle.lrc_protocol.specs.declared.event.Event.{Event};
 ghost use Rattle.lrc_protocol.specs.Node.{OptionsRecord};
@@ -11,14 +11,17 @@ ghost use Rattle.lrc_invariants.specs.Shape.{HasShape};
 ghost use Rattle.lrc_time.specs.Time.{entry};
 ghost use Rattle.lrc_theory.specs.Follows.{deeds_of};
 ghost use Rattle.lrc_invariants.specs.Counts.{closes, is_arrive, is_depart, count, awaits_acquire, is_inside};
-ghost use Rattle.lrc_invariants.specs.Tokens.{HoldsTokens, AwaitsOne};
+ghost use Rattle.lrc_exec.specs.Meaning.{Thread, releases};
+ghost use Rattle.lrc_lock.specs.Held.{lock_at, is_held};
+ghost use Rattle.lrc_protocol.specs.Mail.{grant};
+ghost use Rattle.lrc_invariants.specs.Tokens.{is_awaited, HoldsTokens, AwaitsOne};
 ghost use Rattle.lrc_invariants.specs.Present.{IsPresent};
 ghost use Rattle.lrc_clock.specs.Times.{time_at, time_before};
-ghost use Rattle.lrc_invariants.specs.Numbers.{numbers_between, Rises};
+ghost use Rattle.lrc_invariants.specs.Numbers.{numbers_between, Rises, Below};
 ghost use Rattle.lrc_trace.specs.declared.act.Deed.{Deed};
 ghost use Rattle.lrc_trace.specs.Run.{Does};
 ghost use Rattle.lrc_invariants.specs.Rules.{FollowsRule};
-ghost use Rattle.lrc_invariants.specs.Waiting.{next_in, FixesNext};
+ghost use Rattle.lrc_invariants.specs.Waiting.{next_in, acquiring, FixesNext};
 
 /// In every run each node keeps its setting and its options, and its time, its tokens and the askers that it notes have a
 /// place for each node or lock.
@@ -96,4 +99,30 @@ pub fn each_act_follows_its_rule()
     ensures { (program : Program) (nodes : ℕ) (options : OptionsRecord) (events : List Event) (world : World)
         (j node : ℕ) (deed : Deed) → run_of program nodes options events ≡ Some world → Does world.acts j node deed
         → FollowsRule node (time_before nodes world.acts world.times node j) deed (time_at world.times j) }
+{}
+
+/// In every run a node that acquires a lock next does not hold its token, one that releases a lock next holds its token, and
+/// one that waits for a grant awaits its token: no call on a lock at a node is refused for its state.
+pub fn locks_are_called_in_turn()
+    ensures acquire { (program : Program) (nodes : ℕ) (options : OptionsRecord) (events : List Event) (world : World)
+        (n : ℕ) (l : Logged) (lock : ℕ) → run_of program nodes options events ≡ Some world
+        → slice_get world.nodes n ≡ Some l → acquiring (next_in l.node.course) ≡ Some lock
+        → is_held (lock_at l.node.locks.held lock) ≡ false }
+    ensures release { (program : Program) (nodes : ℕ) (options : OptionsRecord) (events : List Event) (world : World)
+        (n : ℕ) (l : Logged) (lock : ℕ) (after : Thread) → run_of program nodes options events ≡ Some world
+        → slice_get world.nodes n ≡ Some l → next_in l.node.course ≡ Some (releases lock after)
+        → is_held (lock_at l.node.locks.held lock) ≡ true }
+    ensures grant { (program : Program) (nodes : ℕ) (options : OptionsRecord) (events : List Event) (world : World)
+        (n : ℕ) (l : Logged) (lock : ℕ) → run_of program nodes options events ≡ Some world
+        → slice_get world.nodes n ≡ Some l → l.node.mail.wait ≡ grant lock
+        → is_awaited (lock_at l.node.locks.held lock) ≡ true }
+{}
+
+/// In every run the numbers that a node has taken from another are all below the next one that the sender will give: what
+/// was taken was sent.
+pub fn messages_taken_were_sent()
+    ensures { (program : Program) (nodes : ℕ) (options : OptionsRecord) (events : List Event) (world : World)
+        (from to : ℕ) (sender receiver : Logged) → run_of program nodes options events ≡ Some world
+        → slice_get world.nodes from ≡ Some sender → slice_get world.nodes to ≡ Some receiver
+        → Below (options.first + slice_index sender.node.mail.sent to) (slice_index_or receiver.node.mail.taken from []) }
 {}
