@@ -37,9 +37,10 @@ abbrev pub sim : App
 sim = with_rule (with_rule (with_rule (with_rule (new_app (codes "sim")) file)
     (number (codes "nodes"))) (number (codes "steps"))) (option (codes "events"))
 
--- The words begin with no program's name, and name one of the commands.
+-- The words begin with no program's name, and name one of the commands; the program has a version.
 abbrev pub treadmarks_shape : Shape
 treadmarks_shape = record (new_app (codes "treadmarks")).top {
+  has_version = true;
   no_binary_name = true;
   subcommand_required = true;
   disable_help_subcommand = true;

@@ -25,6 +25,18 @@ const SIM_NODES_HELP: &str = "How many nodes run the program: 1 [default: 1]";
 
 const STEPS_HELP: &str = "How many statements each node may begin: 1 to 1000000 [default: 1000000]";
 
+// The version of the program. The message bytes have versions of their own.
+const VERSION: &str = "0.1.0";
+
+// What the help says of the exit status, and of the one line that cannot say which option it means.
+const STATUSES: &str = "Exit status:
+  0  all nodes ended, and no race was found (check: the text is a program)
+  1  a fault of the text, a file, the events, memory or the output
+  2  a fault of the words, or a help text. `number out of range` says that a number is not in the range that the help of
+     its command gives
+  3  a race was found
+  4  no race, and a node trapped or is unfinished";
+
 /// Reads the words that follow the program's name. No words at all ask for `sim -`.
 pub fn choose<'w, S: AsStr>(alloc: Global, words: &'w [S]) -> Result<Choice<'w>, ChooseFault>
     ensures { Chooses (words_meant (map S.text words.entry.now)) result }
@@ -163,6 +175,8 @@ fn command_line<'w>(alloc: Global) -> Result<Command<'w>, AllocError>
     Command::new(alloc, "treadmarks")
         .bin_name("treadmarks")?
         .about("Runs programs on lazy-release-consistent shared memory. With no words: `sim -`")
+        .after_help(STATUSES)
+        .version(VERSION)
         .no_binary_name(true)
         .subcommand_required(true)
         .disable_help_subcommand(true)
@@ -220,7 +234,7 @@ fn events<'w>(alloc: Global) -> Arg<'w>
 {
     Arg::new(alloc, "events")
         .long("events")
-        .value_name("EVENTS")
+        .value_name("PATH")
         .help(
             "A file of events to play, `run N` or `deliver I` on each line [default: all nodes in turn]",
         )
@@ -232,7 +246,7 @@ fn number<'w>(alloc: Global, name: &'w str, help: &'w str) -> Arg<'w>
 {
     Arg::new(alloc, name)
         .long(name)
-        .value_name("NUMBER")
+        .value_name("N")
         .value_parser(value_parser!(u64))
         .help(help)
 }
