@@ -11,11 +11,11 @@ use Rattle.lrc_lang.specs.Token.{Token, Lexeme, token, bad_byte, bad_number}
 use Rattle.lrc_lang.specs.Symbol.{Names, names_with, symbol_of, symbol_of_sign}
 use Rattle.lrc_lang.specs.Counts.{names_of, open_with, open_of, operators_with, operators_of, last_of, IsOpening, IsTooDeep, IsNameTooMany, IsOperator, IsOperatorTooMany}
 use Rattle.lrc_lang.specs.Faults.{IsUnexpected, IsNumberTooLarge, IsOverLimit, IsFaultOf, IsFaultless}
-use Rattle.lrc_lang.specs.State as state
-use Rattle.lrc_lang.specs.State.{State, state_with}
-use Rattle.lrc_lang.specs.SeenState.{state_seen, TakesSymbol}
-use Rattle.lrc_lang.specs.SeenLimits.{names_seen, TakesToken}
-use Rattle.lrc_lang.specs.SeenParser.{TakesLexeme}
+use Rattle.lrc_lang.specs.Parser.State as state
+use Rattle.lrc_lang.specs.Parser.State.{State, state_with}
+use Rattle.lrc_lang.specs.Parser.SeenState.{state_seen, TakesSymbol}
+use Rattle.lrc_lang.specs.Parser.SeenLimits.{names_seen, TakesToken}
+use Rattle.lrc_lang.specs.Parser.SeenParser.{TakesLexeme}
 use Rattle.lrc_lang.proofs.Reaching.{Reaches, Reaches-start, Reaches-push, refused-IsUnexpected, taken-IsUnexpected, fold-append}
 use Rattle.lrc_lang.proofs.Stages.{Says, next_says, over_number, number_too_large, over_taken}
 

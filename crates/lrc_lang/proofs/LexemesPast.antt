@@ -3,7 +3,7 @@ use Rattle.std.proofs.Common.{◌≡◌, ℕ, ◌≤◌, List, [], ◌∷◌, �
 use Rattle.std.proofs.lemmas.List.{append_assoc}
 use Rattle.lrc_lang.specs.Token.{number, name, keyword, sign, finish, Lexeme, token, bad_byte, bad_number, Placed}
 use Rattle.lrc_lang.specs.Lexemes.{at, Lexes, passes_blank, passes_line_feed, passes_comment, takes_number, value_of, Follows, NextIs}
-use Rattle.lrc_lang.specs.Past.{GoesOn, IsPast}
+use Rattle.lrc_lang.specs.Parser.Past.{GoesOn, IsPast}
 use Rattle.lrc_lang.proofs.LexemesExist.{follows_exists}
 
 -- where a text begins, nothing has been passed

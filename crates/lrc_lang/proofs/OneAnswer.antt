@@ -8,7 +8,7 @@ use Rattle.lrc_lang.specs.Token.{Token, Lexeme, token, Placed}
 use Rattle.lrc_lang.specs.Tree.{ProgramTree, program_of}
 use Rattle.lrc_lang.specs.Grammar.{IsProgram}
 use Rattle.lrc_lang.specs.Faults.{HasFault, rank, IsFaultOf, IsFaultless, IsFirstFault, AreFaultless, IsText, HasFirstFault}
-use Rattle.lrc_lang.specs.SeenParser.{IsOutOfMemory}
+use Rattle.lrc_lang.specs.Parser.SeenParser.{IsOutOfMemory}
 use Rattle.lrc_lang.proofs.LexemesUnique.{unique}
 use Rattle.lrc_lang.proofs.Reaching.{one_program}
 

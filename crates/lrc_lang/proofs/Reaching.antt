@@ -6,8 +6,8 @@ use Rattle.lrc_lang.specs.Tree.{ProgramTree}
 use Rattle.lrc_lang.specs.Grammar.{IsProgram}
 use Rattle.lrc_lang.specs.Counts.{names_of}
 use Rattle.lrc_lang.specs.Faults.{IsUnexpected}
-use Rattle.lrc_lang.specs.State as state
-use Rattle.lrc_lang.specs.State.{State, state_with, program_in}
+use Rattle.lrc_lang.specs.Parser.State as state
+use Rattle.lrc_lang.specs.Parser.State.{State, state_with, program_in}
 use Rattle.lrc_lang.proofs.States.{CompletesState, Turns, goes, stops, turns_state, back_state, completion, completed, from_start, to_start}
 use Rattle.lrc_lang.proofs.Options.{none_some, some_same}
 

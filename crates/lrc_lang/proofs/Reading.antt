@@ -7,12 +7,12 @@ use Rattle.lrc_lang.specs.declared.limits.Limits as code_limits
 use Rattle.lrc_lang.specs.declared.state.State as code_state
 use Rattle.lrc_lang.specs.Token.{Token, finish, Lexeme, token, bad_byte, bad_number, Placed}
 use Rattle.lrc_lang.specs.Lexemes.{at, NextIs}
-use Rattle.lrc_lang.specs.Past.{GoesOn, IsPast}
+use Rattle.lrc_lang.specs.Parser.Past.{GoesOn, IsPast}
 use Rattle.lrc_lang.specs.Grammar.{IsProgram}
 use Rattle.lrc_lang.specs.Faults.{IsFaultOf, IsFaultless, IsFirstFault, AreFaultless, IsText, HasFirstFault}
-use Rattle.lrc_lang.specs.State.{program_in}
-use Rattle.lrc_lang.specs.SeenState.{state_seen}
-use Rattle.lrc_lang.specs.SeenParser.{IsOutOfMemory, TakesLexeme}
+use Rattle.lrc_lang.specs.Parser.State.{program_in}
+use Rattle.lrc_lang.specs.Parser.SeenState.{state_seen}
+use Rattle.lrc_lang.specs.Parser.SeenParser.{IsOutOfMemory, TakesLexeme}
 use Rattle.lrc_lang.proofs.LexemesExist as exist
 use Rattle.lrc_lang.proofs.LexemesPast.{nothing_past, one_past, found_past, all_past}
 use Rattle.lrc_lang.proofs.States.{FromStage, at_end, CompletesState}

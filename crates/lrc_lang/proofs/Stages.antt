@@ -8,10 +8,10 @@ use Rattle.lrc_lang.specs.declared.token.Sign.TheVariants as signs
 use Rattle.lrc_lang.specs.Token.{Token}
 use Rattle.lrc_lang.specs.Symbol.{Symbol, number, name, keyword, sign, finish, Names, number_of, symbol_of, symbol_of_sign}
 use Rattle.lrc_lang.specs.Tree.{Block}
-use Rattle.lrc_lang.specs.Body.{Body, body_with, whole_of, if_some}
-use Rattle.lrc_lang.specs.State as state
-use Rattle.lrc_lang.specs.State.{Stage, words, words_number, words_end, locks, locks_number, locks_end, statements, nothing, State, state_with}
-use Rattle.lrc_lang.specs.SeenState.{IsOverNumber}
+use Rattle.lrc_lang.specs.Parser.Body.{Body, body_with, whole_of, if_some}
+use Rattle.lrc_lang.specs.Parser.State as state
+use Rattle.lrc_lang.specs.Parser.State.{Stage, words, words_number, words_end, locks, locks_number, locks_end, statements, nothing, State, state_with}
+use Rattle.lrc_lang.specs.Parser.SeenState.{IsOverNumber}
 use Rattle.lrc_lang.specs.Faults.{IsNumberTooLarge}
 use Rattle.lrc_lang.proofs.Foreign as foreign
 use Rattle.lrc_lang.proofs.Foreign.{foreign_refused}

@@ -6,9 +6,9 @@ use Rattle.lrc_lang.specs.Symbol.{Symbol, name, keyword, sign, finish}
 use Rattle.lrc_lang.specs.Tree.{Expression, Statement, Block, empty}
 use Rattle.lrc_lang.specs.Grammar as grammar
 use Rattle.lrc_lang.specs.Grammar.{IsExpression, IsStatement, IsBlock, braces, AreStatements, none, one_more}
-use Rattle.lrc_lang.specs.Partial.{no_pending, Partial, nothing, partial_with, value_of}
-use Rattle.lrc_lang.specs.Body as body
-use Rattle.lrc_lang.specs.Body.{Purpose, assigned, word_read, word_written, written, acquired, released, printed, if_condition, while_condition, Place, at_statement, after_name, after_equals, in_expression, after_word, before_end, after_then, after_else, Owner, then_of, else_of, inside_of, Around, Body, push, body_with, whole_of, if_some, Ending, semicolon, bracket, brace, is_ending, ending_of}
+use Rattle.lrc_lang.specs.Parser.Partial.{no_pending, Partial, nothing, partial_with, value_of}
+use Rattle.lrc_lang.specs.Parser.Body as body
+use Rattle.lrc_lang.specs.Parser.Body.{Purpose, assigned, word_read, word_written, written, acquired, released, printed, if_condition, while_condition, Place, at_statement, after_name, after_equals, in_expression, after_word, before_end, after_then, after_else, Owner, then_of, else_of, inside_of, Around, Body, push, body_with, whole_of, if_some, Ending, semicolon, bracket, brace, is_ending, ending_of}
 use Rattle.lrc_lang.proofs.Expressions as expressions
 use Rattle.lrc_lang.proofs.Expressions.{Completes, Starts, starts, split_expression, join_expression, turns, back, ended, completion, completed}
 use Rattle.lrc_lang.proofs.Options.{none_some, some_same}

@@ -5,9 +5,9 @@ use Rattle.lrc_lang.specs.declared.limits.Limits as code_limits
 use Rattle.lrc_lang.specs.declared.state.State as code_state
 use Rattle.lrc_lang.specs.Token.{Token, token}
 use Rattle.lrc_lang.specs.Symbol.{symbol_of}
-use Rattle.lrc_lang.specs.SeenLimits.{names_seen, TakesToken}
-use Rattle.lrc_lang.specs.SeenState.{state_seen, TakesSymbol}
-use Rattle.lrc_lang.specs.SeenParser.{TakesLexeme}
+use Rattle.lrc_lang.specs.Parser.SeenLimits.{names_seen, TakesToken}
+use Rattle.lrc_lang.specs.Parser.SeenState.{state_seen, TakesSymbol}
+use Rattle.lrc_lang.specs.Parser.SeenParser.{TakesLexeme}
 
 pub TakesLexeme-from_token : (r : Result (Unit {0}) FaultKind) (s s' : code_state.State) (l l' : code_limits.Limits) (t : Token) →
     TakesSymbol (Ok tt) (state_seen s) (symbol_of (names_seen l) t) (state_seen s') → TakesToken r l t l' →

@@ -4,7 +4,7 @@ use Rattle.std.specs.declared.alloc.Global.{Global}
 use Rattle.lrc_lang.specs.declared.program.Statement.{Statement, Row_of-Statement, end_of-Statement, more_of-Statement, items-the_row-Statement, items_hidden-the_row-Statement-0}
 use Rattle.lrc_lang.specs.declared.program.Statement.TheBlock.{hidden-the_row-Statement-0}
 use Rattle.lrc_lang.specs.Tree.{next, statement_of, row_of, block_of}
-use Rattle.lrc_lang.specs.Body.{push}
+use Rattle.lrc_lang.specs.Parser.Body.{push}
 
 pub block_of-push : (statements : List Statement) (last : Statement) → block_of (statements ++ last ∷ []) ≡ push (block_of statements) (statement_of last)
 block_of-push [] last = refl

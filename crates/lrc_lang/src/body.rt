@@ -1,13 +1,13 @@
 // Statements of which some symbols have come.
 
 ghost use Rattle.std.specs.Prelude.{◌≡◌, option_map};
-ghost use Rattle.lrc_lang.specs.Body.{start, holding, in_expression, body_with, whole_of};
-ghost use Rattle.lrc_lang.specs.Body.{is_ending, ending_of, ended, done, opened, close, close_for};
-ghost use Rattle.lrc_lang.specs.Body.{begin, go_on, behind_name, behind_equals, behind_word};
-ghost use Rattle.lrc_lang.specs.Body.{at_end, behind_then, behind_else};
-ghost use Rattle.lrc_lang.specs.Partial.{nothing};
-ghost use Rattle.lrc_lang.specs.Seen.{symbol_seen, partial_seen, Gives, GivesNew};
-ghost use Rattle.lrc_lang.specs.SeenBody.{IsExpected, Steps, purpose_seen, owner_seen, body_seen};
+ghost use Rattle.lrc_lang.specs.Parser.Body.{start, holding, in_expression, body_with, whole_of};
+ghost use Rattle.lrc_lang.specs.Parser.Body.{is_ending, ending_of, ended, done, opened, close, close_for};
+ghost use Rattle.lrc_lang.specs.Parser.Body.{begin, go_on, behind_name, behind_equals, behind_word};
+ghost use Rattle.lrc_lang.specs.Parser.Body.{at_end, behind_then, behind_else};
+ghost use Rattle.lrc_lang.specs.Parser.Partial.{nothing};
+ghost use Rattle.lrc_lang.specs.Parser.Seen.{symbol_seen, partial_seen, Gives, GivesNew};
+ghost use Rattle.lrc_lang.specs.Parser.SeenBody.{IsExpected, Steps, purpose_seen, owner_seen, body_seen};
 ghost use Rattle.lrc_lang.specs.Tree.{if_else, empty, expression_of, statement_of, block_of};
 
 use crate::fault::FaultKind;

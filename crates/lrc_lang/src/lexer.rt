@@ -5,7 +5,7 @@ ghost use Rattle.std.specs.Option.{SomeIff};
 ghost use Rattle.lrc_lang.specs.declared.token.Sign.{Sign};
 ghost use Rattle.lrc_lang.specs.Lexemes.{IsDigit, IsLetter, BeginsWith, IsSpan, value_of, keyword_text, IsKeyword, sign_text, NextIs, IsShorter};
 ghost use Rattle.lrc_lang.specs.Lexer.{Has, IsReady, Passes, Takes};
-ghost use Rattle.lrc_lang.specs.View.{lexeme_of, placed_of};
+ghost use Rattle.lrc_lang.specs.Parser.View.{lexeme_of, placed_of};
 
 use crate::token::{Keyword, Lexeme, Placed, Sign, Token};
 

@@ -3,9 +3,9 @@
 ghost use Rattle.std.specs.Prelude.{◌≡◌, ◌+◌, ◌<◌, ◌≤◌, [], map, length, vec_len, OnOk, IfErr};
 ghost use Rattle.lrc_lang.specs.Symbol.{is_among, number_of, symbol_of};
 ghost use Rattle.lrc_lang.specs.declared.fault.FaultKind.TheVariants.{TooDeep, OverLimit};
-ghost use Rattle.lrc_lang.specs.Seen.{symbol_seen};
+ghost use Rattle.lrc_lang.specs.Parser.Seen.{symbol_seen};
 ghost use Rattle.lrc_lang.specs.Token.{name, sign};
-ghost use Rattle.lrc_lang.specs.View.{token_of};
+ghost use Rattle.lrc_lang.specs.Parser.View.{token_of};
 
 use crate::fault::FaultKind;
 use crate::symbol::{Symbol, symbol_of_sign};
@@ -52,7 +52,7 @@ fn is_among(names: &[&[u8]], name: &[u8]) -> bool
 }
 
 impl<'t> Limits<'t> {
-    ghost use Rattle.lrc_lang.specs.SeenLimits.{names_seen, TakesToken};
+    ghost use Rattle.lrc_lang.specs.Parser.SeenLimits.{names_seen, TakesToken};
 
     /// The counts where no token has come.
     pub fn nothing(alloc: Global) -> Self

@@ -6,12 +6,12 @@ ghost use Rattle.lrc_lang.specs.declared.fault.FaultKind.{FaultKind};
 ghost use Rattle.lrc_lang.specs.declared.fault.FaultKind.TheVariants.{NoMemory};
 ghost use Rattle.lrc_lang.specs.Faults.{IsText, HasFirstFault};
 ghost use Rattle.lrc_lang.specs.Grammar.{IsProgram};
-ghost use Rattle.lrc_lang.specs.SeenParser.{IsOutOfMemory, TakesLexeme};
-ghost use Rattle.lrc_lang.specs.SeenState.{state_seen};
-ghost use Rattle.lrc_lang.specs.State.{start, program_in};
+ghost use Rattle.lrc_lang.specs.Parser.SeenParser.{IsOutOfMemory, TakesLexeme};
+ghost use Rattle.lrc_lang.specs.Parser.SeenState.{state_seen};
+ghost use Rattle.lrc_lang.specs.Parser.State.{start, program_in};
 ghost use Rattle.lrc_lang.specs.Token.{Token as TokenSeen, token, finish};
 ghost use Rattle.lrc_lang.specs.Tree.{ProgramTree, program_of};
-ghost use Rattle.lrc_lang.specs.View.{lexeme_of};
+ghost use Rattle.lrc_lang.specs.Parser.View.{lexeme_of};
 
 use crate::fault::{FaultKind, ParseFault};
 use crate::lexer::Lexer;

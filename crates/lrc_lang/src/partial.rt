@@ -2,10 +2,10 @@
 
 ghost use Rattle.std.specs.Prelude.{◌≡◌, Some, None, option_map, IfOk, IsOk};
 ghost use Rattle.lrc_lang.specs.Grammar.{joins};
-ghost use Rattle.lrc_lang.specs.Partial.{joined, no_pending, level_with, whole_of};
-ghost use Rattle.lrc_lang.specs.Partial.{nothing, close, go_on, partial_with, value_of, waiting};
-ghost use Rattle.lrc_lang.specs.Seen.{joins_seen, pending_seen, level_seen, partial_seen};
-ghost use Rattle.lrc_lang.specs.Seen.{symbol_seen, Gives, GivesNew};
+ghost use Rattle.lrc_lang.specs.Parser.Partial.{joined, no_pending, level_with, whole_of};
+ghost use Rattle.lrc_lang.specs.Parser.Partial.{nothing, close, go_on, partial_with, value_of, waiting};
+ghost use Rattle.lrc_lang.specs.Parser.Seen.{joins_seen, pending_seen, level_seen, partial_seen};
+ghost use Rattle.lrc_lang.specs.Parser.Seen.{symbol_seen, Gives, GivesNew};
 ghost use Rattle.lrc_lang.specs.Tree.{expression_of};
 
 use crate::fault::FaultKind;

@@ -38,9 +38,9 @@ pub struct State {
 }
 
 impl State {
-    ghost use Rattle.lrc_lang.specs.Seen.{symbol_seen};
-    ghost use Rattle.lrc_lang.specs.SeenState.{state_seen, TakesSymbol};
-    ghost use Rattle.lrc_lang.specs.State.{start, program_in};
+    ghost use Rattle.lrc_lang.specs.Parser.Seen.{symbol_seen};
+    ghost use Rattle.lrc_lang.specs.Parser.SeenState.{state_seen, TakesSymbol};
+    ghost use Rattle.lrc_lang.specs.Parser.State.{start, program_in};
     ghost use Rattle.lrc_lang.specs.Tree.{program_of};
 
     /// A text of which nothing has come.

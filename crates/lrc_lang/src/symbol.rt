@@ -2,7 +2,7 @@
 
 ghost use Rattle.std.specs.Prelude.{◌≡◌};
 ghost use Rattle.lrc_lang.specs.Symbol.{symbol_of_sign};
-ghost use Rattle.lrc_lang.specs.Seen.{symbol_seen};
+ghost use Rattle.lrc_lang.specs.Parser.Seen.{symbol_seen};
 
 use crate::program::Operator;
 use crate::token::{Keyword, Sign};

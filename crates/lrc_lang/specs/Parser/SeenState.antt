@@ -7,8 +7,8 @@ use Rattle.lrc_lang.specs.declared.state.Stage as code_stage
 use Rattle.lrc_lang.specs.declared.state.Stage.TheVariants as code_stages
 use Rattle.lrc_lang.specs.declared.state.State as code_state
 use Rattle.lrc_lang.specs.Symbol.{Symbol, number}
-use Rattle.lrc_lang.specs.SeenBody.{body_seen}
-use Rattle.lrc_lang.specs.State.{Stage, words, words_number, words_end, locks, locks_number, locks_end, statements, nothing, State, state_with}
+use Rattle.lrc_lang.specs.Parser.SeenBody.{body_seen}
+use Rattle.lrc_lang.specs.Parser.State.{Stage, words, words_number, words_end, locks, locks_number, locks_end, statements, nothing, State, state_with}
 
 abbrev pub stage_seen : code_stage.Stage → Stage
 stage_seen code_stages.Words = words

@@ -4,7 +4,7 @@ use Rattle.lrc_lang.specs.declared.token.Keyword.TheVariants.{Acquire, Release, 
 use Rattle.lrc_lang.specs.declared.token.Sign.TheVariants as signs
 use Rattle.lrc_lang.specs.Symbol.{Symbol}
 use Rattle.lrc_lang.specs.Tree.{Expression, Statement, Block, empty, next}
-use Rattle.lrc_lang.specs.Partial.{Partial, nothing, partial_with, value_of}
+use Rattle.lrc_lang.specs.Parser.Partial.{Partial, nothing, partial_with, value_of}
 
 -- what an expression stands in a statement for
 pub data Purpose : Type 0 where

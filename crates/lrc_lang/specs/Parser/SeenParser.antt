@@ -7,9 +7,9 @@ use Rattle.lrc_lang.specs.declared.limits.Limits as code_limits
 use Rattle.lrc_lang.specs.declared.state.State as code_state
 use Rattle.lrc_lang.specs.Token.{Lexeme, token, bad_byte, bad_number}
 use Rattle.lrc_lang.specs.Symbol.{symbol_of}
-use Rattle.lrc_lang.specs.SeenLimits.{names_seen, TakesToken}
-use Rattle.lrc_lang.specs.SeenState.{state_seen, TakesSymbol}
-use Rattle.lrc_lang.specs.State.{State, state_with}
+use Rattle.lrc_lang.specs.Parser.SeenLimits.{names_seen, TakesToken}
+use Rattle.lrc_lang.specs.Parser.SeenState.{state_seen, TakesSymbol}
+use Rattle.lrc_lang.specs.Parser.State.{State, state_with}
 
 -- memory ran out, which is on no line
 abbrev pub IsOutOfMemory : code_fault.ParseFault → Type 0

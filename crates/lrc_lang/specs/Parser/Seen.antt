@@ -12,7 +12,7 @@ use Rattle.lrc_lang.specs.declared.partial.Partial as code_partial
 use Rattle.lrc_lang.specs.Symbol.{Symbol, number, name, operator, keyword, sign, finish}
 use Rattle.lrc_lang.specs.Tree.{expression_of}
 use Rattle.lrc_lang.specs.Grammar.{Joins, factors, terms, sums}
-use Rattle.lrc_lang.specs.Partial.{Pending, Level, Partial}
+use Rattle.lrc_lang.specs.Parser.Partial.{Pending, Level, Partial}
 
 abbrev pub symbol_seen : code_symbol.Symbol → Symbol
 symbol_seen (code_symbols.Number n) = number n

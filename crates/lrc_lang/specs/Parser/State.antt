@@ -4,8 +4,8 @@ use Rattle.lrc_lang.specs.declared.token.Keyword.TheVariants.{Words, Locks}
 use Rattle.lrc_lang.specs.declared.token.Sign.TheVariants.{Semicolon}
 use Rattle.lrc_lang.specs.Symbol.{Symbol, number, keyword, sign, finish}
 use Rattle.lrc_lang.specs.Tree.{ProgramTree, Block}
-use Rattle.lrc_lang.specs.Body.{Body, body_with, whole_of, if_some}
-use Rattle.lrc_lang.specs.Body as body
+use Rattle.lrc_lang.specs.Parser.Body.{Body, body_with, whole_of, if_some}
+use Rattle.lrc_lang.specs.Parser.Body as body
 
 -- what has to come next
 pub data Stage : Type 0 where
