@@ -1,13 +1,13 @@
 -- Laws of the plain machine: an order may be cut anywhere, and each entry makes one act.
-use Rattle.std.proofs.Common.{◌≡◌, ℕ, zero, suc, ◌+◌, ◌-◌, ◌<◌, ◌≤◌, Bool, true, false, List, [], ◌∷◌, ◌++◌, length, get_or, take, drop, set, replicate, Option, Some, None, refl, sym, ap, ◌∙◌, subst, ⊎_elim, arith, length-set}
-use Rattle.std.specs.Prelude.{option_map, option_and_then, map, slice_index, if◌then◌else◌}
-use Rattle.std.proofs.lemmas.Bool.{cases_lt}
+use Rattle.std.proofs.Common.{◌≡◌, ℕ, zero, suc, ◌+◌, ◌≤◌, true, List, [], ◌∷◌, ◌++◌, length, take, set, replicate, Option, Some, None, refl, sym, ap, ◌∙◌, subst, arith, length-set}
+use Rattle.std.specs.Prelude.{option_map, option_and_then, map, slice_index}
 use Rattle.std.proofs.lemmas.List.{length-map}
 use Rattle.lrc_lang.specs.declared.program.Program.{Program}
 use Rattle.lrc_trace.specs.declared.act.Act.{Act}
 use Rattle.lrc_trace.specs.declared.act.Deed.{Deed}
+use Rattle.lrc_exec.proofs.PlainParts.{where_true}
 use Rattle.lrc_exec.specs.Meaning.{Thread, Next, quiet, prints, reads, writes, acquires, releases, arrives, departs, traps, ends, next_of}
-use Rattle.lrc_exec.specs.Plain.{Plain, plain_start, is_free, all_arrived, with_thread, deed_of, thread_in, plain_step, plain_from, plain}
+use Rattle.lrc_exec.specs.Plain.{Plain, plain_start, is_free, all_arrived, deed_of, thread_in, plain_step, plain_from, plain}
 
 -- the acts of one order and then of another
 abbrev pub then_from : Option (List Act × Plain) → List ℕ → Option (List Act × Plain)
@@ -71,23 +71,22 @@ counted (n ∷ counts) zero (suc k) = omega arith
 counted (n ∷ counts) (suc node) zero = omega arith
 counted (n ∷ counts) (suc node) (suc k) = counted counts node k
 
-where_true : (old : Plain) (test : Bool) (d : Deed) (new : Plain) (s : Deed × Plain) → Grows old new → (if test then Some (d, new) else None) ≡ Some s → Grows old s.1
-where_true old true d new s g e = let is : (d, new) ≡ s = cc in subst (λ (x : Deed × Plain). Grows old x.1) is g
-where_true old false d new s g e = cc
+-- a step that adds no more than that
+abbrev HasGrown : Plain → Deed × Plain → Type 0
+HasGrown old step = Grows old step.1
 
 deed_grows : (machine : Plain) (node : ℕ) (next : Next) (s : Deed × Plain) → deed_of machine node next ≡ Some s → Grows machine s.1
-deed_grows machine node (quiet after) s e = where_true machine true _ _ s (grows machine machine.memory machine.holders node (Some after)) e
-deed_grows machine node (prints value after) s e = where_true machine true _ _ s (grows machine machine.memory machine.holders node (Some after)) e
-deed_grows machine node (reads word after) s e = where_true machine true _ _ s (grows machine machine.memory machine.holders node (Some (after (slice_index machine.memory word)))) e
-deed_grows machine node (writes word value after) s e = where_true machine true _ _ s (grows machine (set machine.memory word value) machine.holders node (Some after)) e
-deed_grows machine node (acquires lock after) s e = where_true machine (is_free machine lock) _ _ s (grows machine machine.memory (set machine.holders lock (Some node)) node (Some after)) e
-deed_grows machine node (releases lock after) s e = where_true machine true _ _ s (grows machine machine.memory (set machine.holders lock None) node (Some after)) e
+deed_grows machine node (quiet after) s e = where_true (HasGrown machine) true (grows machine machine.memory machine.holders node (Some after)) e
+deed_grows machine node (prints value after) s e = where_true (HasGrown machine) true (grows machine machine.memory machine.holders node (Some after)) e
+deed_grows machine node (reads word after) s e = where_true (HasGrown machine) true (grows machine machine.memory machine.holders node (Some (after (slice_index machine.memory word)))) e
+deed_grows machine node (writes word value after) s e = where_true (HasGrown machine) true (grows machine (set machine.memory word value) machine.holders node (Some after)) e
+deed_grows machine node (acquires lock after) s e = where_true (HasGrown machine) (is_free machine lock) (grows machine machine.memory (set machine.holders lock (Some node)) node (Some after)) e
+deed_grows machine node (releases lock after) s e = where_true (HasGrown machine) true (grows machine machine.memory (set machine.holders lock None) node (Some after)) e
 deed_grows machine node (arrives after) s e =
-    where_true machine true _ _ s
-    (record { threads = length-set machine.threads node (Some after); arrivals = counted machine.arrivals node }) e
-deed_grows machine node (departs after) s e = where_true machine (all_arrived machine node) _ _ s (grows machine machine.memory machine.holders node (Some after)) e
-deed_grows machine node (traps cause) s e = where_true machine true _ _ s (grows machine machine.memory machine.holders node None) e
-deed_grows machine node ends s e = where_true machine true _ _ s (grows machine machine.memory machine.holders node None) e
+    where_true (HasGrown machine) true (record { threads = length-set machine.threads node (Some after); arrivals = counted machine.arrivals node }) e
+deed_grows machine node (departs after) s e = where_true (HasGrown machine) (all_arrived machine node) (grows machine machine.memory machine.holders node (Some after)) e
+deed_grows machine node (traps cause) s e = where_true (HasGrown machine) true (grows machine machine.memory machine.holders node None) e
+deed_grows machine node ends s e = where_true (HasGrown machine) true (grows machine machine.memory machine.holders node None) e
 
 step_grows : (machine : Plain) (node : ℕ) (o : Option Thread) (s : Deed × Plain) → option_and_then (λ thread. deed_of machine node (next_of thread)) o ≡ Some s → Grows machine s.1
 step_grows machine node None s e = cc

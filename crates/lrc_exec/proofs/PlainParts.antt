@@ -1,5 +1,5 @@
 -- The parts of the code's plain machine, as the threads that they stand for.
-use Rattle.std.proofs.Common.{◌≡◌, ℕ, ◌+◌, ◌-◌, ◌<◌, ◌≤◌, Bool, true, false, List, [], ◌∷◌, ◌++◌, length, get_or, set, Option, Some, None, refl, sym, ap, ◌∙◌, subst, ⊎_elim, arith, length-set}
+use Rattle.std.proofs.Common.{◌≡◌, ℕ, ◌<◌, ◌≤◌, Bool, true, false, List, [], ◌∷◌, length, get_or, set, Option, Some, None, refl, sym, ap, ◌∙◌, subst, ⊎_elim, arith, length-set}
 use Rattle.std.specs.Prelude.{IsSome, IsSomeAnd, option_map, option_and_then, map, slice_index, if◌then◌else◌, All}
 use Rattle.std.specs.Vec.{with_item}
 use Rattle.std.proofs.lemmas.Bool.{cases_lt}
@@ -12,7 +12,7 @@ use Rattle.lrc_exec.specs.Ask.{ask_of, TakesAnswer, done, answered}
 use Rattle.lrc_exec.specs.Plain.{Plain, thread_in, with_thread, is_free, all_arrived, deed_of, plain_step}
 use Rattle.lrc_trace.specs.declared.act.Deed.{Deed}
 use Rattle.lrc_trace.specs.declared.act.Deed.TheVariants.{Quiet, Print, Read, Write, Acquire, Release, Arrive, Depart, Trap, End}
-use Rattle.lrc_exec.specs.PlainCode.{runner_thread, plain_of, resumed, departed, IsResumable, IsRunner, IsPlain}
+use Rattle.lrc_exec.specs.PlainCode.{runner_thread, plain_of, resumed, IsResumable, IsRunner, IsPlain}
 use Rattle.lrc_exec.proofs.NextLaws.{IsFine, next_of-fine}
 
 pub is_some_and : (o : Option Thread) (P : Thread → Type 0) → IsSomeAnd o P → IsSome o
@@ -102,19 +102,24 @@ Fits thread (Acquire lock) = lock < thread.setting.locks
 Fits thread (Release lock) = lock < thread.setting.locks
 Fits thread deed = Unit {0}
 
-where_true : {A B : Type 0} (test : Bool) (a : A) (b : B) (d : A) → option_map (λ (s : A × B). s.0) (if test then Some (a, b) else None) ≡ Some d → a ≡ d
-where_true true a b d e = cc
-where_true false a b d e = cc
+-- what holds of a step that is taken where a test is met holds of the step that is taken
+pub where_true : {X : Type 0} (P : X → Type 0) (test : Bool) {x s : X} → P x → (if test then Some x else None) ≡ Some s → P s
+where_true P true {x = x} {s = s} h e = let is : x ≡ s = cc in subst P is h
+where_true P false h e = cc
+
+deed_if : {A B : Type 0} (test : Bool) (a : A) (b : B) (d : A) → option_map (λ (s : A × B). s.0) (if test then Some (a, b) else None) ≡ Some d → a ≡ d
+deed_if true a b d e = cc
+deed_if false a b d e = cc
 
 deed_fits : (machine : Plain) (node : ℕ) (thread : Thread) (next : Next) → IsFine thread next → (d : Deed) → option_map (λ step. step.0) (deed_of machine node next) ≡ Some d → Fits thread d
 deed_fits machine node thread (quiet after) fine d e = let is : Quiet ≡ d = cc in subst (Fits thread) is tt
 deed_fits machine node thread (prints value after) fine d e = let is : Print value ≡ d = cc in subst (Fits thread) is tt
 deed_fits machine node thread (reads word after) fine d e = let is : Read word (slice_index machine.memory word) ≡ d = cc in subst (Fits thread) is tt
 deed_fits machine node thread (writes word value after) fine d e = let is : Write word value ≡ d = cc in subst (Fits thread) is fine.0
-deed_fits machine node thread (acquires lock after) fine d e = subst (Fits thread) (where_true (is_free machine lock) (Acquire lock) _ d e) fine.0
+deed_fits machine node thread (acquires lock after) fine d e = subst (Fits thread) (deed_if (is_free machine lock) (Acquire lock) _ d e) fine.0
 deed_fits machine node thread (releases lock after) fine d e = let is : Release lock ≡ d = cc in subst (Fits thread) is fine.0
 deed_fits machine node thread (arrives after) fine d e = let is : Arrive ≡ d = cc in subst (Fits thread) is tt
-deed_fits machine node thread (departs after) fine d e = subst (Fits thread) (where_true (all_arrived machine node) Depart _ d e) tt
+deed_fits machine node thread (departs after) fine d e = subst (Fits thread) (deed_if (all_arrived machine node) Depart _ d e) tt
 deed_fits machine node thread (traps cause) fine d e = let is : Trap cause ≡ d = cc in subst (Fits thread) is tt
 deed_fits machine node thread ends fine d e = let is : End ≡ d = cc in subst (Fits thread) is tt
 

@@ -1,14 +1,13 @@
 -- Laws of the rounds: one node more, and why they end.
-use Rattle.std.proofs.Common.{◌≡◌, ℕ, zero, suc, ◌+◌, ◌-◌, ◌*◌, ◌<◌, ◌≤◌, Bool, true, false, List, [], ◌∷◌, ◌++◌, length, get_or, set, Option, Some, None, refl, sym, ap, ◌∙◌, subst, ⊎_elim, arith, add-zero, append_assoc, length-append, length-set}
+use Rattle.std.proofs.Common.{◌≡◌, ℕ, zero, suc, ◌+◌, ◌-◌, ◌*◌, ◌<◌, ◌≤◌, Bool, true, false, List, [], ◌∷◌, ◌++◌, length, get_or, set, Option, Some, None, refl, sym, ap, ◌∙◌, subst, ⊎_elim, arith, add-zero, length-append, length-set}
 use Rattle.std.specs.Prelude.{option_map, option_and_then, slice_index, is_some, unwrap_or, nat_le, sum, sum_by, if◌then◌else◌}
 use Rattle.std.specs.List.{range_with_len}
 use Rattle.std.proofs.lemmas.Bool.{cases_lt, leb-true}
 use Rattle.std.proofs.lemmas.List.{append-nil, nil_from_length, length-replicate}
 use Rattle.std.proofs.lemmas.List.Sums.{sum_by-cons, sum_by-set}
-use Rattle.lrc_exec.proofs.PlainParts.{thread_within}
+use Rattle.lrc_exec.proofs.PlainParts.{thread_within, where_true}
 use Rattle.lrc_trace.specs.declared.act.Act.{Act}
 use Rattle.lrc_trace.specs.declared.act.Deed.{Deed}
-use Rattle.lrc_trace.specs.declared.act.Deed.TheVariants.{Quiet, Print, Read, Write, Acquire, Release, Arrive, Depart, Trap, End}
 use Rattle.lrc_exec.specs.Meaning.{Thread, Next, quiet, prints, reads, writes, acquires, releases, arrives, departs, traps, ends, next_of}
 use Rattle.lrc_lang.specs.declared.program.Program.{Program}
 use Rattle.lrc_exec.specs.Plain.{Plain, plain_start, is_free, all_arrived, deed_of, thread_in, plain_step, plain_from, plain}
@@ -96,33 +95,28 @@ record Leaves (machine : Plain) (node : ℕ) (thread : Thread) (step : Deed × P
   threads : step.1.threads ≡ set machine.threads node after
   lighter : weight after < weight (Some thread) + 2 * steps_of step.0
 
-where_true : (machine : Plain) (node : ℕ) (thread : Thread) (test : Bool) (d : Deed) (new : Plain) (s : Deed × Plain) → Leaves machine node thread (d, new) → (if test then Some (d, new) else None) ≡ Some s → Leaves machine node thread s
-where_true machine node thread true d new s leaves e = let is : (d, new) ≡ s = cc in subst (Leaves machine node thread) is leaves
-where_true machine node thread false d new s leaves e = cc
-
 -- a step that is counted leaves a thread, or none
 counted : (machine : Plain) (node : ℕ) (thread after : Thread) (not_arrived : thread.arrived ≡ false) (d : Deed) (new : Plain) → steps_of d ≡ 1 → new.threads ≡ set machine.threads node (Some after) → Leaves machine node thread (d, new)
 counted machine node thread after not_arrived d new one threads =
     record { after = Some after; threads = threads; lighter = omega (arith, weight_most after, weight_of thread false not_arrived, one) }
 
 deed_leaves : (machine : Plain) (node : ℕ) (thread : Thread) (next : Next) (s : Deed × Plain) → IsFine thread next → deed_of machine node next ≡ Some s → Leaves machine node thread s
-deed_leaves machine node thread (quiet after) s fine e = where_true machine node thread true _ _ s (counted machine node thread after fine.not_before _ _ refl refl) e
-deed_leaves machine node thread (prints value after) s fine e = where_true machine node thread true _ _ s (counted machine node thread after fine.not_before _ _ refl refl) e
+deed_leaves machine node thread (quiet after) s fine e = where_true (Leaves machine node thread) true (counted machine node thread after fine.not_before _ _ refl refl) e
+deed_leaves machine node thread (prints value after) s fine e = where_true (Leaves machine node thread) true (counted machine node thread after fine.not_before _ _ refl refl) e
 deed_leaves machine node thread (reads word after) s fine e =
     let value = slice_index machine.memory word in
-    where_true machine node thread true _ _ s (counted machine node thread (after value) (fine.1 value).not_before _ _ refl refl) e
-deed_leaves machine node thread (writes word value after) s fine e = where_true machine node thread true _ _ s (counted machine node thread after fine.1.not_before _ _ refl refl) e
-deed_leaves machine node thread (acquires lock after) s fine e = where_true machine node thread (is_free machine lock) _ _ s (counted machine node thread after fine.2.not_before _ _ refl refl) e
-deed_leaves machine node thread (releases lock after) s fine e = where_true machine node thread true _ _ s (counted machine node thread after fine.2.not_before _ _ refl refl) e
-deed_leaves machine node thread (arrives after) s fine e = where_true machine node thread true _ _ s (counted machine node thread after fine.1 _ _ refl refl) e
+    where_true (Leaves machine node thread) true (counted machine node thread (after value) (fine.1 value).not_before _ _ refl refl) e
+deed_leaves machine node thread (writes word value after) s fine e = where_true (Leaves machine node thread) true (counted machine node thread after fine.1.not_before _ _ refl refl) e
+deed_leaves machine node thread (acquires lock after) s fine e = where_true (Leaves machine node thread) (is_free machine lock) (counted machine node thread after fine.2.not_before _ _ refl refl) e
+deed_leaves machine node thread (releases lock after) s fine e = where_true (Leaves machine node thread) true (counted machine node thread after fine.2.not_before _ _ refl refl) e
+deed_leaves machine node thread (arrives after) s fine e = where_true (Leaves machine node thread) true (counted machine node thread after fine.1 _ _ refl refl) e
 deed_leaves machine node thread (departs after) s fine e =
     let gone : after.arrived ≡ false = ap (λ (t : Thread). t.arrived) fine.1 in
-    where_true machine node thread (all_arrived machine node) _ _ s
-    (record { after = Some after; threads = refl; lighter = omega (arith, weight_of thread true fine.0, weight_of after false gone) }) e
+    where_true (Leaves machine node thread) (all_arrived machine node) (record { after = Some after; threads = refl; lighter = omega (arith, weight_of thread true fine.0, weight_of after false gone) }) e
 deed_leaves machine node thread (traps cause) s fine e =
-    where_true machine node thread true _ _ s (record { after = None; threads = refl; lighter = omega arith }) e
+    where_true (Leaves machine node thread) true (record { after = None; threads = refl; lighter = omega arith }) e
 deed_leaves machine node thread ends s fine e =
-    where_true machine node thread true _ _ s (record { after = None; threads = refl; lighter = omega (arith, weight_of thread false fine) }) e
+    where_true (Leaves machine node thread) true (record { after = None; threads = refl; lighter = omega (arith, weight_of thread false fine) }) e
 
 step_leaves : (machine : Plain) (node : ℕ) (o : Option Thread) (s : Deed × Plain) → option_and_then (λ thread. deed_of machine node (next_of thread)) o ≡ Some s → (thread : Thread) × (o ≡ Some thread) × Leaves machine node thread s
 step_leaves machine node None s e = cc

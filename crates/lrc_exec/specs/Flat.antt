@@ -1,5 +1,5 @@
 -- Flat code: which statements are still to do at each place, and what makes an instruction sound.
-use Rattle.std.specs.Prelude.{◌≡◌, ℕ, suc, ◌+◌, ◌<◌, ◌≤◌, Option, Some, List, [], ◌∷◌, ◌++◌, length, slice_get, slice_index_or}
+use Rattle.std.specs.Prelude.{◌≡◌, ℕ, ◌≤◌, Some, List, [], ◌∷◌, ◌++◌, length, slice_get, slice_index_or}
 use Rattle.lrc_lang.specs.declared.program.Statement.{Statement}
 use Rattle.lrc_lang.specs.declared.program.Statement.TheVariants.{If', While'}
 use Rattle.lrc_exec.specs.declared.code.Instruction.{Instruction}

@@ -1,5 +1,5 @@
 -- The plain machine: one flat memory, as sequential consistency has it.
-use Rattle.std.specs.Prelude.{ℕ, ◌+◌, Bool, Option, Some, None, List, [], ◌∷◌, is_none, nat_le, if◌then◌else◌, map, option_map, option_and_then, replicate, slice_get, slice_index, slice_index_or, slice_set}
+use Rattle.std.specs.Prelude.{ℕ, ◌+◌, Bool, Option, Some, None, List, [], ◌∷◌, is_none, nat_le, if◌then◌else◌, map, option_map, option_and_then, replicate, slice_index, slice_index_or, slice_set}
 use Rattle.std.specs.List.{list_all, range_with_len}
 use Rattle.lrc_lang.specs.declared.program.Program.{Program}
 use Rattle.lrc_trace.specs.declared.act.Act.{Act}

@@ -1,8 +1,8 @@
 -- The plain machine between two acts, against the acts that were made so far, and after one act more.
 use Rattle.std.proofs.Common.{◌≡◌, ℕ, ◌+◌, ◌<◌, List, Bool, true, false, inl, inr, length, sym, subst, ◌∙◌, ap}
 use Rattle.std.specs.Prelude.{Option, Some, None, slice_index, slice_index_or, slice_set}
-use Rattle.std.proofs.lemmas.Bool.{cases_eq, cases_lt}
-use Rattle.std.proofs.lemmas.List.{get_or-set_same, get_or-set_other, get_or_past}
+use Rattle.std.proofs.lemmas.Bool.{cases_eq}
+use Rattle.std.proofs.lemmas.List.{get_or-set_same, get_or-set_other}
 use Rattle.lrc_trace.specs.declared.act.Act.{Act}
 use Rattle.lrc_trace.specs.declared.act.Deed.{Deed}
 use Rattle.lrc_trace.specs.Run.{Does, is_arrive, is_depart, arrives_before, departs_before}
@@ -33,13 +33,6 @@ pub record Matches (run : List Act) (j : ℕ) (machine : Plain) : Type 0 where
   pub arrivals : (n : ℕ) → n < length machine.arrivals → slice_index machine.arrivals n ≡ arrives_before run n j
   pub sizes : length machine.threads ≡ length machine.arrivals
   pub threads : (n : ℕ) (t : Thread) → thread_in machine n ≡ Some t → ThreadFits run j machine n t
-
--- a node that is there
-pub thread_within : (machine : Plain) (n : ℕ) (t : Thread) → thread_in machine n ≡ Some t → n < length machine.threads
-thread_within machine n t e = elim (cases_lt n (length machine.threads)) [
-  | inl lt ↦ lt
-  | inr le ↦ let past : thread_in machine n ≡ None = get_or_past machine.threads n None le in let no_thread : None ≡ Some t = sym past ∙ e in cc
-]
 
 module _ (run : List Act) (j node : ℕ) (d : Deed) (here : Does run j node d) where
   -- the counts of arrives and departs after an act

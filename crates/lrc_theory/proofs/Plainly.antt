@@ -18,7 +18,8 @@ use Rattle.lrc_theory.specs.Follows.{Goes, quietly, printing, reading, writing, 
 use Rattle.lrc_theory.specs.InOrder.{ReadsInOrder}
 use Rattle.lrc_theory.proofs.Ahead.{does_ahead, drop_ahead}
 use Rattle.lrc_theory.proofs.Threads.{fine}
-use Rattle.lrc_theory.proofs.Matching.{Matches, thread_within}
+use Rattle.lrc_exec.proofs.PlainParts.{thread_within}
+use Rattle.lrc_theory.proofs.Matching.{Matches}
 use Rattle.lrc_theory.proofs.Step.{step}
 use Rattle.lrc_theory.proofs.Runs.{CanDo, SoundAt, is_sound, deeds_of-own, deeds_of-other, thread_after, other_after, thread_at_start, start_matches}
 

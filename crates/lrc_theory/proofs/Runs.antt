@@ -19,7 +19,8 @@ use Rattle.lrc_theory.specs.Follows.{Goes, quietly, printing, reading, writing, 
 use Rattle.lrc_theory.specs.InOrder.{last_value}
 use Rattle.lrc_theory.proofs.Ahead.{does_ahead, drop_ahead}
 use Rattle.lrc_theory.proofs.Threads.{IsFine, fine}
-use Rattle.lrc_theory.proofs.Matching.{IsPaired, ThreadFits, Matches, thread_within}
+use Rattle.lrc_exec.proofs.PlainParts.{thread_within}
+use Rattle.lrc_theory.proofs.Matching.{IsPaired, ThreadFits, Matches}
 use Rattle.lrc_theory.proofs.Step.{none_since, holder_cases, step}
 
 -- the deeds of a node, past an act of its own and of another

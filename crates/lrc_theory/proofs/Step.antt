@@ -17,7 +17,8 @@ use Rattle.lrc_exec.specs.Plain.{Plain, is_free, all_arrived, deed_of, with_thre
 use Rattle.lrc_theory.specs.InOrder.{value_after, last_value}
 use Rattle.lrc_theory.proofs.LastValue.{last_value-more, value_after-same, value_after-other}
 use Rattle.lrc_theory.proofs.Threads.{Leads, Stays, IsFine}
-use Rattle.lrc_theory.proofs.Matching.{IsPaired, ThreadFits, Matches, thread_within, arrives-same, departs-same, threads_after}
+use Rattle.lrc_exec.proofs.PlainParts.{thread_within}
+use Rattle.lrc_theory.proofs.Matching.{IsPaired, ThreadFits, Matches, arrives-same, departs-same, threads_after}
 
 -- what a test says of an option
 pub none_since : {A : Type 0} (o : Option A) → is_none o ≡ true → o ≡ None

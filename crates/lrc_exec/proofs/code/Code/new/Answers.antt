@@ -1,5 +1,5 @@
 -- The code has grown from nothing by the whole text.
-use Rattle.std.proofs.Common.{◌≡◌, sym, subst}
+use Rattle.std.proofs.Common.{subst}
 use Rattle.lrc_exec.specs.Flat.{IsGrown}
 use Rattle.lrc_exec.proofs.Flat.{grown_code}
 use Rattle.lrc_exec.proofs.code.Code.new.Goals as goal

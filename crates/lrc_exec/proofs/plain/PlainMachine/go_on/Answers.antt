@@ -1,8 +1,8 @@
 -- A runner that goes on is the same thread, answered.
-use Rattle.std.proofs.Common.{◌≡◌, ◌∙◌, Option, Some, None, false, sym, ap, subst, get_or}
+use Rattle.std.proofs.Common.{◌≡◌, ◌∙◌, Some, None, false, sym, ap, subst, get_or}
 use Rattle.std.specs.Prelude.{option_map, if◌then◌else◌}
 use Rattle.lrc_exec.specs.declared.plain.Runner.{Runner}
-use Rattle.lrc_exec.specs.Ask.{ask_of, answered, TakesAnswer}
+use Rattle.lrc_exec.specs.Ask.{ask_of, TakesAnswer}
 use Rattle.lrc_exec.specs.Meaning.{Thread, next_of}
 use Rattle.lrc_exec.specs.Plain.{thread_in, with_thread}
 use Rattle.lrc_exec.specs.PlainCode.{resumed}

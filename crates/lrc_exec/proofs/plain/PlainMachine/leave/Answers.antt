@@ -1,5 +1,5 @@
 -- A runner that leaves a barrier is the same thread, departed.
-use Rattle.std.proofs.Common.{◌≡◌, ◌∙◌, Option, Some, None, false, sym, ap}
+use Rattle.std.proofs.Common.{◌≡◌, ◌∙◌, Some, None, false, sym, ap}
 use Rattle.std.specs.Prelude.{option_map, if◌then◌else◌}
 use Rattle.lrc_exec.specs.declared.plain.Runner.{Runner}
 use Rattle.lrc_exec.specs.Plain.{with_thread}

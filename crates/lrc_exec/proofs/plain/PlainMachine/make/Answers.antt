@@ -1,5 +1,5 @@
 -- What a deed names is there.
-use Rattle.std.proofs.Common.{◌≡◌, ◌∙◌, Some, false, ap, arith}
+use Rattle.std.proofs.Common.{◌∙◌, Some, false, ap, arith}
 use Rattle.lrc_trace.specs.declared.act.Deed.TheVariants.{Write, Acquire, Release}
 use Rattle.lrc_exec.proofs.PlainParts.{step-fits, setting_after}
 use Rattle.lrc_exec.proofs.plain.PlainMachine.make.Goals as goal

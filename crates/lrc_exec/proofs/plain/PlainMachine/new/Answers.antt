@@ -1,14 +1,14 @@
 -- The runners are those of all nodes, each at the beginning.
-use Rattle.std.proofs.Common.{rules, ◌≡◌, ◌≤◌, ℕ, zero, suc, ◌+◌, ◌∙◌, Option, Some, None, false, List, [], ◌∷◌, ◌++◌, length, replicate, refl, sym, ap, subst, arith}
+use Rattle.std.proofs.Common.{rules, ◌≡◌, ℕ, zero, suc, ◌∙◌, Option, Some, None, false, List, [], ◌∷◌, ◌++◌, length, replicate, refl, sym, ap, subst, arith}
 use Rattle.std.specs.Prelude.{All, map}
 use Rattle.std.specs.List.{range_with_len}
-use Rattle.std.proofs.lemmas.List.{map-append, length-map, length-replicate}
+use Rattle.std.proofs.lemmas.List.{map-append, length-map}
 use Rattle.std.proofs.lemmas.List.Elements.{All-append}
 use Rattle.std.proofs.lemmas.List.FromFn.{map-range_with_len_more, length-map-range_with_len}
 use Rattle.lrc_exec.specs.declared.plain.Runner.{Runner}
 use Rattle.lrc_exec.specs.Meaning.{Thread}
 use Rattle.lrc_exec.specs.Plain.{Plain, start_of}
-use Rattle.lrc_exec.specs.PlainCode.{runner_thread, IsRunner}
+use Rattle.lrc_exec.specs.PlainCode.{runner_thread}
 use Rattle.lrc_exec.proofs.plain.PlainMachine.new.Invariants.{IsOf}
 use Rattle.lrc_exec.proofs.plain.PlainMachine.new.Goals as goal
 

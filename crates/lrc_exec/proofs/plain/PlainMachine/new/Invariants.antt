@@ -1,5 +1,5 @@
 -- The runners so far are those of the nodes so far.
-use Rattle.std.proofs.Common.{◌≡◌, Option, Some, false}
+use Rattle.std.proofs.Common.{◌≡◌, Some, false}
 use Rattle.std.specs.Prelude.{All, map}
 use Rattle.std.specs.List.{range_with_len}
 use Rattle.lrc_lang.specs.declared.program.Program.{Program}

@@ -1,10 +1,9 @@
 -- A node's turn is the next turn of the round.
-use Rattle.std.proofs.Common.{Vec, Global, ◌≡◌, ℕ, ◌+◌, ◌≤◌, ◌∙◌, Option, Some, None, List, [], ◌∷◌, ◌++◌, length, refl, sym, ap, subst, arith, append_assoc, length-append, length-set}
-use Rattle.std.specs.Prelude.{slice_index}
+use Rattle.std.proofs.Common.{Vec, Global, ◌≡◌, ℕ, ◌+◌, ◌∙◌, Some, None, List, [], ◌∷◌, ◌++◌, length, sym, ap, subst, arith, append_assoc, length-append, length-set}
 use Rattle.std.specs.List.{range_with_len}
 use Rattle.lrc_trace.specs.declared.act.Act.{Act}
 use Rattle.lrc_trace.specs.declared.act.Deed.{Deed}
-use Rattle.lrc_exec.specs.Plain.{Plain, plain_from}
+use Rattle.lrc_exec.specs.Plain.{plain_from}
 use Rattle.lrc_exec.specs.Rounds.{Paced, turn, turns}
 use Rattle.lrc_exec.specs.RoundsCode.{paced_of, MakesTurn}
 use Rattle.lrc_exec.proofs.PlainLaws.{plain_from-last, plain_step-grows}

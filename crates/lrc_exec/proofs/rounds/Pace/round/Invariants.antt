@@ -1,12 +1,11 @@
 -- The turns so far.
-use Rattle.std.proofs.Common.{◌≡◌, ℕ, ◌≤◌, Option, Some, List, ◌++◌, length}
+use Rattle.std.proofs.Common.{◌≡◌, ℕ, ◌≤◌, Some, List, ◌++◌, length}
 use Rattle.std.specs.Prelude.{slice_index}
 use Rattle.std.specs.List.{range_with_len}
 use Rattle.lrc_trace.specs.declared.act.Act.{Act}
 use Rattle.lrc_exec.specs.Plain.{plain_from}
 use Rattle.lrc_exec.specs.Rounds.{Paced, turns}
 use Rattle.lrc_exec.specs.RoundsCode.{paced_of}
-use Rattle.lrc_exec.proofs.RoundsLaws.{turn-is}
 use Rattle.lrc_exec.proofs.rounds.Pace.round.Given as goal
 
 -- the turns of the nodes below this one are made
