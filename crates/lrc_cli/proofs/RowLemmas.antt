@@ -72,7 +72,8 @@ good-at_row c id change missing (r ∷ rs) h k good =
 good-with_values : (c : List Rule) (a : Rule) (values : List Text) (rows : List Row) → IsKeyed c a → 0 < length values → values_fault a values ≡ []
     → AreGood c rows → AreGood c (with_values a.id (reading_by a) CommandLine values rows)
 good-with_values c a values rows keyed some pass good =
-    let same = λ (id : Text) (b : Rule) (e : id ≡ a.id) (f : arg_by_id c id ≡ Some b). let g : Some a ≡ Some b = sym keyed.own ∙ ap (arg_by_id c) (sym e) ∙ f in let h : a ≡ b = cc in h in
+    let same = λ (id : Text) (b : Rule) (e : id ≡ a.id) (f : arg_by_id c id ≡ Some b). let g : Some a ≡ Some b = sym keyed.own ∙ ap (arg_by_id c) (sym e) ∙ f in
+    let h : a ≡ b = cc in h in
     good-at_row c a.id (more_values CommandLine values) _ rows
     (λ r e g. (
       record {
@@ -154,12 +155,14 @@ module _ (c : List Rule) (again : Bool) (keyed : AllByRecursion (IsKeyed c) c) w
       go None e = good
       go (Some p) e = by_id (arg_by_id c p.0) p.1 (λ a is. found_keyed c c (λ x. bytes_eq x.id p.0) a keyed is) e
 
-  reacted_good : (a : Rule) (values : List Text) (h : Held) → IsKeyed c a → react_fault c again a values h ≡ [] → AreGood c h.rows → AreGood c (reacted c a values h).rows
+  reacted_good : (a : Rule) (values : List Text) (h : Held) → IsKeyed c a → react_fault c again a values h ≡ [] → AreGood c h.rows
+      → AreGood c (reacted c a values h).rows
   reacted_good a values h is none good =
       let parts = neither (settle_fault c again h) _ none in
       used_good c again a values (settled c h).rows is parts.1 (settled_good h parts.0 good)
 
-  option_good : (a : Rule) (v : Option Text) (h : Held) → IsKeyed c a → option_fault c again a v h ≡ [] → AreGood c h.rows → AreGood c (option_met c a v h).0.rows
+  option_good : (a : Rule) (v : Option Text) (h : Held) → IsKeyed c a → option_fault c again a v h ≡ [] → AreGood c h.rows
+      → AreGood c (option_met c a v h).0.rows
   option_good a (Some v) h is none good = reacted_good a (v ∷ []) h is none good
   option_good a None h is none good = settled_good h none good
 
@@ -168,7 +171,8 @@ module _ (c : List Rule) (again : Bool) (keyed : AllByRecursion (IsKeyed c) c) w
   flag_good a (Some v) h is none good = good
   flag_good a None h is none good = reacted_good a [] h is none good
 
-  long_good : (found : Option Rule) (v : Option Text) (h : Held) → IsFoundIn found → long_fault c again found v h ≡ [] → AreGood c h.rows → AreGood c (long_met c found v h).0.rows
+  long_good : (found : Option Rule) (v : Option Text) (h : Held) → IsFoundIn found → long_fault c again found v h ≡ [] → AreGood c h.rows
+      → AreGood c (long_met c found v h).0.rows
   long_good None v h is none good = good
   long_good (Some a) v h is none good = go (takes_values a) none
     where
@@ -190,7 +194,8 @@ module _ (c : List Rule) (again : Bool) (keyed : AllByRecursion (IsKeyed c) c) w
           let parts = neither (react_fault c again a [] h) _ e in
           more _ parts.1 (reacted_good a [] h (is a refl) parts.0 good)
 
-  step_good : (first : Option ℕ) (flags : Text) (skip : ℕ) (so_far : Outcome) (h : Held) (met : Text → ℕ → Outcome → Held → Held × Outcome) (fault : Text → ℕ → Held → Kinds)
+  step_good : (first : Option ℕ) (flags : Text) (skip : ℕ) (so_far : Outcome) (h : Held) (met : Text → ℕ → Outcome → Held → Held × Outcome) (fault : Text → ℕ
+      → Held → Kinds)
       → ((t : Text) (n : ℕ) (o : Outcome) (k : Held) → fault t n k ≡ [] → AreGood c k.rows → AreGood c (met t n o k).0.rows)
       → bundle_step_fault c again first flags skip h fault ≡ [] → AreGood c h.rows → AreGood c (bundle_step c first flags skip so_far h met).0.rows
   step_good None flags skip so_far h met fault more none good = good
@@ -221,7 +226,8 @@ module _ (c : List Rule) (again : Bool) (keyed : AllByRecursion (IsKeyed c) c) w
   after_good waiting word h plain good = plain_good waiting word h good
   after_good waiting word h refused good = plain_good waiting word h good
 
-  flag_word_good : (waiting : Waiting) (word : Text) (name : Option (Text × Option Text)) (h : Held) → flag_word_fault c again name word h ≡ [] → AreGood c h.rows
+  flag_word_good : (waiting : Waiting) (word : Text) (name : Option (Text × Option Text)) (h : Held) → flag_word_fault c again name word h ≡ []
+      → AreGood c h.rows
       → AreGood c (long_or_other c waiting word name h).0.rows
   flag_word_good waiting word (Some p) h none good =
       after_good waiting word _ (long_met c (arg_by_long c p.0) p.1 h).1
@@ -259,7 +265,8 @@ module _ (s : Shape) (keyed : AllByRecursion (IsKeyed s.rules) s.rules) where
   abbrev c : List Rule
   c = s.rules
 
-  met_good : (names : Names) (is_trailing : Bool) (waiting : Waiting) (position : ℕ) (word : Text) (h : Held) → word_fault s names is_trailing waiting word h ≡ [] → AreGood c h.rows
+  met_good : (names : Names) (is_trailing : Bool) (waiting : Waiting) (position : ℕ) (word : Text) (h : Held)
+      → word_fault s names is_trailing waiting word h ≡ [] → AreGood c h.rows
       → AreGood c (word_met c names is_trailing waiting position word h).0.rows
   met_good names true waiting position word h none good = good
   met_good names false waiting position word h none good = go (subcommand_met names waiting word) none
@@ -268,7 +275,8 @@ module _ (s : Shape) (keyed : AllByRecursion (IsKeyed s.rules) s.rules) where
       go (Some name) e = good
       go None e = other_good c s.args_override_self keyed waiting position word h e good
 
-  stepped_good : (word : Text) (w : Walk) (h : Held) (met : Step) → step_fault s w.position h met ≡ [] → AreGood c h.rows → AreGood c (after_step c word w h met).held.rows
+  stepped_good : (word : Text) (w : Walk) (h : Held) (met : Step) → step_fault s w.position h met ≡ [] → AreGood c h.rows
+      → AreGood c (after_step c word w h met).held.rows
   stepped_good word w h (next waiting) none good = good
   stepped_good word w h (trailing position) none good = good
   stepped_good word w h (subcommand name) none good = good
@@ -281,14 +289,16 @@ module _ (s : Shape) (keyed : AllByRecursion (IsKeyed s.rules) s.rules) where
     where
       go : (stopped : Option (Text × List Text))
           → cond (is_some stopped) [] (or_else (word_fault s names w.is_trailing w.waiting word w.held)
-          (step_fault s w.position (word_met c names w.is_trailing w.waiting w.position word w.held).0 (word_met c names w.is_trailing w.waiting w.position word w.held).1)) ≡ []
+          (step_fault s w.position (word_met c names w.is_trailing w.waiting w.position word w.held).0
+          (word_met c names w.is_trailing w.waiting w.position word w.held).1)) ≡ []
           → AreGood c (walked_from c names stopped w word).held.rows
       go (Some p) e = good
       go None e =
           let parts = neither (word_fault s names w.is_trailing w.waiting word w.held) _ e in
           stepped_good word w _ _ parts.1 (met_good names w.is_trailing w.waiting w.position word w.held parts.0 good)
 
-  walk_good : (names : Names) (w : Walk) (words : List Text) → walk_fault s names w words ≡ [] → AreGood c w.held.rows → AreGood c (fold (walked c names) w words).held.rows
+  walk_good : (names : Names) (w : Walk) (words : List Text) → walk_fault s names w words ≡ [] → AreGood c w.held.rows
+      → AreGood c (fold (walked c names) w words).held.rows
   unfolding walk_fault
   walk_good names w [] none good = good
   walk_good names w (word ∷ rest) none good =
@@ -351,7 +361,8 @@ pub first_passes : (c : List Rule) (a : Rule) (rows : List Row) → AreGood c ro
     × (one_of a.id rows ≡ option_map (read_as (reading_by a)) (first_of a.id rows))
 first_passes c a rows good own = go (find (λ r. bytes_eq r.id a.id) rows) refl
   where
-    pass : (values : List Text) → values_fault a values ≡ [] → IfSome (slice_get values 0) (λ text. value_kinds a.ignore_case (parser_of_value a.parser) text ≡ [])
+    pass : (values : List Text) → values_fault a values ≡ []
+        → IfSome (slice_get values 0) (λ text. value_kinds a.ignore_case (parser_of_value a.parser) text ≡ [])
     pass [] e = tt
     pass (v ∷ vs) e = (neither _ _ e).0
 
@@ -388,7 +399,8 @@ required_given s rows none = each s.rules (unless s.subcommand_negates_reqs (wan
     unless true e = e
     unless false e = e
 
-    each : (c : List Rule) → list_any (λ a. a.required && not (is_given a.id rows)) c ≡ false → AllByRecursion (λ a. a.required ≡ true → is_given a.id rows ≡ true) c
+    each : (c : List Rule) → list_any (λ a. a.required && not (is_given a.id rows)) c ≡ false
+        → AllByRecursion (λ a. a.required ≡ true → is_given a.id rows ≡ true) c
     each [] e = tt
     each (a ∷ c) e =
         let parts = either_none (a.required && not (is_given a.id rows)) _ e in

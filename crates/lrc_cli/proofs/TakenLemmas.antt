@@ -85,7 +85,8 @@ number_taken : (rules : List Rule) (rows : List Row) (a : Rule) → AreGood rule
 number_taken rules rows a good own exact parser =
     let first = first_passes rules a rows good own in
     let pass : IfSome (first_of a.id rows) (λ t. value_kinds false (Unsigned 0 18446744073709551615) t ≡ []) =
-    subst (λ (p : Bool × Option ValueParser). IfSome (first_of a.id rows) (λ t. value_kinds p.0 (parser_of_value p.1) t ≡ [])) (λ i. (exact i, parser i)) first.0 in
+    subst (λ (p : Bool × Option ValueParser). IfSome (first_of a.id rows) (λ t. value_kinds p.0 (parser_of_value p.1) t ≡ []))
+    (λ i. (exact i, parser i)) first.0 in
     let written = first.1 ∙ ap (λ (p : Option ValueParser). option_map (read_as (reading_of (parser_of_value p))) (first_of a.id rows)) parser in
     record { number = number_passed (first_of a.id rows) pass; as_written = written ∙ same_text (first_of a.id rows) }
 
@@ -102,7 +103,8 @@ plain_taken : (words : List Text) → level_fault plain_built [] nothing_held wo
 plain_taken words none =
     let rows = rows_after plain_built.rules [] words in
     let level = level_good plain_built words plain_keyed none in
-    run_taken plain_built.rules rows level.0 (given_some plain_built.rules (codes "FILE") rows level.0 ((required_given plain_built rows level.1).0 refl)) refl refl
+    run_taken plain_built.rules rows level.0
+    (given_some plain_built.rules (codes "FILE") rows level.0 ((required_given plain_built rows level.1).0 refl)) refl refl
 
 sim_taken : (words : List Text) → level_fault sim_built [] nothing_held words false [] ≡ [] → IsRunTaken (rows_after sim_built.rules [] words)
 sim_taken words none =
@@ -114,10 +116,12 @@ sim_taken words none =
 abbrev top_built : App
 top_built = record { top = built_leaf (record treadmarks_shape { is_leaf = false }); subs = check_built ∷ plain_built ∷ sim_built ∷ [] }
 
-one_named : (rows : List Row) (stop : Option (Text × List Text)) → entered_fault top_built stop ≡ [] → check_fault top_built.top rows (is_some (entered top_built stop)) ≡ []
+one_named : (rows : List Row) (stop : Option (Text × List Text)) → entered_fault top_built stop ≡ []
+    → check_fault top_built.top rows (is_some (entered top_built stop)) ≡ []
     → IsTaken (entered top_built stop)
 one_named rows None none checked = absurd cc
-one_named rows (Some p) none checked = go (answers_to p.0 (label_of check_built)) (answers_to p.0 (label_of plain_built)) (answers_to p.0 (label_of sim_built)) none checked
+one_named rows (Some p) none checked =
+    go (answers_to p.0 (label_of check_built)) (answers_to p.0 (label_of plain_built)) (answers_to p.0 (label_of sim_built)) none checked
   where
     shape : Bool → Bool → Bool → Option Shape
     shape b d f = cond b (Some check_built) (cond d (Some plain_built) (cond f (Some sim_built) None))

@@ -51,8 +51,11 @@ way_ends old new text rest none way =
 pub way_front : (old new : Option (List ℕ)) (text rest : List ℕ) → 0 < length rest → IsUnderWay old new text rest → AppendsFront old new text
 way_front old new text rest some way =
     let counts : length text ≡ length way.front + length rest = ap length way.whole ∙ length-append way.front rest in
-    let less : length way.front < length text = omega arith in
-    (length way.front, less, subst (Appends old new) (sym (ap (take (length way.front)) way.whole ∙ take_at way.front rest (length way.front) refl)) way.written)
+    let less : length way.front < length text = omega arith in (
+      length way.front,
+      less,
+      subst (Appends old new) (sym (ap (take (length way.front)) way.whole ∙ take_at way.front rest (length way.front) refl)) way.written,
+    )
 
 pub way_written : {E : Type 0} (old mid new : Option (List ℕ)) (text rest : List ℕ) (r : Result ℕ E) (count : ℕ) → r ≡ Ok count → IsUnderWay old mid text rest
     → WriteAppends mid new r rest → IsUnderWay old new text (drop count rest)
@@ -75,14 +78,16 @@ some_of [] e = absurd cc
 some_of (b ∷ text) e = omega arith
 
 -- the next part of the text is written, or a front of it
-pub way_part : (old mid new : Option (List ℕ)) (text first rest : List ℕ) → IsUnderWay old mid text (first ++ rest) → Appends mid new first → IsUnderWay old new text rest
+pub way_part : (old mid new : Option (List ℕ)) (text first rest : List ℕ) → IsUnderWay old mid text (first ++ rest) → Appends mid new first
+    → IsUnderWay old new text rest
 way_part old mid new text first rest way h = record {
   front = way.front ++ first;
   whole = way.whole ∙ sym (append_assoc way.front first rest);
   written = Appends-more old mid new way.front first way.written h;
 }
 
-pub way_stops : (old mid new : Option (List ℕ)) (text first rest : List ℕ) → IsUnderWay old mid text (first ++ rest) → AppendsFront mid new first → AppendsFront old new text
+pub way_stops : (old mid new : Option (List ℕ)) (text first rest : List ℕ) → IsUnderWay old mid text (first ++ rest) → AppendsFront mid new first
+    → AppendsFront old new text
 way_stops old mid new text first rest way h =
     let count = h.0 in
     let split : first ++ rest ≡ take count first ++ (drop count first ++ rest) =

@@ -32,7 +32,8 @@ length-rests_from rests (i ∷ code) =
     let more = rests ++ (i.statement.now ∷ get_or rests i.next []) ∷ [] in
     omega (arith, length-rests_from more code, length-append rests ((i.statement.now ∷ get_or rests i.next []) ∷ []))
 
-pub get_or-rests_from : (rests : List (List Statement)) (code : List Instruction) (place : ℕ) → place < length rests → get_or (rests_from rests code) place [] ≡ get_or rests place []
+pub get_or-rests_from : (rests : List (List Statement)) (code : List Instruction) (place : ℕ) → place < length rests
+    → get_or (rests_from rests code) place [] ≡ get_or rests place []
 unfolding rests_from
 get_or-rests_from rests [] place within = refl
 get_or-rests_from rests (i ∷ code) place within =
@@ -63,7 +64,8 @@ unfolding rest_at rests_from
 rest_at-end code = rest_at-append [] code 0 (omega arith)
 
 -- the instructions before the k-th, it, and those behind it
-split_at : (code : List Instruction) (k : ℕ) (i : Instruction) → slice_get code k ≡ Some i → (before after : List Instruction) × (length before ≡ k) × (code ≡ before ++ i ∷ after)
+split_at : (code : List Instruction) (k : ℕ) (i : Instruction) → slice_get code k ≡ Some i → (before after : List Instruction) × (length before ≡ k)
+    × (code ≡ before ++ i ∷ after)
 split_at [] k i is = cc
 split_at (j ∷ code) zero i is = ([], code, refl, (let e : j ≡ i = cc in ap (λ x. x ∷ code) e))
 split_at (j ∷ code) (suc k) i is =
@@ -71,7 +73,8 @@ split_at (j ∷ code) (suc k) i is =
     (j ∷ h.0, h.1, ap suc h.2, ap (λ l. j ∷ l) h.3)
 
 -- at the place of an instruction, its statement comes first, and then what is still to do at its next place
-pub rest_at-instruction : (code : List Instruction) (k : ℕ) (i : Instruction) → slice_get code k ≡ Some i → i.next ≤ k → rest_at code (k + 1) ≡ i.statement.now ∷ rest_at code i.next
+pub rest_at-instruction : (code : List Instruction) (k : ℕ) (i : Instruction) → slice_get code k ≡ Some i → i.next ≤ k
+    → rest_at code (k + 1) ≡ i.statement.now ∷ rest_at code i.next
 rest_at-instruction code k i is below =
     let h = split_at code k i is in
     let before = h.0 in
@@ -85,7 +88,8 @@ rest_at-instruction code k i is below =
     ∙ rest_at-append (before ++ i ∷ []) after (k + 1) within
     ∙ ap (λ n. rest_at (before ++ i ∷ []) (n + 1)) (sym long)
     ∙ rest_at-last before i
-    ∙ ap (λ l. i.statement.now ∷ l) (sym (ap (λ c. rest_at c i.next) whole ∙ rest_at-append (before ++ i ∷ []) after i.next next_inside ∙ rest_at-append before (i ∷ []) i.next next_within))
+    ∙ ap (λ l. i.statement.now ∷ l) (sym (ap (λ c. rest_at c i.next) whole ∙ rest_at-append (before ++ i ∷ []) after i.next next_inside
+    ∙ rest_at-append before (i ∷ []) i.next next_within))
 
 -- sound instructions stay so as the code grows
 pub IsSound-append : (a b : List Instruction) (k : ℕ) (i : Instruction) → k < length a → IsSound a k i → IsSound (a ++ b) k i
@@ -106,7 +110,8 @@ slice_get_left a b k i inside is =
 
 sound_both : (mid new more : List Instruction) (from : ℕ) → new ≡ mid ++ more → IsSoundFrom from mid → IsSoundFrom (length mid) new → IsSoundFrom from new
 sound_both mid new more from grown before after k i past is =
-    ⊎_elim (λ inside. subst (λ c. IsSound c k i) (sym grown) (IsSound-append mid more k i inside (before k i past (slice_get_left mid more k i inside (sym (ap (λ c. slice_get c k) grown) ∙ is)))))
+    ⊎_elim (λ inside. subst (λ c. IsSound c k i) (sym grown)
+    (IsSound-append mid more k i inside (before k i past (slice_get_left mid more k i inside (sym (ap (λ c. slice_get c k) grown) ∙ is)))))
     (λ behind. after k i behind is)
     (cases_lt k (length mid))
 
@@ -122,7 +127,8 @@ grown_none code next within =
     }
 
 -- code that grew once before
-pub grown_behind : (old mid new : List Instruction) (first second : List Statement) (n p next place : ℕ) → IsGrown old mid first n p → IsGrown mid new second next place → IsGrown old new second next place
+pub grown_behind : (old mid new : List Instruction) (first second : List Statement) (n p next place : ℕ) → IsGrown old mid first n p
+    → IsGrown mid new second next place → IsGrown old new second next place
 grown_behind old mid new first second n p next place g h =
     let whole : new ≡ old ++ (g.more ++ h.more) = h.grown ∙ ap (λ c. c ++ h.more) g.grown ∙ append_assoc old g.more h.more in
     record {
@@ -134,7 +140,8 @@ grown_behind old mid new first second n p next place g h =
     }
 
 -- code that grew by a block, and then by what comes before it
-pub grown_on : (old mid new : List Instruction) (first rest : List Statement) (next place entry : ℕ) → next ≤ length old → IsGrown old mid rest next place → IsGrown mid new first place entry → IsGrown old new (first ++ rest) next entry
+pub grown_on : (old mid new : List Instruction) (first rest : List Statement) (next place entry : ℕ) → next ≤ length old → IsGrown old mid rest next place
+    → IsGrown mid new first place entry → IsGrown old new (first ++ rest) next entry
 grown_on old mid new first rest next place entry within g h =
     let all = grown_behind old mid new rest first next place place entry g h in
     let next_within : next ≤ length mid = omega (arith, ap length g.grown, length-append old g.more) in
@@ -150,7 +157,10 @@ grown_on old mid new first rest next place entry within g h =
     }
 
 -- code that grew by one instruction, which leads where its statement does
-pub grown_one : (code : List Instruction) (i : Instruction) → i.next ≤ length code → i.then ≤ length code → i.otherwise ≤ length code → rest_at code i.then ≡ where_it_holds i.statement.now (rest_at code i.next) → rest_at code i.otherwise ≡ where_it_fails i.statement.now (rest_at code i.next) → IsGrown code (code ++ i ∷ []) (i.statement.now ∷ []) i.next (length (code ++ i ∷ []))
+pub grown_one : (code : List Instruction) (i : Instruction) → i.next ≤ length code → i.then ≤ length code → i.otherwise ≤ length code
+    → rest_at code i.then ≡ where_it_holds i.statement.now (rest_at code i.next)
+    → rest_at code i.otherwise ≡ where_it_fails i.statement.now (rest_at code i.next)
+    → IsGrown code (code ++ i ∷ []) (i.statement.now ∷ []) i.next (length (code ++ i ∷ []))
 grown_one code i next_within then_within otherwise_within then_leads otherwise_leads =
     let long = length-append code (i ∷ []) in
     let same_next = rest_at-append code (i ∷ []) i.next next_within in
@@ -170,7 +180,8 @@ grown_one code i next_within then_within otherwise_within then_leads otherwise_l
       leads = ap (rest_at (code ++ i ∷ [])) long ∙ rest_at-last code i ∙ ap (λ l. i.statement.now ∷ l) (sym same_next);
       sound = λ k j past is.
           let here : k ≡ length code = omega (arith, slice_get_within (code ++ i ∷ []) k j is) in
-          let same : i ≡ j = sym (get_or-append_seam code i [] j) ∙ ap (λ n. get_or (code ++ i ∷ []) n j) (sym here) ∙ get_or_from_slice_get (code ++ i ∷ []) k j j is in
+          let same : i ≡ j = sym (get_or-append_seam code i [] j) ∙ ap (λ n. get_or (code ++ i ∷ []) n j) (sym here)
+          ∙ get_or_from_slice_get (code ++ i ∷ []) k j j is in
           subst (λ n. IsSound (code ++ i ∷ []) n j) (sym here) (subst (λ x. IsSound (code ++ i ∷ []) (length code) x) same sound);
     }
 
@@ -186,7 +197,8 @@ pub while_made : (e : _) (p : _) (a : _) → While' e p a ≡ While e (shown-the
 while_made e p a = sym (roll-out-Statement (While' e p a)) ∙ ap roll-Statement (outs-While' e p a) ∙ rolls-While e _
 
 -- a statement without a condition leads to what comes after it
-pub straight_holds : (s : Statement) (rest : List Statement) → ((e : _) (a b : _) → s ≡ If e a b → ⊥) → ((e : _) (a : _) → s ≡ While e a → ⊥) → where_it_holds s rest ≡ rest
+pub straight_holds : (s : Statement) (rest : List Statement) → ((e : _) (a b : _) → s ≡ If e a b → ⊥) → ((e : _) (a : _) → s ≡ While e a → ⊥)
+    → where_it_holds s rest ≡ rest
 straight_holds (Assign name value) rest not_if not_while = refl
 straight_holds (Read name word) rest not_if not_while = refl
 straight_holds (Write word value) rest not_if not_while = refl
@@ -209,20 +221,25 @@ straight_fails (If' e p a q b) rest not_if = absurd (not_if e _ _ (if_made e p a
 straight_fails (While' e p a) rest not_if = refl
 
 -- code that grew by a statement without a condition
-pub grown_straight : (code : List Instruction) (i : Instruction) (s : Statement) (next : ℕ) → i.statement.now ≡ s → i.next ≡ next → i.then ≡ next → i.otherwise ≡ next → next ≤ length code → ((e : _) (a b : _) → s ≡ If e a b → ⊥) → ((e : _) (a : _) → s ≡ While e a → ⊥) → IsGrown code (code ++ i ∷ []) (s ∷ []) next (length (code ++ i ∷ []))
+pub grown_straight : (code : List Instruction) (i : Instruction) (s : Statement) (next : ℕ) → i.statement.now ≡ s → i.next ≡ next → i.then ≡ next
+    → i.otherwise ≡ next → next ≤ length code → ((e : _) (a b : _) → s ≡ If e a b → ⊥) → ((e : _) (a : _) → s ≡ While e a → ⊥)
+    → IsGrown code (code ++ i ∷ []) (s ∷ []) next (length (code ++ i ∷ []))
 grown_straight code i s next is_s is_next is_then is_otherwise within not_if not_while =
     let same_next = ap (rest_at code) is_next in
     let statement = i.statement.now in
     let grown : IsGrown code (code ++ i ∷ []) (statement ∷ []) i.next (length (code ++ i ∷ [])) =
     grown_one code i (omega arith) (omega arith) (omega arith)
-    (ap (rest_at code) is_then ∙ sym same_next ∙ sym (straight_holds statement (rest_at code i.next) (λ e a b h. not_if e a b (sym is_s ∙ h)) (λ e a h. not_while e a (sym is_s ∙ h))))
+    (ap (rest_at code) is_then ∙ sym same_next
+    ∙ sym (straight_holds statement (rest_at code i.next) (λ e a b h. not_if e a b (sym is_s ∙ h)) (λ e a h. not_while e a (sym is_s ∙ h))))
     (ap (rest_at code) is_otherwise ∙ sym same_next ∙ sym (straight_fails statement (rest_at code i.next) (λ e a b h. not_if e a b (sym is_s ∙ h))))
     in
     subst (λ n. IsGrown code (code ++ i ∷ []) (s ∷ []) n (length (code ++ i ∷ []))) is_next
     (subst (λ x. IsGrown code (code ++ i ∷ []) (x ∷ []) i.next (length (code ++ i ∷ []))) is_s grown)
 
 -- code that grew by a choice: both blocks, and then the instruction of its condition
-pub grown_choice : (old c1 c2 : List Instruction) (i : Instruction) (e : _) (a b : _) (next then otherwise : ℕ) → i.statement.now ≡ If e a b → i.next ≡ next → i.then ≡ then → i.otherwise ≡ otherwise → next ≤ length old → IsGrown old c1 a.items next then → IsGrown c1 c2 b.items next otherwise → IsGrown old (c2 ++ i ∷ []) (If e a b ∷ []) next (length (c2 ++ i ∷ []))
+pub grown_choice : (old c1 c2 : List Instruction) (i : Instruction) (e : _) (a b : _) (next then otherwise : ℕ) → i.statement.now ≡ If e a b → i.next ≡ next
+    → i.then ≡ then → i.otherwise ≡ otherwise → next ≤ length old → IsGrown old c1 a.items next then → IsGrown c1 c2 b.items next otherwise
+    → IsGrown old (c2 ++ i ∷ []) (If e a b ∷ []) next (length (c2 ++ i ∷ []))
 grown_choice old c1 c2 i e a b next then otherwise is_s is_next is_then is_otherwise within g h =
     let long1 : length old ≤ length c1 = omega (arith, ap length g.grown, length-append old g.more) in
     let long2 : length c1 ≤ length c2 = omega (arith, ap length h.grown, length-append c1 h.more) in
@@ -232,7 +249,8 @@ grown_choice old c1 c2 i e a b next then otherwise is_s is_next is_then is_other
     let at_then = ap (λ c. rest_at c then) h.grown ∙ rest_at-append c1 h.more then g.within in
     let at_next = ap (λ c. rest_at c next) h.grown ∙ rest_at-append c1 h.more next (omega arith) in
     let first : rest_at c2 i.then ≡ block (hidden-the_row-Statement-0 a) ++ rest_at c2 i.next =
-    ap (rest_at c2) is_then ∙ at_then ∙ g.leads ∙ ap (λ l. a.items ++ l) (sym at_next ∙ sym (ap (rest_at c2) is_next)) ∙ ap (λ l. l ++ rest_at c2 i.next) (sym (block-items a)) in
+    ap (rest_at c2) is_then ∙ at_then ∙ g.leads ∙ ap (λ l. a.items ++ l) (sym at_next ∙ sym (ap (rest_at c2) is_next))
+    ∙ ap (λ l. l ++ rest_at c2 i.next) (sym (block-items a)) in
     let second : rest_at c2 i.otherwise ≡ block (hidden-the_row-Statement-0 b) ++ rest_at c2 i.next =
     ap (rest_at c2) is_otherwise ∙ h.leads ∙ ap (λ l. b.items ++ l) (sym (ap (rest_at c2) is_next)) ∙ ap (λ l. l ++ rest_at c2 i.next) (sym (block-items b)) in
     let one : IsGrown c2 (c2 ++ i ∷ []) (i.statement.now ∷ []) i.next (length (c2 ++ i ∷ [])) =
@@ -258,7 +276,8 @@ module _ (old more : List Instruction) (s : Bor Statement) (next then otherwise 
       ∙ sym (ap (λ l. get_or l place []) (rests_from-append ([] ∷ []) old (leading s next after otherwise ∷ more)))
 
   -- the other instructions stay sound
-  pub IsSound-written : (k : ℕ) (i : Instruction) → IsSound (old ++ leading s next then otherwise ∷ more) k i → IsSound (old ++ leading s next after otherwise ∷ more) k i
+  pub IsSound-written : (k : ℕ) (i : Instruction) → IsSound (old ++ leading s next then otherwise ∷ more) k i
+      → IsSound (old ++ leading s next after otherwise ∷ more) k i
   IsSound-written k i sound =
       let long = length-append old (leading s next then otherwise ∷ more) in
       let long' = length-append old (leading s next after otherwise ∷ more) in
@@ -282,7 +301,10 @@ slice_get-behind (x ∷ old) more i j zero behind = absurd (omega arith)
 slice_get-behind (x ∷ old) more i j (suc k) behind = slice_get-behind old more i j k (omega arith)
 
 -- code that grew by a loop: the instruction of its condition, and then its body, which leads back to it
-pub grown_loop : (old c2 : List Instruction) (s : Bor Statement) (e : _) (a : _) (next then : ℕ) → s.now ≡ While e a → next ≤ length old → IsGrown (old ++ leading s next next next ∷ []) c2 a.items (length (old ++ leading s next next next ∷ [])) then → IsGrown old (slice_set c2 (length (old ++ leading s next next next ∷ []) - 1) (leading s next then next)) (While e a ∷ []) next (length (old ++ leading s next next next ∷ []))
+pub grown_loop : (old c2 : List Instruction) (s : Bor Statement) (e : _) (a : _) (next then : ℕ) → s.now ≡ While e a → next ≤ length old
+    → IsGrown (old ++ leading s next next next ∷ []) c2 a.items (length (old ++ leading s next next next ∷ [])) then
+    → IsGrown old (slice_set c2 (length (old ++ leading s next next next ∷ []) - 1) (leading s next then next)) (While e a ∷ []) next (length (old
+    ++ leading s next next next ∷ []))
 grown_loop old c2 s e a next then is_s within g =
     let before = leading s next next next in
     let after = leading s next then next in
@@ -335,7 +357,8 @@ grown_loop old c2 s e a next then is_s within g =
     }
 
 -- code that grew from nothing is the code of its statements
-pub grown_code : (old new : List Instruction) (statements : List Statement) (start : ℕ) → old ≡ [] → IsGrown old new statements 0 start → IsCodeOf new start statements
+pub grown_code : (old new : List Instruction) (statements : List Statement) (start : ℕ) → old ≡ [] → IsGrown old new statements 0 start
+    → IsCodeOf new start statements
 grown_code old new statements start empty g =
     record {
       within = g.within;

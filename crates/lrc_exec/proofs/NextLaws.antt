@@ -69,7 +69,8 @@ module _ (thread : Thread) (stays : thread.arrived ≡ false) where
   first_fine [] = stays
   first_fine (s ∷ rest) = act_fine s rest
 
-next_fine : (thread : Thread) (arrived : Bool) → thread.arrived ≡ arrived → IsFine thread (if arrived then departs (record thread { arrived = false }) else first_act thread thread.rest)
+next_fine : (thread : Thread) (arrived : Bool) → thread.arrived ≡ arrived
+    → IsFine thread (if arrived then departs (record thread { arrived = false }) else first_act thread thread.rest)
 next_fine thread true e = (e, refl)
 next_fine thread false e = first_fine thread e thread.rest
 

@@ -43,7 +43,8 @@ pub record Runs (runner : Runner) (o : Option Thread) : Type 0 where
   pub running : runner.stopped ≡ false
   pub thread_is : o ≡ Some (record runner.machine { arrived = runner.arrived })
 
-runs : (runner : Runner) (stopped : Bool) → runner.stopped ≡ stopped → (o : Option Thread) → o ≡ (if stopped then None else Some (record runner.machine { arrived = runner.arrived })) → IsSome o → Runs runner o
+runs : (runner : Runner) (stopped : Bool) → runner.stopped ≡ stopped → (o : Option Thread)
+    → o ≡ (if stopped then None else Some (record runner.machine { arrived = runner.arrived })) → IsSome o → Runs runner o
 runs runner true e o is some = absurd (none_is_no (subst IsSome is some))
 runs runner false e o is some = record { running = e; thread_is = is }
 
@@ -84,7 +85,8 @@ module _ (m : Inside) (machine : Plain) (node : ℕ) (d : Runner) (view : plain_
       }
 
   -- the thread at no barrier is that of the runner's code
-  pub own_thread : IsPlain m → IsSomeAnd (thread_in machine node) IsResumable → (thread_in machine node ≡ Some (get_or m.runners.items node d).machine) × TakesAnswer (ask_of (next_of (get_or m.runners.items node d).machine))
+  pub own_thread : IsPlain m → IsSomeAnd (thread_in machine node) IsResumable → (thread_in machine node ≡ Some (get_or m.runners.items node d).machine)
+      × TakesAnswer (ask_of (next_of (get_or m.runners.items node d).machine))
   own_thread plain resumable =
       let r = get_or m.runners.items node d in
       let some = is_some_and (thread_in machine node) IsResumable resumable in
@@ -111,7 +113,8 @@ deed_if : {A B : Type 0} (test : Bool) (a : A) (b : B) (d : A) → option_map (�
 deed_if true a b d e = cc
 deed_if false a b d e = cc
 
-deed_fits : (machine : Plain) (node : ℕ) (thread : Thread) (next : Next) → IsFine thread next → (d : Deed) → option_map (λ step. step.0) (deed_of machine node next) ≡ Some d → Fits thread d
+deed_fits : (machine : Plain) (node : ℕ) (thread : Thread) (next : Next) → IsFine thread next → (d : Deed)
+    → option_map (λ step. step.0) (deed_of machine node next) ≡ Some d → Fits thread d
 deed_fits machine node thread (quiet after) fine d e = let is : Quiet ≡ d = cc in subst (Fits thread) is tt
 deed_fits machine node thread (prints value after) fine d e = let is : Print value ≡ d = cc in subst (Fits thread) is tt
 deed_fits machine node thread (reads word after) fine d e = let is : Read word (slice_index machine.memory word) ≡ d = cc in subst (Fits thread) is tt
@@ -123,12 +126,15 @@ deed_fits machine node thread (departs after) fine d e = subst (Fits thread) (de
 deed_fits machine node thread (traps cause) fine d e = let is : Trap cause ≡ d = cc in subst (Fits thread) is tt
 deed_fits machine node thread ends fine d e = let is : End ≡ d = cc in subst (Fits thread) is tt
 
-step_fits : (machine : Plain) (node : ℕ) (o : Option Thread) (d : Deed) → option_map (λ step. step.0) (option_and_then (λ thread. deed_of machine node (next_of thread)) o) ≡ Some d → (thread : Thread) × (o ≡ Some thread) × Fits thread d
+step_fits : (machine : Plain) (node : ℕ) (o : Option Thread) (d : Deed)
+    → option_map (λ step. step.0) (option_and_then (λ thread. deed_of machine node (next_of thread)) o) ≡ Some d → (thread : Thread) × (o ≡ Some thread)
+    × Fits thread d
 step_fits machine node None d e = cc
 step_fits machine node (Some thread) d e = (thread, refl, deed_fits machine node thread (next_of thread) (next_of-fine thread) d e)
 
 -- a node that can do a deed has a thread, and what the deed names is there
-pub step-fits : (machine : Plain) (node : ℕ) (d : Deed) → option_map (λ step. step.0) (plain_step machine node) ≡ Some d → (thread : Thread) × (thread_in machine node ≡ Some thread) × Fits thread d
+pub step-fits : (machine : Plain) (node : ℕ) (d : Deed) → option_map (λ step. step.0) (plain_step machine node) ≡ Some d → (thread : Thread)
+    × (thread_in machine node ≡ Some thread) × Fits thread d
 step-fits machine node d e = step_fits machine node (thread_in machine node) d e
 
 -- a node with a thread is one of the nodes
@@ -143,7 +149,8 @@ first_of [] k inside = absurd (omega arith)
 first_of (x ∷ xs) k inside = x
 
 -- the code's parts know the setting of a thread
-pub setting_at : (m : Inside) (machine : Plain) (node : ℕ) → plain_of m ≡ machine → IsPlain m → (thread : Thread) → thread_in machine node ≡ Some thread → (thread.setting.words ≡ length m.memory.items) × (thread.setting.locks ≡ length m.holders.items) × (node < length m.runners.items)
+pub setting_at : (m : Inside) (machine : Plain) (node : ℕ) → plain_of m ≡ machine → IsPlain m → (thread : Thread) → thread_in machine node ≡ Some thread
+    → (thread.setting.words ≡ length m.memory.items) × (thread.setting.locks ≡ length m.holders.items) × (node < length m.runners.items)
 setting_at m machine node view plain thread is =
     let some : IsSome (thread_in machine node) = subst IsSome (sym is) refl in
     let within = node_within m machine node view some in
@@ -156,7 +163,9 @@ setting_at m machine node view plain thread is =
     (ap (λ (t : Thread). t.setting.words) own ∙ runner.words, ap (λ (t : Thread). t.setting.locks) own ∙ runner.locks, within)
 
 -- they still do once the thread has gone on
-pub setting_after : (old machine : Plain) (m : Inside) (node : ℕ) (value : ℕ) (arrived : Bool) (thread : Thread) → thread_in old node ≡ Some thread → machine ≡ with_thread old node (option_map (resumed value arrived) (thread_in old node)) → plain_of m ≡ machine → IsPlain m → (thread.setting.words ≡ length m.memory.items) × (thread.setting.locks ≡ length m.holders.items) × (node < length m.runners.items)
+pub setting_after : (old machine : Plain) (m : Inside) (node : ℕ) (value : ℕ) (arrived : Bool) (thread : Thread) → thread_in old node ≡ Some thread
+    → machine ≡ with_thread old node (option_map (resumed value arrived) (thread_in old node)) → plain_of m ≡ machine → IsPlain m
+    → (thread.setting.words ≡ length m.memory.items) × (thread.setting.locks ≡ length m.holders.items) × (node < length m.runners.items)
 setting_after old machine m node value arrived thread is after view plain =
     let within = thread_within old node thread is in
     let now : thread_in machine node ≡ Some (resumed value arrived thread) =

@@ -39,7 +39,8 @@ turns-append pace (node ∷ a) b =
     ∙ ap (λ l. (l, (turns (turns next a).1 b).1)) (sym (chosen_append test node (turns next a).0 (turns (turns next a).1 b).0))
 
 -- one node more, with its turn
-pub turns-last : (pace : Paced) (nodes : List ℕ) (node : ℕ) (next : Paced) → turn (turns pace nodes).1 node ≡ Some next → turns pace (nodes ++ node ∷ []) ≡ ((turns pace nodes).0 ++ node ∷ [], next)
+pub turns-last : (pace : Paced) (nodes : List ℕ) (node : ℕ) (next : Paced) → turn (turns pace nodes).1 node ≡ Some next
+    → turns pace (nodes ++ node ∷ []) ≡ ((turns pace nodes).0 ++ node ∷ [], next)
 turns-last pace nodes node next is =
     turns-append pace nodes (node ∷ [])
     ∙ ap (λ o. ((turns pace nodes).0 ++ (if is_some o then node ∷ [] else []), unwrap_or o (turns pace nodes).1)) is
@@ -58,12 +59,26 @@ pub record IsTurn (pace : Paced) (node : ℕ) (next : Paced) : Type 0 where
   pub enough : steps_of step.0 ≤ slice_index pace.left node
   pub next_is : next ≡ record { machine = step.1; left = set pace.left node (slice_index pace.left node - steps_of step.0) }
 
-turn_taken : (pace : Paced) (node : ℕ) (next : Paced) (step : Deed × Plain) (test : Bool) → plain_step pace.machine node ≡ Some step → nat_le (steps_of step.0) (slice_index pace.left node) ≡ test → (if test then Some (record { machine = step.1; left = set pace.left node (slice_index pace.left node - steps_of step.0) }) else None) ≡ Some next → IsTurn pace node next
+turn_taken : (pace : Paced) (node : ℕ) (next : Paced) (step : Deed × Plain) (test : Bool) → plain_step pace.machine node ≡ Some step
+    → nat_le (steps_of step.0) (slice_index pace.left node) ≡ test
+    → (if test then Some (record { machine = step.1; left = set pace.left node (slice_index pace.left node - steps_of step.0) }) else None) ≡ Some next
+    → IsTurn pace node next
 turn_taken pace node next step true step_is enough e =
-    record { step = step; step_is = step_is; enough = leb-true _ _ enough; next_is = (let is : next ≡ record { machine = step.1; left = set pace.left node (slice_index pace.left node - steps_of step.0) } = cc in is) }
+    record {
+      step = step;
+      step_is = step_is;
+      enough = leb-true _ _ enough;
+      next_is =
+          (let is : next ≡ record { machine = step.1; left = set pace.left node (slice_index pace.left node - steps_of step.0) } = cc in is);
+    }
 turn_taken pace node next step false step_is enough e = cc
 
-turn_made : (pace : Paced) (node : ℕ) (next : Paced) (o : Option (Deed × Plain)) → plain_step pace.machine node ≡ o → option_and_then (λ step. if nat_le (steps_of step.0) (slice_index pace.left node) then Some (record { machine = step.1; left = set pace.left node (slice_index pace.left node - steps_of step.0) }) else None) o ≡ Some next → IsTurn pace node next
+turn_made : (pace : Paced) (node : ℕ) (next : Paced) (o : Option (Deed × Plain)) → plain_step pace.machine node ≡ o
+    → option_and_then (λ step. if nat_le (steps_of step.0) (slice_index pace.left node) then Some (record {
+      machine = step.1;
+      left =
+          set pace.left node (slice_index pace.left node - steps_of step.0);
+    }) else None) o ≡ Some next → IsTurn pace node next
 turn_made pace node next None is e = cc
 turn_made pace node next (Some step) is e = turn_taken pace node next step (nat_le (steps_of step.0) (slice_index pace.left node)) is refl e
 
@@ -96,36 +111,51 @@ record Leaves (machine : Plain) (node : ℕ) (thread : Thread) (step : Deed × P
   lighter : weight after < weight (Some thread) + 2 * steps_of step.0
 
 -- a step that is counted leaves a thread, or none
-counted : (machine : Plain) (node : ℕ) (thread after : Thread) (not_arrived : thread.arrived ≡ false) (d : Deed) (new : Plain) → steps_of d ≡ 1 → new.threads ≡ set machine.threads node (Some after) → Leaves machine node thread (d, new)
+counted : (machine : Plain) (node : ℕ) (thread after : Thread) (not_arrived : thread.arrived ≡ false) (d : Deed) (new : Plain) → steps_of d ≡ 1
+    → new.threads ≡ set machine.threads node (Some after) → Leaves machine node thread (d, new)
 counted machine node thread after not_arrived d new one threads =
     record { after = Some after; threads = threads; lighter = omega (arith, weight_most after, weight_of thread false not_arrived, one) }
 
-deed_leaves : (machine : Plain) (node : ℕ) (thread : Thread) (next : Next) (s : Deed × Plain) → IsFine thread next → deed_of machine node next ≡ Some s → Leaves machine node thread s
-deed_leaves machine node thread (quiet after) s fine e = where_true (Leaves machine node thread) true (counted machine node thread after fine.not_before _ _ refl refl) e
-deed_leaves machine node thread (prints value after) s fine e = where_true (Leaves machine node thread) true (counted machine node thread after fine.not_before _ _ refl refl) e
+deed_leaves : (machine : Plain) (node : ℕ) (thread : Thread) (next : Next) (s : Deed × Plain) → IsFine thread next → deed_of machine node next ≡ Some s
+    → Leaves machine node thread s
+deed_leaves machine node thread (quiet after) s fine e =
+    where_true (Leaves machine node thread) true (counted machine node thread after fine.not_before _ _ refl refl) e
+deed_leaves machine node thread (prints value after) s fine e =
+    where_true (Leaves machine node thread) true (counted machine node thread after fine.not_before _ _ refl refl) e
 deed_leaves machine node thread (reads word after) s fine e =
     let value = slice_index machine.memory word in
     where_true (Leaves machine node thread) true (counted machine node thread (after value) (fine.1 value).not_before _ _ refl refl) e
-deed_leaves machine node thread (writes word value after) s fine e = where_true (Leaves machine node thread) true (counted machine node thread after fine.1.not_before _ _ refl refl) e
-deed_leaves machine node thread (acquires lock after) s fine e = where_true (Leaves machine node thread) (is_free machine lock) (counted machine node thread after fine.2.not_before _ _ refl refl) e
-deed_leaves machine node thread (releases lock after) s fine e = where_true (Leaves machine node thread) true (counted machine node thread after fine.2.not_before _ _ refl refl) e
-deed_leaves machine node thread (arrives after) s fine e = where_true (Leaves machine node thread) true (counted machine node thread after fine.1 _ _ refl refl) e
+deed_leaves machine node thread (writes word value after) s fine e =
+    where_true (Leaves machine node thread) true (counted machine node thread after fine.1.not_before _ _ refl refl) e
+deed_leaves machine node thread (acquires lock after) s fine e =
+    where_true (Leaves machine node thread) (is_free machine lock) (counted machine node thread after fine.2.not_before _ _ refl refl) e
+deed_leaves machine node thread (releases lock after) s fine e =
+    where_true (Leaves machine node thread) true (counted machine node thread after fine.2.not_before _ _ refl refl) e
+deed_leaves machine node thread (arrives after) s fine e =
+    where_true (Leaves machine node thread) true (counted machine node thread after fine.1 _ _ refl refl) e
 deed_leaves machine node thread (departs after) s fine e =
     let gone : after.arrived ≡ false = ap (λ (t : Thread). t.arrived) fine.1 in
-    where_true (Leaves machine node thread) (all_arrived machine node) (record { after = Some after; threads = refl; lighter = omega (arith, weight_of thread true fine.0, weight_of after false gone) }) e
+    where_true (Leaves machine node thread) (all_arrived machine node) (record {
+      after = Some after;
+      threads = refl;
+      lighter =
+          omega (arith, weight_of thread true fine.0, weight_of after false gone);
+    }) e
 deed_leaves machine node thread (traps cause) s fine e =
     where_true (Leaves machine node thread) true (record { after = None; threads = refl; lighter = omega arith }) e
 deed_leaves machine node thread ends s fine e =
     where_true (Leaves machine node thread) true (record { after = None; threads = refl; lighter = omega (arith, weight_of thread false fine) }) e
 
-step_leaves : (machine : Plain) (node : ℕ) (o : Option Thread) (s : Deed × Plain) → option_and_then (λ thread. deed_of machine node (next_of thread)) o ≡ Some s → (thread : Thread) × (o ≡ Some thread) × Leaves machine node thread s
+step_leaves : (machine : Plain) (node : ℕ) (o : Option Thread) (s : Deed × Plain) → option_and_then (λ thread. deed_of machine node (next_of thread)) o ≡ Some s
+    → (thread : Thread) × (o ≡ Some thread) × Leaves machine node thread s
 step_leaves machine node None s e = cc
 step_leaves machine node (Some thread) s e = (thread, refl, deed_leaves machine node thread (next_of thread) s (next_of-fine thread) e)
 
 sum-set_less : (xs : List ℕ) (n c : ℕ) → c ≤ slice_index xs n → sum (set xs n (slice_index xs n - c)) + c ≡ sum xs
 sum-set_less [] n c enough = omega (arith, enough)
 sum-set_less (x ∷ xs) zero c enough = omega (arith, enough, sum_by-cons (λ k. k) (x - c) xs, sum_by-cons (λ k. k) x xs)
-sum-set_less (x ∷ xs) (suc n) c enough = omega (arith, sum-set_less xs n c enough, sum_by-cons (λ k. k) x xs, sum_by-cons (λ k. k) x (set xs n (slice_index xs n - c)))
+sum-set_less (x ∷ xs) (suc n) c enough =
+    omega (arith, sum-set_less xs n c enough, sum_by-cons (λ k. k) x xs, sum_by-cons (λ k. k) x (set xs n (slice_index xs n - c)))
 
 -- each act uses some of the bound
 pub turn_falls : (pace : Paced) (node : ℕ) (next : Paced) → turn pace node ≡ Some next → fuel next < fuel pace
@@ -143,7 +173,10 @@ turn_falls pace node next e =
     ap (λ (p : Paced). sum_by weight p.machine.threads) t.next_is ∙ ap (sum_by weight) leaves.threads in
     omega (arith, leaves.lighter)
 
-turns_one : (pace : Paced) (node : ℕ) (nodes : List ℕ) (o : Option Paced) → turn pace node ≡ o → ((p : Paced) → fuel (turns p nodes).1 + length (turns p nodes).0 ≤ fuel p) → fuel (turns (unwrap_or o pace) nodes).1 + length (if is_some o then node ∷ (turns (unwrap_or o pace) nodes).0 else (turns (unwrap_or o pace) nodes).0) ≤ fuel pace
+turns_one : (pace : Paced) (node : ℕ) (nodes : List ℕ) (o : Option Paced) → turn pace node ≡ o
+    → ((p : Paced) → fuel (turns p nodes).1 + length (turns p nodes).0 ≤ fuel p)
+    → fuel (turns (unwrap_or o pace) nodes).1 + length
+    (if is_some o then node ∷ (turns (unwrap_or o pace) nodes).0 else (turns (unwrap_or o pace) nodes).0) ≤ fuel pace
 turns_one pace node nodes None e more = more pace
 turns_one pace node nodes (Some next) e more = omega (arith, more next, turn_falls pace node next e)
 
@@ -172,7 +205,8 @@ pub record HasRounded (nodes : ℕ) (start now : Paced) (acts : List Act) : Type
   pub few_arrivals : (k : ℕ) → slice_index now.machine.arrivals k ≤ length acts
 
 -- one round on
-pub rounded_on : (nodes : ℕ) (start now next : Paced) (acts after : List Act) → HasRounded nodes start now acts → MakesRound nodes now next acts after → HasRounded nodes start next after
+pub rounded_on : (nodes : ℕ) (start now next : Paced) (acts after : List Act) → HasRounded nodes start now acts → MakesRound nodes now next acts after
+    → HasRounded nodes start next after
 rounded_on nodes start now next acts after h m =
     let same = λ (p : Paced). round nodes p in
     let last : (rounds nodes start (suc h.count)).0 ≡ (rounds nodes start h.count).0 ++ (round nodes now).0 =
@@ -188,17 +222,25 @@ rounded_on nodes start now next acts after h m =
       now_is = m.new_is ∙ ap (λ p. (round nodes p).1) h.now_is;
       long = ap (λ (p : Paced). length p.left) m.new_is ∙ length-turns now (range_with_len 0 nodes) ∙ h.long;
       few_arrivals = λ k.
-          omega (arith, plain_from-arrivals now.machine (round nodes now).0 (m.made, next.machine) m.plainly k, h.few_arrivals k, ap length m.acts_are, length-append acts m.made);
+          omega (
+            arith,
+            plain_from-arrivals now.machine (round nodes now).0 (m.made, next.machine) m.plainly k,
+            h.few_arrivals k,
+            ap length m.acts_are,
+            length-append acts m.made,
+          );
     }
 
 -- a round that made an act used some of the bound
-pub round_falls : (nodes : ℕ) (now next : Paced) (acts after : List Act) → MakesRound nodes now next acts after → length acts < length after → fuel next < fuel now
+pub round_falls : (nodes : ℕ) (now next : Paced) (acts after : List Act) → MakesRound nodes now next acts after → length acts < length after
+    → fuel next < fuel now
 round_falls nodes now next acts after m more =
     let long = plain_from-length now.machine (round nodes now).0 (m.made, next.machine) m.plainly in
     omega (arith, turns_fall now (range_with_len 0 nodes), ap fuel m.new_is, long, ap length m.acts_are, length-append acts m.made)
 
 -- after a round that made none, these are the acts of the rounds
-pub rounds_over : (program : Program) (nodes steps : ℕ) (now next : Paced) (acts after : List Act) → HasRounded nodes (paced_start program nodes steps) now acts → MakesRound nodes now next acts after → length after ≤ length acts → AreActsOfRounds program nodes steps after
+pub rounds_over : (program : Program) (nodes steps : ℕ) (now next : Paced) (acts after : List Act) → HasRounded nodes (paced_start program nodes steps) now acts
+    → MakesRound nodes now next acts after → length after ≤ length acts → AreActsOfRounds program nodes steps after
 rounds_over program nodes steps now next acts after h m none =
     let empty : m.made ≡ [] = nil_from_length m.made (omega (arith, ap length m.acts_are, length-append acts m.made)) in
     let same : after ≡ acts = m.acts_are ∙ ap (λ l. acts ++ l) empty ∙ append-nil acts in
@@ -210,7 +252,8 @@ rounds_over program nodes steps now next acts after h m none =
     }
 
 -- before the first round
-pub not_rounded : (program : Program) (nodes steps : ℕ) (now : Paced) (acts : List Act) → acts ≡ [] → now ≡ paced_start program nodes steps → HasRounded nodes (paced_start program nodes steps) now acts
+pub not_rounded : (program : Program) (nodes steps : ℕ) (now : Paced) (acts : List Act) → acts ≡ [] → now ≡ paced_start program nodes steps
+    → HasRounded nodes (paced_start program nodes steps) now acts
 not_rounded program nodes steps now acts none begun =
     record {
       count = 0;
@@ -237,7 +280,8 @@ turns-nothing pace (node ∷ nodes) e =
     turns-nothing (unwrap_or (turn pace node) pace) nodes h.1 ∙ not_taken (turn pace node) pace h.0
 
 -- after a round with no act, further rounds make none
-pub rounds-over : (nodes : ℕ) (start : Paced) (count more : ℕ) → (round nodes (rounds nodes start count).1).0 ≡ [] → rounds nodes start (more + count) ≡ rounds nodes start count
+pub rounds-over : (nodes : ℕ) (start : Paced) (count more : ℕ) → (round nodes (rounds nodes start count).1).0 ≡ []
+    → rounds nodes start (more + count) ≡ rounds nodes start count
 rounds-over nodes start count zero over = let same : 0 + count ≡ count = omega arith in ap (rounds nodes start) same
 rounds-over nodes start count (suc more) over =
     let same = rounds-over nodes start count more over in
@@ -248,7 +292,8 @@ rounds-over nodes start count (suc more) over =
     ∙ ap (λ l. (l, (round nodes (rounds nodes start count).1).1)) (append-nil (rounds nodes start count).0)
     ∙ ap (λ p. ((rounds nodes start count).0, p)) (turns-nothing (rounds nodes start count).1 (range_with_len 0 nodes) over)
 
-rounds_same : (nodes : ℕ) (start : Paced) (a b : ℕ) → (round nodes (rounds nodes start a).1).0 ≡ [] → (round nodes (rounds nodes start b).1).0 ≡ [] → (rounds nodes start a).0 ≡ (rounds nodes start b).0
+rounds_same : (nodes : ℕ) (start : Paced) (a b : ℕ) → (round nodes (rounds nodes start a).1).0 ≡ [] → (round nodes (rounds nodes start b).1).0 ≡ []
+    → (rounds nodes start a).0 ≡ (rounds nodes start b).0
 rounds_same nodes start a b over_a over_b =
     ⊎_elim
     (λ less.
@@ -259,7 +304,8 @@ rounds_same nodes start a b over_a over_b =
     ap (λ (r : List ℕ × Paced). r.0) (ap (rounds nodes start) (sym gap) ∙ rounds-over nodes start b (a - b) over_b))
     (cases_lt a b)
 
-pub rounds_determined : (program : Program) (nodes steps : ℕ) (first second : List Act) → AreActsOfRounds program nodes steps first → AreActsOfRounds program nodes steps second → first ≡ second
+pub rounds_determined : (program : Program) (nodes steps : ℕ) (first second : List Act) → AreActsOfRounds program nodes steps first
+    → AreActsOfRounds program nodes steps second → first ≡ second
 rounds_determined program nodes steps first second a b =
     let same = rounds_same nodes (paced_start program nodes steps) a.count b.count a.over b.over in
     let both : Some first ≡ Some second = sym a.made ∙ ap (plain program nodes) same ∙ b.made in

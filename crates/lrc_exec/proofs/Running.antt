@@ -22,51 +22,61 @@ next_of-end m thread view at_end =
     ap next_of (sym view) ∙ ap (first_act (thread_of m)) (ap (rest_at m.code.now) at_end ∙ rest_at-end m.code.now)
 
 -- where a thread goes on, there was a value
-or_trap_done : (value : ℕ) (thread : Thread) (o : Option ℕ) (go : ℕ → Next) (after : ℕ → Thread) → ((v : ℕ) → GoesOn (go v) → done value thread (go v) ≡ after v) → GoesOn (or_trap o go) → done value thread (or_trap o go) ≡ after (unwrap_or o 0)
+or_trap_done : (value : ℕ) (thread : Thread) (o : Option ℕ) (go : ℕ → Next) (after : ℕ → Thread)
+    → ((v : ℕ) → GoesOn (go v) → done value thread (go v) ≡ after v) → GoesOn (or_trap o go) → done value thread (or_trap o go) ≡ after (unwrap_or o 0)
 or_trap_done value thread None go after each goes = absurd goes
 or_trap_done value thread (Some v) go after each goes = each v goes
 
 -- where a thread goes on, a test passed that traps otherwise
-then_done : (value : ℕ) (thread : Thread) (test : Bool) (next : Next) (cause : Cause) (after : Thread) → (GoesOn next → done value thread next ≡ after) → GoesOn (if test then next else traps cause) → done value thread (if test then next else traps cause) ≡ after
+then_done : (value : ℕ) (thread : Thread) (test : Bool) (next : Next) (cause : Cause) (after : Thread) → (GoesOn next → done value thread next ≡ after)
+    → GoesOn (if test then next else traps cause) → done value thread (if test then next else traps cause) ≡ after
 then_done value thread true next cause after each goes = each goes
 then_done value thread false next cause after each goes = absurd goes
 
-else_done : (value : ℕ) (thread : Thread) (test : Bool) (next : Next) (cause : Cause) (after : Thread) → (GoesOn next → done value thread next ≡ after) → GoesOn (if test then traps cause else next) → done value thread (if test then traps cause else next) ≡ after
+else_done : (value : ℕ) (thread : Thread) (test : Bool) (next : Next) (cause : Cause) (after : Thread) → (GoesOn next → done value thread next ≡ after)
+    → GoesOn (if test then traps cause else next) → done value thread (if test then traps cause else next) ≡ after
 else_done value thread true next cause after each goes = absurd goes
 else_done value thread false next cause after each goes = each goes
 
 module _ (value : ℕ) (thread : Thread) (rest : List Statement) where
   -- the thread once an assignment is done
-  pub assign_done : (name : ℕ) (e : Expression) → GoesOn (act_of thread (Assign name e) rest) → done value thread (act_of thread (Assign name e) rest) ≡ then_keeps thread rest name (unwrap_or (value_in thread e) 0)
+  pub assign_done : (name : ℕ) (e : Expression) → GoesOn (act_of thread (Assign name e) rest)
+      → done value thread (act_of thread (Assign name e) rest) ≡ then_keeps thread rest name (unwrap_or (value_in thread e) 0)
   assign_done name e = or_trap_done value thread (value_in thread e) _ (then_keeps thread rest name) (λ v g. refl)
 
   -- the thread once a shared read has got its value
-  pub read_done : (name : ℕ) (e : Expression) → GoesOn (act_of thread (Read name e) rest) → done value thread (act_of thread (Read name e) rest) ≡ then_keeps thread rest name value
+  pub read_done : (name : ℕ) (e : Expression) → GoesOn (act_of thread (Read name e) rest)
+      → done value thread (act_of thread (Read name e) rest) ≡ then_keeps thread rest name value
   read_done name e =
       or_trap_done value thread (value_in thread e) _ (λ v. then_keeps thread rest name value)
       (λ w. then_done value thread (nat_lt w thread.setting.words) _ WordOutOfRange _ (λ g. refl))
 
   -- the thread once it has got a lock
-  pub acquire_done : (e : Expression) → GoesOn (act_of thread (Acquire e) rest) → done value thread (act_of thread (Acquire e) rest) ≡ then_holds thread rest (unwrap_or (value_in thread e) 0) true
+  pub acquire_done : (e : Expression) → GoesOn (act_of thread (Acquire e) rest)
+      → done value thread (act_of thread (Acquire e) rest) ≡ then_holds thread rest (unwrap_or (value_in thread e) 0) true
   acquire_done e =
       or_trap_done value thread (value_in thread e) _ (λ l. then_holds thread rest l true)
       (λ l. then_done value thread (nat_lt l thread.setting.locks) _ LockOutOfRange _
       (else_done value thread (holds thread l) _ LockHeld _ (λ g. refl)))
 
   -- the thread once it has given a lock back
-  pub release_done : (e : Expression) → GoesOn (act_of thread (Release e) rest) → done value thread (act_of thread (Release e) rest) ≡ then_holds thread rest (unwrap_or (value_in thread e) 0) false
+  pub release_done : (e : Expression) → GoesOn (act_of thread (Release e) rest)
+      → done value thread (act_of thread (Release e) rest) ≡ then_holds thread rest (unwrap_or (value_in thread e) 0) false
   release_done e =
       or_trap_done value thread (value_in thread e) _ (λ l. then_holds thread rest l false)
       (λ l. then_done value thread (nat_lt l thread.setting.locks) _ LockOutOfRange _
       (then_done value thread (holds thread l) _ LockNotHeld _ (λ g. refl)))
 
   -- the thread once the condition of a choice was evaluated
-  pub if_done : (e : Expression) (p : _) (a : _) (q : _) (b : _) → GoesOn (act_of thread (If' e p a q b) rest) → done value thread (act_of thread (If' e p a q b) rest) ≡ then_does thread (chosen (unwrap_or (value_in thread e) 0) (block a ++ rest) (block b ++ rest))
+  pub if_done : (e : Expression) (p : _) (a : _) (q : _) (b : _) → GoesOn (act_of thread (If' e p a q b) rest)
+      → done value thread (act_of thread (If' e p a q b) rest) ≡ then_does thread (chosen (unwrap_or (value_in thread e) 0) (block a ++ rest) (block b ++ rest))
   if_done e p a q b =
       or_trap_done value thread (value_in thread e) _ (λ v. then_does thread (chosen v (block a ++ rest) (block b ++ rest))) (λ v g. refl)
 
   -- the thread once the condition of a loop was evaluated
-  pub while_done : (e : Expression) (p : _) (a : _) → GoesOn (act_of thread (While' e p a) rest) → done value thread (act_of thread (While' e p a) rest) ≡ then_does thread (chosen (unwrap_or (value_in thread e) 0) (block a ++ While' e p a ∷ rest) rest)
+  pub while_done : (e : Expression) (p : _) (a : _) → GoesOn (act_of thread (While' e p a) rest)
+      → done value thread (act_of thread (While' e p a) rest) ≡ then_does thread (chosen (unwrap_or (value_in thread e) 0) (block a
+      ++ While' e p a ∷ rest) rest)
   while_done e p a =
       or_trap_done value thread (value_in thread e) _ (λ v. then_does thread (chosen v (block a ++ While' e p a ∷ rest) rest)) (λ v g. refl)
 
@@ -80,7 +90,9 @@ module _ (value : ℕ) (thread : Thread) (rest : List Statement) where
   print_done e = or_trap_done value thread (value_in thread e) _ (λ v. then_does thread rest) (λ v g. refl)
 
   -- the thread once any other statement is done
-  pub other_done : (s : Statement) → thread.arrived ≡ false → ((n : _) (e : _) → s ≡ Assign n e → ⊥) → ((n : _) (e : _) → s ≡ Read n e → ⊥) → ((e : _) → s ≡ Acquire e → ⊥) → ((e : _) → s ≡ Release e → ⊥) → ((e : _) (a b : _) → s ≡ If e a b → ⊥) → ((e : _) (a : _) → s ≡ While e a → ⊥) → GoesOn (act_of thread s rest) → done value thread (act_of thread s rest) ≡ then_does thread rest
+  pub other_done : (s : Statement) → thread.arrived ≡ false → ((n : _) (e : _) → s ≡ Assign n e → ⊥) → ((n : _) (e : _) → s ≡ Read n e → ⊥)
+      → ((e : _) → s ≡ Acquire e → ⊥) → ((e : _) → s ≡ Release e → ⊥) → ((e : _) (a b : _) → s ≡ If e a b → ⊥) → ((e : _) (a : _) → s ≡ While e a → ⊥)
+      → GoesOn (act_of thread s rest) → done value thread (act_of thread s rest) ≡ then_does thread rest
   other_done (Assign n e) stays not_assign not_read not_acquire not_release not_if not_while goes = absurd (not_assign n e refl)
   other_done (Read n e) stays not_assign not_read not_acquire not_release not_if not_while goes = absurd (not_read n e refl)
   other_done (Write w e) stays not_assign not_read not_acquire not_release not_if not_while goes = write_done w e goes
@@ -96,7 +108,8 @@ abbrev pub moved : Inside → (place : ℕ) → List ℕ → List Bool → Insid
 moved m place privates held = record m { place = place; privates = privates; held = held }
 
 -- a machine that stands at its k-th instruction
-module _ (m : Inside) (thread : Thread) (d : Instruction) (k : ℕ) (view : thread_of m ≡ thread) (running : IsRunning m) (from : 1 ≤ m.place) (here : k ≡ m.place - 1) where
+module _ (m : Inside) (thread : Thread) (d : Instruction) (k : ℕ) (view : thread_of m ≡ thread) (running : IsRunning m) (from : 1 ≤ m.place)
+    (here : k ≡ m.place - 1) where
   at_index : slice_get m.code.now k ≡ Some (get_or m.code.now k d)
   at_index = slice_get-get_or m.code.now k d (omega (arith, running.within))
 
@@ -114,7 +127,9 @@ module _ (m : Inside) (thread : Thread) (d : Instruction) (k : ℕ) (view : thre
       ∙ ap (λ t. act_of t s rest) view
 
   -- where the answer leads
-  pub answered-at : (value : ℕ) (s : Statement) (after : Thread) → (get_or m.code.now k d).statement.now ≡ s → GoesOn (next_of thread) → (GoesOn (act_of thread s (rest_at m.code.now (get_or m.code.now k d).next)) → done value thread (act_of thread s (rest_at m.code.now (get_or m.code.now k d).next)) ≡ after) → answered value thread ≡ after
+  pub answered-at : (value : ℕ) (s : Statement) (after : Thread) → (get_or m.code.now k d).statement.now ≡ s → GoesOn (next_of thread)
+      → (GoesOn (act_of thread s (rest_at m.code.now (get_or m.code.now k d).next))
+      → done value thread (act_of thread s (rest_at m.code.now (get_or m.code.now k d).next)) ≡ after) → answered value thread ≡ after
   answered-at value s after is_s goes leads =
       let act_is : next_of thread ≡ act_of thread s (rest_at m.code.now (get_or m.code.now k d).next) =
       next_of-at ∙ ap (λ x. act_of thread x (rest_at m.code.now (get_or m.code.now k d).next)) is_s in
@@ -139,7 +154,9 @@ module _ (m : Inside) (thread : Thread) (d : Instruction) (k : ℕ) (view : thre
   chosen_within (suc v) = then_within
 
   -- the thread once each statement is answered
-  pub assign_answered : (value name number : ℕ) (e : Expression) (privates : List ℕ) → (get_or m.code.now k d).statement.now ≡ Assign name e → number ≡ unwrap_or (value_in thread e) 0 → privates ≡ slice_set m.privates name number → GoesOn (next_of thread) → thread_of (moved m (get_or m.code.now k d).next privates m.held) ≡ answered value thread
+  pub assign_answered : (value name number : ℕ) (e : Expression) (privates : List ℕ) → (get_or m.code.now k d).statement.now ≡ Assign name e
+      → number ≡ unwrap_or (value_in thread e) 0 → privates ≡ slice_set m.privates name number → GoesOn (next_of thread)
+      → thread_of (moved m (get_or m.code.now k d).next privates m.held) ≡ answered value thread
   assign_answered value name number e privates is_s number_is privates_is goes =
       let next = (get_or m.code.now k d).next in
       let rest = rest_at m.code.now next in
@@ -148,7 +165,9 @@ module _ (m : Inside) (thread : Thread) (d : Instruction) (k : ℕ) (view : thre
       ∙ ap (then_keeps thread rest name) number_is
       ∙ sym (answered-at value (Assign name e) _ is_s goes (assign_done value thread rest name e))
 
-  pub read_answered : (value name : ℕ) (e : Expression) (privates : List ℕ) → (get_or m.code.now k d).statement.now ≡ Read name e → privates ≡ slice_set m.privates name value → GoesOn (next_of thread) → thread_of (moved m (get_or m.code.now k d).next privates m.held) ≡ answered value thread
+  pub read_answered : (value name : ℕ) (e : Expression) (privates : List ℕ) → (get_or m.code.now k d).statement.now ≡ Read name e
+      → privates ≡ slice_set m.privates name value → GoesOn (next_of thread)
+      → thread_of (moved m (get_or m.code.now k d).next privates m.held) ≡ answered value thread
   read_answered value name e privates is_s privates_is goes =
       let next = (get_or m.code.now k d).next in
       let rest = rest_at m.code.now next in
@@ -156,7 +175,9 @@ module _ (m : Inside) (thread : Thread) (d : Instruction) (k : ℕ) (view : thre
       ∙ ap (λ t. then_keeps t rest name value) view
       ∙ sym (answered-at value (Read name e) _ is_s goes (read_done value thread rest name e))
 
-  pub acquire_answered : (value number : ℕ) (e : Expression) (held : List Bool) → (get_or m.code.now k d).statement.now ≡ Acquire e → number ≡ unwrap_or (value_in thread e) 0 → held ≡ slice_set m.held number true → GoesOn (next_of thread) → thread_of (moved m (get_or m.code.now k d).next m.privates held) ≡ answered value thread
+  pub acquire_answered : (value number : ℕ) (e : Expression) (held : List Bool) → (get_or m.code.now k d).statement.now ≡ Acquire e
+      → number ≡ unwrap_or (value_in thread e) 0 → held ≡ slice_set m.held number true → GoesOn (next_of thread)
+      → thread_of (moved m (get_or m.code.now k d).next m.privates held) ≡ answered value thread
   acquire_answered value number e held is_s number_is held_is goes =
       let next = (get_or m.code.now k d).next in
       let rest = rest_at m.code.now next in
@@ -165,7 +186,9 @@ module _ (m : Inside) (thread : Thread) (d : Instruction) (k : ℕ) (view : thre
       ∙ ap (λ n. then_holds thread rest n true) number_is
       ∙ sym (answered-at value (Acquire e) _ is_s goes (acquire_done value thread rest e))
 
-  pub release_answered : (value number : ℕ) (e : Expression) (held : List Bool) → (get_or m.code.now k d).statement.now ≡ Release e → number ≡ unwrap_or (value_in thread e) 0 → held ≡ slice_set m.held number false → GoesOn (next_of thread) → thread_of (moved m (get_or m.code.now k d).next m.privates held) ≡ answered value thread
+  pub release_answered : (value number : ℕ) (e : Expression) (held : List Bool) → (get_or m.code.now k d).statement.now ≡ Release e
+      → number ≡ unwrap_or (value_in thread e) 0 → held ≡ slice_set m.held number false → GoesOn (next_of thread)
+      → thread_of (moved m (get_or m.code.now k d).next m.privates held) ≡ answered value thread
   release_answered value number e held is_s number_is held_is goes =
       let next = (get_or m.code.now k d).next in
       let rest = rest_at m.code.now next in
@@ -174,28 +197,41 @@ module _ (m : Inside) (thread : Thread) (d : Instruction) (k : ℕ) (view : thre
       ∙ ap (λ n. then_holds thread rest n false) number_is
       ∙ sym (answered-at value (Release e) _ is_s goes (release_done value thread rest e))
 
-  pub other_answered : (value : ℕ) → ((n : _) (e : _) → (get_or m.code.now k d).statement.now ≡ Assign n e → ⊥) → ((n : _) (e : _) → (get_or m.code.now k d).statement.now ≡ Read n e → ⊥) → ((e : _) → (get_or m.code.now k d).statement.now ≡ Acquire e → ⊥) → ((e : _) → (get_or m.code.now k d).statement.now ≡ Release e → ⊥) → ((e : _) (a b : _) → (get_or m.code.now k d).statement.now ≡ If e a b → ⊥) → ((e : _) (a : _) → (get_or m.code.now k d).statement.now ≡ While e a → ⊥) → GoesOn (next_of thread) → thread_of (moved m (get_or m.code.now k d).next m.privates m.held) ≡ answered value thread
+  pub other_answered : (value : ℕ) → ((n : _) (e : _) → (get_or m.code.now k d).statement.now ≡ Assign n e → ⊥)
+      → ((n : _) (e : _) → (get_or m.code.now k d).statement.now ≡ Read n e → ⊥) → ((e : _) → (get_or m.code.now k d).statement.now ≡ Acquire e → ⊥)
+      → ((e : _) → (get_or m.code.now k d).statement.now ≡ Release e → ⊥) → ((e : _) (a b : _) → (get_or m.code.now k d).statement.now ≡ If e a b → ⊥)
+      → ((e : _) (a : _) → (get_or m.code.now k d).statement.now ≡ While e a → ⊥) → GoesOn (next_of thread)
+      → thread_of (moved m (get_or m.code.now k d).next m.privates m.held) ≡ answered value thread
   other_answered value not_assign not_read not_acquire not_release not_if not_while goes =
       let next = (get_or m.code.now k d).next in
       let rest = rest_at m.code.now next in
       let stays : thread.arrived ≡ false = ap (λ (t : Thread). t.arrived) (sym view) in
       ap (λ t. then_does t rest) view
-      ∙ sym (answered-at value (get_or m.code.now k d).statement.now _ refl goes (other_done value thread rest (get_or m.code.now k d).statement.now stays not_assign not_read not_acquire not_release not_if not_while))
+      ∙ sym (answered-at value (get_or m.code.now k d).statement.now _ refl goes
+      (other_done value thread rest (get_or m.code.now k d).statement.now stays not_assign not_read not_acquire not_release not_if not_while))
 
   -- where a condition of this value leads
-  rest_at-chosen : (v : ℕ) (s : Statement) → (get_or m.code.now k d).statement.now ≡ s → rest_at m.code.now (chosen v (get_or m.code.now k d).then (get_or m.code.now k d).otherwise) ≡ chosen v (where_it_holds s (rest_at m.code.now (get_or m.code.now k d).next)) (where_it_fails s (rest_at m.code.now (get_or m.code.now k d).next))
+  rest_at-chosen : (v : ℕ) (s : Statement) → (get_or m.code.now k d).statement.now ≡ s
+      → rest_at m.code.now (chosen v (get_or m.code.now k d).then (get_or m.code.now k d).otherwise) ≡ chosen v
+      (where_it_holds s (rest_at m.code.now (get_or m.code.now k d).next)) (where_it_fails s (rest_at m.code.now (get_or m.code.now k d).next))
   rest_at-chosen zero s is_s = sound_at.otherwise_leads ∙ ap (λ x. where_it_fails x (rest_at m.code.now (get_or m.code.now k d).next)) is_s
   rest_at-chosen (suc v) s is_s = sound_at.then_leads ∙ ap (λ x. where_it_holds x (rest_at m.code.now (get_or m.code.now k d).next)) is_s
 
-  pub if_answered : (value number place : ℕ) (e : Expression) (a b : _) → (get_or m.code.now k d).statement.now ≡ If e a b → number ≡ unwrap_or (value_in thread e) 0 → place ≡ chosen number (get_or m.code.now k d).then (get_or m.code.now k d).otherwise → GoesOn (next_of thread) → thread_of (moved m place m.privates m.held) ≡ answered value thread
+  pub if_answered : (value number place : ℕ) (e : Expression) (a b : _) → (get_or m.code.now k d).statement.now ≡ If e a b
+      → number ≡ unwrap_or (value_in thread e) 0 → place ≡ chosen number (get_or m.code.now k d).then (get_or m.code.now k d).otherwise
+      → GoesOn (next_of thread) → thread_of (moved m place m.privates m.held) ≡ answered value thread
   if_answered value number place e a b is_s number_is place_is goes =
       let rest = rest_at m.code.now (get_or m.code.now k d).next in
       let leads = λ (n : ℕ). chosen n (where_it_holds (If e a b) rest) (where_it_fails (If e a b) rest) in
       ap (λ t. then_does t (rest_at m.code.now place)) view
       ∙ ap (then_does thread) (ap (rest_at m.code.now) place_is ∙ rest_at-chosen number (If e a b) is_s ∙ ap leads number_is)
-      ∙ sym (answered-at value (If e a b) _ is_s goes (if_done value thread rest e (shape-the_row-Statement-0 a) (hidden-the_row-Statement-0 a) (shape-the_row-Statement-0 b) (hidden-the_row-Statement-0 b)))
+      ∙ sym (answered-at value (If e a b) _ is_s goes
+      (if_done value thread rest e (shape-the_row-Statement-0 a) (hidden-the_row-Statement-0 a) (shape-the_row-Statement-0 b)
+      (hidden-the_row-Statement-0 b)))
 
-  pub while_answered : (value number place : ℕ) (e : Expression) (a : _) → (get_or m.code.now k d).statement.now ≡ While e a → number ≡ unwrap_or (value_in thread e) 0 → place ≡ chosen number (get_or m.code.now k d).then (get_or m.code.now k d).otherwise → GoesOn (next_of thread) → thread_of (moved m place m.privates m.held) ≡ answered value thread
+  pub while_answered : (value number place : ℕ) (e : Expression) (a : _) → (get_or m.code.now k d).statement.now ≡ While e a
+      → number ≡ unwrap_or (value_in thread e) 0 → place ≡ chosen number (get_or m.code.now k d).then (get_or m.code.now k d).otherwise
+      → GoesOn (next_of thread) → thread_of (moved m place m.privates m.held) ≡ answered value thread
   while_answered value number place e a is_s number_is place_is goes =
       let rest = rest_at m.code.now (get_or m.code.now k d).next in
       let leads = λ (n : ℕ). chosen n (where_it_holds (While e a) rest) (where_it_fails (While e a) rest) in

@@ -39,17 +39,20 @@ IsBehind-start s l is names nested operators = record {
 
 -- ---- a token that is taken
 
-module _ (before : List Token) (s s' : code_state.State) (l l' : code_limits.Limits) (t : Token) (b : IsBehind before s l) (taken : TakesLexeme (Ok tt) s l (token t) s' l') where
+module _ (before : List Token) (s s' : code_state.State) (l l' : code_limits.Limits) (t : Token) (b : IsBehind before s l)
+    (taken : TakesLexeme (Ok tt) s l (token t) s' l') where
   step : state_with (state_seen s) (symbol_of (names_of before) t) ≡ Some (state_seen s')
   step = subst (λ names. state_with (state_seen s) (symbol_of names t) ≡ Some (state_seen s')) b.names taken.0.0
 
   pub IsBehind-push : IsBehind (before ++ t ∷ []) s' l'
   IsBehind-push = record {
     reaches = Reaches-push before (state_seen s) t b.reaches step;
-    says = subst (λ last. Says (state_seen s').stage last) (sym (fold-append (λ _ u. Some u) None before (t ∷ []))) (next_says (names_of before) (state_seen s) t step);
+    says = subst (λ last. Says (state_seen s').stage last) (sym (fold-append (λ _ u. Some u) None before (t ∷ [])))
+        (next_says (names_of before) (state_seen s) t step);
     names = taken.1.0 ∙ ap (λ names. names_with names t) b.names ∙ sym (fold-append names_with [] before (t ∷ []));
     nested = taken.1.1 ∙ ap (λ n. open_with n t) b.nested ∙ sym (fold-append open_with 0 before (t ∷ []));
-    operators = taken.1.2 ∙ ap (λ n. operators_with n (symbol_of [] t)) b.operators ∙ sym (fold-append (λ n u. operators_with n (symbol_of [] u)) 0 before (t ∷ []));
+    operators = taken.1.2 ∙ ap (λ n. operators_with n (symbol_of [] t)) b.operators
+        ∙ sym (fold-append (λ n u. operators_with n (symbol_of [] u)) 0 before (t ∷ []));
   }
 
   no_limit : IsOverLimit before t → ⊥
@@ -183,7 +186,8 @@ names_fault before t expected has = record {
   ];
 }
 
-over_fault : (before : List Token) (t : Token) → ¬ IsUnexpected before t → (¬ IsOpening t) → (¬ IsNameTooMany (names_of before) t) → IsOverLimit before t → IsFaultOf before (token t) OverLimit
+over_fault : (before : List Token) (t : Token) → ¬ IsUnexpected before t → (¬ IsOpening t) → (¬ IsNameTooMany (names_of before) t) → IsOverLimit before t
+    → IsFaultOf before (token t) OverLimit
 over_fault before t expected shut few has = record {
   has = has;
   first = elim [
@@ -200,22 +204,29 @@ over_fault before t expected shut few has = record {
 
 module _ (before : List Token) (s s' : code_state.State) (l l' : code_limits.Limits) (b : IsBehind before s l) where
   expected : (t : Token) {next : State} → state_with (state_seen s) (symbol_of (names_seen l) t) ≡ Some next → ¬ IsUnexpected before t
-  expected t {next} q = taken-IsUnexpected before (state_seen s) t b.reaches (subst (λ names. state_with (state_seen s) (symbol_of names t) ≡ Some next) b.names q)
+  expected t {next} q =
+      taken-IsUnexpected before (state_seen s) t b.reaches (subst (λ names. state_with (state_seen s) (symbol_of names t) ≡ Some next) b.names q)
 
-  symbol_fault : (t : Token) (kind : FaultKind) → TakesSymbol (Err kind) (state_seen s) (symbol_of (names_seen l) t) (state_seen s') → (kind ≡ NoMemory) ⊎ IsFaultOf before (token t) kind
-  symbol_fault t Unexpected q = inr (unexpected_fault before t (refused-IsUnexpected before (state_seen s) t b.reaches (subst (λ names. state_with (state_seen s) (symbol_of names t) ≡ None) b.names q)))
+  symbol_fault : (t : Token) (kind : FaultKind) → TakesSymbol (Err kind) (state_seen s) (symbol_of (names_seen l) t) (state_seen s') → (kind ≡ NoMemory)
+      ⊎ IsFaultOf before (token t) kind
+  symbol_fault t Unexpected q =
+      inr (unexpected_fault before t
+      (refused-IsUnexpected before (state_seen s) t b.reaches (subst (λ names. state_with (state_seen s) (symbol_of names t) ≡ None) b.names q)))
   symbol_fault t OverLimit over =
       let large : IsNumberTooLarge (last_of before) t = number_too_large (names_seen l) (state_seen s).stage (last_of before) t b.says over in
       let is : IsNumber t = large_is_number (last_of before) t large in
-      inr (over_fault before t (expected t (over_taken (names_seen l) (state_seen s) t over).1) (number_not_opening t is) (number_no_name (names_of before) t is) (inl large))
+      inr (over_fault before t (expected t (over_taken (names_seen l) (state_seen s) t over).1) (number_not_opening t is)
+      (number_no_name (names_of before) t is) (inl large))
   symbol_fault t NoMemory q = inl refl
   symbol_fault t _ q = absurd q
 
-  token_fault : (t : Token) (kind : FaultKind) {next : State} → state_with (state_seen s) (symbol_of (names_seen l) t) ≡ Some next → TakesToken (Err kind) l t l' → (kind ≡ NoMemory) ⊎ IsFaultOf before (token t) kind
+  token_fault : (t : Token) (kind : FaultKind) {next : State} → state_with (state_seen s) (symbol_of (names_seen l) t) ≡ Some next
+      → TakesToken (Err kind) l t l' → (kind ≡ NoMemory) ⊎ IsFaultOf before (token t) kind
   token_fault t TooDeep q deep = inr (deep_fault before t (expected t q) (subst (λ n. IsTooDeep n t) b.nested deep))
   token_fault t TooManyNames q many = inr (names_fault before t (expected t q) (subst (λ names. IsNameTooMany names t) b.names many))
   token_fault t OverLimit q many =
-      inr (over_fault before t (expected t q) (operator_not_opening t many.0) (operator_no_name (names_of before) t many.0) (inr (subst (λ n. IsOperatorTooMany n t) b.operators many)))
+      inr (over_fault before t (expected t q) (operator_not_opening t many.0) (operator_no_name (names_of before) t many.0)
+      (inr (subst (λ n. IsOperatorTooMany n t) b.operators many)))
   token_fault t NoMemory q many = inl refl
   token_fault t _ q many = absurd many
 

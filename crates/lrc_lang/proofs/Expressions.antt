@@ -56,15 +56,18 @@ pub record Splits (compared added : Option Pending) (outer : List Level) (e : Ex
   pub spelled : IsFactor first all more
   pub behind : FromTerm compared added outer first e more rest
 
-pub split_term : {compared added : Option Pending} {outer : List Level} {t e : Expression} {all more rest : List Symbol} → IsTerm t all more → FromTerm compared added outer t e more rest → Splits compared added outer e all rest
+pub split_term : {compared added : Option Pending} {outer : List Level} {t e : Expression} {all more rest : List Symbol} → IsTerm t all more
+    → FromTerm compared added outer t e more rest → Splits compared added outer e all rest
 split_term (factor d) k = record { first = _; more = _; spelled = d; behind = k }
 split_term (product left j right) k = split_term left (term_goes_on j right k)
 
-pub split_sum : {compared : Option Pending} {outer : List Level} {s e : Expression} {all more rest : List Symbol} → IsSum s all more → FromSum compared outer s e more rest → Splits compared None outer e all rest
+pub split_sum : {compared : Option Pending} {outer : List Level} {s e : Expression} {all more rest : List Symbol} → IsSum s all more
+    → FromSum compared outer s e more rest → Splits compared None outer e all rest
 split_sum (term d) k = split_term d (term_ends k)
 split_sum (sum left j right) k = split_sum left (sum_goes_on j right k)
 
-pub split_expression : {outer : List Level} {value e : Expression} {all more rest : List Symbol} → IsExpression value all more → FromValue outer value e more rest → Splits None None outer e all rest
+pub split_expression : {outer : List Level} {value e : Expression} {all more rest : List Symbol} → IsExpression value all more
+    → FromValue outer value e more rest → Splits None None outer e all rest
 split_expression (one_sum d) k = split_sum d (sum_ends (whole_ends k))
 split_expression (comparison left j right) k = split_sum left (sum_ends (compares j right k))
 
@@ -76,7 +79,8 @@ pub record JoinsTerm (compared added : Option Pending) (outer : List Level) (e :
   pub spelled : IsTerm whole all more
   pub behind : FromSum compared outer (joined added whole) e more rest
 
-pub join_term : {compared added : Option Pending} {outer : List Level} {t e : Expression} {all more rest : List Symbol} → IsTerm t all more → FromTerm compared added outer t e more rest → JoinsTerm compared added outer e all rest
+pub join_term : {compared added : Option Pending} {outer : List Level} {t e : Expression} {all more rest : List Symbol} → IsTerm t all more
+    → FromTerm compared added outer t e more rest → JoinsTerm compared added outer e all rest
 join_term d (term_goes_on j right k) = join_term (product d j right) k
 join_term d (term_ends k) = record { whole = _; more = _; spelled = d; behind = k }
 
@@ -86,7 +90,8 @@ pub record JoinsSum (compared : Option Pending) (outer : List Level) (e : Expres
   pub spelled : IsSum whole all more
   pub behind : FromWhole compared outer whole e more rest
 
-pub join_sum : {compared : Option Pending} {outer : List Level} {s e : Expression} {all more rest : List Symbol} → IsSum s all more → FromSum compared outer s e more rest → JoinsSum compared outer e all rest
+pub join_sum : {compared : Option Pending} {outer : List Level} {s e : Expression} {all more rest : List Symbol} → IsSum s all more
+    → FromSum compared outer s e more rest → JoinsSum compared outer e all rest
 join_sum d (sum_goes_on j right k) = join_sum (sum d j right) k
 join_sum d (sum_ends k) = record { whole = _; more = _; spelled = d; behind = k }
 
@@ -96,11 +101,13 @@ pub record JoinsWhole (outer : List Level) (e : Expression) (all rest : List Sym
   pub spelled : IsExpression whole all more
   pub behind : FromValue outer whole e more rest
 
-pub join_whole : {outer : List Level} {s e : Expression} {all more rest : List Symbol} → IsSum s all more → FromWhole None outer s e more rest → JoinsWhole outer e all rest
+pub join_whole : {outer : List Level} {s e : Expression} {all more rest : List Symbol} → IsSum s all more → FromWhole None outer s e more rest
+    → JoinsWhole outer e all rest
 join_whole d (compares j right k) = record { whole = _; more = _; spelled = comparison d j right; behind = k }
 join_whole d (whole_ends k) = record { whole = _; more = _; spelled = one_sum d; behind = k }
 
-pub join_expression : {outer : List Level} {f e : Expression} {all more rest : List Symbol} → IsFactor f all more → FromTerm None None outer f e more rest → JoinsWhole outer e all rest
+pub join_expression : {outer : List Level} {f e : Expression} {all more rest : List Symbol} → IsFactor f all more → FromTerm None None outer f e more rest
+    → JoinsWhole outer e all rest
 join_expression d k =
     let t = join_term (factor d) k in
     let s = join_sum (term t.spelled) t.behind in
@@ -149,7 +156,8 @@ begin_turns outer level value (parentheses d) k = goes _ refl (starts (split_exp
 abbrev all_pending : Option Pending → Option Pending → Option Pending → Level
 all_pending compared added multiplied = record { compared = compared; added = added; multiplied = multiplied }
 
-go_on_turns : {compared added : Option Pending} (multiplied : Option Pending) {outer : List Level} (operand : Expression) {e : Expression} {all rest : List Symbol} →
+go_on_turns : {compared added : Option Pending} (multiplied : Option Pending) {outer : List Level}
+    (operand : Expression) {e : Expression} {all rest : List Symbol} →
     FromTerm compared added outer (joined multiplied operand) e all rest →
     Turns (go_on outer (all_pending compared added multiplied) operand) (value_in outer (all_pending compared added multiplied) (Some operand)) e all rest
 go_on_turns {compared} {added} multiplied {outer} operand (term_goes_on {o = o} j f k) =
@@ -205,7 +213,8 @@ not_compared : {p : Pending} {outer : List Level} {s e : Expression} {all rest :
     FromWhole (Some p) outer s e all rest → FromValue outer (joined (Some p) s) e all rest
 not_compared (whole_ends k) = k
 
-operator_back : {o : Operator} (how : Joins) (compared added multiplied : Option Pending) (outer : List Level) (operand : Expression) {x : Partial} {e : Expression} {all rest : List Symbol} →
+operator_back : {o : Operator} (how : Joins) (compared added multiplied : Option Pending) (outer : List Level)
+    (operand : Expression) {x : Partial} {e : Expression} {all rest : List Symbol} →
     joins o ≡ how → option_map (awaiting outer) (level_with how (all_pending compared added multiplied) operand o) ≡ Some x →
     Completes x e all rest → FromTerm compared added outer (joined multiplied operand) e (operator o ∷ all) rest
 operator_back {o} factors compared added multiplied outer operand {e = e} {all = all} {rest = rest} j q k =

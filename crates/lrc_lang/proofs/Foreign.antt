@@ -24,7 +24,8 @@ foreign_no_ending brace the_end = refl
 foreign_no_ending brace words = refl
 foreign_no_ending brace locks = refl
 
-foreign_no_operand : (outer : List Level) (level : Level) (operand : Option Expression) {symbol : Symbol} → IsForeign symbol → partial.moved outer level operand symbol ≡ None
+foreign_no_operand : (outer : List Level) (level : Level) (operand : Option Expression) {symbol : Symbol} → IsForeign symbol
+    → partial.moved outer level operand symbol ≡ None
 foreign_no_operand outer level None the_end = refl
 foreign_no_operand outer level None words = refl
 foreign_no_operand outer level None locks = refl
@@ -32,7 +33,8 @@ foreign_no_operand outer level (Some e) the_end = refl
 foreign_no_operand outer level (Some e) words = refl
 foreign_no_operand outer level (Some e) locks = refl
 
-foreign_in_none : (outer : List Around) (before : Block) (purpose : Purpose) (x : Partial) {symbol : Symbol} → IsForeign symbol → body.go_on outer before purpose x symbol ≡ None
+foreign_in_none : (outer : List Around) (before : Block) (purpose : Purpose) (x : Partial) {symbol : Symbol} → IsForeign symbol
+    → body.go_on outer before purpose x symbol ≡ None
 foreign_in_none outer before purpose x f = simp (foreign_no_ending (ending_of purpose) f, foreign_no_operand x.outer x.level x.operand f)
 
 foreign_no_beginning : (outer : List Around) (before : Block) {symbol : Symbol} → IsForeign symbol → body.begin outer before symbol ≡ None
@@ -45,7 +47,8 @@ foreign_behind_equals outer before n the_end = foreign_in_none outer before (ass
 foreign_behind_equals outer before n words = foreign_in_none outer before (assigned n) nothing words
 foreign_behind_equals outer before n locks = foreign_in_none outer before (assigned n) nothing locks
 
-foreign_behind_then : (outer : List Around) (before : Block) (condition : Expression) (first : Block) {symbol : Symbol} → IsForeign symbol → body.behind_then outer before condition first symbol ≡ None
+foreign_behind_then : (outer : List Around) (before : Block) (condition : Expression) (first : Block) {symbol : Symbol} → IsForeign symbol
+    → body.behind_then outer before condition first symbol ≡ None
 foreign_behind_then outer before condition first the_end = refl
 foreign_behind_then outer before condition first words = refl
 foreign_behind_then outer before condition first locks = refl

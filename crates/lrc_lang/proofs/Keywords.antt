@@ -17,11 +17,14 @@ abbrev pub AreOther : List ℕ → List Keyword → Type 0
 AreOther word [] = Unit {0}
 AreOther word (keyword ∷ others) = (word ≢ keyword_text keyword) × AreOther word others
 
-find_among : (word : List ℕ) (keywords : List Keyword) → MatchOption (find (spells word) keywords) (AreOther word keywords) (λ keyword. word ≡ keyword_text keyword)
+find_among : (word : List ℕ) (keywords : List Keyword)
+    → MatchOption (find (spells word) keywords) (AreOther word keywords) (λ keyword. word ≡ keyword_text keyword)
 find_among word [] = tt {0}
-find_among word (keyword ∷ others) = first (spells word keyword) (bytes_eq-Decides (keyword_text keyword) word) (find (spells word) others) (find_among word others)
+find_among word (keyword ∷ others) =
+    first (spells word keyword) (bytes_eq-Decides (keyword_text keyword) word) (find (spells word) others) (find_among word others)
   where
-    first : (b : Bool) → Decides b (keyword_text keyword ≡ word) → (found : Option Keyword) → MatchOption found (AreOther word others) (λ k. word ≡ keyword_text k)
+    first : (b : Bool) → Decides b (keyword_text keyword ≡ word) → (found : Option Keyword)
+        → MatchOption found (AreOther word others) (λ k. word ≡ keyword_text k)
         → MatchOption (cond b (Some keyword) found) ((word ≢ keyword_text keyword) × AreOther word others) (λ k. word ≡ keyword_text k)
     first true d found rest = sym (d.0 refl)
     first false d None rest = (λ e. cc (d.1 (sym e)), rest)

@@ -108,7 +108,8 @@ other_taken : (first : ℕ) (behind : List ℕ) → IsReady (first ∷ behind) �
 unfolding Taken
 other_taken first behind ready no_digit no_letter = go behind ready
   where
-    short : (behind : List ℕ) → IsReady (first ∷ behind) → (BeginsWith (λ byte. byte ≡ 61) behind → (longer : Sign) → sign_text longer ≢ first ∷ 61 ∷ []) → Taken (first ∷ behind)
+    short : (behind : List ℕ) → IsReady (first ∷ behind) → (BeginsWith (λ byte. byte ≡ 61) behind → (longer : Sign) → sign_text longer ≢ first ∷ 61 ∷ [])
+        → Taken (first ∷ behind)
     short behind ready no_longer = elim (dec_sign (first ∷ [])) [
       | inl is ↦ (token (sign is.0), behind, short_sign_is_taken is.1 no_longer, omega arith)
       | inr none ↦ (bad_byte, behind, bad_byte_is_taken ready no_digit no_letter no_longer none, omega arith)
@@ -172,7 +173,8 @@ pub follows_exists : (line : ℕ) (rest : List ℕ) (found : Lexeme) → (more :
 follows_exists line rest found = follows_from (exists line rest) found
 
 -- what stands next, from what is passed over and what is taken
-pub next_from : {line behind : ℕ} {text middle rest : List ℕ} {found : Lexeme} → Passes line text behind middle → Takes middle found rest → NextIs line text (at behind found) behind rest
+pub next_from : {line behind : ℕ} {text middle rest : List ℕ} {found : Lexeme} → Passes line text behind middle → Takes middle found rest
+    → NextIs line text (at behind found) behind rest
 next_from {line} {behind} {text} {middle} {rest} {found} passed taken = record {
   split = λ all inside.
       let more = follows_exists behind rest found in

@@ -60,7 +60,8 @@ word_feeds : (byte : ℕ) → IsLetterOrDigit byte → byte ≢ 10
 word_feeds byte h = omega arith
 
 -- a list that ends with the end of the text and begins with another lexeme goes on to that end
-goes_on : {line end : ℕ} {found : Lexeme} {more : List Placed} (front : List Placed) → at line found ∷ more ≡ front ++ at end (token finish) ∷ [] → found ≢ token finish → (others : List Placed) × (more ≡ others ++ at end (token finish) ∷ [])
+goes_on : {line end : ℕ} {found : Lexeme} {more : List Placed} (front : List Placed) → at line found ∷ more ≡ front ++ at end (token finish) ∷ []
+    → found ≢ token finish → (others : List Placed) × (more ≡ others ++ at end (token finish) ∷ [])
 goes_on {line} {end} {found} {more} [] e other =
     let same : at line found ≡ at end (token finish) = cc in
     absurd (other (ap (λ f. f.lexeme) same))
@@ -71,7 +72,8 @@ nothing_behind : (others : List Placed) (last : Placed) → [] ≡ others ++ las
 nothing_behind [] last e = cc
 nothing_behind (x ∷ others) last e = cc
 
-pub line_of_end : {line end : ℕ} {text : List ℕ} {all : List Placed} → Lexes line text all → (front : List Placed) → all ≡ front ++ at end (token finish) ∷ [] → end ≡ feeds text + line
+pub line_of_end : {line end : ℕ} {text : List ℕ} {all : List Placed} → Lexes line text all → (front : List Placed) → all ≡ front ++ at end (token finish) ∷ []
+    → end ≡ feeds text + line
 line_of_end (passes_blank {byte = byte} {rest = rest} h inside) front e =
     let here = feeds-other byte rest (omega arith) in
     let there = line_of_end inside front e in

@@ -40,7 +40,8 @@ nothing_follows line rest bad_byte off = refl
 nothing_follows line rest bad_number off = refl
 
 -- one token more has been passed
-pub one_past : {text rest last : List ℕ} {passed : List Placed} {found : Placed} {line behind : ℕ} → IsPast text passed line rest → NextIs line rest found behind last → GoesOn found.lexeme → IsPast text (passed ++ found ∷ []) behind last
+pub one_past : {text rest last : List ℕ} {passed : List Placed} {found : Placed} {line behind : ℕ} → IsPast text passed line rest
+    → NextIs line rest found behind last → GoesOn found.lexeme → IsPast text (passed ++ found ∷ []) behind last
 one_past {text} {rest} {last} {passed} {found} past next on = record {
   split = λ all inside.
       let here = past.split all inside in
@@ -51,14 +52,16 @@ one_past {text} {rest} {last} {passed} {found} past next on = record {
 }
 
 -- what stands in a text begins with what has been passed and what is found next
-pub found_past : {text rest last : List ℕ} {passed all : List Placed} {found : Placed} {line behind : ℕ} → IsPast text passed line rest → NextIs line rest found behind last → Lexes 1 text all → (more : List Placed) × (all ≡ passed ++ found ∷ more)
+pub found_past : {text rest last : List ℕ} {passed all : List Placed} {found : Placed} {line behind : ℕ} → IsPast text passed line rest
+    → NextIs line rest found behind last → Lexes 1 text all → (more : List Placed) × (all ≡ passed ++ found ∷ more)
 found_past {passed = passed} {all = all} past next inside =
     let here = past.split all inside in
     let there = next.split here.0 here.2 in
     (there.0, here.1 ∙ ap (λ m. passed ++ m) there.1)
 
 -- where the end or a fault is found, that is all
-pub all_past : {text rest last : List ℕ} {passed : List Placed} {found : Placed} {line behind : ℕ} → IsPast text passed line rest → NextIs line rest found behind last → ¬ GoesOn found.lexeme → Lexes 1 text (passed ++ found ∷ [])
+pub all_past : {text rest last : List ℕ} {passed : List Placed} {found : Placed} {line behind : ℕ} → IsPast text passed line rest
+    → NextIs line rest found behind last → ¬ GoesOn found.lexeme → Lexes 1 text (passed ++ found ∷ [])
 all_past {last = last} {found = found} {behind = behind} past next off =
     past.joined (found ∷ []) (next.joined [] (nothing_follows behind last found.lexeme off))
 
@@ -67,7 +70,8 @@ first_of_all [] = token finish
 first_of_all (found ∷ more) = found.lexeme
 
 -- a number that was found fits its type
-number_fits : {line own value : ℕ} {text : List ℕ} {all more : List Placed} → Lexes line text all → all ≡ at own (token (number value)) ∷ more → value ≤ 18446744073709551615
+number_fits : {line own value : ℕ} {text : List ℕ} {all more : List Placed} → Lexes line text all → all ≡ at own (token (number value)) ∷ more
+    → value ≤ 18446744073709551615
 unfolding first_of_all
 number_fits (passes_blank h inside) e = number_fits inside e
 number_fits (passes_line_feed h inside) e = number_fits inside e
@@ -78,7 +82,8 @@ number_fits {value = value} (takes_number {digits = digits} h is inside) e =
     omega (arith, values, is.in_range)
 number_fits _ e = absurd (cc (ap first_of_all e))
 
-pub found_number_fits : {line own behind value : ℕ} {text rest : List ℕ} → NextIs line text (at own (token (number value))) behind rest → value ≤ 18446744073709551615
+pub found_number_fits : {line own behind value : ℕ} {text rest : List ℕ} → NextIs line text (at own (token (number value))) behind rest
+    → value ≤ 18446744073709551615
 found_number_fits {behind = behind} {value = value} {rest = rest} next =
     let more = follows_exists behind rest (token (number value)) in
     number_fits (next.joined more.0 more.1) refl

@@ -37,7 +37,8 @@ GoesOn : List ℕ → Type 0
 GoesOn behind = BeginsWith (λ byte. byte ≡ 61) behind
 
 -- a sign at the front is one byte, or it is one byte and a `=` that stands there
-front_of_sign : (first : ℕ) (behind : List ℕ) (mark : Sign) → HasFront (first ∷ behind) (sign_text mark) → (sign_text mark ≡ first ∷ []) ⊎ ((sign_text mark ≡ first ∷ 61 ∷ []) × GoesOn behind)
+front_of_sign : (first : ℕ) (behind : List ℕ) (mark : Sign) → HasFront (first ∷ behind) (sign_text mark) → (sign_text mark ≡ first ∷ [])
+    ⊎ ((sign_text mark ≡ first ∷ 61 ∷ []) × GoesOn behind)
 unfolding IsSpelling GoesOn
 front_of_sign first behind mark front = go (sign_text mark) (sign_spelling mark) front
   where
@@ -62,7 +63,8 @@ length-sign_text mark = go (sign_text mark) (sign_spelling mark)
     go text (inr two) = omega (arith, ap length two.1)
 
 -- a byte and a `=` that are a sign
-pub long_sign_is_taken : {first : ℕ} {behind rest : List ℕ} {mark : Sign} → sign_text mark ≡ first ∷ 61 ∷ [] → behind ≡ 61 ∷ rest → Takes (first ∷ behind) (token (sign mark)) rest
+pub long_sign_is_taken : {first : ℕ} {behind rest : List ℕ} {mark : Sign} → sign_text mark ≡ first ∷ 61 ∷ [] → behind ≡ 61 ∷ rest
+    → Takes (first ∷ behind) (token (sign mark)) rest
 long_sign_is_taken {first} {behind} {rest} {mark} is goes_on line more follows =
     takes_sign (record {
       whole = ap (λ t. first ∷ t) goes_on ∙ sym (ap (λ t. t ++ rest) is);
@@ -70,7 +72,8 @@ long_sign_is_taken {first} {behind} {rest} {mark} is goes_on line more follows =
     }) follows
 
 -- a byte that is a sign, where no longer one stands
-pub short_sign_is_taken : {first : ℕ} {behind : List ℕ} {mark : Sign} → sign_text mark ≡ first ∷ [] → (BeginsWith (λ byte. byte ≡ 61) behind → (longer : Sign) → sign_text longer ≢ first ∷ 61 ∷ []) → Takes (first ∷ behind) (token (sign mark)) behind
+pub short_sign_is_taken : {first : ℕ} {behind : List ℕ} {mark : Sign} → sign_text mark ≡ first ∷ []
+    → (BeginsWith (λ byte. byte ≡ 61) behind → (longer : Sign) → sign_text longer ≢ first ∷ 61 ∷ []) → Takes (first ∷ behind) (token (sign mark)) behind
 unfolding GoesOn
 short_sign_is_taken {first} {behind} {mark} is no_longer line more follows =
     takes_sign (record {
@@ -82,7 +85,9 @@ short_sign_is_taken {first} {behind} {mark} is no_longer line more follows =
     }) follows
 
 -- a byte that begins nothing
-pub bad_byte_is_taken : {first : ℕ} {behind : List ℕ} → IsReady (first ∷ behind) → ¬ IsDigit first → ¬ IsLetter first → (BeginsWith (λ byte. byte ≡ 61) behind → (longer : Sign) → sign_text longer ≢ first ∷ 61 ∷ []) → ((mark : Sign) → sign_text mark ≢ first ∷ []) → Takes (first ∷ behind) bad_byte behind
+pub bad_byte_is_taken : {first : ℕ} {behind : List ℕ} → IsReady (first ∷ behind) → ¬ IsDigit first → ¬ IsLetter first
+    → (BeginsWith (λ byte. byte ≡ 61) behind → (longer : Sign) → sign_text longer ≢ first ∷ 61 ∷ []) → ((mark : Sign) → sign_text mark ≢ first ∷ [])
+    → Takes (first ∷ behind) bad_byte behind
 unfolding GoesOn
 bad_byte_is_taken {first} {behind} ready no_digit no_letter no_longer no_sign line more none =
     rw none (stops_at_byte (record {

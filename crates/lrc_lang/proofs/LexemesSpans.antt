@@ -4,7 +4,8 @@ use Rattle.std.proofs.lemmas.List.{take-append-drop, drop_more}
 use Rattle.lrc_lang.specs.Lexemes.{BeginsWith, IsSpan}
 
 -- a front that ends before a byte of another kind
-pub span_before : (P : ℕ → Type 0) (text : List ℕ) (place : ℕ) → place < length text → All P (take place text) → ¬ P (get_or text place 0) → IsSpan P text (take place text) (drop place text)
+pub span_before : (P : ℕ → Type 0) (text : List ℕ) (place : ℕ) → place < length text → All P (take place text) → ¬ P (get_or text place 0)
+    → IsSpan P text (take place text) (drop place text)
 span_before P text place within each other = record {
   whole = sym (take-append-drop place text);
   each = each;

@@ -7,18 +7,22 @@ use Rattle.lrc_lang.specs.Token.{number, name, keyword, finish, token, bad_numbe
 use Rattle.lrc_lang.specs.Lexemes.{IsBlank, IsLineFeed, IsHash, IsDigit, IsLetter, IsLetterOrDigit, IsWithinLine, BeginsWith, IsSpan, value_of, IsNoNumber, keyword_text, IsKeyword, Lexes, passes_blank, passes_line_feed, passes_comment, takes_number, takes_keyword, takes_name, stops_at_number, stops_at_end}
 use Rattle.lrc_lang.specs.Lexer.{Passes, Takes}
 
-pub number_is_taken : {text digits rest : List ℕ} {value : ℕ} → BeginsWith IsDigit text → IsSpan IsDigit text digits rest → ¬ BeginsWith IsLetter rest → (value_of digits < 2 ^ 64) × (value ≡ value_of digits) → Takes text (token (number value)) rest
+pub number_is_taken : {text digits rest : List ℕ} {value : ℕ} → BeginsWith IsDigit text → IsSpan IsDigit text digits rest → ¬ BeginsWith IsLetter rest
+    → (value_of digits < 2 ^ 64) × (value ≡ value_of digits) → Takes text (token (number value)) rest
 number_is_taken begins span no_letter is line more follows =
     rw is.1 (takes_number (record { begins = begins; span = span }) (record { in_range = omega (arith, is.0); no_letter = no_letter }) follows)
 
-pub bad_number_is_taken : {text digits rest : List ℕ} → BeginsWith IsDigit text → IsSpan IsDigit text digits rest → IsNoNumber digits rest → Takes text bad_number rest
+pub bad_number_is_taken : {text digits rest : List ℕ} → BeginsWith IsDigit text → IsSpan IsDigit text digits rest → IsNoNumber digits rest
+    → Takes text bad_number rest
 bad_number_is_taken begins span bad line more none = rw none (stops_at_number (record { begins = begins; span = span }) bad)
 
-pub keyword_is_taken : {text word rest : List ℕ} {which : Keyword} → BeginsWith IsLetter text → IsSpan IsLetterOrDigit text word rest → word ≡ keyword_text which → Takes text (token (keyword which)) rest
+pub keyword_is_taken : {text word rest : List ℕ} {which : Keyword} → BeginsWith IsLetter text → IsSpan IsLetterOrDigit text word rest
+    → word ≡ keyword_text which → Takes text (token (keyword which)) rest
 keyword_is_taken {text} {rest = rest} begins span is line more follows =
     takes_keyword (record { begins = begins; span = subst (λ w. IsSpan IsLetterOrDigit text w rest) is span }) follows
 
-pub name_is_taken : {text word rest : List ℕ} → BeginsWith IsLetter text → IsSpan IsLetterOrDigit text word rest → ¬ IsKeyword word → Takes text (token (name word)) rest
+pub name_is_taken : {text word rest : List ℕ} → BeginsWith IsLetter text → IsSpan IsLetterOrDigit text word rest → ¬ IsKeyword word
+    → Takes text (token (name word)) rest
 name_is_taken begins span other line more follows = takes_name (record { begins = begins; span = span }) other follows
 
 pub end_is_taken : (text rest : List ℕ) → length text < 1 → Takes text (token finish) rest
@@ -39,12 +43,14 @@ unfolding rest_of
 blank_is_passed line text some blank all inside =
     subst (λ t. Lexes line t all) (sym (opened text some)) (passes_blank blank inside)
 
-pub line_feed_is_passed : (line : ℕ) (text : List ℕ) → 1 ≤ length text → IsLineFeed (get_or text 0 0) → Passes line text (line + 1) (take (length text - 1) (drop 1 text))
+pub line_feed_is_passed : (line : ℕ) (text : List ℕ) → 1 ≤ length text → IsLineFeed (get_or text 0 0)
+    → Passes line text (line + 1) (take (length text - 1) (drop 1 text))
 unfolding rest_of
 line_feed_is_passed line text some feed all inside =
     subst (λ t. Lexes line t all) (sym (opened text some)) (passes_line_feed feed inside)
 
-pub comment_is_passed : (line : ℕ) (text words rest : List ℕ) → 1 ≤ length text → IsHash (get_or text 0 0) → IsSpan IsWithinLine (take (length text - 1) (drop 1 text)) words rest → Passes line text line rest
+pub comment_is_passed : (line : ℕ) (text words rest : List ℕ) → 1 ≤ length text → IsHash (get_or text 0 0)
+    → IsSpan IsWithinLine (take (length text - 1) (drop 1 text)) words rest → Passes line text line rest
 unfolding rest_of
 comment_is_passed line text words rest some hash span all inside =
     subst (λ t. Lexes line t all) (sym (opened text some)) (passes_comment hash span inside)

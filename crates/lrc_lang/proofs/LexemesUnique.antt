@@ -12,7 +12,8 @@ use Rattle.lrc_lang.specs.Lexemes.{IsBlank, IsLineFeed, IsHash, IsDigit, IsLette
 
 -- ---- spans
 
-spans_agree : (P : ℕ → Type 0) (front rest other last : List ℕ) → All P front → All P other → ¬ BeginsWith P rest → ¬ BeginsWith P last → front ++ rest ≡ other ++ last → (front ≡ other) × (rest ≡ last)
+spans_agree : (P : ℕ → Type 0) (front rest other last : List ℕ) → All P front → All P other → ¬ BeginsWith P rest → ¬ BeginsWith P last → front ++ rest ≡ other
+    ++ last → (front ≡ other) × (rest ≡ last)
 spans_agree P [] rest [] last each all stops ends e = (refl, e)
 spans_agree P [] rest (y ∷ ys) last each all stops ends e =
     absurd (stops (subst (λ t. BeginsWith P t) (sym e) (All-head P y ys all)))
@@ -93,8 +94,10 @@ pub sign_unique : {text rest last : List ℕ} {mark other : Sign} → IsSign tex
 sign_unique {text} {rest} {last} {mark} {other} one two =
     let below = one.longest other (last, two.whole) in
     let above = two.longest mark (rest, one.whole) in
-    let front = sym (take_at (sign_text mark) rest _ refl) ∙ ap (take (length (sign_text mark))) (sym one.whole ∙ two.whole) ∙ take_at (sign_text other) last _ (omega arith) in
-    let back = sym (drop_at (sign_text mark) rest _ refl) ∙ ap (drop (length (sign_text mark))) (sym one.whole ∙ two.whole) ∙ drop_at (sign_text other) last _ (omega arith) in
+    let front = sym (take_at (sign_text mark) rest _ refl) ∙ ap (take (length (sign_text mark))) (sym one.whole ∙ two.whole)
+    ∙ take_at (sign_text other) last _ (omega arith) in
+    let back = sym (drop_at (sign_text mark) rest _ refl) ∙ ap (drop (length (sign_text mark))) (sym one.whole ∙ two.whole)
+    ∙ drop_at (sign_text other) last _ (omega arith) in
     (sym (sign_from-text mark) ∙ ap sign_from front ∙ sign_from-text other, back)
 
 -- ---- which rule holds
@@ -183,18 +186,27 @@ View ends line text all = all ≡ at line (token finish) ∷ []
 View blanks line text all = (rest : List ℕ) × (drop 1 text ≡ rest) × Lexes line rest all
 View feeds line text all = (rest : List ℕ) × (drop 1 text ≡ rest) × Lexes (line + 1) rest all
 View comments line text all = (front : List ℕ) × (rest : List ℕ) × IsSpan IsWithinLine (drop 1 text) front rest × Lexes line rest all
-View digits line text all = (front : List ℕ) × (rest : List ℕ) × IsSpan IsDigit text front rest × (((more : List Placed) × IsNumber front rest × Lexes line rest more × (all ≡ at line (token (number (value_of front))) ∷ more)) ⊎ (IsNoNumber front rest × (all ≡ at line bad_number ∷ [])))
-View words line text all = (front : List ℕ) × (rest : List ℕ) × (more : List Placed) × IsSpan IsLetterOrDigit text front rest × Lexes line rest more × (((which : Keyword) × (front ≡ keyword_text which) × (all ≡ at line (token (keyword which)) ∷ more)) ⊎ (¬ IsKeyword front × (all ≡ at line (token (name front)) ∷ more)))
-View others line text all = ((mark : Sign) × (rest : List ℕ) × (more : List Placed) × IsSign text mark rest × Lexes line rest more × (all ≡ at line (token (sign mark)) ∷ more)) ⊎ (((mark : Sign) → ¬ HasFront text (sign_text mark)) × (all ≡ at line bad_byte ∷ []))
+View digits line text all = (front : List ℕ) × (rest : List ℕ) × IsSpan IsDigit text front rest
+    × (((more : List Placed) × IsNumber front rest × Lexes line rest more × (all ≡ at line (token (number (value_of front))) ∷ more))
+    ⊎ (IsNoNumber front rest × (all ≡ at line bad_number ∷ [])))
+View words line text all = (front : List ℕ) × (rest : List ℕ) × (more : List Placed) × IsSpan IsLetterOrDigit text front rest × Lexes line rest more
+    × (((which : Keyword) × (front ≡ keyword_text which) × (all ≡ at line (token (keyword which)) ∷ more))
+    ⊎ (¬ IsKeyword front × (all ≡ at line (token (name front)) ∷ more)))
+View others line text all =
+    ((mark : Sign) × (rest : List ℕ) × (more : List Placed) × IsSign text mark rest × Lexes line rest more × (all ≡ at line (token (sign mark)) ∷ more))
+    ⊎ (((mark : Sign) → ¬ HasFront text (sign_text mark)) × (all ≡ at line bad_byte ∷ []))
 
 view : {line : ℕ} {text : List ℕ} {all : List Placed} → Lexes line text all → View (kind_of text) line text all
 unfolding View kind_of
 view (passes_blank {byte = byte} {rest = rest} h inside) = rw (byte-blank byte h) (rest, refl, inside)
 view (passes_line_feed {byte = byte} {rest = rest} h inside) = rw (byte-feed byte h) (rest, refl, inside)
 view (passes_comment {byte = byte} {words = front} {rest = rest} h span inside) = rw (byte-hash byte h) (front, rest, span, inside)
-view (takes_number {text = text} {digits = front} {rest = rest} {more = more} h is inside) = rw (kind-begins_digit text h.begins) (front, rest, h.span, inl (more, is, inside, refl))
-view (takes_keyword {text = text} {rest = rest} {which = which} {more = more} h inside) = rw (kind-begins_letter text h.begins) (keyword_text which, rest, more, h.span, inside, inl (which, refl, refl))
-view (takes_name {text = text} {word = front} {rest = rest} {more = more} h other inside) = rw (kind-begins_letter text h.begins) (front, rest, more, h.span, inside, inr (other, refl))
+view (takes_number {text = text} {digits = front} {rest = rest} {more = more} h is inside) =
+    rw (kind-begins_digit text h.begins) (front, rest, h.span, inl (more, is, inside, refl))
+view (takes_keyword {text = text} {rest = rest} {which = which} {more = more} h inside) =
+    rw (kind-begins_letter text h.begins) (keyword_text which, rest, more, h.span, inside, inl (which, refl, refl))
+view (takes_name {text = text} {word = front} {rest = rest} {more = more} h other inside) =
+    rw (kind-begins_letter text h.begins) (front, rest, more, h.span, inside, inr (other, refl))
 view (takes_sign {rest = rest} {mark = mark} {more = more} is inside) = rw (kind-sign is) (inl (mark, rest, more, is, inside, refl))
 view (stops_at_number {text = text} {digits = front} {rest = rest} h bad) = rw (kind-begins_digit text h.begins) (front, rest, h.span, inr (bad, refl))
 view (stops_at_byte h) = rw (kind-nothing h) (inr (h.no_sign, refl))

@@ -100,7 +100,8 @@ one_fault before (next ∷ lexemes) line own kind other (inr later) (inr past) =
 one_text : (text : List ℕ) (p q : ProgramTree) → IsText text p → IsText text q → p ≡ q
 one_text text p q a b =
     let lexemes : b.lexemes ≡ a.lexemes = unique b.lexed a.lexed in
-    let tokens : b.tokens ≡ a.tokens = same_tokens [] a.lexemes b.tokens a.tokens (subst (λ all. AreFaultless [] all b.tokens) lexemes b.faultless) a.faultless in
+    let tokens : b.tokens ≡ a.tokens =
+    same_tokens [] a.lexemes b.tokens a.tokens (subst (λ all. AreFaultless [] all b.tokens) lexemes b.faultless) a.faultless in
     one_program a.tokens p q a.parsed (subst (λ all. IsProgram q all) tokens b.parsed)
 
 not_both : (text : List ℕ) (p : ProgramTree) (line : ℕ) (kind : FaultKind) → IsText text p → HasFirstFault text line kind → ⊥
@@ -108,7 +109,8 @@ not_both text p line kind a (inl long) = omega (arith, a.fits, long.0)
 not_both text p line kind a (inr short) =
     no_fault [] a.lexemes a.tokens line kind a.faultless (subst (λ all. IsFirstFault [] all line kind) (unique short.2 a.lexed) short.3)
 
-one_first_fault : (text : List ℕ) (line own : ℕ) (kind other : FaultKind) → HasFirstFault text line kind → HasFirstFault text own other → (line ≡ own) × (kind ≡ other)
+one_first_fault : (text : List ℕ) (line own : ℕ) (kind other : FaultKind) → HasFirstFault text line kind → HasFirstFault text own other → (line ≡ own)
+    × (kind ≡ other)
 one_first_fault text line own kind other (inl long) (inl too) = (long.1 ∙ sym too.1, long.2 ∙ sym too.2)
 one_first_fault text line own kind other (inl long) (inr short) = absurd (omega (arith, long.0, short.0))
 one_first_fault text line own kind other (inr short) (inl long) = absurd (omega (arith, long.0, short.0))

@@ -31,7 +31,8 @@ pub ArePassed-push : (passed : List Placed) (before : List Token) (line : ℕ) (
     ArePassed passed before → IsFaultless before (token t) → ArePassed (passed ++ at line (token t) ∷ []) (before ++ t ∷ [])
 ArePassed-push passed before own t are faultless = record {
   faults = λ rest line kind h.
-      subst (λ all. IsFirstFault [] all line kind) (sym (append_assoc passed (at own (token t) ∷ []) rest)) (are.faults (at own (token t) ∷ rest) line kind (inr (t, refl, faultless, h)));
+      subst (λ all. IsFirstFault [] all line kind) (sym (append_assoc passed (at own (token t) ∷ []) rest))
+      (are.faults (at own (token t) ∷ rest) line kind (inr (t, refl, faultless, h)));
   tokens = λ rest more h.
       let all = are.tokens (at own (token t) ∷ rest) (t ∷ more) (refl, faultless, h) in
       let regrouped = subst (λ lexemes. AreFaultless [] lexemes (before ++ t ∷ more)) (sym (append_assoc passed (at own (token t) ∷ []) rest)) all in
@@ -62,16 +63,23 @@ module _ (text : List ℕ) (line : ℕ) (rest : List ℕ) (s s' : code_state.Sta
   }
 
   -- what is not taken is the first fault, unless memory ran out
-  pub fault_here : length text ≤ 65536 → (own : ℕ) (found : Lexeme) (behind : ℕ) (last : List ℕ) (kind : FaultKind) → NextIs line rest (at own found) behind last →
+  pub fault_here : length text ≤ 65536 → (own : ℕ) (found : Lexeme) (behind : ℕ) (last : List ℕ) (kind : FaultKind)
+      → NextIs line rest (at own found) behind last →
       TakesLexeme (Err kind) s l found s' l' → (kind ≡ NoMemory) ⊎ HasFirstFault text own kind
   fault_here fits own found behind last kind next taken =
       let all = exist.exists 1 text in
       let more = found_past r.past next all.1 in
       let first : IsFaultOf r.before found kind → HasFirstFault text own kind =
-      λ f. inr (fits, all.0, all.1, subst (λ lexemes. IsFirstFault [] lexemes own kind) (sym more.1) (r.are.faults (at own found ∷ more.0) own kind (inl (f, refl)))) in
+      λ f. inr (
+        fits,
+        all.0,
+        all.1,
+        subst (λ lexemes. IsFirstFault [] lexemes own kind) (sym more.1) (r.are.faults (at own found ∷ more.0) own kind (inl (f, refl))),
+      ) in
       ⊎_elim inl (λ f. inr (first f)) (fault_of r.before s s' l l' r.behind found kind taken)
 
-  module _ (own behind : ℕ) (last : List ℕ) (next : NextIs line rest (at own (token finish)) behind last) (taken : TakesLexeme (Ok tt) s l (token finish) s' l') where
+  module _ (own behind : ℕ) (last : List ℕ) (next : NextIs line rest (at own (token finish)) behind last)
+      (taken : TakesLexeme (Ok tt) s l (token finish) s' l') where
     ended : CompletesState (state_seen s') (program_in (state_seen s')) []
     ended =
         let e = end_of_state (state_seen s) taken.0.0 in
@@ -80,7 +88,8 @@ module _ (text : List ℕ) (line : ℕ) (rest : List ℕ) (s s' : code_state.Sta
     parsed : IsProgram (program_in (state_seen s')) (r.before ++ finish ∷ [])
     parsed =
         let b = IsBehind-push r.before s s' l l' finish r.behind taken in
-        subst (λ tokens. IsProgram (program_in (state_seen s')) tokens) (append-nil (r.before ++ finish ∷ [])) (b.reaches.backwards (program_in (state_seen s')) [] ended)
+        subst (λ tokens. IsProgram (program_in (state_seen s')) tokens) (append-nil (r.before
+        ++ finish ∷ [])) (b.reaches.backwards (program_in (state_seen s')) [] ended)
 
     -- the end of the text, once it is taken, ends a program
     pub program_here : length text ≤ 65536 → IsText text (program_in (state_seen s'))

@@ -78,7 +78,8 @@ same_stage : (s : State) (found : Option Body) {t : State} → if_some found (λ
 same_stage s None q = absurd (none_some q)
 same_stage s (Some b) q = stage_same (λ stage. stage ≡ s.stage) q refl
 
-other_stage : (s : State) (found : Option Body) {t : State} → s.stage ≡ statements → if_some found (λ b. Some (record s { body = b })) ≡ Some t → IsOther t.stage
+other_stage : (s : State) (found : Option Body) {t : State} → s.stage ≡ statements → if_some found (λ b. Some (record s { body = b })) ≡ Some t
+    → IsOther t.stage
 other_stage s found e q = subst IsOther (sym (same_stage s found q ∙ e)) tt
 
 no_body : (s : State) (found : Option Body) {t : State} → found ≡ None → if_some found (λ b. Some (record s { body = b })) ≡ Some t → ⊥
@@ -175,7 +176,8 @@ locks_over locks_end n h o = absurd h
 locks_over statements n h o = absurd h
 locks_over nothing n h o = absurd h
 
-pub over_number : (names : Names) (stage : Stage) (last : Option Token) (t : Token) → Says stage last → IsNumberTooLarge last t → IsOverNumber stage (symbol_of names t)
+pub over_number : (names : Names) (stage : Stage) (last : Option Token) (t : Token) → Says stage last → IsNumberTooLarge last t
+    → IsOverNumber stage (symbol_of names t)
 over_number names stage (Some (Token.keyword Words)) (Token.number n) h o = number_over stage n h o
 over_number names stage (Some (Token.keyword Locks)) (Token.number n) h o = locks_over stage n h o
 over_number names stage _ _ h o = absurd o
@@ -205,7 +207,8 @@ large_number words_number last n h o = subst (λ l. IsNumberTooLarge l (Token.nu
 large_number locks_number last n h o = subst (λ l. IsNumberTooLarge l (Token.number n)) (sym h) o
 large_number _ last n h o = absurd o
 
-pub number_too_large : (names : Names) (stage : Stage) (last : Option Token) (t : Token) → Says stage last → IsOverNumber stage (symbol_of names t) → IsNumberTooLarge last t
+pub number_too_large : (names : Names) (stage : Stage) (last : Option Token) (t : Token) → Says stage last → IsOverNumber stage (symbol_of names t)
+    → IsNumberTooLarge last t
 number_too_large names stage last (Token.number n) h o = large_number stage last n h o
 number_too_large names stage last (Token.name bytes) h o = absurd (name_not_over stage (number_of names bytes) o)
 number_too_large names stage last (Token.keyword word) h o = absurd (keyword_not_over stage word o)
@@ -224,7 +227,8 @@ number_taken s locks_number n e o = over_locks s n e
 number_taken s _ n e o = absurd o
 
 -- a number that passes its limit may stand there
-pub over_taken : (names : Names) (s : State) (t : Token) → IsOverNumber s.stage (symbol_of names t) → (next : State) × (state_with s (symbol_of names t) ≡ Some next)
+pub over_taken : (names : Names) (s : State) (t : Token) → IsOverNumber s.stage (symbol_of names t) → (next : State)
+    × (state_with s (symbol_of names t) ≡ Some next)
 over_taken names s (Token.number n) o = number_taken s s.stage n refl o
 over_taken names s (Token.name bytes) o = absurd (name_not_over s.stage (number_of names bytes) o)
 over_taken names s (Token.keyword word) o = absurd (keyword_not_over s.stage word o)

@@ -74,20 +74,27 @@ goes_on : (outer : List Around) (before : Block) (purpose : Purpose) (x : Partia
     body.go_on outer before purpose x symbol ≡ body.at outer before (in_expression purpose y)
 goes_on outer before purpose x symbol q = simp (no_ending (ending_of purpose) x symbol q, q)
 
-purpose_turns : (outer : List Around) (before : Block) (purpose : Purpose) (x : Partial) {value : Expression} (end : Option Block) {whole : Block} {all : List Symbol} →
+purpose_turns : (outer : List Around) (before : Block) (purpose : Purpose) (x : Partial) {value : Expression}
+    (end : Option Block) {whole : Block} {all : List Symbol} →
     value_of x ≡ Some value → FromPurpose outer before purpose value whole all →
     Turns (body.go_on outer before purpose x) end whole all
-purpose_turns outer before purpose x end q (assigns {k = k} r) = goes _ (ap (λ v. if_some v (λ value. body.ended outer before (assigned k) value)) q) (in_statement r)
+purpose_turns outer before purpose x end q (assigns {k = k} r) =
+    goes _ (ap (λ v. if_some v (λ value. body.ended outer before (assigned k) value)) q) (in_statement r)
 purpose_turns outer before purpose x end q (reads {k = k} r) = goes _ (ap (λ v. if_some v (λ value. body.ended outer before (word_read k) value)) q) (in_end r)
-purpose_turns outer before purpose x end q (names_word d r) = goes _ (ap (λ v. if_some v (λ value. body.ended outer before word_written value)) q) (in_word (express d (writes r)))
-purpose_turns outer before purpose x end q (writes {w = w} r) = goes _ (ap (λ v. if_some v (λ value. body.ended outer before (written w) value)) q) (in_statement r)
+purpose_turns outer before purpose x end q (names_word d r) =
+    goes _ (ap (λ v. if_some v (λ value. body.ended outer before word_written value)) q) (in_word (express d (writes r)))
+purpose_turns outer before purpose x end q (writes {w = w} r) =
+    goes _ (ap (λ v. if_some v (λ value. body.ended outer before (written w) value)) q) (in_statement r)
 purpose_turns outer before purpose x end q (acquires r) = goes _ (ap (λ v. if_some v (λ value. body.ended outer before acquired value)) q) (in_statement r)
 purpose_turns outer before purpose x end q (releases r) = goes _ (ap (λ v. if_some v (λ value. body.ended outer before released value)) q) (in_statement r)
 purpose_turns outer before purpose x end q (prints r) = goes _ (ap (λ v. if_some v (λ value. body.ended outer before printed value)) q) (in_statement r)
-purpose_turns outer before purpose x end q (tests (braces d) r) = goes _ (ap (λ v. if_some v (λ value. body.ended outer before if_condition value)) q) (in_statement (enter empty d (closes (from_then r))))
-purpose_turns outer before purpose x end q (repeats (braces d) r) = goes _ (ap (λ v. if_some v (λ value. body.ended outer before while_condition value)) q) (in_statement (enter empty d (closes (from_inside r))))
+purpose_turns outer before purpose x end q (tests (braces d) r) =
+    goes _ (ap (λ v. if_some v (λ value. body.ended outer before if_condition value)) q) (in_statement (enter empty d (closes (from_then r))))
+purpose_turns outer before purpose x end q (repeats (braces d) r) =
+    goes _ (ap (λ v. if_some v (λ value. body.ended outer before while_condition value)) q) (in_statement (enter empty d (closes (from_inside r))))
 
-expression_turns : (outer : List Around) (before : Block) (purpose : Purpose) (x : Partial) (end : Option Block) {value : Expression} {whole : Block} {all more : List Symbol} →
+expression_turns : (outer : List Around) (before : Block) (purpose : Purpose) (x : Partial)
+    (end : Option Block) {value : Expression} {whole : Block} {all more : List Symbol} →
     expressions.Turns (partial_with x) (value_of x) value all more → FromPurpose outer before purpose value whole more →
     Turns (body.go_on outer before purpose x) end whole all
 expression_turns outer before purpose x end (expressions.goes {symbol = symbol} y q c) k =
@@ -111,7 +118,8 @@ whole_behind_then [] before condition first = refl
 whole_behind_then (around ∷ outer) before condition first = refl
 
 then_turns : (outer : List Around) (before : Block) (condition : Expression) (first : Block) {whole : Block} {all : List Symbol} →
-    Turns (body.begin outer (push before (Statement.if_else condition first empty))) (body.whole_in outer (push before (Statement.if_else condition first empty)) at_statement) whole all →
+    Turns (body.begin outer (push before (Statement.if_else condition first empty)))
+    (body.whole_in outer (push before (Statement.if_else condition first empty)) at_statement) whole all →
     Turns (body.behind_then outer before condition first) (body.whole_in outer before (after_then condition first)) whole all
 then_turns outer before condition first (goes {symbol = symbol} b q k) = goes b (behind_then_is outer before condition first symbol q) k
 then_turns outer before condition first (stops q) = stops (sym (whole_behind_then outer before condition first) ∙ q)

@@ -43,7 +43,8 @@ assign_back : {outer : List Around} {before : Block} {k : ℕ} {value : Expressi
 assign_back d (assigns k) = begins (grammar.assign d) k
 
 read_back : {outer : List Around} {before : Block} {k : ℕ} {value : Expression} {whole : Block} {all more : List Symbol} →
-    IsExpression value all more → FromPurpose outer before (word_read k) value whole more → FromStatement outer before whole (name k ∷ sign Assign ∷ sign OpenBracket ∷ all)
+    IsExpression value all more → FromPurpose outer before (word_read k) value whole more
+    → FromStatement outer before whole (name k ∷ sign Assign ∷ sign OpenBracket ∷ all)
 read_back d (reads k) = begins (grammar.read d) k
 
 name_back : {outer : List Around} {before : Block} {k : ℕ} {whole : Block} {all : List Symbol} →
@@ -174,7 +175,8 @@ ended_back outer before printed value q k = prints (statement_back (at_same _ _ 
 ended_back outer before if_condition value q k = let l = leave_back (at_same _ _ q k) in tests (braces l.spelled) (first_back l.behind)
 ended_back outer before while_condition value q k = let l = leave_back (at_same _ _ q k) in repeats (braces l.spelled) (inside_back l.behind)
 
-ending_back : (outer : List Around) (before : Block) (purpose : Purpose) (x : Partial) (found : Option Expression) {b : Body} {all_of : Block} {all : List Symbol} →
+ending_back : (outer : List Around) (before : Block) (purpose : Purpose) (x : Partial)
+    (found : Option Expression) {b : Body} {all_of : Block} {all : List Symbol} →
     value_of x ≡ found → if_some found (λ value. body.ended outer before purpose value) ≡ Some b → CompletesBody b all_of all →
     FromExpression outer before purpose x all_of (sign_of (ending_of purpose) ∷ all)
 ending_back outer before purpose x None v q k = absurd (none_some q)
@@ -190,7 +192,8 @@ inside_expression : {outer : List Around} {before : Block} {purpose : Purpose} {
     FromPlace outer before (in_expression purpose x) all_of all → FromExpression outer before purpose x all_of all
 inside_expression (in_whole k) = k
 
-going_back : (outer : List Around) (before : Block) (purpose : Purpose) (x : Partial) (symbol : Symbol) (found : Option Partial) {b : Body} {all_of : Block} {all : List Symbol} →
+going_back : (outer : List Around) (before : Block) (purpose : Purpose) (x : Partial) (symbol : Symbol)
+    (found : Option Partial) {b : Body} {all_of : Block} {all : List Symbol} →
     partial_with x symbol ≡ found → if_some found (λ y. body.at outer before (in_expression purpose y)) ≡ Some b → CompletesBody b all_of all →
     FromExpression outer before purpose x all_of (symbol ∷ all)
 going_back outer before purpose x symbol None v q k = absurd (none_some q)
@@ -198,13 +201,16 @@ going_back outer before purpose x symbol (Some y) v q k =
     let e = inside_expression (at_same _ _ q k) in
     record { value = e.value; more = e.more; completed = back x symbol e.value _ e.more v e.completed; behind = e.behind }
 
-go_on_back : (outer : List Around) (before : Block) (purpose : Purpose) (x : Partial) (symbol : Symbol) (ends : Bool) {b : Body} {all_of : Block} {all : List Symbol} →
+go_on_back : (outer : List Around) (before : Block) (purpose : Purpose) (x : Partial) (symbol : Symbol)
+    (ends : Bool) {b : Body} {all_of : Block} {all : List Symbol} →
     is_ending (ending_of purpose) symbol ≡ ends →
-    cond ends (if_some (value_of x) (λ value. body.ended outer before purpose value)) (if_some (partial_with x symbol) (λ y. body.at outer before (in_expression purpose y))) ≡ Some b →
+    cond ends (if_some (value_of x) (λ value. body.ended outer before purpose value))
+    (if_some (partial_with x symbol) (λ y. body.at outer before (in_expression purpose y))) ≡ Some b →
     CompletesBody b all_of all →
     FromExpression outer before purpose x all_of (symbol ∷ all)
 go_on_back outer before purpose x symbol true {all_of = all_of} {all = all} e q k =
-    subst (λ s. FromExpression outer before purpose x all_of (s ∷ all)) (sym (is_sign (ending_of purpose) symbol e)) (ending_back outer before purpose x (value_of x) refl q k)
+    subst (λ s. FromExpression outer before purpose x all_of (s ∷ all)) (sym (is_sign (ending_of purpose) symbol e))
+    (ending_back outer before purpose x (value_of x) refl q k)
 go_on_back outer before purpose x symbol false e q k = going_back outer before purpose x symbol (partial_with x symbol) refl q k
 
 equals_back : (outer : List Around) (before : Block) (n : ℕ) (symbol : Symbol) {b : Body} {all_of : Block} {all : List Symbol} →
@@ -236,13 +242,15 @@ otherwise_back : {outer : List Around} {before : Block} {condition : Expression}
     FromThen outer before condition first all_of (keyword Else ∷ all)
 otherwise_back (in_else b k) = has_else b k
 
-then_place_back : (outer : List Around) (before : Block) (condition : Expression) (first : Block) (symbol : Symbol) {b : Body} {all_of : Block} {all : List Symbol} →
+then_place_back : (outer : List Around) (before : Block) (condition : Expression) (first : Block)
+    (symbol : Symbol) {b : Body} {all_of : Block} {all : List Symbol} →
     body.behind_then outer before condition first symbol ≡ Some b → CompletesBody b all_of all →
     FromPlace outer before (after_then condition first) all_of (symbol ∷ all)
 then_place_back outer before condition first (keyword Else) q k = in_then (otherwise_back (at_same _ _ q k))
 then_place_back outer before condition first symbol q k = in_then (no_else (begin_back outer _ symbol q k))
 
-else_place_back : (outer : List Around) (before : Block) (condition : Expression) (first : Block) (symbol : Symbol) {b : Body} {all_of : Block} {all : List Symbol} →
+else_place_back : (outer : List Around) (before : Block) (condition : Expression) (first : Block)
+    (symbol : Symbol) {b : Body} {all_of : Block} {all : List Symbol} →
     body.behind_else outer before condition first symbol ≡ Some b → CompletesBody b all_of all →
     FromPlace outer before (after_else condition first) all_of (symbol ∷ all)
 else_place_back outer before condition first (sign OpenBrace) q k = let l = leave_back (at_same _ _ q k) in in_else (braces l.spelled) (second_back l.behind)

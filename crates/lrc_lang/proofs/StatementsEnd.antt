@@ -52,8 +52,10 @@ zero_spelled = grammar.one_sum (grammar.term (grammar.factor grammar.a_number))
 -- a block that ends in front of these symbols, which complete any statements around it
 owner_closed : (outer : List Around) (before : Block) (owner : Owner) (inside : Block) (all : List Symbol) →
     ((b : Block) → (all_of : Block) × FromStatement outer b all_of all) → (all_of : Block) × FromOwner outer before owner inside all_of all
-owner_closed outer before (then_of condition) inside all close = let k = close (push before (Statement.if_else condition inside empty)) in (k.0, from_then (no_else k.1))
-owner_closed outer before (else_of condition first) inside all close = let k = close (push before (Statement.if_else condition first inside)) in (k.0, from_else k.1)
+owner_closed outer before (then_of condition) inside all close = let k = close (push before (Statement.if_else condition inside empty)) in
+    (k.0, from_then (no_else k.1))
+owner_closed outer before (else_of condition first) inside all close = let k = close (push before (Statement.if_else condition first inside)) in
+    (k.0, from_else k.1)
 owner_closed outer before (inside_of condition) inside all close = let k = close (push before (Statement.while_do condition inside)) in (k.0, from_inside k.1)
 
 closed : (names : Names) (outer : List Around) (before : Block) → (all_of : Block) × FromStatement outer before all_of (symbols_after names (closing outer))
@@ -66,13 +68,16 @@ purpose_closed : (names : Names) (outer : List Around) (before : Block) (purpose
     (all_of : Block) × FromPurpose outer before purpose value all_of (symbols_after names (ending outer purpose))
 purpose_closed names outer before (assigned n) value = let k = closed names outer (push before (Statement.assign n value)) in (k.0, assigns k.1)
 purpose_closed names outer before (word_read n) value = let k = closed names outer (push before (Statement.read n value)) in (k.0, reads k.1)
-purpose_closed names outer before word_written value = let k = closed names outer (push before (Statement.write value zero_value)) in (k.0, names_word zero_spelled k.1)
+purpose_closed names outer before word_written value = let k = closed names outer (push before (Statement.write value zero_value)) in
+    (k.0, names_word zero_spelled k.1)
 purpose_closed names outer before (written w) value = let k = closed names outer (push before (Statement.write w value)) in (k.0, writes k.1)
 purpose_closed names outer before acquired value = let k = closed names outer (push before (Statement.acquire value)) in (k.0, acquires k.1)
 purpose_closed names outer before released value = let k = closed names outer (push before (Statement.release value)) in (k.0, releases k.1)
 purpose_closed names outer before printed value = let k = closed names outer (push before (Statement.print value)) in (k.0, prints k.1)
-purpose_closed names outer before if_condition value = let k = closed names outer (push before (Statement.if_else value empty empty)) in (k.0, tests (braces none) (no_else k.1))
-purpose_closed names outer before while_condition value = let k = closed names outer (push before (Statement.while_do value empty)) in (k.0, repeats (braces none) k.1)
+purpose_closed names outer before if_condition value = let k = closed names outer (push before (Statement.if_else value empty empty)) in
+    (k.0, tests (braces none) (no_else k.1))
+purpose_closed names outer before while_condition value = let k = closed names outer (push before (Statement.while_do value empty)) in
+    (k.0, repeats (braces none) k.1)
 
 expression_closed : (names : Names) (outer : List Around) (before : Block) (purpose : Purpose) (x : Partial) →
     (all_of : Block) × FromExpression outer before purpose x all_of (symbols_after names (completion x (ending outer purpose)))
@@ -89,8 +94,10 @@ place_closed names outer before (after_equals n) = let k = expression_closed nam
 place_closed names outer before (in_expression purpose x) = let k = expression_closed names outer before purpose x in (k.0, in_whole k.1)
 place_closed names outer before (after_word w) = let k = expression_closed names outer before (written w) nothing in (k.0, in_word k.1)
 place_closed names outer before (before_end s) = let k = closed names outer (push before s) in (k.0, in_end k.1)
-place_closed names outer before (after_then condition first) = let k = closed names outer (push before (Statement.if_else condition first empty)) in (k.0, in_then (no_else k.1))
-place_closed names outer before (after_else condition first) = let k = closed names outer (push before (Statement.if_else condition first empty)) in (k.0, in_else (braces none) k.1)
+place_closed names outer before (after_then condition first) = let k = closed names outer (push before (Statement.if_else condition first empty)) in
+    (k.0, in_then (no_else k.1))
+place_closed names outer before (after_else condition first) = let k = closed names outer (push before (Statement.if_else condition first empty)) in
+    (k.0, in_else (braces none) k.1)
 
 pub body_completed : (names : Names) (b : Body) → (all_of : Block) × CompletesBody b all_of (symbols_after names (body_completion b))
 body_completed names b = place_closed names b.outer b.before b.place

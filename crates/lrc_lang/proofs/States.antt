@@ -21,12 +21,16 @@ use Rattle.lrc_lang.proofs.Options.{none_some, some_same}
 -- what completes a text at a stage, with these numbers and statements so far
 pub data FromStage : Body → Stage → ℕ → ℕ → ProgramTree → List Symbol → Type 0 where
   at_words : {b : Body} {w l : ℕ} {p : ProgramTree} {all : List Symbol} → FromStage b words_number w l p all → FromStage b words w l p (keyword Words ∷ all)
-  at_words_number : {b : Body} {w l n : ℕ} {p : ProgramTree} {all : List Symbol} → FromStage b words_end n l p all → FromStage b words_number w l p (number n ∷ all)
+  at_words_number : {b : Body} {w l n : ℕ} {p : ProgramTree} {all : List Symbol} → FromStage b words_end n l p all
+      → FromStage b words_number w l p (number n ∷ all)
   at_words_end : {b : Body} {w l : ℕ} {p : ProgramTree} {all : List Symbol} → FromStage b locks w l p all → FromStage b words_end w l p (sign Semicolon ∷ all)
   at_locks : {b : Body} {w l : ℕ} {p : ProgramTree} {all : List Symbol} → FromStage b locks_number w l p all → FromStage b locks w l p (keyword Locks ∷ all)
-  at_locks_number : {b : Body} {w l n : ℕ} {p : ProgramTree} {all : List Symbol} → FromStage b locks_end w n p all → FromStage b locks_number w l p (number n ∷ all)
-  at_locks_end : {b : Body} {w l : ℕ} {p : ProgramTree} {all : List Symbol} → FromStage b statements w l p all → FromStage b locks_end w l p (sign Semicolon ∷ all)
-  in_statements : {b : Body} {w l : ℕ} {whole : Block} {p : ProgramTree} {all : List Symbol} → CompletesBody b whole all → p ≡ record { words = w; locks = l; statements = whole } → FromStage b statements w l p all
+  at_locks_number : {b : Body} {w l n : ℕ} {p : ProgramTree} {all : List Symbol} → FromStage b locks_end w n p all
+      → FromStage b locks_number w l p (number n ∷ all)
+  at_locks_end : {b : Body} {w l : ℕ} {p : ProgramTree} {all : List Symbol} → FromStage b statements w l p all
+      → FromStage b locks_end w l p (sign Semicolon ∷ all)
+  in_statements : {b : Body} {w l : ℕ} {whole : Block} {p : ProgramTree} {all : List Symbol} → CompletesBody b whole all
+      → p ≡ record { words = w; locks = l; statements = whole } → FromStage b statements w l p all
   at_end : {b : Body} {w l : ℕ} {p : ProgramTree} → p ≡ record { words = w; locks = l; statements = b.before } → FromStage b nothing w l p []
 
 -- these symbols complete what has come to this program
@@ -165,8 +169,10 @@ completion s = completing s.stage (body_completion s.body)
 
 completed_at : (names : Names) (b : Body) (stage : Stage) (w l : ℕ) →
     (p : ProgramTree) × FromStage b stage w l p (symbols_after names (completing stage (body_completion b)))
-completed_at names b words w l = let k = body_completed names b in (_, at_words (at_words_number (at_words_end (at_locks (at_locks_number (at_locks_end (in_statements k.1 refl)))))))
-completed_at names b words_number w l = let k = body_completed names b in (_, at_words_number (at_words_end (at_locks (at_locks_number (at_locks_end (in_statements k.1 refl))))))
+completed_at names b words w l = let k = body_completed names b in
+    (_, at_words (at_words_number (at_words_end (at_locks (at_locks_number (at_locks_end (in_statements k.1 refl)))))))
+completed_at names b words_number w l = let k = body_completed names b in
+    (_, at_words_number (at_words_end (at_locks (at_locks_number (at_locks_end (in_statements k.1 refl))))))
 completed_at names b words_end w l = let k = body_completed names b in (_, at_words_end (at_locks (at_locks_number (at_locks_end (in_statements k.1 refl)))))
 completed_at names b locks w l = let k = body_completed names b in (_, at_locks (at_locks_number (at_locks_end (in_statements k.1 refl))))
 completed_at names b locks_number w l = let k = body_completed names b in (_, at_locks_number (at_locks_end (in_statements k.1 refl)))
@@ -185,7 +191,8 @@ from_start p all (program d) = at_words (at_words_number (at_words_end (at_locks
 to_start_statements : {p : ProgramTree} {w l : ℕ} {all : List Symbol} → FromStage body.start statements w l p all →
     AreSymbolsOf p (keyword Words ∷ number w ∷ sign Semicolon ∷ keyword Locks ∷ number l ∷ sign Semicolon ∷ all)
 to_start_statements {w = w} {l = l} {all = all} (in_statements k e) =
-    subst (λ p. AreSymbolsOf p (keyword Words ∷ number w ∷ sign Semicolon ∷ keyword Locks ∷ number l ∷ sign Semicolon ∷ all)) (sym e) (program (statements_all k))
+    subst (λ p. AreSymbolsOf p (keyword Words ∷ number w ∷ sign Semicolon ∷ keyword Locks ∷ number l ∷ sign Semicolon ∷ all)) (sym e)
+    (program (statements_all k))
 
 to_start_ : (p : ProgramTree) (all : List Symbol) → FromStage body.start words 1 0 p all → AreSymbolsOf p all
 to_start_ p all (at_words (at_words_number (at_words_end (at_locks (at_locks_number (at_locks_end k)))))) = to_start_statements k

@@ -153,15 +153,20 @@ pub data Lexes : ℕ → List ℕ → List Placed → Type 0 where
   -- A line feed is passed over, and the next line begins.
   passes_line_feed : {line byte : ℕ} {rest : List ℕ} {all : List Placed} → IsLineFeed byte → Lexes (line + 1) rest all → Lexes line (byte ∷ rest) all
   -- `#` begins a comment, which is passed over: it runs to the end of its line, or of the text.
-  passes_comment : {line byte : ℕ} {text words rest : List ℕ} {all : List Placed} → IsHash byte → IsSpan IsWithinLine text words rest → Lexes line rest all → Lexes line (byte ∷ text) all
+  passes_comment : {line byte : ℕ} {text words rest : List ℕ} {all : List Placed} → IsHash byte → IsSpan IsWithinLine text words rest → Lexes line rest all
+      → Lexes line (byte ∷ text) all
   -- A number stands for the value of its digits.
-  takes_number : {line : ℕ} {text digits rest : List ℕ} {more : List Placed} → IsDigits text digits rest → IsNumber digits rest → Lexes line rest more → Lexes line text (at line (token (number (value_of digits))) ∷ more)
+  takes_number : {line : ℕ} {text digits rest : List ℕ} {more : List Placed} → IsDigits text digits rest → IsNumber digits rest → Lexes line rest more
+      → Lexes line text (at line (token (number (value_of digits))) ∷ more)
   -- A word that is spelled as a keyword is that keyword.
-  takes_keyword : {line : ℕ} {text rest : List ℕ} {which : Keyword} {more : List Placed} → IsWord text (keyword_text which) rest → Lexes line rest more → Lexes line text (at line (token (keyword which)) ∷ more)
+  takes_keyword : {line : ℕ} {text rest : List ℕ} {which : Keyword} {more : List Placed} → IsWord text (keyword_text which) rest → Lexes line rest more
+      → Lexes line text (at line (token (keyword which)) ∷ more)
   -- Any other word is a name.
-  takes_name : {line : ℕ} {text word rest : List ℕ} {more : List Placed} → IsWord text word rest → ¬ IsKeyword word → Lexes line rest more → Lexes line text (at line (token (name word)) ∷ more)
+  takes_name : {line : ℕ} {text word rest : List ℕ} {more : List Placed} → IsWord text word rest → ¬ IsKeyword word → Lexes line rest more
+      → Lexes line text (at line (token (name word)) ∷ more)
   -- The longest sign is taken.
-  takes_sign : {line : ℕ} {text rest : List ℕ} {mark : Sign} {more : List Placed} → IsSign text mark rest → Lexes line rest more → Lexes line text (at line (token (sign mark)) ∷ more)
+  takes_sign : {line : ℕ} {text rest : List ℕ} {mark : Sign} {more : List Placed} → IsSign text mark rest → Lexes line rest more
+      → Lexes line text (at line (token (sign mark)) ∷ more)
   -- Digits that are no number are a fault, behind which nothing stands.
   stops_at_number : {line : ℕ} {text digits rest : List ℕ} → IsDigits text digits rest → IsNoNumber digits rest → Lexes line text (at line bad_number ∷ [])
   -- A byte that begins nothing is a fault, behind which nothing stands.

@@ -61,7 +61,8 @@ turned_more : (setting : Setting) (options : OptionsRecord) (start : Option Thre
     → Proper setting options start l → Turned l.node turn after
     → Proper setting options start (record { node = after; turns = l.turns ++ turn ∷ [] })
 turned_more setting options start l turn after p t =
-    let deed_is : option_map (λ (act : Act). act.deed) turn.act ≡ t.deed = ap (option_map (λ (act : Act). act.deed)) t.act ∙ deed_back l.node.setting.me t.deed in
+    let deed_is : option_map (λ (act : Act). act.deed) turn.act ≡ t.deed = ap (option_map (λ (act : Act). act.deed)) t.act
+    ∙ deed_back l.node.setting.me t.deed in
     let me_is : l.node.setting.me ≡ setting.me = ap (λ (s : Setting). s.me) p.setting_kept in
     record {
       setting_kept = t.setting ∙ p.setting_kept;
@@ -114,7 +115,8 @@ fresh-proper program nodes options me = record {
   numbers = λ to lt. ap (range_with_len options.first) (sym (get_or-replicate nodes to 0 0 lt));
 }
 
-proper_some : (setting : Setting) (options : OptionsRecord) (start : Option Thread) (o : Option Local) (l : Local) → o ≡ Some l → ProperIf setting options start o → Proper setting options start l
+proper_some : (setting : Setting) (options : OptionsRecord) (start : Option Thread) (o : Option Local) (l : Local) → o ≡ Some l
+    → ProperIf setting options start o → Proper setting options start l
 proper_some setting options start o l e p = subst (ProperIf setting options start) e p
 
 -- the turns of a node of a program after any inputs
@@ -123,4 +125,8 @@ pub local-proper : (program : Program) (nodes : ℕ) (options : OptionsRecord) (
     → Proper (setting_of program nodes me) options (Some (start_of program nodes me)) l
 local-proper program nodes options me inputs l e =
     proper_some _ _ _ (local program nodes options me inputs) l e
-    (fold-proper (setting_of program nodes me) options (Some (start_of program nodes me)) inputs (Some (record { node = fresh_node program nodes options me; turns = [] })) (fresh-proper program nodes options me))
+    (fold-proper (setting_of program nodes me) options (Some (start_of program nodes me)) inputs (Some (record {
+      node =
+          fresh_node program nodes options me;
+      turns = [];
+    })) (fresh-proper program nodes options me))

@@ -44,7 +44,8 @@ module _ (me first : ℕ) where
         more = suc rest.more;
         counted = rest.counted ∙ ap (λ x. x + rest.more) same ∙ omega arith;
         numbers =
-            ap (λ b. map (λ (e : EnvelopeRecord). e.number) (cond b (env ∷ filter (λ e. e.to == letter.to) more) (filter (λ e. e.to == letter.to) more))) (eq-eqb letter.to letter.to refl)
+            ap (λ b. map (λ (e : EnvelopeRecord). e.number) (cond b (env ∷ filter (λ e. e.to == letter.to) more) (filter (λ e. e.to == letter.to) more)))
+            (eq-eqb letter.to letter.to refl)
             ∙ ap (λ ns. (first + before) ∷ ns) (rest.numbers ∙ ap (λ x. range_with_len x rest.more) (ap (λ x. first + x) same ∙ omega arith));
       }
 
@@ -56,12 +57,14 @@ module _ (me first : ℕ) where
   there sent letter more after to ne rest =
       let before : ℕ = slice_index sent letter.to in
       let env : EnvelopeRecord = envelope_of me (first + before) letter in
-      let same : slice_index (slice_set sent letter.to (before + 1)) to ≡ slice_index sent to = get_or-set_other sent letter.to to (before + 1) 0 (λ e. ne (sym e)) in
+      let same : slice_index (slice_set sent letter.to (before + 1)) to ≡ slice_index sent to =
+      get_or-set_other sent letter.to to (before + 1) 0 (λ e. ne (sym e)) in
       record {
         more = rest.more;
         counted = rest.counted ∙ ap (λ x. x + rest.more) same;
         numbers =
-            ap (λ b. map (λ (e : EnvelopeRecord). e.number) (cond b (env ∷ filter (λ e. e.to == to) more) (filter (λ e. e.to == to) more))) (ne_eqb letter.to to ne)
+            ap (λ b. map (λ (e : EnvelopeRecord). e.number) (cond b (env ∷ filter (λ e. e.to == to) more) (filter (λ e. e.to == to) more)))
+            (ne_eqb letter.to to ne)
             ∙ rest.numbers ∙ ap (λ x. range_with_len (first + x) rest.more) same;
       }
 
@@ -72,10 +75,12 @@ module _ (me first : ℕ) where
   one_letter sent letter more after a = record {
     size = a.size ∙ length-set sent letter.to (slice_index sent letter.to + 1);
     each = λ to lt.
-        let rest : GoOn first (slice_set sent letter.to (slice_index sent letter.to + 1)) more after to = a.each to (subst (λ n. to < n) (sym (length-set sent letter.to (slice_index sent letter.to + 1))) lt) in
+        let rest : GoOn first (slice_set sent letter.to (slice_index sent letter.to + 1)) more after to =
+        a.each to (subst (λ n. to < n) (sym (length-set sent letter.to (slice_index sent letter.to + 1))) lt) in
         elim (cases_eq letter.to to) [
           | inl e ↦ subst (λ t. GoOn first sent (envelope_of me (first + slice_index sent letter.to) letter ∷ more) after t) e
-              (here sent letter more after (subst (λ t. t < length sent) (sym e) lt) (subst (λ t. GoOn first (slice_set sent letter.to (slice_index sent letter.to + 1)) more after t) (sym e) rest))
+              (here sent letter more after (subst (λ t. t < length sent) (sym e) lt)
+              (subst (λ t. GoOn first (slice_set sent letter.to (slice_index sent letter.to + 1)) more after t) (sym e) rest))
           | inr ne ↦ there sent letter more after to ne rest
         ];
   }
@@ -99,4 +104,5 @@ module _ (me first : ℕ) where
   are_numbered sent [] = nothing_sent first sent
   are_numbered sent (letter ∷ letters) =
       if_room sent (nat_le (first + slice_index sent letter.to) MOST_NUMBER) _
-      (after_one sent letter (numbered me first (slice_set sent letter.to (slice_index sent letter.to + 1)) letters) (are_numbered (slice_set sent letter.to (slice_index sent letter.to + 1)) letters))
+      (after_one sent letter (numbered me first (slice_set sent letter.to (slice_index sent letter.to + 1)) letters)
+      (are_numbered (slice_set sent letter.to (slice_index sent letter.to + 1)) letters))

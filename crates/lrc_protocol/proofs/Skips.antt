@@ -83,7 +83,8 @@ unready-skipped world n l at e =
     ap (input_to world world.flight n run 0) at
     ∙ ap (λ o. after_input world world.flight n (logging run (next_stamp l.log 0) l.log o)) (unready-refuses l.node e)
 
-pub no_message-skipped : (world : World) (place : ℕ) → slice_get world.flight place ≡ None → (event_on world (Deliver place) ≡ Some world) × (event_on world (Repeat place) ≡ Some world)
+pub no_message-skipped : (world : World) (place : ℕ) → slice_get world.flight place ≡ None → (event_on world (Deliver place) ≡ Some world)
+    × (event_on world (Repeat place) ≡ Some world)
 no_message-skipped world place e =
     (ap (delivers world (remove world.flight place)) e, ap (delivers world (with_mark world.flight place)) e)
 
@@ -109,7 +110,8 @@ refused-skipped world place flying l at there e = (
 
 -- ---- repeats
 
-pub repeat-turn : (node : Node) (envelope : EnvelopeRecord) → is_addressed node envelope ≡ true → is_repeat node envelope ≡ true → take_turn node envelope ≡ done empty_turn node
+pub repeat-turn : (node : Node) (envelope : EnvelopeRecord) → is_addressed node envelope ≡ true → is_repeat node envelope ≡ true
+    → take_turn node envelope ≡ done empty_turn node
 repeat-turn node envelope a r =
     ap (λ b. if b then (if is_repeat node envelope then done empty_turn node else take_anew node envelope) else unexpected) a
     ∙ ap (λ b. if b then done empty_turn node else take_anew node envelope) r

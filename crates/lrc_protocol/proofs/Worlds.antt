@@ -137,8 +137,10 @@ module _ (program : Program) (nodes : ℕ) (options : OptionsRecord) where
       → slice_get world.nodes n ≡ Some l → IsEntry l input entry after → Whole world → Whole (with_turn world flight n entry after)
   turn_more world flight n l after input entry at i w =
       let f : Follows world.acts n l = w.each n l at in
-      let p : Proper (setting_of program nodes n) options _ (record { node = l.node; turns = turns_of l.log }) = local-proper program nodes options n (inputs_of l.log) _ f.replayed in
-      let made : (deed : Option Deed) × (entry.turn.act ≡ option_map (act_of n) deed) = entry_deed n l after input entry i (ap (λ (s : Setting). s.me) p.setting_kept) in
+      let p : Proper (setting_of program nodes n) options _ (record { node = l.node; turns = turns_of l.log }) =
+      local-proper program nodes options n (inputs_of l.log) _ f.replayed in
+      let made : (deed : Option Deed) × (entry.turn.act ≡ option_map (act_of n) deed) =
+      entry_deed n l after input entry i (ap (λ (s : Setting). s.me) p.setting_kept) in
       let acts_are : option_to_list entry.turn.act ≡ option_to_list (option_map (act_of n) made.0) = ap option_to_list made.1 in
       let within : n < nodes = subst (λ k. n < k) w.count (slice_get_within world.nodes n l at) in
       record {
@@ -157,7 +159,8 @@ module _ (program : Program) (nodes : ℕ) (options : OptionsRecord) where
                     ∙ sym (filter_map-append (λ (turn : TurnRecord). option_map (λ act. act.deed) turn.act) (turns_of l.log) (entry.turn ∷ []))
                     ∙ ap deeds_in (sym (ap (λ log. turns_of log) i.log_is ∙ map-append (λ (x : EntryRecord). x.turn) l.log (entry ∷ [])));
               } in
-              let same : after ≡ lm = same_Some after lm (sym (get_set_same world.nodes n l after at) ∙ ap (slice_get (slice_set world.nodes n after)) e ∙ is) in
+              let same : after ≡ lm =
+              same_Some after lm (sym (get_set_same world.nodes n l after at) ∙ ap (slice_get (slice_set world.nodes n after)) e ∙ is) in
               subst (λ k. Follows (world.acts ++ option_to_list entry.turn.act) k lm) e
               (subst (Follows (world.acts ++ option_to_list entry.turn.act) n) same here)
           | inr ne ↦
@@ -224,7 +227,8 @@ module _ (program : Program) (nodes : ℕ) (options : OptionsRecord) where
 
   fresh-whole : Whole (fresh_world program nodes options)
   fresh-whole = record {
-    count = length-map (map (fresh_node program nodes options) (range_with_len 0 nodes)) (λ (node : Node). record { node = node; log = [] }) ∙ length-map (range_with_len 0 nodes) (fresh_node program nodes options) ∙ length-range_with_len 0 nodes;
+    count = length-map (map (fresh_node program nodes options) (range_with_len 0 nodes)) (λ (node : Node). record { node = node; log = [] })
+        ∙ length-map (range_with_len 0 nodes) (fresh_node program nodes options) ∙ length-range_with_len 0 nodes;
     in_range = λ k d k_lt. absurd (omega (arith, k_lt));
     each = fresh-follows;
   }

@@ -49,7 +49,8 @@ module _ (run : List Act) (before : OrdersReads run) where
       }
 
   pub lazily_by_order : ReadsInOrder run → ReadsLazily run
-  lazily_by_order in_order j word value (q, here) = let within = Does-within here in may_read j q word value here (in_order j word value (q, here)) (found run word j (omega arith))
+  lazily_by_order in_order j word value (q, here) = let within = Does-within here in
+      may_read j q word value here (in_order j word value (q, here)) (found run word j (omega arith))
 
 -- without a race, a write is of the reader's own node, or in order with the read
 race_free : (run : List Act) → IsRaceFree run → OrdersReads run

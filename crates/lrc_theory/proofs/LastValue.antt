@@ -15,7 +15,8 @@ value_after_all-append word [] ys v = refl
 value_after_all-append word (a ∷ xs) ys v = value_after_all-append word xs ys (value_after word a.deed v)
 
 -- after one act more
-pub last_value-more : {run : List Act} {j node : ℕ} {d : Deed} (word : ℕ) → Does run j node d → last_value run (j + 1) word ≡ value_after word d (last_value run j word)
+pub last_value-more : {run : List Act} {j node : ℕ} {d : Deed} (word : ℕ) → Does run j node d
+    → last_value run (j + 1) word ≡ value_after word d (last_value run j word)
 last_value-more {run} {j} {node} {d} word here =
     ap (λ i. last_value run i word) (add-one j)
     ∙ ap (λ acts. value_after_all word acts 0) (take_ahead run j (act_of node d) here.stands)
@@ -47,7 +48,8 @@ Found run j word = Unwritten run j word ⊎ ((i : ℕ) × Written run j word i)
 
 module _ (run : List Act) (word : ℕ) where
   -- where the act at j is no write to the word
-  keeps : (j node : ℕ) (d : Deed) → Does run j node d → ((v : ℕ) → d ≡ Write word v → ⊥) → ((x : ℕ) → value_after word d x ≡ x) → Found run j word → Found run (j + 1) word
+  keeps : (j node : ℕ) (d : Deed) → Does run j node d → ((v : ℕ) → d ≡ Write word v → ⊥) → ((x : ℕ) → value_after word d x ≡ x) → Found run j word
+      → Found run (j + 1) word
   keeps j node d here silent same (inl u) = inl (record {
     none = λ i v lt w. elim (cases_eq i j) [
       | inl now ↦ silent v (sym (Does-one_deed (subst (λ k. Does run k w.0 (Write word v)) now w.1) here))

@@ -22,7 +22,8 @@ unrefuted_below P (suc n) each refuted =
 
 module _ (run : List Act) (j : ℕ) (calm : (i k : ℕ) → k ≤ j → Races run i k → ⊥) where
   -- that a write happens before a later access can't be refuted
-  before_access : (i k p q word v : ℕ) → i < k → k ≤ j → Does run i p (Write word v) → (d : Deed) → Does run k q d → Accesses run k q word → (HappensBefore run i k → ⊥) → ⊥
+  before_access : (i k p q word v : ℕ) → i < k → k ≤ j → Does run i p (Write word v) → (d : Deed) → Does run k q d → Accesses run k q word
+      → (HappensBefore run i k → ⊥) → ⊥
   before_access i k p q word v lt le w d there access no_order = elim (cases_eq p q) [
     | inl same ↦ no_order (base (program lt w (subst (λ n. Does run k n d) (sym same) there)))
     | inr apart ↦
@@ -38,7 +39,8 @@ module _ (run : List Act) (j : ℕ) (calm : (i k : ℕ) → k ≤ j → Races ru
   unfolding OrderedAt
   two_ordered word i k below refuted =
       let no_order : HappensBefore run i k → ⊥ = λ h. refuted (λ u v a b lt. h) in
-      refuted (λ u v a b lt. absurd (before_access i k a.write.0 b.write.0 word u lt (omega arith) a.write.1 (Write word v) b.write.1 (inr (v, b.write.1)) no_order))
+      refuted (λ u v a b lt. absurd
+      (before_access i k a.write.0 b.write.0 word u lt (omega arith) a.write.1 (Write word v) b.write.1 (inr (v, b.write.1)) no_order))
 
   all_ordered : (word : ℕ) → (AreOrdered run j word → ⊥) → ⊥
   unfolding OrderedAt
@@ -54,7 +56,8 @@ module _ (run : List Act) (j : ℕ) (calm : (i k : ℕ) → k ≤ j → Races ru
     last = λ k v x. elim (cases_lt i k) [ inl later ↦ absurd (w.last k v later (forward x.before) x.write) | inr le ↦ le ];
   }
 
-  reads_found : (node word value : ℕ) → Does run j node (Read word value) → IsLatest run j word value → Found run j word → (value ≡ last_value run j word → ⊥) → ⊥
+  reads_found : (node word value : ℕ) → Does run j node (Read word value) → IsLatest run j word value → Found run j word → (value ≡ last_value run j word → ⊥)
+      → ⊥
   reads_found node word value here latest (inl u) differ = differ (latest.none (λ i v w. u.none i v (forward w.before) w.write) ∙ sym u.zero)
   reads_found node word value here latest (inr (i, w)) differ =
       before_access i j w.write.0 node word w.value w.earlier (omega arith) w.write.1 (Read word value) here (inl (value, here)) (λ order.

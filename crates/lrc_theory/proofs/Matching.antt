@@ -43,20 +43,26 @@ module _ (run : List Act) (j node : ℕ) (d : Deed) (here : Does run j node d) w
   departs-same n h = count_of-same is_depart run n j node d here h
 
   -- the thread of another node, in a machine with as many words and locks
-  other_fits : (machine after : Plain) (n : ℕ) (t : Thread) → length after.memory ≡ length machine.memory → length after.holders ≡ length machine.holders → (n ≡ node → ⊥) → ThreadFits run j machine n t → ThreadFits run (j + 1) after n t
+  other_fits : (machine after : Plain) (n : ℕ) (t : Thread) → length after.memory ≡ length machine.memory → length after.holders ≡ length machine.holders
+      → (n ≡ node → ⊥) → ThreadFits run j machine n t → ThreadFits run (j + 1) after n t
   other_fits machine after n t m h other f = record {
     words = f.words ∙ sym m;
     locks = f.locks ∙ sym h;
-    paired = let arrived = arrives-same n (λ e x. other (sym e)) in let departed = departs-same n (λ e x. other (sym e)) in subst (λ a. IsPaired t.arrived a (departs_before run n (j + 1))) (sym arrived) (subst (λ b. IsPaired t.arrived (arrives_before run n j) b) (sym departed) f.paired);
+    paired = let arrived = arrives-same n (λ e x. other (sym e)) in let departed = departs-same n (λ e x. other (sym e)) in
+        subst (λ a. IsPaired t.arrived a (departs_before run n (j + 1))) (sym arrived)
+        (subst (λ b. IsPaired t.arrived (arrives_before run n j) b) (sym departed) f.paired);
     held = λ l e. Holds-kept run j node d here n l (λ e' x. other e') (f.held l e);
   }
 
   -- the threads after an act: this node's is the new one, and the others fit as before
-  pub threads_after : (machine after : Plain) (t : Option Thread) → length after.memory ≡ length machine.memory → length after.holders ≡ length machine.holders → after.threads ≡ slice_set machine.threads node t → node < length machine.threads
-      → Matches run j machine → ((t' : Thread) → t ≡ Some t' → ThreadFits run (j + 1) after node t') → (n : ℕ) (t' : Thread) → thread_in after n ≡ Some t' → ThreadFits run (j + 1) after n t'
+  pub threads_after : (machine after : Plain) (t : Option Thread) → length after.memory ≡ length machine.memory → length after.holders ≡ length machine.holders
+      → after.threads ≡ slice_set machine.threads node t → node < length machine.threads
+      → Matches run j machine → ((t' : Thread) → t ≡ Some t' → ThreadFits run (j + 1) after node t') → (n : ℕ) (t' : Thread) → thread_in after n ≡ Some t'
+      → ThreadFits run (j + 1) after n t'
   threads_after machine after t m h e within before new n t' at = elim (cases_eq n node) [
     | inl same ↦
-        let there : thread_in after n ≡ t = ap (λ ts. slice_index_or ts n None) e ∙ ap (λ k. slice_index_or (slice_set machine.threads node t) k None) same ∙ get_or-set_same machine.threads node t None within in
+        let there : thread_in after n ≡ t = ap (λ ts. slice_index_or ts n None) e ∙ ap (λ k. slice_index_or (slice_set machine.threads node t) k None) same
+        ∙ get_or-set_same machine.threads node t None within in
         subst (λ k. ThreadFits run (j + 1) after k t') (sym same) (new t' (sym there ∙ at))
     | inr other ↦
         let there : thread_in after n ≡ thread_in machine n = ap (λ ts. slice_index_or ts n None) e ∙ get_or-set_other machine.threads node n t None other in

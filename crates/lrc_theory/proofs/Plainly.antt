@@ -36,11 +36,16 @@ pub record Stepwise (machine : Plain) (node : ℕ) (order : List ℕ) (acts : Li
   pub rest : plain_from after order ≡ Some (more, final)
   pub acts_are : acts ≡ act_of node deed ∷ more
 
-pub stepwise : (machine : Plain) (node : ℕ) (order : List ℕ) (acts : List Act) (final : Plain) → plain_from machine (node ∷ order) ≡ Some (acts, final) → Stepwise machine node order acts final
+pub stepwise : (machine : Plain) (node : ℕ) (order : List ℕ) (acts : List Act) (final : Plain) → plain_from machine (node ∷ order) ≡ Some (acts, final)
+    → Stepwise machine node order acts final
 stepwise machine node order acts final e =
-    let go : Deed × Plain → Option (List Act × Plain) = λ step. option_map (λ more. (record { node = node; deed = step.0 } ∷ more.0, more.1)) (plain_from step.1 order) in
+    let go : Deed × Plain → Option (List Act × Plain) =
+    λ step. option_map (λ more. (record { node = node; deed = step.0 } ∷ more.0, more.1)) (plain_from step.1 order) in
     option_and_then_some go (plain_step machine node) (acts, final) e (λ step first afterwards.
-    option_map_some (λ more. (record { node = node; deed = step.0 } ∷ more.0, more.1)) (plain_from step.1 order) (acts, final) afterwards (λ more rest is. record {
+    option_map_some (λ more. (record { node = node; deed = step.0 } ∷ more.0, more.1)) (plain_from step.1 order) (
+      acts,
+      final,
+    ) afterwards (λ more rest is. record {
       deed = step.0;
       after = step.1;
       more = more.0;
@@ -50,13 +55,15 @@ stepwise machine node order acts final e =
     }))
 
 -- a step and a run after it are a run
-pub one_more : (machine after final : Plain) (node : ℕ) (deed : Deed) (order : List ℕ) (more : List Act) → plain_step machine node ≡ Some (deed, after) → plain_from after order ≡ Some (more, final) → plain_from machine (node ∷ order) ≡ Some (act_of node deed ∷ more, final)
+pub one_more : (machine after final : Plain) (node : ℕ) (deed : Deed) (order : List ℕ) (more : List Act) → plain_step machine node ≡ Some (deed, after)
+    → plain_from after order ≡ Some (more, final) → plain_from machine (node ∷ order) ≡ Some (act_of node deed ∷ more, final)
 one_more machine after final node deed order more first rest =
     ap (option_and_then (λ step. option_map (λ m. (record { node = node; deed = step.0 } ∷ m.0, m.1)) (plain_from step.1 order))) first
     ∙ ap (option_map (λ m. (record { node = node; deed = deed } ∷ m.0, m.1))) rest
 
 -- a run and a run after it are a run
-pub plain_from-append : (xs ys : List ℕ) (machine mid final : Plain) (made later : List Act) → plain_from machine xs ≡ Some (made, mid) → plain_from mid ys ≡ Some (later, final) → plain_from machine (xs ++ ys) ≡ Some (made ++ later, final)
+pub plain_from-append : (xs ys : List ℕ) (machine mid final : Plain) (made later : List Act) → plain_from machine xs ≡ Some (made, mid)
+    → plain_from mid ys ≡ Some (later, final) → plain_from machine (xs ++ ys) ≡ Some (made ++ later, final)
 plain_from-append [] ys machine mid final made later e f =
     let parts = some_pair_parts [] made machine mid e in
     ap (λ m. plain_from m ys) parts.1 ∙ f ∙ ap (λ zs. Some (zs ++ later, final)) parts.0
@@ -74,24 +81,38 @@ record Undone (machine : Plain) (node : ℕ) (n : Next) (d : Deed) (after : Plai
   size : length after.arrivals ≡ length machine.arrivals
 
 module _ (machine : Plain) (node : ℕ) where
-  undo : (n : Next) (d₀ : Deed) (after₀ : Plain) (d : Deed) (after : Plain) → ◌≡◌ {A = Option (Deed × Plain)} (Some (d₀, after₀)) (Some (d, after)) → Undone machine node n d₀ after₀ → Undone machine node n d after
+  undo : (n : Next) (d₀ : Deed) (after₀ : Plain) (d : Deed) (after : Plain) → ◌≡◌ {A = Option (Deed × Plain)} (Some (d₀, after₀)) (Some (d, after))
+      → Undone machine node n d₀ after₀ → Undone machine node n d after
   undo n d₀ after₀ d after e u =
       let parts = some_pair_parts d₀ d after₀ after e in
       subst (λ x. Undone machine node n x after) parts.0 (subst (λ x. Undone machine node n d₀ x) parts.1 u)
 
-  undo_if : (b : Bool) (n : Next) (d₀ : Deed) (after₀ : Plain) (d : Deed) (after : Plain) → ◌≡◌ {A = Option (Deed × Plain)} (if b then Some (d₀, after₀) else None) (Some (d, after)) → (b ≡ true → Undone machine node n d₀ after₀) → Undone machine node n d after
+  undo_if : (b : Bool) (n : Next) (d₀ : Deed) (after₀ : Plain) (d : Deed) (after : Plain)
+      → ◌≡◌ {A = Option (Deed × Plain)} (if b then Some (d₀, after₀) else None) (Some (d, after)) → (b ≡ true → Undone machine node n d₀ after₀)
+      → Undone machine node n d after
   undo_if true n d₀ after₀ d after e u = undo n d₀ after₀ d after e (u refl)
   undo_if false n d₀ after₀ d after e u = cc
 
   undone : (n : Next) (d : Deed) (after : Plain) → deed_of machine node n ≡ Some (d, after) → Undone machine node n d after
   undone (quiet t) d after e = undo (quiet t) _ _ d after e (record { thread = Some t; goes = quietly; can = tt; threads = refl; size = refl })
   undone (prints v t) d after e = undo (prints v t) _ _ d after e (record { thread = Some t; goes = printing; can = tt; threads = refl; size = refl })
-  undone (reads w t) d after e = undo (reads w t) _ _ d after e (record { thread = Some (t (slice_index machine.memory w)); goes = reading; can = refl; threads = refl; size = refl })
+  undone (reads w t) d after e =
+      undo (reads w t) _ _ d after e (record { thread = Some (t (slice_index machine.memory w)); goes = reading; can = refl; threads = refl; size = refl })
   undone (writes w v t) d after e = undo (writes w v t) _ _ d after e (record { thread = Some t; goes = writing; can = tt; threads = refl; size = refl })
-  undone (acquires l t) d after e = undo_if (is_free machine l) (acquires l t) _ _ d after e (λ b. record { thread = Some t; goes = acquiring; can = b; threads = refl; size = refl })
+  undone (acquires l t) d after e =
+      undo_if (is_free machine l) (acquires l t) _ _ d after e (λ b. record { thread = Some t; goes = acquiring; can = b; threads = refl; size = refl })
   undone (releases l t) d after e = undo (releases l t) _ _ d after e (record { thread = Some t; goes = releasing; can = tt; threads = refl; size = refl })
-  undone (arrives t) d after e = undo (arrives t) _ _ d after e (record { thread = Some t; goes = arriving; can = tt; threads = refl; size = length-set machine.arrivals node (slice_index machine.arrivals node + 1) })
-  undone (departs t) d after e = undo_if (all_arrived machine node) (departs t) _ _ d after e (λ b. record { thread = Some t; goes = departing; can = b; threads = refl; size = refl })
+  undone (arrives t) d after e =
+      undo (arrives t) _ _ d after e (record {
+        thread = Some t;
+        goes = arriving;
+        can = tt;
+        threads = refl;
+        size =
+            length-set machine.arrivals node (slice_index machine.arrivals node + 1);
+      })
+  undone (departs t) d after e =
+      undo_if (all_arrived machine node) (departs t) _ _ d after e (λ b. record { thread = Some t; goes = departing; can = b; threads = refl; size = refl })
   undone (traps c) d after e = undo (traps c) _ _ d after e (record { thread = None; goes = trapping; can = tt; threads = refl; size = refl })
   undone ends d after e = undo ends _ _ d after e (record { thread = None; goes = ending; can = tt; threads = refl; size = refl })
 
@@ -108,7 +129,8 @@ module _ (run : List Act) (nodes : ℕ) where
       let short : length run - j ≡ 0 = sym (length-drop j run) ∙ ap length e in
       omega arith
 
-  sound_from : (order : List ℕ) (ahead : List Act) (j : ℕ) (machine final : Plain) → plain_from machine order ≡ Some (ahead, final) → drop j run ≡ ahead → Matches run j machine → length machine.arrivals ≡ nodes → SoundFrom run nodes j machine ahead
+  sound_from : (order : List ℕ) (ahead : List Act) (j : ℕ) (machine final : Plain) → plain_from machine order ≡ Some (ahead, final) → drop j run ≡ ahead
+      → Matches run j machine → length machine.arrivals ≡ nodes → SoundFrom run nodes j machine ahead
   sound_from [] ahead j machine final e stands m size =
       let none = some_pair_parts [] ahead machine final e in
       let at_end = stands ∙ sym none.0 in
@@ -127,13 +149,18 @@ module _ (run : List Act) (nodes : ℕ) where
       let within = thread_within machine node t at in
       let node_in_range : node < nodes = let sizes = m.sizes in omega arith in
       let now : SoundAt run nodes j node s.deed = is_sound run nodes j node machine t at m size u.goes (fine t) u.can in
-      let rest = sound_from order s.more (j + 1) s.after final s.rest (ap (λ i. drop i run) (add-one j) ∙ drop_ahead run j a s.more stands') (step run j node machine t at m (next_of t) (fine t) s.deed s.after is here) (u.size ∙ size) in
-      let own : Makes (thread_in machine node) (s.deed ∷ deeds_of node s.more) = subst (λ o. Makes o (s.deed ∷ deeds_of node s.more)) (sym at) (and_then u.goes (subst (λ o. Makes o (deeds_of node s.more)) (thread_after machine s.after node u.thread u.threads within) (rest.makes node node_in_range))) in
+      let rest = sound_from order s.more (j + 1) s.after final s.rest (ap (λ i. drop i run) (add-one j)
+      ∙ drop_ahead run j a s.more stands') (step run j node machine t at m (next_of t) (fine t) s.deed s.after is here) (u.size ∙ size) in
+      let own : Makes (thread_in machine node) (s.deed ∷ deeds_of node s.more) =
+      subst (λ o. Makes o (s.deed ∷ deeds_of node s.more)) (sym at)
+      (and_then u.goes (subst (λ o. Makes o (deeds_of node s.more)) (thread_after machine s.after node u.thread u.threads within)
+      (rest.makes node node_in_range))) in
       record {
         sound = λ k n d le h. elim (cases_eq k j) [
           | inl same ↦
               let h' = subst (λ i. Does run i n d) same h in
-              subst (λ i. SoundAt run nodes i n d) (sym same) (subst (λ x. SoundAt run nodes j x d) (Does-one_node here h') (subst (λ x. SoundAt run nodes j node x) (Does-one_deed here h') now))
+              subst (λ i. SoundAt run nodes i n d) (sym same)
+              (subst (λ x. SoundAt run nodes j x d) (Does-one_node here h') (subst (λ x. SoundAt run nodes j node x) (Does-one_deed here h') now))
           | inr later ↦ rest.sound k n d (omega arith) h
         ];
         in_range = λ k n d le h. elim (cases_eq k j) [
@@ -141,8 +168,10 @@ module _ (run : List Act) (nodes : ℕ) where
           | inr later ↦ rest.in_range k n d (omega arith) h
         ];
         makes = λ n lt. subst (λ acts. Makes (thread_in machine n) (deeds_of n acts)) (sym s.acts_are) (elim (cases_eq n node) [
-          | inl same ↦ subst (λ k. Makes (thread_in machine k) (deeds_of k (a ∷ s.more))) (sym same) (subst (λ ds. Makes (thread_in machine node) ds) (sym (deeds_of-own a s.more)) own)
-          | inr other ↦ subst (λ ds. Makes (thread_in machine n) ds) (sym (deeds_of-other a s.more n (λ x. other (sym x)))) (subst (λ o. Makes o (deeds_of n s.more)) (other_after machine s.after node n u.thread u.threads other) (rest.makes n lt))
+          | inl same ↦ subst (λ k. Makes (thread_in machine k) (deeds_of k (a ∷ s.more))) (sym same)
+              (subst (λ ds. Makes (thread_in machine node) ds) (sym (deeds_of-own a s.more)) own)
+          | inr other ↦ subst (λ ds. Makes (thread_in machine n) ds) (sym (deeds_of-other a s.more n (λ x. other (sym x))))
+              (subst (λ o. Makes o (deeds_of n s.more)) (other_after machine s.after node n u.thread u.threads other) (rest.makes n lt))
         ]);
       })
 
@@ -156,7 +185,8 @@ pub facts : (program : Program) (nodes : ℕ) (order : List ℕ) (run : List Act
 facts program nodes order run e =
     option_map_some (λ r. r.0) (plain_from (plain_start program nodes) order) run e (λ found made is.
     let made' : plain_from (plain_start program nodes) order ≡ Some (run, found.1) = made ∙ ap (λ acts. Some (acts, found.1)) is in
-    let s = sound_from run nodes order run 0 (plain_start program nodes) found.1 made' refl (start_matches program nodes run) (length-replicate {A = ℕ} nodes 0) in
+    let s = sound_from run nodes order run 0 (plain_start program nodes) found.1 made' refl (start_matches program nodes run) (length-replicate {A =
+    ℕ} nodes 0) in
     record {
       follows = record {
         in_range = λ k d lt.

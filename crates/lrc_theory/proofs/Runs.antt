@@ -66,14 +66,40 @@ module _ (machine : Plain) (node : ℕ) where
   pub done : {n : Next} {d : Deed} {t : Option Thread} → Goes n d t → CanDo machine node d → (after : Plain) × Done machine node n d t after
   done (quietly {t = t}) can = (with_thread machine node (Some t), record { is = refl; threads = refl; size = refl })
   done (printing {t = t}) can = (with_thread machine node (Some t), record { is = refl; threads = refl; size = refl })
-  done (reading {t = t} {w = w} {v = v}) can = (with_thread machine node (Some (t v)), record { is = ap (λ x. Some (Read w x, with_thread machine node (Some (t x)))) (sym can); threads = refl; size = refl })
-  done (writing {t = t} {w = w} {v = v}) can = (record (with_thread machine node (Some t)) { memory = slice_set machine.memory w v }, record { is = refl; threads = refl; size = refl })
+  done (reading {t = t} {w = w} {v = v}) can = (
+    with_thread machine node (Some (t v)),
+    record {
+      is = ap (λ x. Some (Read w x, with_thread machine node (Some (t x)))) (sym can);
+      threads = refl;
+      size =
+          refl;
+    },
+  )
+  done (writing {t = t} {w = w} {v = v}) can =
+      (record (with_thread machine node (Some t)) { memory = slice_set machine.memory w v }, record { is = refl; threads = refl; size = refl })
   done (acquiring {t = t} {l = l}) can =
       let after : Plain = record (with_thread machine node (Some t)) { holders = slice_set machine.holders l (Some node) } in
       (after, record { is = ap (λ b. if b then Some (Acquire l, after) else None) can; threads = refl; size = refl })
-  done (releasing {t = t} {l = l}) can = (record (with_thread machine node (Some t)) { holders = slice_set machine.holders l None }, record { is = refl; threads = refl; size = refl })
-  done (arriving {t = t}) can = (record (with_thread machine node (Some t)) { arrivals = slice_set machine.arrivals node (slice_index machine.arrivals node + 1) }, record { is = refl; threads = refl; size = length-set machine.arrivals node (slice_index machine.arrivals node + 1) })
-  done (departing {t = t}) can = (with_thread machine node (Some t), record { is = ap (λ b. if b then Some (Depart, with_thread machine node (Some t)) else None) can; threads = refl; size = refl })
+  done (releasing {t = t} {l = l}) can =
+      (record (with_thread machine node (Some t)) { holders = slice_set machine.holders l None }, record { is = refl; threads = refl; size = refl })
+  done (arriving {t = t}) can = (
+    record (with_thread machine node (Some t)) { arrivals = slice_set machine.arrivals node (slice_index machine.arrivals node + 1) },
+    record {
+      is =
+          refl;
+      threads = refl;
+      size = length-set machine.arrivals node (slice_index machine.arrivals node + 1);
+    },
+  )
+  done (departing {t = t}) can = (
+    with_thread machine node (Some t),
+    record {
+      is = ap (λ b. if b then Some (Depart, with_thread machine node (Some t)) else None) can;
+      threads =
+          refl;
+      size = refl;
+    },
+  )
   done (trapping {c = c}) can = (with_thread machine node None, record { is = refl; threads = refl; size = refl })
   done ending can = (with_thread machine node None, record { is = refl; threads = refl; size = refl })
 
@@ -85,11 +111,13 @@ SoundAt run nodes j node (Release l) = Holds run j node l
 SoundAt run nodes j node Depart = (other : ℕ) → other < nodes → departs_before run node j < arrives_before run other j
 SoundAt run nodes j node _ = Unit {0}
 
-module _ (run : List Act) (nodes j node : ℕ) (machine : Plain) (t : Thread) (at : thread_in machine node ≡ Some t) (m : Matches run j machine) (size : length machine.arrivals ≡ nodes) where
+module _ (run : List Act) (nodes j node : ℕ) (machine : Plain) (t : Thread) (at : thread_in machine node ≡ Some t) (m : Matches run j machine)
+    (size : length machine.arrivals ≡ nodes) where
   waits_paired : t.arrived ≡ true → slice_index machine.arrivals node ≡ departs_before run node j + 1
   waits_paired e =
       let f = m.threads node t at in
-      let paired : IsPaired true (arrives_before run node j) (departs_before run node j) = subst (λ b. IsPaired b (arrives_before run node j) (departs_before run node j)) e f.paired in
+      let paired : IsPaired true (arrives_before run node j) (departs_before run node j) =
+      subst (λ b. IsPaired b (arrives_before run node j) (departs_before run node j)) e f.paired in
       let within : node < length machine.arrivals = let lt = thread_within machine node t at in let s = m.sizes in omega arith in
       m.arrivals node within ∙ paired
 
@@ -141,10 +169,12 @@ pub record Ready (run : List Act) (nodes j : ℕ) (machine : Plain) (ahead : Lis
   pub makes : (n : ℕ) → n < nodes → Makes (thread_in machine n) (deeds_of n ahead)
 
 -- the threads after a step
-pub thread_after : (machine after : Plain) (node : ℕ) (t : Option Thread) → after.threads ≡ slice_set machine.threads node t → node < length machine.threads → thread_in after node ≡ t
+pub thread_after : (machine after : Plain) (node : ℕ) (t : Option Thread) → after.threads ≡ slice_set machine.threads node t → node < length machine.threads
+    → thread_in after node ≡ t
 thread_after machine after node t e within = ap (λ ts. slice_index_or ts node None) e ∙ get_or-set_same machine.threads node t None within
 
-pub other_after : (machine after : Plain) (node n : ℕ) (t : Option Thread) → after.threads ≡ slice_set machine.threads node t → (n ≡ node → ⊥) → thread_in after n ≡ thread_in machine n
+pub other_after : (machine after : Plain) (node n : ℕ) (t : Option Thread) → after.threads ≡ slice_set machine.threads node t → (n ≡ node → ⊥)
+    → thread_in after n ≡ thread_in machine n
 other_after machine after node n t e other = ap (λ ts. slice_index_or ts n None) e ∙ get_or-set_other machine.threads node n t None other
 
 -- one act of the run is a step of the machine
@@ -153,7 +183,8 @@ record Stepped (run : List Act) (nodes j : ℕ) (machine : Plain) (a : Act) (mor
   is : plain_step machine a.node ≡ Some (a.deed, after)
   ready : Ready run nodes (j + 1) after more
 
-stepped : (run : List Act) (nodes j : ℕ) (machine : Plain) (a : Act) (more : List Act) → Ready run nodes j machine (a ∷ more) → a.node < nodes → SoundAt run nodes j a.node a.deed → Stepped run nodes j machine a more
+stepped : (run : List Act) (nodes j : ℕ) (machine : Plain) (a : Act) (more : List Act) → Ready run nodes j machine (a ∷ more) → a.node < nodes
+    → SoundAt run nodes j a.node a.deed → Stepped run nodes j machine a more
 stepped run nodes j machine a more r in_range sound =
     let first = makes_first (subst (λ ds. Makes (thread_in machine a.node) ds) (deeds_of-own a more) (r.makes a.node in_range)) in
     let f = fine first.thread in
@@ -171,11 +202,13 @@ stepped run nodes j machine a more r in_range sound =
         size = result.1.size ∙ r.size;
         makes = λ n lt. elim (cases_eq n a.node) [
           | inl same ↦
-              let own : Makes (thread_in after a.node) (deeds_of a.node more) = subst (λ t. Makes t (deeds_of a.node more)) (sym (thread_after machine after a.node first.after result.1.threads within)) first.more in
+              let own : Makes (thread_in after a.node) (deeds_of a.node more) =
+              subst (λ t. Makes t (deeds_of a.node more)) (sym (thread_after machine after a.node first.after result.1.threads within)) first.more in
               subst (λ k. Makes (thread_in after k) (deeds_of k more)) (sym same) own
           | inr other ↦
               let as_before = other_after machine after a.node n first.after result.1.threads other in
-              subst (λ t. Makes t (deeds_of n more)) (sym as_before) (subst (λ ds. Makes (thread_in machine n) ds) (deeds_of-other a more n (λ e. other (sym e))) (r.makes n lt))
+              subst (λ t. Makes t (deeds_of n more)) (sym as_before)
+              (subst (λ ds. Makes (thread_in machine n) ds) (deeds_of-other a more n (λ e. other (sym e))) (r.makes n lt))
         ];
       };
     }
@@ -187,8 +220,10 @@ pub record Led (run : List Act) (nodes j : ℕ) (machine : Plain) (stretch tail 
   pub ready : Ready run nodes (j + length stretch) final tail
 
 pub led : (run : List Act) (nodes j : ℕ) (machine : Plain) (stretch tail : List Act) → Ready run nodes j machine (stretch ++ tail)
-    → ((k n : ℕ) (d : Deed) → Does run k n d → n < nodes) → ((k n : ℕ) (d : Deed) → k < j + length stretch → Does run k n d → SoundAt run nodes k n d) → Led run nodes j machine stretch tail
-led run nodes j machine [] tail r in_range sound = record { final = machine; is = refl; ready = subst (λ k. Ready run nodes k machine tail) (sym (add-zero j)) r }
+    → ((k n : ℕ) (d : Deed) → Does run k n d → n < nodes) → ((k n : ℕ) (d : Deed) → k < j + length stretch → Does run k n d → SoundAt run nodes k n d)
+    → Led run nodes j machine stretch tail
+led run nodes j machine [] tail r in_range sound =
+    record { final = machine; is = refl; ready = subst (λ k. Ready run nodes k machine tail) (sym (add-zero j)) r }
 led run nodes j machine (a ∷ stretch) tail r in_range sound =
     let here = does_ahead run j a (stretch ++ tail) r.stands in
     let s = stepped run nodes j machine a (stretch ++ tail) r (in_range j a.node a.deed here) (sound j a.node a.deed (omega arith) here) in
@@ -197,7 +232,8 @@ led run nodes j machine (a ∷ stretch) tail r in_range sound =
     record {
       final = rest.final;
       is =
-          ap (option_and_then (λ step. option_map (λ more. (record { node = a.node; deed = step.0 } ∷ more.0, more.1)) (plain_from step.1 (nodes_of stretch)))) s.is
+          ap (option_and_then (λ step. option_map (λ more. (record { node = a.node; deed = step.0 } ∷ more.0, more.1)) (plain_from step.1 (nodes_of stretch))))
+          s.is
           ∙ ap (option_map (λ more. (record { node = a.node; deed = a.deed } ∷ more.0, more.1))) rest.is;
       ready = subst (λ k. Ready run nodes k rest.final tail) e rest.ready;
     }
@@ -218,7 +254,8 @@ nobody locks l = elim (cases_lt l locks) [
 pub start_matches : (program : Program) (nodes : ℕ) (run : List Act) → Matches run 0 (plain_start program nodes)
 start_matches program nodes run =
     let no_holder : (n l : ℕ) → Holds run 0 n l → ⊥ = λ n l h. let lt = h.earlier in omega arith in
-    let counted : length (map (λ me. Some (start_of program nodes me)) (range_with_len 0 nodes)) ≡ nodes = length-map (range_with_len 0 nodes) (λ me. Some (start_of program nodes me)) ∙ length-range_with_len 0 nodes in
+    let counted : length (map (λ me. Some (start_of program nodes me)) (range_with_len 0 nodes)) ≡ nodes =
+    length-map (range_with_len 0 nodes) (λ me. Some (start_of program nodes me)) ∙ length-range_with_len 0 nodes in
     record {
       memory = λ w lt. get_or-replicate program.words w 0 0 (omega (arith, length-replicate {A = ℕ} program.words 0));
       free = λ l e n h. no_holder n l h;

@@ -31,7 +31,8 @@ in_range {nodes = nodes} {run = run} follows k n d h =
     subst (λ x. x.node < nodes) at (follows.in_range k a (Does-within h))
 
 -- what well-synchronization and lazy reading say of a deed before the first race
-pub lazy_sound : (nodes : ℕ) (run : List Act) (position : ℕ) → IsWellSynchronized nodes run → ReadsLazily run → ((i j : ℕ) → Races run i j → position ≤ j) → (k n : ℕ) (d : Deed) → k < position → Does run k n d → SoundAt run nodes k n d
+pub lazy_sound : (nodes : ℕ) (run : List Act) (position : ℕ) → IsWellSynchronized nodes run → ReadsLazily run → ((i j : ℕ) → Races run i j → position ≤ j)
+    → (k n : ℕ) (d : Deed) → k < position → Does run k n d → SoundAt run nodes k n d
 lazy_sound nodes run position ws lazily first k n Quiet lt h = tt
 lazy_sound nodes run position ws lazily first k n (Print v) lt h = tt
 lazy_sound nodes run position ws lazily first k n (Read w v) lt h =
@@ -52,7 +53,8 @@ record Made (machine : Plain) (node : ℕ) (n : Next) (d : Deed) : Type 0 where
   after : Plain
   is : deed_of machine node n ≡ Some (other, after)
 
-module _ (run : List Act) (nodes j node : ℕ) (machine : Plain) (t : Thread) (at : thread_in machine node ≡ Some t) (m : Matches run j machine) (size : length machine.arrivals ≡ nodes) (ws : IsWellSynchronized nodes run) where
+module _ (run : List Act) (nodes j node : ℕ) (machine : Plain) (t : Thread) (at : thread_in machine node ≡ Some t) (m : Matches run j machine)
+    (size : length machine.arrivals ≡ nodes) (ws : IsWellSynchronized nodes run) where
   as_it_is : {n : Next} {d : Deed} {t' : Option Thread} → Goes n d t' → IsFine t n → SoundAt run nodes j node d → Made machine node n d
   as_it_is {d = d} g f s =
       let result = done machine node g (can_do run nodes j node machine t at m size g f s) in
@@ -79,12 +81,14 @@ drop_here [] j x e = cc
 drop_here (y ∷ xs) zero x e = cc
 drop_here (y ∷ xs) (suc j) x e = drop_here xs j x e
 
-module _ (program : Program) (nodes : ℕ) (run : List Act) (follows : FollowsText program nodes run) (ws : IsWellSynchronized nodes run) (lazily : ReadsLazily run) where
+module _ (program : Program) (nodes : ℕ) (run : List Act) (follows : FollowsText program nodes run) (ws : IsWellSynchronized nodes run)
+    (lazily : ReadsLazily run) where
   led_to : (position : ℕ) → ((i j : ℕ) → Races run i j → position ≤ j) → Led run nodes 0 (plain_start program nodes) (take position run) (drop position run)
   led_to position first =
       let start = start_ready program nodes run follows in
       let short = length-take position run in
-      led run nodes 0 (plain_start program nodes) (take position run) (drop position run) (subst (λ acts. Ready run nodes 0 (plain_start program nodes) acts) (sym (take-append-drop position run)) start) (in_range follows)
+      led run nodes 0 (plain_start program nodes) (take position run) (drop position run)
+      (subst (λ acts. Ready run nodes 0 (plain_start program nodes) acts) (sym (take-append-drop position run)) start) (in_range follows)
       (λ k n d lt h. lazy_sound nodes run position ws lazily first k n d (omega arith) h)
 
   pub before_race : (position : ℕ) → ((i j : ℕ) → Races run i j → position ≤ j) → plain program nodes (nodes_of (take position run)) ≡ Some (take position run)
@@ -98,13 +102,20 @@ module _ (program : Program) (nodes : ℕ) (run : List Act) (follows : FollowsTe
       let a = act_of node deed in
       let within = Does-within here in
       let long : length (take position run) ≡ position = length-take position run ∙ omega arith in
-      let r : Ready run nodes position l.final (a ∷ drop (suc position) run) = subst (λ acts. Ready run nodes position l.final acts) (drop_here run position a here.stands) (subst (λ k. Ready run nodes k l.final (drop position run)) (let e : 0 + length (take position run) ≡ position = omega arith in e) l.ready) in
-      let f = makes_first (subst (λ ds. Makes (thread_in l.final node) ds) (deeds_of-own a (drop (suc position) run)) (r.makes node (in_range follows position node deed here))) in
+      let r : Ready run nodes position l.final (a ∷ drop (suc position) run) =
+      subst (λ acts. Ready run nodes position l.final acts) (drop_here run position a here.stands)
+      (subst (λ k. Ready run nodes k l.final (drop position run)) (let e : 0 + length (take position run) ≡ position = omega arith in e) l.ready) in
+      let f = makes_first (subst (λ ds. Makes (thread_in l.final node) ds) (deeds_of-own a (drop (suc position) run))
+      (r.makes node (in_range follows position node deed here))) in
       let m = made run nodes position node l.final f.thread f.is r.matches r.size ws f.goes (fine f.thread) here in
-      let first_step : plain_step l.final node ≡ Some (m.other, m.after) = ap (λ o. option_and_then (λ thread. deed_of l.final node (next_of thread)) o) f.is ∙ m.is in
-      let last : plain_from l.final (node ∷ []) ≡ Some (act_of node m.other ∷ [], m.after) = one_more l.final m.after m.after node m.other [] [] first_step refl in
-      let whole = plain_from-append (nodes_of (take position run)) (node ∷ []) (plain_start program nodes) l.final m.after (take position run) (act_of node m.other ∷ []) l.is last in
-      let order : nodes_of (take (position + 1) run) ≡ nodes_of (take position run) ++ node ∷ [] = ap (λ k. nodes_of (take k run)) (add-one position) ∙ ap nodes_of (take_ahead run position a here.stands) ∙ map-append (λ (x : Act). x.node) (take position run) (a ∷ []) in
+      let first_step : plain_step l.final node ≡ Some (m.other, m.after) = ap (λ o. option_and_then (λ thread. deed_of l.final node (next_of thread)) o) f.is
+      ∙ m.is in
+      let last : plain_from l.final (node ∷ []) ≡ Some (act_of node m.other ∷ [], m.after) =
+      one_more l.final m.after m.after node m.other [] [] first_step refl in
+      let whole = plain_from-append (nodes_of (take position run)) (node ∷ []) (plain_start program nodes) l.final m.after (take position run)
+      (act_of node m.other ∷ []) l.is last in
+      let order : nodes_of (take (position + 1) run) ≡ nodes_of (take position run) ++ node ∷ [] = ap (λ k. nodes_of (take k run)) (add-one position)
+      ∙ ap nodes_of (take_ahead run position a here.stands) ∙ map-append (λ (x : Act). x.node) (take position run) (a ∷ []) in
       (m.other, m.kind, ap (λ o. option_map (λ x. x.0) (plain_from (plain_start program nodes) o)) order ∙ ap (option_map (λ x. x.0)) whole)
 
   pub up_to_race : (position : ℕ) → ((i j : ℕ) → Races run i j → position ≤ j) → PlainUpTo program nodes run position

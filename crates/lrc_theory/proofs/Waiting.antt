@@ -68,7 +68,8 @@ module _ (node : ℕ) where
   waits o [] m a e paired j d h other = let within = Does-within h in absurd (omega arith)
   waits o (x ∷ acts) m a e paired zero d h other =
       let here : x ≡ act_of node d = same_Some x (act_of node d) h.stands in
-      let own : Makes o (d ∷ deeds_of node acts) = subst (λ ds. Makes o ds) (deeds_of-own (act_of node d) acts) (subst (λ (y : Act). Makes o (deeds_of node (y ∷ acts))) here m) in
+      let own : Makes o (d ∷ deeds_of node acts) =
+      subst (λ ds. Makes o ds) (deeds_of-own (act_of node d) acts) (subst (λ (y : Act). Makes o (deeds_of node (y ∷ acts))) here m) in
       let first = makes_first own in
       let p : IsPaired first.thread.arrived a e = subst (λ q. Paired q a e) first.is paired in
       let no_arrives : arrives_before (x ∷ acts) node zero ≡ 0 = refl in
@@ -83,18 +84,21 @@ module _ (node : ℕ) where
       let departs = count_of-cons is_depart node x (take j acts) in
       elim (cases_eq x.node node) [
         | inl same ↦
-            let own : deeds_of node (x ∷ acts) ≡ x.deed ∷ deeds_of node acts = subst (λ k. deeds_of k (x ∷ acts) ≡ x.deed ∷ deeds_of k acts) same (deeds_of-own x acts) in
+            let own : deeds_of node (x ∷ acts) ≡ x.deed ∷ deeds_of node acts =
+            subst (λ k. deeds_of k (x ∷ acts) ≡ x.deed ∷ deeds_of k acts) same (deeds_of-own x acts) in
             let first = makes_first (subst (λ ds. Makes o ds) own m) in
             let p : IsPaired first.thread.arrived a e = subst (λ q. Paired q a e) first.is paired in
             let next = next_paired first.thread first.goes (fine first.thread) a e p in
             let rest = waits first.after acts first.more (one (is_arrive x.deed) + a) (one (is_depart x.deed) + e) next j d later other in
-            let counted : (kind : Deed → Bool) → one (x.node == node && kind x.deed) ≡ one (kind x.deed) = λ kind. ap (λ b. one (b && kind x.deed)) (eq-eqb x.node node same) in
+            let counted : (kind : Deed → Bool) → one (x.node == node && kind x.deed) ≡ one (kind x.deed) =
+            λ kind. ap (λ b. one (b && kind x.deed)) (eq-eqb x.node node same) in
             let arrived = counted is_arrive in
             let departed = counted is_depart in
             omega arith
         | inr apart ↦
             let rest = waits o acts (subst (λ ds. Makes o ds) (deeds_of-other x acts node apart) m) a e paired j d later other in
-            let skipped : (kind : Deed → Bool) → one (x.node == node && kind x.deed) ≡ 0 = λ kind. ap (λ b. one (b && kind x.deed)) (ne_eqb x.node node apart) in
+            let skipped : (kind : Deed → Bool) → one (x.node == node && kind x.deed) ≡ 0 =
+            λ kind. ap (λ b. one (b && kind x.deed)) (ne_eqb x.node node apart) in
             let arrived = skipped is_arrive in
             let departed = skipped is_depart in
             omega arith

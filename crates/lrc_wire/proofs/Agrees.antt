@@ -36,14 +36,16 @@ step reads spelled P agrees bytes k y fits e =
     record { value = a.0.0; rest = a.0.1; took = t.0; fits = t.1; then = a.2 }
 
 -- the same reader under an equivalent fact
-pub Agrees-as : {A : Type 0} (reads : List ℕ → Field A) (spelled : A → List ℕ) (P Q : A → Type 0) → ((x : A) → P x → Q x) → ((x : A) → Q x → P x) → Agrees reads spelled P → Agrees reads spelled Q
+pub Agrees-as : {A : Type 0} (reads : List ℕ → Field A) (spelled : A → List ℕ) (P Q : A → Type 0) → ((x : A) → P x → Q x) → ((x : A) → Q x → P x)
+    → Agrees reads spelled P → Agrees reads spelled Q
 Agrees-as reads spelled P Q to from agrees = record {
   takes = λ bytes x rest fits e. let t = agrees.takes bytes x rest fits e in (t.0, to x t.1);
   again = λ x rest h. agrees.again x rest (from x h);
 }
 
 -- a field with a test
-pub Agrees-tested : {A : Type 0} (reads : List ℕ → Field A) (spelled : A → List ℕ) (P : A → Type 0) (test : A → Bool) (fault : WireFault) → Agrees reads spelled P
+pub Agrees-tested : {A : Type 0} (reads : List ℕ → Field A) (spelled : A → List ℕ) (P : A → Type 0) (test : A → Bool) (fault : WireFault)
+    → Agrees reads spelled P
     → Agrees (λ bytes. tested test fault (reads bytes)) spelled (λ x. P x × (test x ≡ true))
 Agrees-tested reads spelled P test fault agrees = record {
   takes = λ bytes x rest fits e.
@@ -73,7 +75,8 @@ record IsWide (w : Width) (limit : ℕ) : Type 0 where
   again : (n : ℕ) → n < limit → from_be_bytes w (to_be_bytes w n) ≡ n
   below : (bytes : List ℕ) → IsBytes bytes → from_be_bytes w bytes < limit
 
-number_takes : (w : Width) (limit : ℕ) (wide : IsWide w limit) (bytes : List ℕ) (n : ℕ) (rest : List ℕ) → IsBytes bytes → number_at w bytes ≡ Ok (n, rest) → Takes bytes (number w n) rest × (n < limit)
+number_takes : (w : Width) (limit : ℕ) (wide : IsWide w limit) (bytes : List ℕ) (n : ℕ) (rest : List ℕ) → IsBytes bytes → number_at w bytes ≡ Ok (n, rest)
+    → Takes bytes (number w n) rest × (n < limit)
 unfolding number_at number
 number_takes w limit wide bytes n rest fits e =
     let g = unless_ok (ltb (length bytes) (byte_len w)) Short (Ok (from_be_bytes w (take (byte_len w) bytes), drop (byte_len w) bytes)) (n, rest) e in
@@ -81,8 +84,15 @@ number_takes w limit wide bytes n rest fits e =
     let both = ok_is (from_be_bytes w (take (byte_len w) bytes), drop (byte_len w) bytes) (n, rest) g.1 in
     let n-is : from_be_bytes w (take (byte_len w) bytes) ≡ n = ap (λ (p : ℕ × List ℕ). p.0) both in
     let rest-is : drop (byte_len w) bytes ≡ rest = ap (λ (p : ℕ × List ℕ). p.1) both in
-    let front : to_be_bytes w n ≡ take (byte_len w) bytes = rw (← n-is) (wide.back (take (byte_len w) bytes) (omega (arith, length-take (byte_len w) bytes)) (IsBytes-take (byte_len w) bytes fits)) in
-    (record { parts = rw (front, ← rest-is) (sym (take-append-drop (byte_len w) bytes)); rest_fits = rw (← rest-is) (IsBytes-drop (byte_len w) bytes fits) }, rw (← n-is) (wide.below (take (byte_len w) bytes) (IsBytes-take (byte_len w) bytes fits)))
+    let front : to_be_bytes w n ≡ take (byte_len w) bytes =
+    rw (← n-is) (wide.back (take (byte_len w) bytes) (omega (arith, length-take (byte_len w) bytes)) (IsBytes-take (byte_len w) bytes fits)) in (
+      record {
+        parts = rw (front, ← rest-is) (sym (take-append-drop (byte_len w) bytes));
+        rest_fits =
+            rw (← rest-is) (IsBytes-drop (byte_len w) bytes fits);
+      },
+      rw (← n-is) (wide.below (take (byte_len w) bytes) (IsBytes-take (byte_len w) bytes fits)),
+    )
 
 number_again : (w : Width) (limit : ℕ) (wide : IsWide w limit) (n : ℕ) (rest : List ℕ) → n < limit → number_at w (number w n ++ rest) ≡ Ok (n, rest)
 unfolding number_at number
@@ -120,28 +130,37 @@ number64_agrees = number_agrees w64 (2 ^ 64) record {
 
 -- ---- elements
 
-module _ {S A : Type 0} (element : S → List ℕ → Field A) (next : S → A → S) (spelled : A → List ℕ) (P : S → A → Type 0) (one : (state : S) → Agrees (element state) spelled (P state)) where
-  elements_take : (count : ℕ) (state : S) (bytes : List ℕ) (xs : List A) (rest : List ℕ) → IsBytes bytes → elements_at element next count state bytes ≡ Ok (xs, rest)
+module _ {S A : Type 0} (element : S → List ℕ → Field A) (next : S → A → S) (spelled : A → List ℕ) (P : S → A → Type 0) (one : (state : S)
+    → Agrees (element state) spelled (P state)) where
+  elements_take : (count : ℕ) (state : S) (bytes : List ℕ) (xs : List A) (rest : List ℕ) → IsBytes bytes
+      → elements_at element next count state bytes ≡ Ok (xs, rest)
       → Takes bytes (flat_map spelled xs) rest × (length xs ≡ count) × Along P next state xs
   unfolding elements_at
   elements_take zero state bytes xs rest fits e =
-      subst (λ (y : List A × List ℕ). Takes bytes (flat_map spelled y.0) y.1 × (length y.0 ≡ 0) × Along P next state y.0) (ok_is ([], bytes) (xs, rest) e) (record { parts = refl; rest_fits = fits }, refl, tt)
+      subst (λ (y : List A × List ℕ). Takes bytes (flat_map spelled y.0) y.1 × (length y.0 ≡ 0)
+      × Along P next state y.0) (ok_is ([], bytes) (xs, rest) e) (record { parts = refl; rest_fits = fits }, refl, tt)
   elements_take (suc count) state bytes xs rest fits e =
-      let a = step (element state) spelled (P state) (one state) bytes (λ first. elements_at element next count (next state first.0) first.1 >>= λ others. Ok (first.0 ∷ others.0, others.1)) (xs, rest) fits e in
+      let a = step (element state) spelled (P state) (one state) bytes
+      (λ first. elements_at element next count (next state first.0) first.1 >>= λ others. Ok (first.0 ∷ others.0, others.1)) (xs, rest) fits e in
       let b = bind_ok (elements_at element next count (next state a.value) a.rest) (λ others. Ok (a.value ∷ others.0, others.1)) (xs, rest) a.then in
       let second = elements_take count (next state a.value) a.rest b.0.0 b.0.1 a.took.rest_fits b.1 in
       let both = Takes-then bytes (spelled a.value) a.rest (flat_map spelled b.0.0) b.0.1 a.took second.0 in
       let made : List A × List ℕ = (a.value ∷ b.0.0, b.0.1) in
-      subst (λ (y : List A × List ℕ). Takes bytes (flat_map spelled y.0) y.1 × (length y.0 ≡ suc count) × Along P next state y.0) (ok_is made (xs, rest) b.2) (rw flat_map-cons both, ap suc second.1, (a.fits, second.2))
+      subst (λ (y : List A × List ℕ). Takes bytes (flat_map spelled y.0) y.1 × (length y.0 ≡ suc count)
+      × Along P next state y.0) (ok_is made (xs, rest) b.2) (rw flat_map-cons both, ap suc second.1, (a.fits, second.2))
 
-  elements_again : (xs : List A) (state : S) (rest : List ℕ) → Along P next state xs → elements_at element next (length xs) state (flat_map spelled xs ++ rest) ≡ Ok (xs, rest)
+  elements_again : (xs : List A) (state : S) (rest : List ℕ) → Along P next state xs
+      → elements_at element next (length xs) state (flat_map spelled xs ++ rest) ≡ Ok (xs, rest)
   unfolding elements_at
   elements_again [] state rest h = refl
   elements_again (x ∷ xs) state rest h =
-      let regrouped : flat_map spelled (x ∷ xs) ++ rest ≡ spelled x ++ (flat_map spelled xs ++ rest) = ap (λ (bytes : List ℕ). bytes ++ rest) (flat_map-cons spelled x xs) ∙ append_assoc (spelled x) (flat_map spelled xs) rest in
-      ap (elements_at element next (suc (length xs)) state) regrouped ∙ rw ((one state).again x (flat_map spelled xs ++ rest) h.0, elements_again xs (next state x) rest h.1) refl
+      let regrouped : flat_map spelled (x ∷ xs) ++ rest ≡ spelled x ++ (flat_map spelled xs ++ rest) =
+      ap (λ (bytes : List ℕ). bytes ++ rest) (flat_map-cons spelled x xs) ∙ append_assoc (spelled x) (flat_map spelled xs) rest in
+      ap (elements_at element next (suc (length xs)) state) regrouped
+      ∙ rw ((one state).again x (flat_map spelled xs ++ rest) h.0, elements_again xs (next state x) rest h.1) refl
 
-  pub elements_agree : (count : ℕ) (state : S) → Agrees (elements_at element next count state) (flat_map spelled) (λ xs. (length xs ≡ count) × Along P next state xs)
+  pub elements_agree : (count : ℕ) (state : S)
+      → Agrees (elements_at element next count state) (flat_map spelled) (λ xs. (length xs ≡ count) × Along P next state xs)
   elements_agree count state = record {
     takes = λ bytes xs rest fits e. let t = elements_take count state bytes xs rest fits e in (t.0, (t.1, t.2));
     again = λ xs rest h. ap (λ (n : ℕ). elements_at element next n state (flat_map spelled xs ++ rest)) (sym h.0) ∙ elements_again xs state rest h.1;

@@ -16,26 +16,30 @@ Along P next state (x ∷ xs) = P state x × Along P next (next state x) xs
 -- elements that were read have what reading one says of it
 pub elements_along : {S A : Type 0} (element : S → List ℕ → Field A) (next : S → A → S) (P : S → A → Type 0)
     → ((state : S) (bytes : List ℕ) (x : A) (rest : List ℕ) → element state bytes ≡ Ok (x, rest) → P state x)
-    → (count : ℕ) (state : S) (bytes : List ℕ) (xs : List A) (rest : List ℕ) → elements_at element next count state bytes ≡ Ok (xs, rest) → (length xs ≡ count) × Along P next state xs
+    → (count : ℕ) (state : S) (bytes : List ℕ) (xs : List A) (rest : List ℕ) → elements_at element next count state bytes ≡ Ok (xs, rest) → (length xs ≡ count)
+    × Along P next state xs
 unfolding elements_at
 elements_along {S} {A} element next P one zero state bytes xs rest e =
     subst (λ (y : List A × List ℕ). (length y.0 ≡ 0) × Along P next state y.0) (ok_is ([], bytes) (xs, rest) e) (refl, tt)
 elements_along {S} {A} element next P one (suc count) state bytes xs rest e =
-    let a = bind_ok (element state bytes) (λ first. elements_at element next count (next state first.0) first.1 >>= λ others. Ok (first.0 ∷ others.0, others.1)) (xs, rest) e in
+    let a = bind_ok (element state bytes) (λ first. elements_at element next count (next state first.0) first.1 >>= λ others. Ok (first.0 ∷ others.0, others.1))
+    (xs, rest) e in
     let b = bind_ok (elements_at element next count (next state a.0.0) a.0.1) (λ others. Ok (a.0.0 ∷ others.0, others.1)) (xs, rest) a.2 in
     let others = elements_along element next P one count (next state a.0.0) a.0.1 b.0.0 b.0.1 b.1 in
     subst (λ (y : List A × List ℕ). (length y.0 ≡ suc count) × Along P next state y.0) (ok_is (a.0.0 ∷ b.0.0, b.0.1) (xs, rest) b.2)
     (ap suc others.0, (one state bytes a.0.0 a.0.1 a.1, others.1))
 
 -- what holds at a place, where the state counts the places
-pub along_at : {A : Type 0} (P : ℕ → A → Type 0) (start : ℕ) (xs : List A) (d : A) (k place : ℕ) → place ≡ start + k → k < length xs → Along P (λ i _. i + 1) start xs → P place (get_or xs k d)
+pub along_at : {A : Type 0} (P : ℕ → A → Type 0) (start : ℕ) (xs : List A) (d : A) (k place : ℕ) → place ≡ start + k → k < length xs
+    → Along P (λ i _. i + 1) start xs → P place (get_or xs k d)
 along_at P start [] d k place e within h = absurd (omega arith)
 along_at P start (x ∷ xs) d zero place e within h =
     let same : start ≡ place = omega arith in
     subst (λ (i : ℕ). P i x) same h.0
 along_at P start (x ∷ xs) d (suc k) place e within h = along_at P (start + 1) xs d k place (omega arith) (omega arith) h.1
 
-pub along_from : {A : Type 0} (P : ℕ → A → Type 0) (start : ℕ) (xs : List A) → ((k place : ℕ) (d : A) → place ≡ start + k → k < length xs → P place (get_or xs k d)) → Along P (λ i _. i + 1) start xs
+pub along_from : {A : Type 0} (P : ℕ → A → Type 0) (start : ℕ) (xs : List A)
+    → ((k place : ℕ) (d : A) → place ≡ start + k → k < length xs → P place (get_or xs k d)) → Along P (λ i _. i + 1) start xs
 along_from P start [] h = tt
 along_from P start (x ∷ xs) h =
     (h 0 start x (omega arith) (omega arith), along_from P (start + 1) xs (λ k place d e within. h (suc k) place d (omega arith) (omega arith)))

@@ -23,7 +23,8 @@ use Rattle.lrc_wire.proofs.Runs.{Runs, IsRun, IsSome, AreChanging, runs_of-whole
 pub values_agree : (count : ℕ) → Agrees (values_at count) (numbers w64) (λ vs. (length vs ≡ count) × All (HasBits 64) vs)
 unfolding values_at numbers
 values_agree count =
-    Agrees-as _ (flat_map (number w64)) (λ vs. (length vs ≡ count) × Along (λ _ n. HasBits 64 n) (λ state _. state) (tt {0}) vs) (λ vs. (length vs ≡ count) × All (HasBits 64) vs)
+    Agrees-as _ (flat_map (number w64)) (λ vs. (length vs ≡ count) × Along (λ _ n. HasBits 64 n) (λ state _. state) (tt {0}) vs) (λ vs. (length vs ≡ count)
+    × All (HasBits 64) vs)
     (λ vs h. (h.0, All-from_along (HasBits 64) (λ state _. state) (tt {0}) vs h.1))
     (λ vs h. (h.0, along_from_all (HasBits 64) (λ state _. state) (tt {0}) vs h.1))
     (elements_agree (λ _ rest. number_at w64 rest) (λ state _. state) (number w64) (λ _ n. HasBits 64 n) (λ _. number64_agrees) count (tt {0}))
@@ -39,35 +40,51 @@ low_of (Some last) = last + 2
 abbrev Comes : Option ℕ → Run → Type 0
 Comes before r = (is_after is_apart before r.first ≡ true) × IsRun r
 
-first_agrees : (before : Option ℕ) → Agrees (λ bytes. tested (is_after is_apart before) NotAscending (byte_at bytes)) byte (λ n. HasBits 8 n × (is_after is_apart before n ≡ true))
+first_agrees : (before : Option ℕ)
+    → Agrees (λ bytes. tested (is_after is_apart before) NotAscending (byte_at bytes)) byte (λ n. HasBits 8 n × (is_after is_apart before n ≡ true))
 first_agrees before = Agrees-tested byte_at byte (HasBits 8) (is_after is_apart before) NotAscending byte_agrees
 
-more_agrees : (first : ℕ) → Agrees (λ bytes. tested (λ n. ltb (first + n) MOST_PAGE_WORDS) BadCount (byte_at bytes)) byte (λ n. HasBits 8 n × (ltb (first + n) MOST_PAGE_WORDS ≡ true))
+more_agrees : (first : ℕ)
+    → Agrees (λ bytes. tested (λ n. ltb (first + n) MOST_PAGE_WORDS) BadCount (byte_at bytes)) byte (λ n. HasBits 8 n
+    × (ltb (first + n) MOST_PAGE_WORDS ≡ true))
 more_agrees first = Agrees-tested byte_at byte (HasBits 8) (λ n. ltb (first + n) MOST_PAGE_WORDS) BadCount byte_agrees
 
-next_run_takes : (before : Option ℕ) (bytes : List ℕ) (r : Run) (rest : List ℕ) → IsBytes bytes → next_run_at before bytes ≡ Ok (r, rest) → Takes bytes (run r) rest × Comes before r
+next_run_takes : (before : Option ℕ) (bytes : List ℕ) (r : Run) (rest : List ℕ) → IsBytes bytes → next_run_at before bytes ≡ Ok (r, rest)
+    → Takes bytes (run r) rest × Comes before r
 unfolding next_run_at run
 next_run_takes before bytes r rest fits e =
-    let a = step (λ bytes. tested (is_after is_apart before) NotAscending (byte_at bytes)) byte (λ n. HasBits 8 n × (is_after is_apart before n ≡ true)) (first_agrees before) bytes
-    (λ first. tested (λ n. ltb (first.0 + n) MOST_PAGE_WORDS) BadCount (byte_at first.1) >>= λ more. values_at (more.0 + 1) more.1 >>= λ values. Ok (record { first = first.0; values = values.0 }, values.1)) (r, rest) fits e in
-    let b = step (λ bytes. tested (λ n. ltb (a.value + n) MOST_PAGE_WORDS) BadCount (byte_at bytes)) byte (λ n. HasBits 8 n × (ltb (a.value + n) MOST_PAGE_WORDS ≡ true)) (more_agrees a.value) a.rest
+    let a = step (λ bytes. tested (is_after is_apart before) NotAscending (byte_at bytes)) byte (λ n. HasBits 8 n
+    × (is_after is_apart before n ≡ true)) (first_agrees before) bytes
+    (λ first. tested (λ n. ltb (first.0 + n) MOST_PAGE_WORDS) BadCount (byte_at first.1) >>= λ more. values_at (more.0 + 1) more.1 >>= λ values. Ok
+    (record { first = first.0; values = values.0 }, values.1)) (r, rest) fits e in
+    let b = step (λ bytes. tested (λ n. ltb (a.value + n) MOST_PAGE_WORDS) BadCount (byte_at bytes)) byte (λ n. HasBits 8 n
+    × (ltb (a.value + n) MOST_PAGE_WORDS ≡ true)) (more_agrees a.value) a.rest
     (λ more. values_at (more.0 + 1) more.1 >>= λ values. Ok (record { first = a.value; values = values.0 }, values.1)) (r, rest) a.took.rest_fits a.then in
-    let c = step (values_at (b.value + 1)) (numbers w64) (λ vs. (length vs ≡ b.value + 1) × All (HasBits 64) vs) (values_agree (b.value + 1)) b.rest (λ values. Ok (record { first = a.value; values = values.0 }, values.1)) (r, rest) b.took.rest_fits b.then in
+    let c = step (values_at (b.value + 1)) (numbers w64) (λ vs. (length vs ≡ b.value + 1)
+    × All (HasBits 64) vs) (values_agree (b.value + 1)) b.rest (λ values. Ok (record { first = a.value; values = values.0 }, values.1)) (
+      r,
+      rest,
+    ) b.took.rest_fits b.then in
     let more : b.value ≡ length c.value - 1 = omega (arith, c.fits.0) in
     let bc = Takes-then a.rest (byte b.value) b.rest (numbers w64 c.value) c.rest b.took c.took in
     let abc = Takes-then bytes (byte a.value) a.rest (byte b.value ++ numbers w64 c.value) c.rest a.took bc in
     let made : Run × List ℕ = (record { first = a.value; values = c.value }, c.rest) in
     let within : a.value + length c.value ≤ 256 = omega (arith, c.fits.0, ltb-true (a.value + b.value) MOST_PAGE_WORDS b.fits.1) in
-    subst (λ (y : Run × List ℕ). Takes bytes (run y.0) y.1 × Comes before y.0) (ok_is made (r, rest) c.then)
-    (subst (λ (n : ℕ). Takes bytes (byte a.value ++ (byte n ++ numbers w64 c.value)) c.rest) more abc, (a.fits.1, record { some = omega (arith, c.fits.0); within = within; bits = c.fits.1 }))
+    subst (λ (y : Run × List ℕ). Takes bytes (run y.0) y.1 × Comes before y.0) (ok_is made (r, rest) c.then) (
+      subst (λ (n : ℕ). Takes bytes (byte a.value ++ (byte n ++ numbers w64 c.value)) c.rest) more abc,
+      (a.fits.1, record { some = omega (arith, c.fits.0); within = within; bits = c.fits.1 }),
+    )
 
 next_run_again : (before : Option ℕ) (r : Run) (rest : List ℕ) → Comes before r → next_run_at before (run r ++ rest) ≡ Ok (r, rest)
 unfolding next_run_at run
 next_run_again before r rest h =
     let more : ℕ = length r.values - 1 in
-    let regrouped : (byte r.first ++ (byte more ++ numbers w64 r.values)) ++ rest ≡ byte r.first ++ (byte more ++ (numbers w64 r.values ++ rest)) = append_assoc (byte r.first) (byte more ++ numbers w64 r.values) rest ∙ ap (λ (t : List ℕ). byte r.first ++ t) (append_assoc (byte more) (numbers w64 r.values) rest) in
+    let regrouped : (byte r.first ++ (byte more ++ numbers w64 r.values)) ++ rest ≡ byte r.first ++ (byte more ++ (numbers w64 r.values ++ rest)) =
+    append_assoc (byte r.first) (byte more ++ numbers w64 r.values) rest
+    ∙ ap (λ (t : List ℕ). byte r.first ++ t) (append_assoc (byte more) (numbers w64 r.values) rest) in
     let a = (first_agrees before).again r.first (byte more ++ (numbers w64 r.values ++ rest)) (omega (arith, h.1.some, h.1.within), h.0) in
-    let b = (more_agrees r.first).again more (numbers w64 r.values ++ rest) (omega (arith, h.1.some, h.1.within), lt-ltb (r.first + more) MOST_PAGE_WORDS (omega (arith, h.1.some, h.1.within))) in
+    let b = (more_agrees r.first).again more (numbers w64 r.values
+    ++ rest) (omega (arith, h.1.some, h.1.within), lt-ltb (r.first + more) MOST_PAGE_WORDS (omega (arith, h.1.some, h.1.within))) in
     let c = (values_agree (more + 1)).again r.values rest (omega (arith, h.1.some), h.1.bits) in
     rw (regrouped, a, b, c) refl
 
@@ -107,7 +124,8 @@ zero_low : low_of None ≡ 0
 unfolding low_of
 zero_low = refl
 
-elements_of_runs : (count : ℕ) → Agrees (elements_at next_run_at (λ _ r. Some (last_of r)) count None) (flat_map run) (λ rs. (length rs ≡ count) × Runs IsRun 0 rs)
+elements_of_runs : (count : ℕ)
+    → Agrees (elements_at next_run_at (λ _ r. Some (last_of r)) count None) (flat_map run) (λ rs. (length rs ≡ count) × Runs IsRun 0 rs)
 elements_of_runs count =
     Agrees-as _ (flat_map run) (λ rs. (length rs ≡ count) × Along Comes next None rs) (λ rs. (length rs ≡ count) × Runs IsRun 0 rs)
     (λ rs h. (h.0, subst (λ (n : ℕ). Runs IsRun n rs) zero_low (runs_along None rs h.1)))
@@ -120,9 +138,16 @@ run_count_agrees = Agrees-tested (number_at w16) (number w16) (HasBits 16) (λ n
 runs_take : (bytes : List ℕ) (rs : List Run) (rest : List ℕ) → IsBytes bytes → runs_at bytes ≡ Ok (rs, rest) → Takes bytes (in_runs rs) rest × Runs IsRun 0 rs
 unfolding runs_at in_runs
 runs_take bytes rs rest fits e =
-    let a = step (λ bytes. tested (λ n. leb n MOST_RUNS) BadCount (number_at w16 bytes)) (number w16) (λ n. HasBits 16 n × (leb n MOST_RUNS ≡ true)) run_count_agrees bytes (λ count. elements_at next_run_at (λ _ r. Some (last_of r)) count.0 None count.1) (rs, rest) fits e in
-    let b = (elements_of_runs a.value).takes a.rest rs rest a.took.rest_fits a.then in
-    (subst (λ (n : ℕ). Takes bytes (number w16 n ++ flat_map run rs) rest) (sym b.1.0) (Takes-then bytes (number w16 a.value) a.rest (flat_map run rs) rest a.took b.0), b.1.1)
+    let a = step (λ bytes. tested (λ n. leb n MOST_RUNS) BadCount (number_at w16 bytes)) (number w16) (λ n. HasBits 16 n
+    × (leb n MOST_RUNS ≡ true)) run_count_agrees bytes (λ count. elements_at next_run_at (λ _ r. Some (last_of r)) count.0 None count.1) (
+      rs,
+      rest,
+    ) fits e in
+    let b = (elements_of_runs a.value).takes a.rest rs rest a.took.rest_fits a.then in (
+      subst (λ (n : ℕ). Takes bytes (number w16 n
+          ++ flat_map run rs) rest) (sym b.1.0) (Takes-then bytes (number w16 a.value) a.rest (flat_map run rs) rest a.took b.0),
+      b.1.1,
+    )
 
 at_most_128 : (rs : List Run) → Runs IsRun 0 rs → length rs ≤ MOST_RUNS
 at_most_128 [] h = omega arith
@@ -132,7 +157,8 @@ runs_again : (rs : List Run) (rest : List ℕ) → Runs IsRun 0 rs → runs_at (
 unfolding runs_at in_runs
 runs_again rs rest h =
     let few = at_most_128 rs h in
-    let regrouped : (number w16 (length rs) ++ flat_map run rs) ++ rest ≡ number w16 (length rs) ++ (flat_map run rs ++ rest) = append_assoc (number w16 (length rs)) (flat_map run rs) rest in
+    let regrouped : (number w16 (length rs) ++ flat_map run rs) ++ rest ≡ number w16 (length rs) ++ (flat_map run rs ++ rest) =
+    append_assoc (number w16 (length rs)) (flat_map run rs) rest in
     let first = run_count_agrees.again (length rs) (flat_map run rs ++ rest) (omega (arith, few), le-leb (length rs) MOST_RUNS few) in
     rw (regrouped, first) ((elements_of_runs (length rs)).again rs rest (refl, h))
 
@@ -141,7 +167,8 @@ runs_again rs rest h =
 some_of_run : (r : Run) → IsRun r → IsSome r
 some_of_run r is = is.some
 
-in_runs_take : (bytes : List ℕ) (cs : List Change) (rest : List ℕ) → IsBytes bytes → whole_runs (runs_at bytes) ≡ Ok (cs, rest) → Takes bytes (in_runs (runs_of cs)) rest × AreChanging cs
+in_runs_take : (bytes : List ℕ) (cs : List Change) (rest : List ℕ) → IsBytes bytes → whole_runs (runs_at bytes) ≡ Ok (cs, rest)
+    → Takes bytes (in_runs (runs_of cs)) rest × AreChanging cs
 in_runs_take bytes cs rest fits e =
     let a = bind_ok (runs_at bytes) (λ runs. Ok (flat_map changes_of runs.0, runs.1)) (cs, rest) e in
     let t = runs_take bytes a.0.0 a.0.1 fits a.1 in
@@ -175,8 +202,10 @@ unfolding values_at
 values_long count bytes vs rest e =
     (elements_along (λ _ rest. number_at w64 rest) (λ state _. state) (λ _ n. Unit {0}) (λ state bytes n rest read. tt) count (tt {0}) bytes vs rest e).0
 
-pub run_is_read : (before : Option ℕ) (bytes r1 r2 r3 : List ℕ) (first more : ℕ) (values : List ℕ) → byte_at bytes ≡ Ok (first, r1) → is_after is_apart before first ≡ true
-    → byte_at r1 ≡ Ok (more, r2) → first + more < 256 → values_at (more + 1) r2 ≡ Ok (values, r3) → next_run_at before bytes ≡ Ok (record { first = first; values = values }, r3)
+pub run_is_read : (before : Option ℕ) (bytes r1 r2 r3 : List ℕ) (first more : ℕ) (values : List ℕ) → byte_at bytes ≡ Ok (first, r1)
+    → is_after is_apart before first ≡ true
+    → byte_at r1 ≡ Ok (more, r2) → first + more < 256 → values_at (more + 1) r2 ≡ Ok (values, r3)
+    → next_run_at before bytes ≡ Ok (record { first = first; values = values }, r3)
 unfolding next_run_at tested
 run_is_read before bytes r1 r2 r3 first more values a passes b within c =
     let fits : ltb (first + more) MOST_PAGE_WORDS ≡ true = lt-ltb (first + more) MOST_PAGE_WORDS within in

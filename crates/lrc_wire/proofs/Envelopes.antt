@@ -98,7 +98,11 @@ kind_numbered n k e0 =
                                                           elim (chosen (eqb n 10) kinds.PageRequest _ k e9) [
                                                             | inl p ↦ eqb-true n 10 p.0 ∙ ap numbered p.1
                                                             | inr e10 ↦
-                                                                elim (chosen (eqb n 11) kinds.PageReply _ k e10) [ inl p ↦ eqb-true n 11 p.0 ∙ ap numbered p.1 | inr e11 ↦ absurd cc ]
+                                                                elim (chosen (eqb n 11) kinds.PageReply _ k e10) [
+                                                                  | inl p ↦ eqb-true n 11 p.0
+                                                                      ∙ ap numbered p.1
+                                                                  | inr e11 ↦ absurd cc
+                                                                ]
                                                           ]
                                                     ]
                                               ]
@@ -120,7 +124,8 @@ kind_takes bytes k rest fits e =
     let a = step byte_at byte (HasBits 8) byte_agrees bytes (λ n. ok_or (kind_of n.0) BadKind >>= λ k. Ok (k, n.1)) (k, rest) fits e in
     let b = bind_ok (ok_or (kind_of a.value) BadKind) (λ k. Ok (k, a.rest)) (k, rest) a.then in
     let is : a.value ≡ numbered b.0 = kind_numbered a.value b.0 (named (kind_of a.value) b.0 b.1) in
-    subst (λ (y : Kind × List ℕ). Takes bytes (byte (numbered y.0)) y.1 × Unit {0}) (ok_is (b.0, a.rest) (k, rest) b.2) (subst (λ (n : ℕ). Takes bytes (byte n) a.rest) is a.took, tt)
+    subst (λ (y : Kind × List ℕ). Takes bytes (byte (numbered y.0)) y.1
+    × Unit {0}) (ok_is (b.0, a.rest) (k, rest) b.2) (subst (λ (n : ℕ). Takes bytes (byte n) a.rest) is a.took, tt)
 
 kind_again : (k : Kind) (rest : List ℕ) → Unit {0} → kind_at (byte (numbered k) ++ rest) ≡ Ok (k, rest)
 unfolding kind_at byte byte_at numbered
@@ -151,20 +156,26 @@ version_is : (n : ℕ) (v : Version) → version_of n ≡ Some v → n ≡ versi
 version_is n v e =
     elim (eqb_tells n 1) [
       | inl p ↦ p.1 ∙ ap version_number (same_version One v (rw p.0 at e))
-      | inr p ↦ elim (eqb_tells n 2) [ inl q ↦ q.1 ∙ ap version_number (same_version Two v (rw (p.0, q.0) at e)) | inr q ↦ let none = rw (p.0, q.0) at e in absurd cc ]
+      | inr p ↦ elim (eqb_tells n 2) [
+        | inl q ↦ q.1 ∙ ap version_number (same_version Two v (rw (p.0, q.0) at e))
+        | inr q ↦ let none = rw (p.0, q.0) at e in
+            absurd cc
+      ]
     ]
 
 version_named : (o : Option Version) (v : Version) → ok_or o BadVersion ≡ Ok v → o ≡ Some v
 version_named (Some x) v e = cc
 version_named None v e = absurd cc
 
-version_takes : (bytes : List ℕ) (v : Version) (rest : List ℕ) → IsBytes bytes → version_at bytes ≡ Ok (v, rest) → Takes bytes (byte (version_number v)) rest × Unit {0}
+version_takes : (bytes : List ℕ) (v : Version) (rest : List ℕ) → IsBytes bytes → version_at bytes ≡ Ok (v, rest) → Takes bytes (byte (version_number v)) rest
+    × Unit {0}
 unfolding version_at
 version_takes bytes v rest fits e =
     let a = step byte_at byte (HasBits 8) byte_agrees bytes (λ n. ok_or (version_of n.0) BadVersion >>= λ v. Ok (v, n.1)) (v, rest) fits e in
     let b = bind_ok (ok_or (version_of a.value) BadVersion) (λ v. Ok (v, a.rest)) (v, rest) a.then in
     let is : a.value ≡ version_number b.0 = version_is a.value b.0 (version_named (version_of a.value) b.0 b.1) in
-    subst (λ (y : Version × List ℕ). Takes bytes (byte (version_number y.0)) y.1 × Unit {0}) (ok_is (b.0, a.rest) (v, rest) b.2) (subst (λ (n : ℕ). Takes bytes (byte n) a.rest) is a.took, tt)
+    subst (λ (y : Version × List ℕ). Takes bytes (byte (version_number y.0)) y.1
+    × Unit {0}) (ok_is (b.0, a.rest) (v, rest) b.2) (subst (λ (n : ℕ). Takes bytes (byte n) a.rest) is a.took, tt)
 
 version_again : (v : Version) (rest : List ℕ) → Unit {0} → version_at (byte (version_number v) ++ rest) ≡ Ok (v, rest)
 unfolding version_at byte byte_at
@@ -176,11 +187,14 @@ version_agrees = record { takes = version_takes; again = version_again }
 
 body_len_agrees : Agrees (λ bytes. tested (λ n. leb n MOST_BODY_BYTES) BadCount (number_at w32 bytes)) (number w32) (λ n. n ≤ MOST_BODY_BYTES)
 body_len_agrees =
-    Agrees-as _ (number w32) (λ n. HasBits 32 n × (leb n MOST_BODY_BYTES ≡ true)) (λ n. n ≤ MOST_BODY_BYTES) (λ n h. leb-true n MOST_BODY_BYTES h.1) (λ n le. (omega arith, le-leb n MOST_BODY_BYTES le))
+    Agrees-as _ (number w32) (λ n. HasBits 32 n
+    × (leb n MOST_BODY_BYTES ≡ true)) (λ n. n ≤ MOST_BODY_BYTES) (λ n h. leb-true n MOST_BODY_BYTES h.1)
+    (λ n le. (omega arith, le-leb n MOST_BODY_BYTES le))
     (Agrees-tested (number_at w32) (number w32) (HasBits 32) (λ n. leb n MOST_BODY_BYTES) BadCount number32_agrees)
 
 abbrev spelled_header : HeaderRecord → List ℕ
-spelled_header h = byte (version_number h.version) ++ (byte (numbered h.kind) ++ (byte h.from ++ (byte h.to ++ (number w32 h.number ++ (number w32 h.body_len)))))
+spelled_header h = byte (version_number h.version)
+    ++ (byte (numbered h.kind) ++ (byte h.from ++ (byte h.to ++ (number w32 h.number ++ (number w32 h.body_len)))))
 
 pub record IsHeader (h : HeaderRecord) : Type 0 where
   pub from : h.from < MOST_NODES
@@ -219,18 +233,21 @@ header_steps : (bytes : List ℕ) → header_at bytes ≡ (version_at bytes >>= 
 unfolding header_at after_version after_kind after_from after_to after_number
 header_steps bytes = refl
 
-after_number_takes : (v : Version) (k : Kind) (f t n : ℕ) (bytes : List ℕ) (h : HeaderRecord) (rest : List ℕ) → IsBytes bytes → after_number v k f t n bytes ≡ Ok (h, rest)
+after_number_takes : (v : Version) (k : Kind) (f t n : ℕ) (bytes : List ℕ) (h : HeaderRecord) (rest : List ℕ) → IsBytes bytes
+    → after_number v k f t n bytes ≡ Ok (h, rest)
     → Takes bytes (number w32 h.body_len) rest × (h.body_len ≤ MOST_BODY_BYTES) × (k ≡ h.kind) × (f ≡ h.from) × (t ≡ h.to) × (n ≡ h.number) × (v ≡ h.version)
 unfolding after_number
 after_number_takes v k f t n bytes h rest fits e =
     let a = step (λ bytes. tested (λ n. leb n MOST_BODY_BYTES) BadCount (number_at w32 bytes)) (number w32) (λ n. n ≤ MOST_BODY_BYTES) body_len_agrees bytes
     (λ len. Ok (record { version = v; kind = k; from = f; to = t; number = n; body_len = len.0 }, len.1)) (h, rest) fits e in
     let made : HeaderRecord × List ℕ = (record { version = v; kind = k; from = f; to = t; number = n; body_len = a.value }, a.rest) in
-    subst (λ (y : HeaderRecord × List ℕ). Takes bytes (number w32 y.0.body_len) y.1 × (y.0.body_len ≤ MOST_BODY_BYTES) × (k ≡ y.0.kind) × (f ≡ y.0.from) × (t ≡ y.0.to) × (n ≡ y.0.number) × (v ≡ y.0.version))
+    subst (λ (y : HeaderRecord × List ℕ). Takes bytes (number w32 y.0.body_len) y.1 × (y.0.body_len ≤ MOST_BODY_BYTES) × (k ≡ y.0.kind) × (f ≡ y.0.from)
+    × (t ≡ y.0.to) × (n ≡ y.0.number) × (v ≡ y.0.version))
     (ok_is made (h, rest) a.then) (a.took, a.fits, refl, refl, refl, refl, refl)
 
 after_to_takes : (v : Version) (k : Kind) (f t : ℕ) (bytes : List ℕ) (h : HeaderRecord) (rest : List ℕ) → IsBytes bytes → after_to v k f t bytes ≡ Ok (h, rest)
-    → Takes bytes (number w32 h.number ++ number w32 h.body_len) rest × (HasBits 32 h.number × (h.body_len ≤ MOST_BODY_BYTES)) × (k ≡ h.kind) × (f ≡ h.from) × (t ≡ h.to) × (v ≡ h.version)
+    → Takes bytes (number w32 h.number ++ number w32 h.body_len) rest × (HasBits 32 h.number × (h.body_len ≤ MOST_BODY_BYTES)) × (k ≡ h.kind) × (f ≡ h.from)
+    × (t ≡ h.to) × (v ≡ h.version)
 unfolding after_to
 after_to_takes v k f t bytes h rest fits e =
     let a = step (number_at w32) (number w32) (HasBits 32) number32_agrees bytes (λ n. after_number v k f t n.0 n.1) (h, rest) fits e in
@@ -242,7 +259,8 @@ abbrev after_to_text : HeaderRecord → List ℕ
 after_to_text h = number w32 h.number ++ number w32 h.body_len
 
 after_from_takes : (v : Version) (k : Kind) (f : ℕ) (bytes : List ℕ) (h : HeaderRecord) (rest : List ℕ) → IsBytes bytes → after_from v k f bytes ≡ Ok (h, rest)
-    → Takes bytes (byte h.to ++ after_to_text h) rest × ((h.to < MOST_NODES) × HasBits 32 h.number × (h.body_len ≤ MOST_BODY_BYTES)) × (k ≡ h.kind) × (f ≡ h.from) × (v ≡ h.version)
+    → Takes bytes (byte h.to ++ after_to_text h) rest × ((h.to < MOST_NODES) × HasBits 32 h.number × (h.body_len ≤ MOST_BODY_BYTES)) × (k ≡ h.kind)
+    × (f ≡ h.from) × (v ≡ h.version)
 unfolding after_from
 after_from_takes v k f bytes h rest fits e =
     let a = step node_at byte (λ n. n < MOST_NODES) node_agrees bytes (λ t. after_to v k f t.0 t.1) (h, rest) fits e in
@@ -272,18 +290,28 @@ after_version_takes v bytes h rest fits e =
     let both = Takes-then bytes (byte (numbered a.value)) a.rest (byte h.from ++ (byte h.to ++ after_to_text h)) rest a.took b.0 in
     (subst (λ (k : Kind). Takes bytes (byte (numbered k) ++ (byte h.from ++ (byte h.to ++ after_to_text h))) rest) b.2 both, b.1, b.3)
 
-header_takes : (bytes : List ℕ) (h : HeaderRecord) (rest : List ℕ) → IsBytes bytes → header_at bytes ≡ Ok (h, rest) → Takes bytes (spelled_header h) rest × IsHeader h
+header_takes : (bytes : List ℕ) (h : HeaderRecord) (rest : List ℕ) → IsBytes bytes → header_at bytes ≡ Ok (h, rest) → Takes bytes (spelled_header h) rest
+    × IsHeader h
 header_takes bytes h rest fits e =
-    let a = step version_at (λ v. byte (version_number v)) (λ v. Unit {0}) version_agrees bytes (λ version. after_version version.0 version.1) (h, rest) fits (sym (header_steps bytes) ∙ e) in
+    let a = step version_at (λ v. byte (version_number v)) (λ v. Unit {0}) version_agrees bytes (λ version. after_version version.0 version.1) (
+      h,
+      rest,
+    ) fits (sym (header_steps bytes) ∙ e) in
     let b = after_version_takes a.value a.rest h rest a.took.rest_fits a.then in
-    let both = Takes-then bytes (byte (version_number a.value)) a.rest (byte (numbered h.kind) ++ (byte h.from ++ (byte h.to ++ after_to_text h))) rest a.took b.0 in
-    (subst (λ (v : Version). Takes bytes (byte (version_number v) ++ (byte (numbered h.kind) ++ (byte h.from ++ (byte h.to ++ after_to_text h)))) rest) b.2 both, b.1)
+    let both = Takes-then bytes (byte (version_number a.value)) a.rest (byte (numbered h.kind)
+    ++ (byte h.from ++ (byte h.to ++ after_to_text h))) rest a.took b.0 in (
+      subst (λ (v : Version). Takes bytes (byte (version_number v)
+          ++ (byte (numbered h.kind) ++ (byte h.from ++ (byte h.to ++ after_to_text h)))) rest) b.2 both,
+      b.1,
+    )
 
 header_again : (h : HeaderRecord) (rest : List ℕ) → IsHeader h → header_at (spelled_header h ++ rest) ≡ Ok (h, rest)
 unfolding header_at
 header_again h rest is =
-    let regrouped : spelled_header h ++ rest ≡ byte (version_number h.version) ++ (byte (numbered h.kind) ++ (byte h.from ++ (byte h.to ++ (number w32 h.number ++ (number w32 h.body_len ++ (rest)))))) = simp append_assoc in
-    let a = version_agrees.again h.version (byte (numbered h.kind) ++ (byte h.from ++ (byte h.to ++ (number w32 h.number ++ (number w32 h.body_len ++ (rest)))))) tt in
+    let regrouped : spelled_header h ++ rest ≡ byte (version_number h.version)
+    ++ (byte (numbered h.kind) ++ (byte h.from ++ (byte h.to ++ (number w32 h.number ++ (number w32 h.body_len ++ (rest)))))) = simp append_assoc in
+    let a = version_agrees.again h.version (byte (numbered h.kind)
+    ++ (byte h.from ++ (byte h.to ++ (number w32 h.number ++ (number w32 h.body_len ++ (rest)))))) tt in
     let b = kind_agrees.again h.kind (byte h.from ++ (byte h.to ++ (number w32 h.number ++ (number w32 h.body_len ++ (rest))))) tt in
     let c = node_agrees.again h.from (byte h.to ++ (number w32 h.number ++ (number w32 h.body_len ++ (rest)))) is.from in
     let d = node_agrees.again h.to (number w32 h.number ++ (number w32 h.body_len ++ (rest))) is.to in
@@ -301,14 +329,16 @@ header_of v e = record { version = v; kind = kind_named e.message; from = e.from
 
 header_is : (v : Version) (e : EnvelopeRecord) → header v runs_of e ≡ spelled_header (header_of v e)
 unfolding header
-header_is v e = ap (λ (n : ℕ). byte (version_number v) ++ (byte n ++ (byte e.from ++ (byte e.to ++ (number w32 e.number ++ number w32 (length (body v runs_of e.message))))))) (kind_is e.message)
+header_is v e = ap (λ (n : ℕ). byte (version_number v)
+    ++ (byte n ++ (byte e.from ++ (byte e.to ++ (number w32 e.number ++ number w32 (length (body v runs_of e.message))))))) (kind_is e.message)
 
 is_header : (v : Version) (e : EnvelopeRecord) → IsFit v e → length (body v runs_of e.message) ≤ MOST_BODY_BYTES → IsHeader (header_of v e)
 is_header v e fits short = record { from = fits.ends.from; to = fits.ends.to; number = fits.number; body_len = short }
 
 -- ---- every cut is the one that the function makes
 
-same_parts : (cut : Cut) → IsCut cut → (v : Version) (ps : List IndexedChangesRecord) → All (FitPart v) ps → flat_map (part Two cut) ps ≡ flat_map (part Two runs_of) ps
+same_parts : (cut : Cut) → IsCut cut → (v : Version) (ps : List IndexedChangesRecord) → All (FitPart v) ps
+    → flat_map (part Two cut) ps ≡ flat_map (part Two runs_of) ps
 unfolding part
 same_parts cut cuts v [] each = refl
 same_parts cut cuts v (p ∷ ps) each =
@@ -328,7 +358,8 @@ same_body cut cuts v (Clean episode) h = refl
 same_body cut cuts v (Discard episode) h = refl
 same_body cut cuts v (ChangesRequest m) h = refl
 same_body cut cuts One (ChangesReply m) h = refl
-same_body cut cuts Two (ChangesReply m) h = ap (λ (t : List ℕ). number w16 m.page ++ (number w32 (length m.parts) ++ t)) (same_parts cut cuts Two m.parts h.1.each)
+same_body cut cuts Two (ChangesReply m) h =
+    ap (λ (t : List ℕ). number w16 m.page ++ (number w32 (length m.parts) ++ t)) (same_parts cut cuts Two m.parts h.1.each)
 same_body cut cuts v (PageRequest page) h = refl
 same_body cut cuts v (PageReply m) h = refl
 
@@ -348,7 +379,8 @@ plain v e bytes h =
     record {
       fits = h.fits;
       short = omega (arith, h.short, ap length same);
-      spelled = h.spelled ∙ ap (λ (t : List ℕ). t ++ body v h.cut e.message) (same_header_text h.cut v e same) ∙ ap (λ (t : List ℕ). header v runs_of e ++ t) same;
+      spelled = h.spelled ∙ ap (λ (t : List ℕ). t ++ body v h.cut e.message) (same_header_text h.cut v e same)
+          ∙ ap (λ (t : List ℕ). header v runs_of e ++ t) same;
     }
 
 pub spells : (v : Version) (e : EnvelopeRecord) (bytes : List ℕ) → Plain v e bytes → Spells v e bytes
@@ -356,24 +388,30 @@ spells v e bytes h = record { fits = h.fits; cut = runs_of; cuts = runs_of-are; 
 
 -- ---- bodies of a stated length
 
-whole_body_takes : (v : Version) (k : Kind) (len : ℕ) (bytes : List ℕ) (message : Message) → IsBytes bytes → whole_body_of v k len bytes ≡ Ok message → (bytes ≡ body v runs_of message) × (length bytes ≡ len) × IsMessage v message × (kind_named message ≡ k)
+whole_body_takes : (v : Version) (k : Kind) (len : ℕ) (bytes : List ℕ) (message : Message) → IsBytes bytes → whole_body_of v k len bytes ≡ Ok message
+    → (bytes ≡ body v runs_of message) × (length bytes ≡ len) × IsMessage v message × (kind_named message ≡ k)
 unfolding whole_body_of
 whole_body_takes v k len bytes message fits e =
-    let a = unless_ok (ltb (length bytes) len) Short (cond (ltb len (length bytes)) (Err Long) (body_at v k bytes >>= λ m. cond (eqb (length m.1) 0) (Ok m.0) (Err Long))) message e in
+    let a = unless_ok (ltb (length bytes) len) Short
+    (cond (ltb len (length bytes)) (Err Long) (body_at v k bytes >>= λ m. cond (eqb (length m.1) 0) (Ok m.0) (Err Long))) message e in
     let b = unless_ok (ltb len (length bytes)) Long (body_at v k bytes >>= λ m. cond (eqb (length m.1) 0) (Ok m.0) (Err Long)) message a.1 in
     let long : length bytes ≡ len = omega (arith, ltb-false (length bytes) len a.0, ltb-false len (length bytes) b.0) in
-    let c = step (body_at v k) (body v runs_of) (λ message. IsMessage v message × (kind_named message ≡ k)) (body_agrees v k) bytes (λ m. cond (eqb (length m.1) 0) (Ok m.0) (Err Long)) message fits b.1 in
+    let c = step (body_at v k) (body v runs_of) (λ message. IsMessage v message
+    × (kind_named message ≡ k)) (body_agrees v k) bytes (λ m. cond (eqb (length m.1) 0) (Ok m.0) (Err Long)) message fits b.1 in
     let g = guard_ok (eqb (length c.rest) 0) Long c.value message c.then in
     let nothing : c.rest ≡ [] = nil_from_length c.rest (eqb-true (length c.rest) 0 g.0) in
-    let all : bytes ≡ body v runs_of c.value = c.took.parts ∙ ap (λ (rest : List ℕ). body v runs_of c.value ++ rest) nothing ∙ append-nil (body v runs_of c.value) in
+    let all : bytes ≡ body v runs_of c.value = c.took.parts ∙ ap (λ (rest : List ℕ). body v runs_of c.value ++ rest) nothing
+    ∙ append-nil (body v runs_of c.value) in
     subst (λ (m : Message). (bytes ≡ body v runs_of m) × (length bytes ≡ len) × IsMessage v m × (kind_named m ≡ k)) g.1 (all, long, c.fits.0, c.fits.1)
 
-whole_body_again : (v : Version) (message : Message) → IsMessage v message → whole_body_of v (kind_named message) (length (body v runs_of message)) (body v runs_of message) ≡ Ok message
+whole_body_again : (v : Version) (message : Message) → IsMessage v message
+    → whole_body_of v (kind_named message) (length (body v runs_of message)) (body v runs_of message) ≡ Ok message
 unfolding whole_body_of
 whole_body_again v message fits =
     let b : List ℕ = body v runs_of message in
     let same : ltb (length b) (length b) ≡ false = le-ltb (length b) (length b) (omega arith) in
-    let read : body_at v (kind_named message) b ≡ Ok (message, []) = ap (body_at v (kind_named message)) (sym (append-nil b)) ∙ (body_agrees v (kind_named message)).again message [] (fits, refl) in
+    let read : body_at v (kind_named message) b ≡ Ok (message, []) = ap (body_at v (kind_named message)) (sym (append-nil b))
+    ∙ (body_agrees v (kind_named message)).again message [] (fits, refl) in
     rw (same, read) refl
 
 -- ---- all of the bytes
@@ -387,16 +425,36 @@ same_header h k len ke le = ap (λ (x : Kind). header_with h x len) ke ∙ ap (�
 pub envelope_takes : (bytes : List ℕ) (e : EnvelopeRecord) → IsBytes bytes → envelope_of bytes ≡ Ok e → (v : Version) × Spells v e bytes
 unfolding envelope_of
 envelope_takes bytes e fits h =
-    let a = unless_ok (ltb (length bytes) HEADER_BYTES) Short (header_at bytes >>= λ header. whole_body_of header.0.version header.0.kind header.0.body_len header.1 >>= λ message. Ok (record { from = header.0.from; to = header.0.to; number = header.0.number; message = message })) e h in
-    let b = bind_ok (header_at bytes) (λ header. whole_body_of header.0.version header.0.kind header.0.body_len header.1 >>= λ message. Ok (record { from = header.0.from; to = header.0.to; number = header.0.number; message = message })) e a.1 in
-    let c = bind_ok (whole_body_of b.0.0.version b.0.0.kind b.0.0.body_len b.0.1) (λ message. Ok (record { from = b.0.0.from; to = b.0.0.to; number = b.0.0.number; message = message })) e b.2 in
+    let a = unless_ok (ltb (length bytes) HEADER_BYTES) Short
+    (header_at bytes >>= λ header. whole_body_of header.0.version header.0.kind header.0.body_len header.1 >>= λ message. Ok (record {
+      from =
+          header.0.from;
+      to = header.0.to;
+      number = header.0.number;
+      message = message;
+    })) e h in
+    let b = bind_ok (header_at bytes) (λ header. whole_body_of header.0.version header.0.kind header.0.body_len header.1 >>= λ message. Ok (record {
+      from =
+          header.0.from;
+      to = header.0.to;
+      number = header.0.number;
+      message = message;
+    })) e a.1 in
+    let c = bind_ok (whole_body_of b.0.0.version b.0.0.kind b.0.0.body_len b.0.1) (λ message. Ok (record {
+      from = b.0.0.from;
+      to = b.0.0.to;
+      number =
+          b.0.0.number;
+      message = message;
+    })) e b.2 in
     let t = header_takes bytes b.0.0 b.0.1 fits b.1 in
     let v : Version = b.0.0.version in
     let w = whole_body_takes v b.0.0.kind b.0.0.body_len b.0.1 c.0 t.0.rest_fits c.1 in
     let made : EnvelopeRecord = record { from = b.0.0.from; to = b.0.0.to; number = b.0.0.number; message = c.0 } in
     let len : length (body v runs_of c.0) ≡ b.0.0.body_len = ap length (sym w.0) ∙ w.1 in
     let head : header_of v made ≡ b.0.0 = same_header b.0.0 (kind_named c.0) (length (body v runs_of c.0)) w.3 len in
-    let spelled : bytes ≡ header v runs_of made ++ body v runs_of c.0 = t.0.parts ∙ ap (λ (x : HeaderRecord). spelled_header x ++ b.0.1) (sym head) ∙ ap (λ (x : List ℕ). x ++ b.0.1) (sym (header_is v made)) ∙ ap (λ (x : List ℕ). header v runs_of made ++ x) w.0 in (
+    let spelled : bytes ≡ header v runs_of made ++ body v runs_of c.0 = t.0.parts ∙ ap (λ (x : HeaderRecord). spelled_header x ++ b.0.1) (sym head)
+    ∙ ap (λ (x : List ℕ). x ++ b.0.1) (sym (header_is v made)) ∙ ap (λ (x : List ℕ). header v runs_of made ++ x) w.0 in (
       v,
       subst (λ (y : EnvelopeRecord). Spells v y bytes) (ok_is made e c.2) (spells v made bytes (record {
         fits = record { ends = record { from = t.1.from; to = t.1.to }; number = t.1.number; message = w.2 };
@@ -408,9 +466,13 @@ envelope_takes bytes e fits h =
 plain_again : (v : Version) (bytes : List ℕ) (e : EnvelopeRecord) → Plain v e bytes → envelope_of bytes ≡ Ok e
 unfolding envelope_of
 plain_again v bytes e h =
-    let all : bytes ≡ spelled_header (header_of v e) ++ body v runs_of e.message = h.spelled ∙ ap (λ (x : List ℕ). x ++ body v runs_of e.message) (header_is v e) in
-    let long : ltb (length bytes) HEADER_BYTES ≡ false = le-ltb (length bytes) HEADER_BYTES (omega (arith, ap length h.spelled, length-append (header v runs_of e) (body v runs_of e.message), header_long v e)) in
-    let first : header_at bytes ≡ Ok (header_of v e, body v runs_of e.message) = ap header_at all ∙ header_again (header_of v e) (body v runs_of e.message) (is_header v e h.fits h.short) in
+    let all : bytes ≡ spelled_header (header_of v e) ++ body v runs_of e.message = h.spelled
+    ∙ ap (λ (x : List ℕ). x ++ body v runs_of e.message) (header_is v e) in
+    let long : ltb (length bytes) HEADER_BYTES ≡ false =
+    le-ltb (length bytes) HEADER_BYTES
+    (omega (arith, ap length h.spelled, length-append (header v runs_of e) (body v runs_of e.message), header_long v e)) in
+    let first : header_at bytes ≡ Ok (header_of v e, body v runs_of e.message) = ap header_at all
+    ∙ header_again (header_of v e) (body v runs_of e.message) (is_header v e h.fits h.short) in
     let second = whole_body_again v e.message h.fits.message in
     rw (long, first, second) refl
 
@@ -422,7 +484,8 @@ envelope_again v bytes e h = plain_again v bytes e (plain v e bytes h)
 front_of : (v : Version) (a x : List ℕ) (m : EnvelopeRecord) → Plain v m a → header_at (a ++ x) ≡ Ok (header_of v m, body v runs_of m.message ++ x)
 front_of v a x m h =
     let all : a ++ x ≡ spelled_header (header_of v m) ++ (body v runs_of m.message ++ x) =
-    ap (λ (t : List ℕ). t ++ x) (h.spelled ∙ ap (λ (t : List ℕ). t ++ body v runs_of m.message) (header_is v m)) ∙ append_assoc (spelled_header (header_of v m)) (body v runs_of m.message) x in
+    ap (λ (t : List ℕ). t ++ x) (h.spelled ∙ ap (λ (t : List ℕ). t ++ body v runs_of m.message) (header_is v m))
+    ∙ append_assoc (spelled_header (header_of v m)) (body v runs_of m.message) x in
     ap header_at all ∙ header_again (header_of v m) (body v runs_of m.message ++ x) (is_header v m h.fits h.short)
 
 pub one_spelling : (v w : Version) (m n : EnvelopeRecord) (a b x y : List ℕ) → Spells v m a → Spells w n b → a ++ x ≡ b ++ y → (v ≡ w) × (a ≡ b) × (m ≡ n)
@@ -451,7 +514,8 @@ module _ (v : Version) (e : EnvelopeRecord) where
   text = body v runs_of e.message
 
   -- a spelling up to some byte after the header
-  cut_after_header : (bytes : List ℕ) (n : ℕ) → Plain v e bytes → HEADER_BYTES ≤ n → take n bytes ≡ spelled_header (header_of v e) ++ take (n - HEADER_BYTES) text
+  cut_after_header : (bytes : List ℕ) (n : ℕ) → Plain v e bytes → HEADER_BYTES ≤ n → take n bytes ≡ spelled_header (header_of v e)
+      ++ take (n - HEADER_BYTES) text
   cut_after_header bytes n h le =
       let place : n ≡ length (header v runs_of e) + (n - HEADER_BYTES) = omega (arith, header_long v e) in
       ap (take n) h.spelled ∙ ap (λ (k : ℕ). take k (header v runs_of e ++ text)) place ∙ take-append-add (header v runs_of e) text (n - HEADER_BYTES)
@@ -472,7 +536,8 @@ module _ (v : Version) (e : EnvelopeRecord) where
         | inr late ↦
             let rest : List ℕ = take (n - HEADER_BYTES) text in
             let late' : ltb (length (take n bytes)) HEADER_BYTES ≡ false = le-ltb (length (take n bytes)) HEADER_BYTES (omega (arith, len)) in
-            let read : header_at (take n bytes) ≡ Ok (header_of v e, rest) = ap header_at (cut_after_header bytes n h late) ∙ header_again (header_of v e) rest (is_header v e h.fits h.short) in
+            let read : header_at (take n bytes) ≡ Ok (header_of v e, rest) = ap header_at (cut_after_header bytes n h late)
+            ∙ header_again (header_of v e) rest (is_header v e h.fits h.short) in
             let few : ltb (length rest) (length text) ≡ true = lt-ltb (length rest) (length text) (omega (arith, length-take (n - HEADER_BYTES) text)) in
             rw (late', read, few) refl
       ]
@@ -496,5 +561,6 @@ longer_long v e bytes more h some = plain_long v e bytes more (plain v e bytes h
 
 -- ---- every envelope has a spelling
 
-pub has_spelling : (v : Version) (e : EnvelopeRecord) → IsFit v e → (cut : Cut) → IsCut cut → length (body v cut e.message) ≤ MOST_BODY_BYTES → Spells v e (header v cut e ++ body v cut e.message)
+pub has_spelling : (v : Version) (e : EnvelopeRecord) → IsFit v e → (cut : Cut) → IsCut cut → length (body v cut e.message) ≤ MOST_BODY_BYTES
+    → Spells v e (header v cut e ++ body v cut e.message)
 has_spelling v e fits cut cuts short = record { fits = fits; cut = cut; cuts = cuts; short = short; spelled = refl }

@@ -28,19 +28,22 @@ use Rattle.lrc_wire.proofs.Agrees.{Agrees, Agrees-as, Agrees-tested, step, byte_
 pub lock_agrees : Agrees lock_at byte (λ n. n < MOST_LOCKS)
 unfolding lock_at
 lock_agrees =
-    Agrees-as _ byte (λ n. HasBits 8 n × (ltb n MOST_LOCKS ≡ true)) (λ n. n < MOST_LOCKS) (λ n h. ltb-true n MOST_LOCKS h.1) (λ n lt. (omega arith, lt-ltb n MOST_LOCKS lt))
+    Agrees-as _ byte (λ n. HasBits 8 n
+    × (ltb n MOST_LOCKS ≡ true)) (λ n. n < MOST_LOCKS) (λ n h. ltb-true n MOST_LOCKS h.1) (λ n lt. (omega arith, lt-ltb n MOST_LOCKS lt))
     (Agrees-tested byte_at byte (HasBits 8) (λ n. ltb n MOST_LOCKS) BadCount byte_agrees)
 
 pub node_agrees : Agrees node_at byte (λ n. n < MOST_NODES)
 unfolding node_at
 node_agrees =
-    Agrees-as _ byte (λ n. HasBits 8 n × (ltb n MOST_NODES ≡ true)) (λ n. n < MOST_NODES) (λ n h. ltb-true n MOST_NODES h.1) (λ n lt. (omega arith, lt-ltb n MOST_NODES lt))
+    Agrees-as _ byte (λ n. HasBits 8 n
+    × (ltb n MOST_NODES ≡ true)) (λ n. n < MOST_NODES) (λ n h. ltb-true n MOST_NODES h.1) (λ n lt. (omega arith, lt-ltb n MOST_NODES lt))
     (Agrees-tested byte_at byte (HasBits 8) (λ n. ltb n MOST_NODES) BadNode byte_agrees)
 
 pub episode_agrees : Agrees episode_at (number w32) IsEpisode
 unfolding episode_at
 episode_agrees =
-    Agrees-as _ (number w32) (λ n. HasBits 32 n × (leb 1 n ≡ true)) IsEpisode (λ n h. record { begun = leb-true 1 n h.1; bits = h.0 }) (λ n h. (h.bits, le-leb 1 n h.begun))
+    Agrees-as _ (number w32) (λ n. HasBits 32 n
+    × (leb 1 n ≡ true)) IsEpisode (λ n h. record { begun = leb-true 1 n h.1; bits = h.0 }) (λ n h. (h.bits, le-leb 1 n h.begun))
     (Agrees-tested (number_at w32) (number w32) (HasBits 32) (λ n. leb 1 n) BadCount number32_agrees)
 
 pub pages_in-le : (v : Version) → pages_in v ≤ MOST_PAGES
@@ -50,7 +53,9 @@ pages_in-le Two = omega arith
 pub page_agrees : (v : Version) → Agrees (page_at v) (number w16) (λ n. n < pages_in v)
 unfolding page_at
 page_agrees v =
-    Agrees-as _ (number w16) (λ n. HasBits 16 n × (ltb n (pages_in v) ≡ true)) (λ n. n < pages_in v) (λ n h. ltb-true n (pages_in v) h.1) (λ n lt. (omega (arith, pages_in-le v), lt-ltb n (pages_in v) lt))
+    Agrees-as _ (number w16) (λ n. HasBits 16 n
+    × (ltb n (pages_in v) ≡ true)) (λ n. n < pages_in v) (λ n h. ltb-true n (pages_in v) h.1)
+    (λ n lt. (omega (arith, pages_in-le v), lt-ltb n (pages_in v) lt))
     (Agrees-tested (number_at w16) (number w16) (HasBits 16) (λ n. ltb n (pages_in v)) BadCount number16_agrees)
 
 flag_byte : (n : ℕ) → n < 2 → flag (eqb n 1) ≡ byte n
@@ -62,7 +67,8 @@ flag_byte (suc (suc n)) lt = absurd (omega arith)
 flag_takes : (bytes : List ℕ) (b : Bool) (rest : List ℕ) → IsBytes bytes → flag_at bytes ≡ Ok (b, rest) → Takes bytes (flag b) rest × Unit {0}
 unfolding flag_at
 flag_takes bytes b rest fits e =
-    let a = step (λ bytes. tested (λ n. ltb n 2) BadCount (byte_at bytes)) byte (λ n. HasBits 8 n × (ltb n 2 ≡ true)) (Agrees-tested byte_at byte (HasBits 8) (λ n. ltb n 2) BadCount byte_agrees) bytes (λ n. Ok (eqb n.0 1, n.1)) (b, rest) fits e in
+    let a = step (λ bytes. tested (λ n. ltb n 2) BadCount (byte_at bytes)) byte (λ n. HasBits 8 n
+    × (ltb n 2 ≡ true)) (Agrees-tested byte_at byte (HasBits 8) (λ n. ltb n 2) BadCount byte_agrees) bytes (λ n. Ok (eqb n.0 1, n.1)) (b, rest) fits e in
     let spelled : flag (eqb a.value 1) ≡ byte a.value = flag_byte a.value (ltb-true a.value 2 a.fits.1) in
     subst (λ (y : Bool × List ℕ). Takes bytes (flag y.0) y.1 × Unit {0}) (ok_is (eqb a.value 1, a.rest) (b, rest) a.then) (rw spelled a.took, tt)
 
@@ -84,7 +90,8 @@ entry_agrees node = number32_agrees
 entries_agree : (nodes : ℕ) → Agrees (entries_at None nodes) (numbers w32) (λ time. (length time ≡ nodes) × All (HasBits 32) time)
 unfolding entries_at numbers
 entries_agree nodes =
-    Agrees-as _ (flat_map (number w32)) (λ time. (length time ≡ nodes) × Along (λ _ n. HasBits 32 n) (λ node _. node + 1) 0 time) (λ time. (length time ≡ nodes) × All (HasBits 32) time)
+    Agrees-as _ (flat_map (number w32)) (λ time. (length time ≡ nodes) × Along (λ _ n. HasBits 32 n) (λ node _. node + 1) 0 time) (λ time. (length time ≡ nodes)
+    × All (HasBits 32) time)
     (λ time h. (h.0, All-from_along (HasBits 32) (λ node _. node + 1) 0 time h.1))
     (λ time h. (h.0, along_from_all (HasBits 32) (λ node _. node + 1) 0 time h.1))
     (elements_agree (entry_at None) (λ node _. node + 1) (number w32) (λ _ n. HasBits 32 n) entry_agrees nodes 0)
@@ -117,8 +124,16 @@ stamp_entries_agree : (nodes own : ℕ) → own < nodes → Agrees (entries_at (
 unfolding entries_at numbers
 stamp_entries_agree nodes own within =
     Agrees-as _ (flat_map (number w32)) (λ stamp. (length stamp ≡ nodes) × Along (Counts own) (λ node _. node + 1) 0 stamp) (IsStamp nodes own)
-    (λ stamp h. (h.0, counts_bits own 0 stamp h.1, counted own own (get_or stamp own 0) refl (along_at (Counts own) 0 stamp 0 own own (omega arith) (omega (arith, h.0)) h.1).1))
-    (λ stamp h. (h.0, along_from (Counts own) 0 stamp (λ k place d e lt. ((h.1 k d lt), counts own place (get_or stamp k d) (λ same. own_begun stamp own k d (omega arith) lt h.2)))))
+    (λ stamp h. (
+      h.0,
+      counts_bits own 0 stamp h.1,
+      counted own own (get_or stamp own 0) refl (along_at (Counts own) 0 stamp 0 own own (omega arith) (omega (arith, h.0)) h.1).1,
+    ))
+    (λ stamp h. (
+      h.0,
+      along_from (Counts own) 0 stamp
+          (λ k place d e lt. ((h.1 k d lt), counts own place (get_or stamp k d) (λ same. own_begun stamp own k d (omega arith) lt h.2))),
+    ))
     (elements_agree (entry_at (Some own)) (λ node _. node + 1) (number w32) (Counts own) (stamp_entry_agrees own) nodes 0)
 
 -- a time whose count was read
@@ -135,39 +150,60 @@ time_takes : (bytes entries rest : List ℕ) → IsBytes bytes → time_at bytes
 unfolding time_at time
 time_takes bytes entries rest fits e =
     let counted = Agrees-tested byte_at byte (HasBits 8) (λ n. leb 1 n && leb n MOST_NODES) BadCount byte_agrees in
-    let a = step (λ bytes. tested (λ n. leb 1 n && leb n MOST_NODES) BadCount (byte_at bytes)) byte (λ n. HasBits 8 n × ((leb 1 n && leb n MOST_NODES) ≡ true)) counted bytes (λ nodes. entries_at None nodes.0 nodes.1) (entries, rest) fits e in
-    let b = (entries_agree a.value).takes a.rest entries rest a.took.rest_fits a.then in
-    (subst (λ (n : ℕ). Takes bytes (byte n ++ numbers w32 entries) rest) (sym b.1.0) (Takes-then bytes (byte a.value) a.rest (numbers w32 entries) rest a.took b.0), is_time a.value entries a.fits.1 b.1.0 b.1.1)
+    let a = step (λ bytes. tested (λ n. leb 1 n && leb n MOST_NODES) BadCount (byte_at bytes)) byte (λ n. HasBits 8 n
+    × ((leb 1 n && leb n MOST_NODES) ≡ true)) counted bytes (λ nodes. entries_at None nodes.0 nodes.1) (entries, rest) fits e in
+    let b = (entries_agree a.value).takes a.rest entries rest a.took.rest_fits a.then in (
+      subst (λ (n : ℕ). Takes bytes (byte n
+          ++ numbers w32 entries) rest) (sym b.1.0) (Takes-then bytes (byte a.value) a.rest (numbers w32 entries) rest a.took b.0),
+      is_time a.value entries a.fits.1 b.1.0 b.1.1,
+    )
 
 time_again : (entries rest : List ℕ) → IsTime entries → time_at (time entries ++ rest) ≡ Ok (entries, rest)
 unfolding time_at time
 time_again entries rest h =
-    let regrouped : (byte (length entries) ++ numbers w32 entries) ++ rest ≡ byte (length entries) ++ (numbers w32 entries ++ rest) = append_assoc (byte (length entries)) (numbers w32 entries) rest in
-    let passes : (leb 1 (length entries) && leb (length entries) MOST_NODES) ≡ true = and_from (leb 1 (length entries)) (leb (length entries) MOST_NODES) (le-leb 1 (length entries) h.some) (le-leb (length entries) MOST_NODES h.few) in
-    let counted : byte_at (byte (length entries) ++ (numbers w32 entries ++ rest)) ≡ Ok (length entries, numbers w32 entries ++ rest) = byte_agrees.again (length entries) (numbers w32 entries ++ rest) (omega (arith, h.few)) in
-    let first : tested (λ n. leb 1 n && leb n MOST_NODES) BadCount (byte_at (byte (length entries) ++ (numbers w32 entries ++ rest))) ≡ Ok (length entries, numbers w32 entries ++ rest) =
-    tested_again (λ n. leb 1 n && leb n MOST_NODES) BadCount (byte_at (byte (length entries) ++ (numbers w32 entries ++ rest))) (length entries, numbers w32 entries ++ rest) counted passes in
+    let regrouped : (byte (length entries) ++ numbers w32 entries) ++ rest ≡ byte (length entries) ++ (numbers w32 entries ++ rest) =
+    append_assoc (byte (length entries)) (numbers w32 entries) rest in
+    let passes : (leb 1 (length entries) && leb (length entries) MOST_NODES) ≡ true =
+    and_from (leb 1 (length entries)) (leb (length entries) MOST_NODES) (le-leb 1 (length entries) h.some) (le-leb (length entries) MOST_NODES h.few) in
+    let counted : byte_at (byte (length entries) ++ (numbers w32 entries ++ rest)) ≡ Ok (length entries, numbers w32 entries ++ rest) =
+    byte_agrees.again (length entries) (numbers w32 entries ++ rest) (omega (arith, h.few)) in
+    let first : tested (λ n. leb 1 n && leb n MOST_NODES) BadCount (byte_at (byte (length entries)
+    ++ (numbers w32 entries ++ rest))) ≡ Ok (length entries, numbers w32 entries ++ rest) =
+    tested_again (λ n. leb 1 n && leb n MOST_NODES) BadCount (byte_at (byte (length entries)
+    ++ (numbers w32 entries ++ rest))) (length entries, numbers w32 entries ++ rest) counted passes in
     rw (regrouped, first) ((entries_agree (length entries)).again entries rest (refl, h.bits))
 
 pub time_agrees : Agrees time_at time IsTime
 time_agrees = record { takes = time_takes; again = time_again }
 
 module _ (nodes own : ℕ) (few : nodes ≤ MOST_NODES) (within : own < nodes) where
-  stamp_takes : (bytes entries rest : List ℕ) → IsBytes bytes → stamp_at nodes own bytes ≡ Ok (entries, rest) → Takes bytes (time entries) rest × IsStamp nodes own entries
+  stamp_takes : (bytes entries rest : List ℕ) → IsBytes bytes → stamp_at nodes own bytes ≡ Ok (entries, rest) → Takes bytes (time entries) rest
+      × IsStamp nodes own entries
   unfolding stamp_at time
   stamp_takes bytes entries rest fits e =
-      let a = step (λ bytes. tested (λ n. eqb n nodes) BadCount (byte_at bytes)) byte (λ n. HasBits 8 n × (eqb n nodes ≡ true)) (Agrees-tested byte_at byte (HasBits 8) (λ n. eqb n nodes) BadCount byte_agrees) bytes (λ count. entries_at (Some own) nodes count.1) (entries, rest) fits e in
+      let a = step (λ bytes. tested (λ n. eqb n nodes) BadCount (byte_at bytes)) byte (λ n. HasBits 8 n
+      × (eqb n nodes ≡ true)) (Agrees-tested byte_at byte (HasBits 8) (λ n. eqb n nodes) BadCount byte_agrees) bytes
+      (λ count. entries_at (Some own) nodes count.1) (entries, rest) fits e in
       let b = (stamp_entries_agree nodes own within).takes a.rest entries rest a.took.rest_fits a.then in
-      let same : a.value ≡ length entries = eqb-true a.value nodes a.fits.1 ∙ sym b.1.0 in
-      (subst (λ (n : ℕ). Takes bytes (byte n ++ numbers w32 entries) rest) same (Takes-then bytes (byte a.value) a.rest (numbers w32 entries) rest a.took b.0), b.1)
+      let same : a.value ≡ length entries = eqb-true a.value nodes a.fits.1 ∙ sym b.1.0 in (
+        subst (λ (n : ℕ). Takes bytes (byte n ++ numbers w32 entries) rest) same (Takes-then bytes (byte a.value) a.rest (numbers w32 entries) rest a.took b.0),
+        b.1,
+      )
 
   stamp_again : (entries rest : List ℕ) → IsStamp nodes own entries → stamp_at nodes own (time entries ++ rest) ≡ Ok (entries, rest)
   unfolding stamp_at time
   stamp_again entries rest h =
-      let regrouped : (byte (length entries) ++ numbers w32 entries) ++ rest ≡ byte (length entries) ++ (numbers w32 entries ++ rest) = append_assoc (byte (length entries)) (numbers w32 entries) rest in
-      let counted : byte_at (byte (length entries) ++ (numbers w32 entries ++ rest)) ≡ Ok (length entries, numbers w32 entries ++ rest) = byte_agrees.again (length entries) (numbers w32 entries ++ rest) (omega (arith, h.0)) in
-      let first : tested (λ n. eqb n nodes) BadCount (byte_at (byte (length entries) ++ (numbers w32 entries ++ rest))) ≡ Ok (length entries, numbers w32 entries ++ rest) =
-      tested_again (λ n. eqb n nodes) BadCount (byte_at (byte (length entries) ++ (numbers w32 entries ++ rest))) (length entries, numbers w32 entries ++ rest) counted (eq-eqb (length entries) nodes h.0) in
+      let regrouped : (byte (length entries) ++ numbers w32 entries) ++ rest ≡ byte (length entries) ++ (numbers w32 entries ++ rest) =
+      append_assoc (byte (length entries)) (numbers w32 entries) rest in
+      let counted : byte_at (byte (length entries) ++ (numbers w32 entries ++ rest)) ≡ Ok (length entries, numbers w32 entries ++ rest) =
+      byte_agrees.again (length entries) (numbers w32 entries ++ rest) (omega (arith, h.0)) in
+      let first : tested (λ n. eqb n nodes) BadCount (byte_at (byte (length entries)
+      ++ (numbers w32 entries ++ rest))) ≡ Ok (length entries, numbers w32 entries ++ rest) =
+      tested_again (λ n. eqb n nodes) BadCount (byte_at (byte (length entries) ++ (numbers w32 entries ++ rest))) (
+        length entries,
+        numbers w32 entries
+            ++ rest,
+      ) counted (eq-eqb (length entries) nodes h.0) in
       rw (regrouped, first) ((stamp_entries_agree nodes own within).again entries rest h)
 
   pub stamp_agrees : Agrees (stamp_at nodes own) time (IsStamp nodes own)
@@ -187,26 +223,44 @@ module _ (v : Version) where
   unfolding next_page_at
   next_page_agrees before = Agrees-tested (page_at v) (number w16) (λ n. n < pages_in v) (is_after ltb before) NotAscending (page_agrees v)
 
-  elements_of_pages : (count : ℕ) → Agrees (elements_at (next_page_at v) (λ _ page. Some page) count None) (numbers w16) (λ ps. (length ps ≡ count) × ArePages v ps)
+  elements_of_pages : (count : ℕ)
+      → Agrees (elements_at (next_page_at v) (λ _ page. Some page) count None) (numbers w16) (λ ps. (length ps ≡ count) × ArePages v ps)
   unfolding numbers is_after
   elements_of_pages count =
-      Agrees-as _ (flat_map (number w16)) (λ ps. (length ps ≡ count) × Follow ltb (λ n. n) (λ n. n < pages_in v) None ps) (λ ps. (length ps ≡ count) × ArePages v ps)
-      (λ ps h. (h.0, (All-from_follow ltb (λ n. n) (λ n. n < pages_in v) None ps h.1, λ i j d lt within. ltb-true _ _ (AllPairs-from_follow ltb (λ n. n) (λ n. n < pages_in v) lt-trans None ps h.1 i j d lt within))))
-      (λ ps h. (h.0, follow_from_pairs ltb (λ n. n) (λ n. n < pages_in v) None ps h.1.0 (λ i j d lt within. lt-ltb _ _ (h.1.1 i j d lt within)) (λ k d within. refl)))
+      Agrees-as _ (flat_map (number w16)) (λ ps. (length ps ≡ count) × Follow ltb (λ n. n) (λ n. n < pages_in v) None ps) (λ ps. (length ps ≡ count)
+      × ArePages v ps)
+      (λ ps h. (
+        h.0,
+        (
+          All-from_follow ltb (λ n. n) (λ n. n < pages_in v) None ps h.1,
+          λ i j d lt within. ltb-true _ _ (AllPairs-from_follow ltb (λ n. n) (λ n. n < pages_in v) lt-trans None ps h.1 i j d lt within),
+        ),
+      ))
+      (λ ps h. (
+        h.0,
+        follow_from_pairs ltb (λ n. n) (λ n. n < pages_in v) None ps h.1.0 (λ i j d lt within. lt-ltb _ _ (h.1.1 i j d lt within))
+            (λ k d within. refl),
+      ))
       (elements_agree (next_page_at v) (λ _ page. Some page) (number w16) (Ascends ltb (λ n. n) (λ n. n < pages_in v)) next_page_agrees count None)
 
   pages_take : (bytes ps rest : List ℕ) → IsBytes bytes → pages_at v bytes ≡ Ok (ps, rest) → Takes bytes (pages ps) rest × ArePages v ps
   unfolding pages_at pages
   pages_take bytes ps rest fits e =
-      let a = step (number_at w16) (number w16) (HasBits 16) number16_agrees bytes (λ count. elements_at (next_page_at v) (λ _ page. Some page) count.0 None count.1) (ps, rest) fits e in
-      let b = (elements_of_pages a.value).takes a.rest ps rest a.took.rest_fits a.then in
-      (subst (λ (n : ℕ). Takes bytes (number w16 n ++ numbers w16 ps) rest) (sym b.1.0) (Takes-then bytes (number w16 a.value) a.rest (numbers w16 ps) rest a.took b.0), b.1.1)
+      let a = step (number_at w16) (number w16) (HasBits 16) number16_agrees bytes
+      (λ count. elements_at (next_page_at v) (λ _ page. Some page) count.0 None count.1) (ps, rest) fits e in
+      let b = (elements_of_pages a.value).takes a.rest ps rest a.took.rest_fits a.then in (
+        subst (λ (n : ℕ). Takes bytes (number w16 n
+            ++ numbers w16 ps) rest) (sym b.1.0) (Takes-then bytes (number w16 a.value) a.rest (numbers w16 ps) rest a.took b.0),
+        b.1.1,
+      )
 
   pages_again : (ps rest : List ℕ) → ArePages v ps → pages_at v (pages ps ++ rest) ≡ Ok (ps, rest)
   unfolding pages_at pages
   pages_again ps rest h =
-      let regrouped : (number w16 (length ps) ++ numbers w16 ps) ++ rest ≡ number w16 (length ps) ++ (numbers w16 ps ++ rest) = append_assoc (number w16 (length ps)) (numbers w16 ps) rest in
-      let first : number_at w16 (number w16 (length ps) ++ (numbers w16 ps ++ rest)) ≡ Ok (length ps, numbers w16 ps ++ rest) = number16_agrees.again (length ps) (numbers w16 ps ++ rest) (omega (arith, pages_few v ps h)) in
+      let regrouped : (number w16 (length ps) ++ numbers w16 ps) ++ rest ≡ number w16 (length ps) ++ (numbers w16 ps ++ rest) =
+      append_assoc (number w16 (length ps)) (numbers w16 ps) rest in
+      let first : number_at w16 (number w16 (length ps) ++ (numbers w16 ps ++ rest)) ≡ Ok (length ps, numbers w16 ps ++ rest) =
+      number16_agrees.again (length ps) (numbers w16 ps ++ rest) (omega (arith, pages_few v ps h)) in
       rw (regrouped, first) ((elements_of_pages (length ps)).again ps rest (refl, h))
 
   pub pages_agree : Agrees (pages_at v) pages (ArePages v)

@@ -12,7 +12,8 @@ last_pushed xs x y e =
     sym (get_or-append_seam xs x [] x) ∙ get_or_from_slice_get (xs ++ x ∷ []) (length xs) y x (rw place at e)
 
 -- where the last of a list that ascends is below, all are
-pub last_above : {A : Type 0} (key : A → ℕ) (xs : List A) (n : ℕ) → AllPairs (λ a b. key a < key b) xs → ForSome (slice_get xs (length xs - 1)) (λ last. key last < n) → All (λ x. key x < n) xs
+pub last_above : {A : Type 0} (key : A → ℕ) (xs : List A) (n : ℕ) → AllPairs (λ a b. key a < key b) xs
+    → ForSome (slice_get xs (length xs - 1)) (λ last. key last < n) → All (λ x. key x < n) xs
 last_above {A} key xs n rises below k d within =
     let last : A = get_or xs (length xs - 1) d in
     let last_is : key last < n = below last (slice_get-get_or xs (length xs - 1) d (omega arith)) in

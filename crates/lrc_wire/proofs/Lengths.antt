@@ -63,7 +63,14 @@ length_pages ps = omega (arith, length-append (number w16 (length ps)) (numbers 
 pub length_interval : (i : IntervalRecord) → length (interval i) ≡ 3 + length (time i.stamp) + 2 * length i.pages
 unfolding interval
 length_interval i =
-    omega (arith, length-append (byte i.node) (time i.stamp ++ pages i.pages), length-append (time i.stamp) (pages i.pages), length_byte i.node, length_pages i.pages)
+    omega (
+      arith,
+      length-append (byte i.node) (time i.stamp
+          ++ pages i.pages),
+      length-append (time i.stamp) (pages i.pages),
+      length_byte i.node,
+      length_pages i.pages,
+    )
 
 pub length_intervals : (is : List IntervalRecord) → length (intervals is) ≡ 4 + length (flat_map interval is)
 unfolding intervals
@@ -77,7 +84,15 @@ length_indices ns = omega (arith, length-append (number w32 (length ns)) (number
 length_run : (r : Run) → length (run r) ≡ 2 + 8 * length r.values
 unfolding run
 length_run r =
-    omega (arith, length-append (byte r.first) (byte (length r.values - 1) ++ numbers w64 r.values), length-append (byte (length r.values - 1)) (numbers w64 r.values), length_byte r.first, length_byte (length r.values - 1), length_numbers_64 r.values)
+    omega (
+      arith,
+      length-append (byte r.first) (byte (length r.values - 1)
+          ++ numbers w64 r.values),
+      length-append (byte (length r.values - 1)) (numbers w64 r.values),
+      length_byte r.first,
+      length_byte (length r.values - 1),
+      length_numbers_64 r.values,
+    )
 
 length_changes_of : (first : ℕ) (values : List ℕ) → length (changes_of (record { first = first; values = values })) ≡ length values
 length_changes_of first [] = refl
@@ -86,12 +101,26 @@ length_changes_of first (v ∷ values) = ap suc (length_changes_of (first + 1) v
 length_each_run : (rs : List Run) → length (flat_map run rs) ≡ 2 * length rs + 8 * length (flat_map changes_of rs)
 length_each_run [] = omega arith
 length_each_run (r ∷ rs) =
-    rw (flat_map-cons, flat_map-cons) (omega (arith, length-append (run r) (flat_map run rs), length-append (changes_of r) (flat_map changes_of rs), length_run r, length_changes_of r.first r.values, length_each_run rs))
+    rw (flat_map-cons, flat_map-cons)
+    (omega (
+      arith,
+      length-append (run r) (flat_map run rs),
+      length-append (changes_of r) (flat_map changes_of rs),
+      length_run r,
+      length_changes_of r.first r.values,
+      length_each_run rs,
+    ))
 
 length_in_runs : (cs : List Change) → length (in_runs (runs_of cs)) ≡ 2 + 2 * length (runs_of cs) + 8 * length cs
 unfolding in_runs
 length_in_runs cs =
-    omega (arith, length-append (number w16 (length (runs_of cs))) (flat_map run (runs_of cs)), length_number_16 (length (runs_of cs)), length_each_run (runs_of cs), ap length (runs_of-whole cs))
+    omega (
+      arith,
+      length-append (number w16 (length (runs_of cs))) (flat_map run (runs_of cs)),
+      length_number_16 (length (runs_of cs)),
+      length_each_run (runs_of cs),
+      ap length (runs_of-whole cs),
+    )
 
 pub length_part : (p : IndexedChangesRecord) → length (part Two runs_of p) ≡ 6 + 2 * length (runs_of p.changes) + 8 * length p.changes
 unfolding part

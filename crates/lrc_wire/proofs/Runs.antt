@@ -56,16 +56,36 @@ runs_of-whole (c ∷ cs) = front_whole c (runs_of cs) ∙ ap (λ (xs : List Chan
 
 -- ---- and apart
 
-front_apart : (low : ℕ) (c : Change) (rs : List Run) → low ≤ c.offset → (c.offset < 256) × HasBits 64 c.value → Runs IsRun (c.offset + 1) rs → Runs IsRun low (in_front c rs)
-front_apart low c [] le here h = (le, record { some = omega arith; within = omega (arith, here.0); bits = All-cons (HasBits 64) c.value [] here.1 (All-nil (HasBits 64)) }, tt)
+front_apart : (low : ℕ) (c : Change) (rs : List Run) → low ≤ c.offset → (c.offset < 256) × HasBits 64 c.value → Runs IsRun (c.offset + 1) rs
+    → Runs IsRun low (in_front c rs)
+front_apart low c [] le here h =
+    (le, record { some = omega arith; within = omega (arith, here.0); bits = All-cons (HasBits 64) c.value [] here.1 (All-nil (HasBits 64)) }, tt)
 front_apart low c (r ∷ rs) le here h =
     elim (eqb_tells r.first (c.offset + 1)) [
       | inl p ↦
           let ends : c.offset + length (c.value ∷ r.values) ≡ end_of r = omega (arith, p.1) in
-          rw p.0 (le, record { some = omega arith; within = omega (arith, ends, h.1.within); bits = All-cons (HasBits 64) c.value r.values here.1 h.1.bits }, subst (λ (n : ℕ). Runs IsRun (n + 1) rs) (sym ends) h.2)
+          rw p.0 (
+            le,
+            record {
+              some = omega arith;
+              within = omega (arith, ends, h.1.within);
+              bits =
+                  All-cons (HasBits 64) c.value r.values here.1 h.1.bits;
+            },
+            subst (λ (n : ℕ). Runs IsRun (n + 1) rs) (sym ends) h.2,
+          )
       | inr q ↦
           let apart : c.offset + 1 + 1 ≤ r.first = omega (arith, h.0, q.1) in
-          rw q.0 (le, record { some = omega arith; within = omega (arith, here.0); bits = All-cons (HasBits 64) c.value [] here.1 (All-nil (HasBits 64)) }, (apart, h.1, h.2))
+          rw q.0 (
+            le,
+            record {
+              some = omega arith;
+              within = omega (arith, here.0);
+              bits =
+                  All-cons (HasBits 64) c.value [] here.1 (All-nil (HasBits 64));
+            },
+            (apart, h.1, h.2),
+          )
     ]
 
 pub runs_of-apart : (low : ℕ) (cs : List Change) → Changing low cs → Runs IsRun low (runs_of cs)
@@ -99,17 +119,23 @@ few_runs low (r ∷ s ∷ rs) h some = omega (arith, h.0, h.1.some, h.1.within, 
 
 -- ---- what runs stand for
 
-run_changes : (low first : ℕ) (values : List ℕ) (cs : List Change) → low ≤ first → first + length values ≤ 256 → All (HasBits 64) values → Changing (first + length values) cs
+run_changes : (low first : ℕ) (values : List ℕ) (cs : List Change) → low ≤ first → first + length values ≤ 256 → All (HasBits 64) values
+    → Changing (first + length values) cs
     → Changing low (changes_of (record { first = first; values = values }) ++ cs)
 run_changes low first [] cs le within bits h = lower low (first + 0) cs (omega arith) h
 run_changes low first (v ∷ values) cs le within bits h =
-    let ends : first + 1 + length values ≡ first + length (v ∷ values) = omega arith in
-    (le, (omega arith, All-head (HasBits 64) v values bits), run_changes (first + 1) (first + 1) values cs (omega arith) (omega (arith, ends)) (All-tail (HasBits 64) v values bits) (subst (λ (n : ℕ). Changing n cs) (sym ends) h))
+    let ends : first + 1 + length values ≡ first + length (v ∷ values) = omega arith in (
+      le,
+      (omega arith, All-head (HasBits 64) v values bits),
+      run_changes (first + 1) (first + 1) values cs (omega arith) (omega (arith, ends)) (All-tail (HasBits 64) v values bits)
+          (subst (λ (n : ℕ). Changing n cs) (sym ends) h),
+    )
 
 pub runs_changes : (low : ℕ) (rs : List Run) → Runs IsRun low rs → Changing low (flat_map changes_of rs)
 runs_changes low [] h = tt
 runs_changes low (r ∷ rs) h =
-    rw flat_map-cons (run_changes low r.first r.values (flat_map changes_of rs) h.0 h.1.within h.1.bits (lower (end_of r) (end_of r + 1) (flat_map changes_of rs) (omega arith) (runs_changes (end_of r + 1) rs h.2)))
+    rw flat_map-cons (run_changes low r.first r.values (flat_map changes_of rs) h.0 h.1.within h.1.bits
+    (lower (end_of r) (end_of r + 1) (flat_map changes_of rs) (omega arith) (runs_changes (end_of r + 1) rs h.2)))
 
 -- ---- the same facts, place by place
 
@@ -129,7 +155,8 @@ apart_from_runs : (low : ℕ) (rs : List Run) → Runs IsSome low rs → AllPair
 apart_from_runs low [] h = λ i j d lt within. absurd (omega arith)
 apart_from_runs low (r ∷ rs) h =
     AllPairs-cons (λ a b. end_of a < b.first) r rs
-    (All-weaker (λ b. end_of r + 1 ≤ b.first) (λ b. end_of r < b.first) (λ b le. omega (arith, le)) rs (begin_at (end_of r + 1) (end_of r + 1) rs (omega arith) h.2))
+    (All-weaker (λ b. end_of r + 1 ≤ b.first) (λ b. end_of r < b.first) (λ b le. omega (arith, le)) rs
+    (begin_at (end_of r + 1) (end_of r + 1) rs (omega arith) h.2))
     (apart_from_runs (end_of r + 1) rs h.2)
 
 pub are_runs : (low : ℕ) (rs : List Run) → Runs IsSome low rs → AreRuns (flat_map changes_of rs) rs
@@ -169,7 +196,8 @@ changing_ascends : (low : ℕ) (cs : List Change) → Changing low cs → IsAsce
 changing_ascends low [] h = λ i j d lt within. absurd (omega arith)
 changing_ascends low (c ∷ cs) h =
     AllPairs-cons (λ c d. c.offset < d.offset) c cs
-    (All-weaker (λ d. c.offset + 1 ≤ d.offset) (λ d. c.offset < d.offset) (λ d le. omega (arith, le)) cs (changing_above (c.offset + 1) (c.offset + 1) cs (omega arith) h.2))
+    (All-weaker (λ d. c.offset + 1 ≤ d.offset) (λ d. c.offset < d.offset) (λ d le. omega (arith, le)) cs
+    (changing_above (c.offset + 1) (c.offset + 1) cs (omega arith) h.2))
     (changing_ascends (c.offset + 1) cs h.2)
 
 pub are_changing : (low : ℕ) (cs : List Change) → Changing low cs → AreChanging cs
@@ -219,4 +247,5 @@ some_apart low (c ∷ cs) h = front_some low c (runs_of cs) h.0 (some_apart (c.o
 -- ascending changes are cut into runs by the function
 pub runs_of-are : (cs : List Change) → IsAscending cs → AreRuns cs (runs_of cs)
 runs_of-are cs ascends =
-    subst (λ (xs : List Change). AreRuns xs (runs_of cs)) (runs_of-whole cs) (are_runs 0 (runs_of cs) (some_apart 0 cs (rising_from 0 cs ascends (λ k d within. omega arith))))
+    subst (λ (xs : List Change). AreRuns xs (runs_of cs)) (runs_of-whole cs)
+    (are_runs 0 (runs_of cs) (some_apart 0 cs (rising_from 0 cs ascends (λ k d within. omega arith))))

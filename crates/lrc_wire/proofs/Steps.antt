@@ -25,7 +25,8 @@ pub ok_is : {A : Type 0} (x y : A) → done x ≡ done y → x ≡ y
 ok_is x y e = cc
 
 -- a tested field that was read passed its test
-pub tested_ok : {A : Type 0} (test : A → Bool) (fault : WireFault) (field : Field A) (y : A × List ℕ) → tested test fault field ≡ Ok y → (field ≡ Ok y) × (test y.0 ≡ true)
+pub tested_ok : {A : Type 0} (test : A → Bool) (fault : WireFault) (field : Field A) (y : A × List ℕ) → tested test fault field ≡ Ok y → (field ≡ Ok y)
+    × (test y.0 ≡ true)
 unfolding tested
 tested_ok {A} test fault field y e =
     let a = bind_ok field (λ x. cond (test x.0) (Ok x) (Err fault)) y e in
@@ -33,6 +34,7 @@ tested_ok {A} test fault field y e =
     (a.1 ∙ ap (λ x. Ok x) g.1, subst (λ (z : A × List ℕ). test z.0 ≡ true) g.1 g.0)
 
 -- a field that is read and passes its test
-pub tested_again : {A : Type 0} (test : A → Bool) (fault : WireFault) (field : Field A) (y : A × List ℕ) → field ≡ Ok y → test y.0 ≡ true → tested test fault field ≡ Ok y
+pub tested_again : {A : Type 0} (test : A → Bool) (fault : WireFault) (field : Field A) (y : A × List ℕ) → field ≡ Ok y → test y.0 ≡ true
+    → tested test fault field ≡ Ok y
 unfolding tested
 tested_again test fault field y e passes = rw (e, passes) refl

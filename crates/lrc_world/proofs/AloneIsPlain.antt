@@ -63,7 +63,8 @@ unset [] l = refl
 unset (o ∷ holders) zero = refl
 unset (o ∷ holders) (suc l) = unset holders l
 
-acquired_free : (holders : List (Option ℕ)) (t after : Thread) (l : ℕ) → l < t.setting.locks → Leads t after (slice_set t.held l true) false → IsFree holders t → IsFree (slice_set holders l (Some 0)) after
+acquired_free : (holders : List (Option ℕ)) (t after : Thread) (l : ℕ) → l < t.setting.locks → Leads t after (slice_set t.held l true) false → IsFree holders t
+    → IsFree (slice_set holders l (Some 0)) after
 acquired_free holders t after l lt leads f = record {
   few_locks = subst (λ s. s.locks ≤ 64) (sym leads.setting) f.few_locks;
   kept = ap length leads.held ∙ length-set t.held l true ∙ f.kept;
@@ -72,12 +73,14 @@ acquired_free holders t after l lt leads f = record {
       elim (cases_eq k l) [
         | inl same ↦
             let within : l < length t.held = let few = f.few_locks in let kept = f.kept in omega arith in
-            let x : true ≡ false = sym (get_or-set_same t.held l true false within) ∙ ap (λ i. slice_index_or (slice_set t.held l true) i false) (sym same) ∙ unheld in cc
+            let x : true ≡ false = sym (get_or-set_same t.held l true false within) ∙ ap (λ i. slice_index_or (slice_set t.held l true) i false) (sym same)
+            ∙ unheld in cc
         | inr other ↦ get_or-set_other holders l k (Some 0) None other ∙ f.free k (sym (get_or-set_other t.held l k true false other) ∙ unheld)
       ];
 }
 
-released_free : (holders : List (Option ℕ)) (t after : Thread) (l : ℕ) → Leads t after (slice_set t.held l false) false → IsFree holders t → IsFree (slice_set holders l None) after
+released_free : (holders : List (Option ℕ)) (t after : Thread) (l : ℕ) → Leads t after (slice_set t.held l false) false → IsFree holders t
+    → IsFree (slice_set holders l None) after
 released_free holders t after l leads f = record {
   few_locks = subst (λ s. s.locks ≤ 64) (sym leads.setting) f.few_locks;
   kept = ap length leads.held ∙ length-set t.held l false ∙ f.kept;
@@ -90,7 +93,8 @@ released_free holders t after l leads f = record {
 }
 
 -- what holds of a statement that was begun
-begun_then : (base : Alone) (left : ℕ) (d₀ : Deed) (thread : Option Thread) (d : Deed) (after : Alone) (P : Deed → Alone → Type 0) → begun base left d₀ thread ≡ Some (d, after) → ((k : ℕ) → P d₀ (record { thread = thread; memory = base.memory; left = k })) → P d after
+begun_then : (base : Alone) (left : ℕ) (d₀ : Deed) (thread : Option Thread) (d : Deed) (after : Alone) (P : Deed → Alone → Type 0)
+    → begun base left d₀ thread ≡ Some (d, after) → ((k : ℕ) → P d₀ (record { thread = thread; memory = base.memory; left = k })) → P d after
 begun_then base zero d₀ thread d after P e p = cc
 begun_then base (suc left) d₀ thread d after P e p =
     let parts = some_pair_parts d₀ d (record { thread = thread; memory = base.memory; left = left }) after e in
@@ -101,43 +105,100 @@ module _ (node : Alone) (machine : Plain) (t : Thread) (at : node.thread ≡ Som
   free = a.locks t at
 
   -- the machine after a deed, with this thread in place of the node's
-  agree : (thread : Option Thread) (memory : List ℕ) (after : Plain) (left : ℕ) → after.memory ≡ memory → after.threads ≡ slice_set machine.threads 0 thread → ((t' : Thread) → thread ≡ Some t' → IsFree after.holders t') → Agrees (record { thread = thread; memory = memory; left = left }) after
+  agree : (thread : Option Thread) (memory : List ℕ) (after : Plain) (left : ℕ) → after.memory ≡ memory → after.threads ≡ slice_set machine.threads 0 thread
+      → ((t' : Thread) → thread ≡ Some t' → IsFree after.holders t') → Agrees (record { thread = thread; memory = memory; left = left }) after
   agree thread memory after left m ts f = record { memory = m; threads = ts ∙ ap (λ threads. slice_set threads 0 thread) a.threads; locks = f }
 
   -- a thread that goes on as free as before
-  goes_on : (t' : Thread) (after : Plain) (left : ℕ) → after.memory ≡ node.memory → after.threads ≡ slice_set machine.threads 0 (Some t') → IsFree after.holders t' → Agrees (record { thread = Some t'; memory = node.memory; left = left }) after
+  goes_on : (t' : Thread) (after : Plain) (left : ℕ) → after.memory ≡ node.memory → after.threads ≡ slice_set machine.threads 0 (Some t')
+      → IsFree after.holders t' → Agrees (record { thread = Some t'; memory = node.memory; left = left }) after
   goes_on t' after left m ts f = agree (Some t') node.memory after left m ts (λ t'' e. subst (λ x. IsFree after.holders x) (same_Some t' t'' e) f)
 
-  stops : (after : Plain) (left : ℕ) → after.memory ≡ node.memory → after.threads ≡ slice_set machine.threads 0 None → Agrees (record { thread = None; memory = node.memory; left = left }) after
+  stops : (after : Plain) (left : ℕ) → after.memory ≡ node.memory → after.threads ≡ slice_set machine.threads 0 None
+      → Agrees (record { thread = None; memory = node.memory; left = left }) after
   stops after left m ts = agree None node.memory after left m ts (λ t' e. cc)
 
   step : (n : Next) → IsFine t n → (d : Deed) (after : Alone) → turn node n ≡ Some (d, after) → Stepped machine n d after
-  step (quiet t') f d after e = begun_then node node.left Quiet (Some t') d after (Stepped machine (quiet t')) e (λ k. record { after = with_thread machine 0 (Some t'); is = refl; agrees = goes_on t' (with_thread machine 0 (Some t')) k a.memory refl (stays_free t t' f.1 free) })
-  step (prints v t') f d after e = begun_then node node.left (Print v) (Some t') d after (Stepped machine (prints v t')) e (λ k. record { after = with_thread machine 0 (Some t'); is = refl; agrees = goes_on t' (with_thread machine 0 (Some t')) k a.memory refl (stays_free t t' f.1 free) })
+  step (quiet t') f d after e =
+      begun_then node node.left Quiet (Some t') d after (Stepped machine (quiet t')) e (λ k. record {
+        after = with_thread machine 0 (Some t');
+        is =
+            refl;
+        agrees = goes_on t' (with_thread machine 0 (Some t')) k a.memory refl (stays_free t t' f.1 free);
+      })
+  step (prints v t') f d after e =
+      begun_then node node.left (Print v) (Some t') d after (Stepped machine (prints v t')) e (λ k. record {
+        after = with_thread machine 0 (Some t');
+        is =
+            refl;
+        agrees = goes_on t' (with_thread machine 0 (Some t')) k a.memory refl (stays_free t t' f.1 free);
+      })
   step (reads w t') f d after e =
       let v = slice_index node.memory w in
-      begun_then node node.left (Read w v) (Some (t' v)) d after (Stepped machine (reads w t')) e (λ k. record { after = with_thread machine 0 (Some (t' v)); is = ap (λ memory. Some (Read w (slice_index memory w), with_thread machine 0 (Some (t' (slice_index memory w))))) a.memory; agrees = goes_on (t' v) (with_thread machine 0 (Some (t' v))) k a.memory refl (stays_free t (t' v) (f.1 v).1 free) })
+      begun_then node node.left (Read w v) (Some (t' v)) d after (Stepped machine (reads w t')) e (λ k. record {
+        after =
+            with_thread machine 0 (Some (t' v));
+        is =
+            ap (λ memory. Some (Read w (slice_index memory w), with_thread machine 0 (Some (t' (slice_index memory w))))) a.memory;
+        agrees =
+            goes_on (t' v) (with_thread machine 0 (Some (t' v))) k a.memory refl (stays_free t (t' v) (f.1 v).1 free);
+      })
   step (writes w v t') f d after e =
       let written : Plain = record (with_thread machine 0 (Some t')) { memory = slice_set machine.memory w v } in
-      begun_then (with_memory node (slice_set node.memory w v)) node.left (Write w v) (Some t') d after (Stepped machine (writes w v t')) e (λ k. record { after = written; is = refl; agrees = agree (Some t') (slice_set node.memory w v) written k (ap (λ memory. slice_set memory w v) a.memory) refl (λ t'' e'. subst (λ x. IsFree machine.holders x) (same_Some t' t'' e') (stays_free t t' f.1.1 free)) })
+      begun_then (with_memory node (slice_set node.memory w v)) node.left (Write w v) (Some t') d after (Stepped machine (writes w v t')) e
+      (λ k. record {
+        after = written;
+        is = refl;
+        agrees =
+            agree (Some t') (slice_set node.memory w v) written k (ap (λ memory. slice_set memory w v) a.memory) refl
+            (λ t'' e'. subst (λ x. IsFree machine.holders x) (same_Some t' t'' e') (stays_free t t' f.1.1 free));
+      })
   step (acquires l t') f d after e =
       let acquired : Plain = record (with_thread machine 0 (Some t')) { holders = slice_set machine.holders l (Some 0) } in
       let open_lock : is_free machine l ≡ true = ap is_none (free.free l f.1) in
-      begun_then node node.left (Acquire l) (Some t') d after (Stepped machine (acquires l t')) e (λ k. record { after = acquired; is = ap (λ b. if b then Some (Acquire l, acquired) else None) open_lock; agrees = goes_on t' acquired k a.memory refl (acquired_free machine.holders t t' l f.0 f.3 free) })
+      begun_then node node.left (Acquire l) (Some t') d after (Stepped machine (acquires l t')) e (λ k. record {
+        after = acquired;
+        is =
+            ap (λ b. if b then Some (Acquire l, acquired) else None) open_lock;
+        agrees =
+            goes_on t' acquired k a.memory refl (acquired_free machine.holders t t' l f.0 f.3 free);
+      })
   step (releases l t') f d after e =
       let released : Plain = record (with_thread machine 0 (Some t')) { holders = slice_set machine.holders l None } in
-      begun_then node node.left (Release l) (Some t') d after (Stepped machine (releases l t')) e (λ k. record { after = released; is = refl; agrees = goes_on t' released k a.memory refl (released_free machine.holders t t' l f.3 free) })
+      begun_then node node.left (Release l) (Some t') d after (Stepped machine (releases l t')) e (λ k. record {
+        after = released;
+        is = refl;
+        agrees =
+            goes_on t' released k a.memory refl (released_free machine.holders t t' l f.3 free);
+      })
   step (arrives t') f d after e =
       let arrived : Plain = record (with_thread machine 0 (Some t')) { arrivals = slice_set machine.arrivals 0 (slice_index machine.arrivals 0 + 1) } in
-      begun_then node node.left Arrive (Some t') d after (Stepped machine (arrives t')) e (λ k. record { after = arrived; is = refl; agrees = goes_on t' arrived k a.memory refl (arrived_free t t' f.1 free) })
+      begun_then node node.left Arrive (Some t') d after (Stepped machine (arrives t')) e (λ k. record {
+        after = arrived;
+        is = refl;
+        agrees =
+            goes_on t' arrived k a.memory refl (arrived_free t t' f.1 free);
+      })
   step (departs t') f d after e = cc
-  step (traps c) f d after e = begun_then node node.left (Trap c) None d after (Stepped machine (traps c)) e (λ k. record { after = with_thread machine 0 None; is = refl; agrees = stops (with_thread machine 0 None) k a.memory refl })
+  step (traps c) f d after e =
+      begun_then node node.left (Trap c) None d after (Stepped machine (traps c)) e (λ k. record {
+        after = with_thread machine 0 None;
+        is = refl;
+        agrees =
+            stops (with_thread machine 0 None) k a.memory refl;
+      })
   step ends f d after e =
       let parts = some_pair_parts End d (record { thread = None; memory = node.memory; left = node.left }) after e in
-      subst (λ x. Stepped machine ends x after) parts.0 (subst (λ x. Stepped machine ends End x) parts.1 (record { after = with_thread machine 0 None; is = refl; agrees = stops (with_thread machine 0 None) node.left a.memory refl }))
+      subst (λ x. Stepped machine ends x after) parts.0 (subst (λ x. Stepped machine ends End x) parts.1 (record {
+        after = with_thread machine 0 None;
+        is =
+            refl;
+        agrees = stops (with_thread machine 0 None) node.left a.memory refl;
+      }))
 
 -- what a turn says of the thread that made it
-turn_some : (node : Alone) (o : Option Thread) (step : Deed × Alone) → option_and_then (λ thread. turn node (next_of thread)) o ≡ Some step → (t : Thread) × (o ≡ Some t) × (turn node (next_of t) ≡ Some step)
+turn_some : (node : Alone) (o : Option Thread) (step : Deed × Alone) → option_and_then (λ thread. turn node (next_of thread)) o ≡ Some step → (t : Thread)
+    × (o ≡ Some t) × (turn node (next_of t) ≡ Some step)
 turn_some node None step e = cc
 turn_some node (Some t) step e = (t, refl, e)
 
@@ -155,7 +216,9 @@ event_turn (Run n) node step e = by_test (n == 0) e
     by_test false e = cc
 event_turn (Deliver place) node step e = cc
 
-went_on : (o : Option (Deed × Alone)) (events : List Event) (node : Alone) (machine : Plain) → ((step : Deed × Alone) → o ≡ Some step → turn_of node ≡ Some step) → Agrees node machine → ((next : Alone) (m : Plain) → Agrees next m → Run_of m (played events next).acts) → Run_of machine (go_on o (played events) node).acts
+went_on : (o : Option (Deed × Alone)) (events : List Event) (node : Alone) (machine : Plain)
+    → ((step : Deed × Alone) → o ≡ Some step → turn_of node ≡ Some step) → Agrees node machine
+    → ((next : Alone) (m : Plain) → Agrees next m → Run_of m (played events next).acts) → Run_of machine (go_on o (played events) node).acts
 went_on None events node machine turns a rest = rest node machine a
 went_on (Some (deed, after)) events node machine turns a rest =
     let found = turn_some node node.thread (deed, after) (turns (deed, after) refl) in
@@ -167,18 +230,26 @@ went_on (Some (deed, after)) events node machine turns a rest =
 
 played_plain : (events : List Event) (node : Alone) (machine : Plain) → Agrees node machine → Run_of machine (played events node).acts
 played_plain [] node machine a = record { final = machine; is = refl }
-played_plain (event ∷ events) node machine a = went_on (event_of event node) events node machine (λ step e. event_turn event node step e) a (played_plain events)
+played_plain (event ∷ events) node machine a =
+    went_on (event_of event node) events node machine (λ step e. event_turn event node step e) a (played_plain events)
 
 start_agrees : (program : Program) (steps : ℕ) → program.locks ≤ 64 → Agrees (alone_at_start program steps) (plain_start program 1)
 start_agrees program steps few = record {
   memory = refl;
   threads = refl;
-  locks = λ t e. subst (λ x. IsFree (replicate program.locks None) x) (same_Some (start_of program 1 0) t e) (record { few_locks = few; kept = length-replicate {A = Bool} 64 false; free = λ l h. nobody program.locks l });
+  locks = λ t e. subst (λ x. IsFree (replicate program.locks None) x) (same_Some (start_of program 1 0) t e) (record {
+    few_locks = few;
+    kept =
+        length-replicate {A = Bool} 64 false;
+    free = λ l h. nobody program.locks l;
+  });
 }
 
 -- the run of the events on one node is that of the plain machine
-pub alone_is_plain : (program : Program) (steps : ℕ) (events : List Event) → program.locks ≤ 64 → plain program 1 (nodes_of (run_of program steps events).acts) ≡ Some (run_of program steps events).acts
-alone_is_plain program steps events few = ap (option_map (λ r. r.0)) (played_plain events (alone_at_start program steps) (plain_start program 1) (start_agrees program steps few)).is
+pub alone_is_plain : (program : Program) (steps : ℕ) (events : List Event) → program.locks ≤ 64
+    → plain program 1 (nodes_of (run_of program steps events).acts) ≡ Some (run_of program steps events).acts
+alone_is_plain program steps events few =
+    ap (option_map (λ r. r.0)) (played_plain events (alone_at_start program steps) (plain_start program 1) (start_agrees program steps few)).is
 
 -- what is promised of every run on one node
 pub record Promises (program : Program) (acts : List Act) : Type 0 where
@@ -198,27 +269,36 @@ promises program steps events few =
     }
 
 -- once no event is left, the acts so far are all
-pub all_played : (acts whole : List Act) (events : List Event) (i : ℕ) (node : Alone) → length events ≤ i → acts ++ (played (drop i events) node).acts ≡ whole → acts ≡ whole
+pub all_played : (acts whole : List Act) (events : List Event) (i : ℕ) (node : Alone) → length events ≤ i → acts ++ (played (drop i events) node).acts ≡ whole
+    → acts ≡ whole
 all_played acts whole events i node le e = sym (append-nil acts) ∙ sym (ap (λ left. acts ++ (played left node).acts) (drop_all i events le)) ∙ e
 
 -- and what is promised holds of them
-pub promised : (program : Program) (steps : ℕ) (events : List Event) (acts : List Act) (i : ℕ) (node : Alone) → length events ≤ i → acts ++ (played (drop i events) node).acts ≡ (run_of program steps events).acts → Promises program acts
-promised program steps events acts i node le e = subst (λ run. Promises program run) (sym (all_played acts (run_of program steps events).acts events i node le e)) (promises program steps events program.few_locks)
+pub promised : (program : Program) (steps : ℕ) (events : List Event) (acts : List Act) (i : ℕ) (node : Alone) → length events ≤ i → acts
+    ++ (played (drop i events) node).acts ≡ (run_of program steps events).acts → Promises program acts
+promised program steps events acts i node le e =
+    subst (λ run. Promises program run) (sym (all_played acts (run_of program steps events).acts events i node le e))
+    (promises program steps events program.few_locks)
 
 -- a run with one event more
 went_one_more : (o : Option (Deed × Alone)) (rest : List Event) (event : Event) (node : Alone) (deed : Deed) (after : Alone)
-    → ((next : Alone) → event_of event (played rest next).node ≡ Some (deed, after) → played (rest ++ event ∷ []) next ≡ record { acts = (played rest next).acts ++ act_of 0 deed ∷ []; node = after })
+    → ((next : Alone) → event_of event (played rest next).node ≡ Some (deed, after)
+    → played (rest ++ event ∷ []) next ≡ record { acts = (played rest next).acts ++ act_of 0 deed ∷ []; node = after })
     → event_of event (go_on o (played rest) node).node ≡ Some (deed, after)
     → go_on o (played (rest ++ event ∷ [])) node ≡ record { acts = (go_on o (played rest) node).acts ++ act_of 0 deed ∷ []; node = after }
 went_one_more None rest event node deed after more e = more node e
 went_one_more (Some (d, next)) rest event node deed after more e = ap (after_act d) (more next e)
 
-last_goes_on : (o : Option (Deed × Alone)) (node : Alone) (deed : Deed) (after : Alone) → o ≡ Some (deed, after) → go_on o (played []) node ≡ record { acts = act_of 0 deed ∷ []; node = after }
+last_goes_on : (o : Option (Deed × Alone)) (node : Alone) (deed : Deed) (after : Alone) → o ≡ Some (deed, after)
+    → go_on o (played []) node ≡ record { acts = act_of 0 deed ∷ []; node = after }
 last_goes_on o node deed after e = ap (λ x. go_on x (played []) node) e
 
-pub played-push : (events : List Event) (event : Event) (node : Alone) (deed : Deed) (after : Alone) → event_of event (played events node).node ≡ Some (deed, after) → played (events ++ event ∷ []) node ≡ record { acts = (played events node).acts ++ act_of 0 deed ∷ []; node = after }
+pub played-push : (events : List Event) (event : Event) (node : Alone) (deed : Deed) (after : Alone)
+    → event_of event (played events node).node ≡ Some (deed, after)
+    → played (events ++ event ∷ []) node ≡ record { acts = (played events node).acts ++ act_of 0 deed ∷ []; node = after }
 played-push [] event node deed after e = last_goes_on (event_of event node) node deed after e
-played-push (first ∷ events) event node deed after e = went_one_more (event_of first node) events event node deed after (λ next h. played-push events event next deed after h) e
+played-push (first ∷ events) event node deed after e =
+    went_one_more (event_of first node) events event node deed after (λ next h. played-push events event next deed after h) e
 
 -- the run of the events, at some moment
 pub record IsRun (program : Program) (steps : ℕ) (events : List Event) (acts : List Act) (node : Alone) : Type 0 where
@@ -226,7 +306,9 @@ pub record IsRun (program : Program) (steps : ℕ) (events : List Event) (acts :
   pub node_is : (run_of program steps events).node ≡ node
 
 -- after a turn more
-pub turned : (program : Program) (steps : ℕ) (events later : List Event) (acts more : List Act) (node after : Alone) (deed : Deed) → IsRun program steps events acts node → turn_of node ≡ Some (deed, after) → later ≡ events ++ Run 0 ∷ [] → more ≡ acts ++ act_of 0 deed ∷ [] → IsRun program steps later more after
+pub turned : (program : Program) (steps : ℕ) (events later : List Event) (acts more : List Act) (node after : Alone) (deed : Deed)
+    → IsRun program steps events acts node → turn_of node ≡ Some (deed, after) → later ≡ events ++ Run 0 ∷ [] → more ≡ acts ++ act_of 0 deed ∷ []
+    → IsRun program steps later more after
 turned program steps events later acts more node after deed run turn e f =
     let start = alone_at_start program steps in
     let pushed = played-push events (Run 0) start deed after (ap turn_of run.node_is ∙ turn) in

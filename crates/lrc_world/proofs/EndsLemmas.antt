@@ -42,14 +42,18 @@ pub ends-push : (nodes : ℕ) (acts : List Act) (a : Act) → ends_of nodes (act
 ends-push nodes acts a =
     let long = length-ends nodes (acts ++ a ∷ []) in
     let old = length-ends nodes acts in
-    same_lists (ends_of nodes (acts ++ a ∷ [])) (slice_set (ends_of nodes acts) a.node (end_after a.deed)) (long ∙ sym (length-set (ends_of nodes acts) a.node (end_after a.deed) ∙ old)) (λ k d lt.
+    same_lists (ends_of nodes (acts ++ a ∷ [])) (slice_set (ends_of nodes acts) a.node (end_after a.deed)) (long
+    ∙ sym (length-set (ends_of nodes acts) a.node (end_after a.deed) ∙ old)) (λ k d lt.
     let within : k < nodes = omega arith in
     let now = get_or-ends nodes (acts ++ a ∷ []) k d within in
     elim (cases_eq k a.node) [
       | inl same ↦
           let there : a.node < length (ends_of nodes acts) = omega arith in
-          now ∙ ap (λ n. end_of n (acts ++ a ∷ [])) same ∙ end_of-own acts a ∙ sym (ap (λ i. get_or (slice_set (ends_of nodes acts) a.node (end_after a.deed)) i d) same ∙ get_or-set_same (ends_of nodes acts) a.node (end_after a.deed) d there)
-      | inr other ↦ now ∙ end_of-other acts a k other ∙ sym (get_or-set_other (ends_of nodes acts) a.node k (end_after a.deed) d other ∙ get_or-ends nodes acts k d within)
+          now ∙ ap (λ n. end_of n (acts ++ a ∷ [])) same ∙ end_of-own acts a
+          ∙ sym (ap (λ i. get_or (slice_set (ends_of nodes acts) a.node (end_after a.deed)) i d) same
+          ∙ get_or-set_same (ends_of nodes acts) a.node (end_after a.deed) d there)
+      | inr other ↦ now ∙ end_of-other acts a k other
+          ∙ sym (get_or-set_other (ends_of nodes acts) a.node k (end_after a.deed) d other ∙ get_or-ends nodes acts k d within)
     ])
 
 -- before any act, none has ended
@@ -61,7 +65,8 @@ ends-none nodes =
     get_or-ends nodes [] k d within ∙ sym (get_or-replicate nodes k Unfinished d within))
 
 -- the step of a loop over the acts
-pub ends-more : (nodes : ℕ) (acts : List Act) (i : ℕ) (d : Act) (old new : List End) → i < length acts → old ≡ ends_of nodes (take i acts) → new ≡ slice_set old (get_or acts i d).node (end_after (get_or acts i d).deed) → new ≡ ends_of nodes (take (i + 1) acts)
+pub ends-more : (nodes : ℕ) (acts : List Act) (i : ℕ) (d : Act) (old new : List End) → i < length acts → old ≡ ends_of nodes (take i acts)
+    → new ≡ slice_set old (get_or acts i d).node (end_after (get_or acts i d).deed) → new ≡ ends_of nodes (take (i + 1) acts)
 ends-more nodes acts i d old new lt before now =
     let a = get_or acts i d in
     now ∙ ap (λ es. slice_set es a.node (end_after a.deed)) before ∙ sym (ends-push nodes (take i acts) a) ∙ ap (ends_of nodes) (sym (take_more acts i d lt))

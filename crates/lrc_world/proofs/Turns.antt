@@ -8,7 +8,8 @@ use Rattle.lrc_world.specs.Alone.{Alone, turn}
 use Rattle.lrc_world.specs.Asked.{deed_asked}
 
 -- what a node with a thread past every barrier does is what the thread asks for
-pub turn_asked : (node : Alone) (t : Thread) (left : ℕ) (n : Next) → t.arrived ≡ false → IsFine t n → node.left ≡ left → option_map (λ step. step.0) (turn node n) ≡ deed_asked (ask_of n) left node.memory
+pub turn_asked : (node : Alone) (t : Thread) (left : ℕ) (n : Next) → t.arrived ≡ false → IsFine t n → node.left ≡ left
+    → option_map (λ step. step.0) (turn node n) ≡ deed_asked (ask_of n) left node.memory
 turn_asked node t zero (quiet after) past f e = rw e
 turn_asked node t (suc left) (quiet after) past f e = rw e
 turn_asked node t zero (prints v after) past f e = rw e

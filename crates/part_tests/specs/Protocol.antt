@@ -82,7 +82,8 @@ deeds_by node run = option_map (λ world. map (λ act. act.deed) (filter (λ act
 -- what one node sends another, in order
 abbrev pub sent : ℕ → ℕ → Option World → Option (List Message)
 sent from to run =
-    option_map (λ world. map (λ e. e.message) (filter (λ e. e.to == to) (flat_map (λ place. if place.0 == from then sent_in (turns_of place.1.log) else []) (enumerate_from 0 world.nodes)))) run
+    option_map (λ world. map (λ e. e.message)
+    (filter (λ e. e.to == to) (flat_map (λ place. if place.0 == from then sent_in (turns_of place.1.log) else []) (enumerate_from 0 world.nodes)))) run
 
 -- how many messages were sent
 abbrev pub messages : Option World → Option ℕ

@@ -28,14 +28,16 @@ fault_up (Ok x) fault P is h = tt
 fault_up (Err f) fault P is h = subst P (sym is) h
 
 -- the report of a run is that of its acts
-report_is : (nodes status : ℕ) (acts : List Act) (out : List ℕ) (report : Report) → out ≡ report_text report.acts.items report.ends.items → status ≡ status_of report.ends.items
+report_is : (nodes status : ℕ) (acts : List Act) (out : List ℕ) (report : Report) → out ≡ report_text report.acts.items report.ends.items
+    → status ≡ status_of report.ends.items
     → report.acts.items ≡ acts → report.ends.items ≡ ends_of nodes report.acts.items → IsReportOf nodes acts out status
 report_is nodes status acts out report printed after acts_are ends_are =
     let ends : report.ends.items ≡ ends_of nodes acts = ends_are ∙ ap (ends_of nodes) acts_are in
     (printed ∙ ap₂ report_text acts_are ends, after ∙ ap status_of ends)
 
 -- what is printed of the acts in rounds is what the choice of them prints
-printed_in_rounds : (result : Result Printout Fault) (text : List ℕ) (events_text : Option (List ℕ)) (choice : Choice) (run : PlainRun) (program : Program) → choice ≡ Plain run
+printed_in_rounds : (result : Result Printout Fault) (text : List ℕ) (events_text : Option (List ℕ)) (choice : Choice) (run : PlainRun) (program : Program)
+    → choice ≡ Plain run
     → IsTextOf text program
     → IfOk result (λ printout. IsPrintoutOfRounds program run.nodes.count run.steps.count (whole_text printout.parts.items) printout.status)
     → IfOk result (λ printout. Prints choice text events_text (whole_text printout.parts.items) printout.status)
@@ -48,17 +50,20 @@ returns-in-Check-clause-ok c =
     let part = c.in_ok-from_slice-in-Check.field-0 in
     let printed = ap whole_text (c.in_ok-push-in-Check.ensures.items ∙ ap (λ (l : List (Vec ℕ Global)). l ++ part ∷ []) c.new-parts.ensures.items)
     ∙ append-nil part.items ∙ c.in_ok-from_slice-in-Check.ensures.items in
-    subst (λ (choice : Choice). Prints choice c.args.text.now (option_map (λ (e : Bor (List ℕ)). e.now) c.args.events) (whole_text c.push.new.self.items) 0) (sym c.in-Check.is)
+    subst (λ (choice : Choice). Prints choice c.args.text.now (option_map (λ (e : Bor (List ℕ)). e.now) c.args.events) (whole_text c.push.new.self.items) 0)
+    (sym c.in-Check.is)
     (c.in_ok-program.program, c.in_ok-program.ensures.program, printed, refl)
 
 pub returns-in_err-report-in-Simulate-clause-err : goal.returns-in_err-report-in-Simulate-clause-err
 returns-in_err-report-in-Simulate-clause-err c =
     fault_up c.from_residual-in_err-report-in-Simulate.result _ _ c.from_residual-in_err-report-in-Simulate.ensures.1
-    (run_fault c.args.text.now _ c.in_err-report-in-Simulate.field-0.0 c.in_ok-program.program c.in_ok-program.ensures.program c.in_err-report-in-Simulate.ensures.err)
+    (run_fault c.args.text.now _ c.in_err-report-in-Simulate.field-0.0 c.in_ok-program.program c.in_ok-program.ensures.program
+    c.in_err-report-in-Simulate.ensures.err)
 
 pub returns-in-Plain-clause-ok : goal.returns-in-Plain-clause-ok
 returns-in-Plain-clause-ok c =
-    printed_in_rounds c.in_rounds.result c.args.text.now _ c.args.choice.now c.in-Plain.run' c.in_ok-program.program c.in-Plain.is c.in_ok-program.ensures.program c.in_rounds.ensures.ok
+    printed_in_rounds c.in_rounds.result c.args.text.now _ c.args.choice.now c.in-Plain.run' c.in_ok-program.program c.in-Plain.is
+    c.in_ok-program.ensures.program c.in_rounds.ensures.ok
 
 pub returns-clause-ok : goal.returns-clause-ok
 returns-clause-ok c =
@@ -67,11 +72,13 @@ returns-clause-ok c =
     let printout = c.in_ok-printout_of-in-Simulate.field-0 in
     let printed = c.in_ok-printout_of-in-Simulate.ensures.text ∙ ap₂ report_text c.deref.ensures.value c.deref-in-Simulate.ensures.value in
     let after = c.in_ok-printout_of-in-Simulate.ensures.status ∙ ap status_of c.deref-in-Simulate.ensures.value in
-    subst (λ (choice : Choice). Prints choice c.args.text.now (option_map (λ (e : Bor (List ℕ)). e.now) c.args.events) (whole_text printout.parts.items) printout.status)
+    subst (λ (choice : Choice). Prints choice c.args.text.now (option_map (λ (e : Bor (List ℕ)). e.now) c.args.events)
+    (whole_text printout.parts.items) printout.status)
     (sym c.in-Simulate.is) (
       c.in_ok-program.program,
       c.in_ok-program.ensures.program,
       run.0,
       run.1,
-      report_is c.in-Simulate.run'.nodes.count printout.status (acts_of c.in_ok-program.program c.in-Simulate.run'.steps.count run.0) _ report printed after run.2 run.3,
+      report_is c.in-Simulate.run'.nodes.count printout.status
+          (acts_of c.in_ok-program.program c.in-Simulate.run'.steps.count run.0) _ report printed after run.2 run.3,
     )

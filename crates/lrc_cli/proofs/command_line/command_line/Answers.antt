@@ -14,7 +14,8 @@ returns c =
     let version_is = ap app_of_fields c.version.ensures ∙ ap (λ (a : App). record a { top = record a.top { has_version = true } }) after_is in
     let bare_is = ap app_of_fields c.no_binary_name.ensures ∙ ap (λ (a : App). record a { top = record a.top { no_binary_name = true } }) version_is in
     let asked_is = ap app_of_fields c.subcommand_required.ensures ∙ ap (λ (a : App). record a { top = record a.top { subcommand_required = true } }) bare_is in
-    let top_is = ap app_of_fields c.disable_help_subcommand.ensures ∙ ap (λ (a : App). record a { top = record a.top { disable_help_subcommand = true } }) asked_is in
+    let top_is = ap app_of_fields c.disable_help_subcommand.ensures
+    ∙ ap (λ (a : App). record a { top = record a.top { disable_help_subcommand = true } }) asked_is in
     let check_is = ap (λ (a : App). a.top) c.in_ok-check_command.ensures.app in
     let plain_is = ap (λ (a : App). a.top) c.in_ok-plain_command.ensures.app in
     let sim_is = ap (λ (a : App). a.top) c.in_ok-sim_command.ensures.app in

@@ -10,7 +10,8 @@ abbrev value_of : Text → ℕ
 value_of text = digits_value 10 (without_leading_plus text)
 
 -- a number that clap let through is read by `u64`
-number_read : {E : Type 0} (gives : Text → Result ℕ E → Type 0) (text : Option Text) (default : ℕ) (read : Option ℕ) → ((t : Text) (r : Result ℕ E) → gives t r → ParsesUnsigned 64 10 t r)
+number_read : {E : Type 0} (gives : Text → Result ℕ E → Type 0) (text : Option Text) (default : ℕ) (read : Option ℕ)
+    → ((t : Text) (r : Result ℕ E) → gives t r → ParsesUnsigned 64 10 t r)
     → (text ≡ None → read ≡ None) → ((t : Text) → text ≡ Some t → ReadsOne gives t read) → IfSome text (IsUnsignedIn 0 18446744073709551615)
     → unwrap_or read default ≡ option_map_or value_of text default
 number_read gives None default read parses none value fits = ap (λ r. unwrap_or r default) (none refl)
@@ -23,5 +24,7 @@ pub returns : goal.returns
 returns c =
     let text_is = one_text-rows (found_of c.args.options.now) c.args.name.now ∙ c.requires.as_written in
     c.unwrap_or.ensures
-    ∙ number_read (λ bs r. ParsesUnsigned 64 10 bs r × ExplainsUnsignedError 10 bs r × HasUnsignedDigitsIfOk bs r) (first_of c.args.name.now (rows_of (found_of c.args.options.now)))
-    c.args.default c.get_one.result (λ t r g. g.0) (λ e. c.get_one.ensures.none (text_is ∙ e)) (λ t e. c.get_one.ensures.value t (text_is ∙ e)) c.requires.number
+    ∙ number_read (λ bs r. ParsesUnsigned 64 10 bs r × ExplainsUnsignedError 10 bs r
+    × HasUnsignedDigitsIfOk bs r) (first_of c.args.name.now (rows_of (found_of c.args.options.now)))
+    c.args.default c.get_one.result (λ t r g. g.0) (λ e. c.get_one.ensures.none (text_is ∙ e)) (λ t e. c.get_one.ensures.value t (text_is
+    ∙ e)) c.requires.number

@@ -82,5 +82,8 @@ returns-in-None-event_on-clause-err c =
 pub returns-clause-ok : goal.returns-clause-ok
 returns-clause-ok c =
     let end = YieldsList-end (YieldsList-from_slice_split _ (λ byte. byte == 10) c.args.text.now (cc) (cc) (cc) (λ x b q k. search (rules, tests)))
-    c.loop-line.yielded _ c.loop-line.yielded_by _ _ c.in-None.is c.next.ensures.steps in
-    (c.if-text-gt-MOST_BYTES.false, subst (λ (l : List (List ℕ)). NameAll l c.loop-line.events.items) (take_all c.loop-line.number (lines_of c.args.text.now) (omega (arith, end.1, c.loop-line.invariant.counted))) c.loop-line.invariant.named)
+    c.loop-line.yielded _ c.loop-line.yielded_by _ _ c.in-None.is c.next.ensures.steps in (
+      c.if-text-gt-MOST_BYTES.false,
+      subst (λ (l : List (List ℕ)). NameAll l c.loop-line.events.items)
+          (take_all c.loop-line.number (lines_of c.args.text.now) (omega (arith, end.1, c.loop-line.invariant.counted))) c.loop-line.invariant.named,
+    )

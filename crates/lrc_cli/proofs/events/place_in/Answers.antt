@@ -19,7 +19,8 @@ returns-then-not-is_ascii_digit c = λ place h.
     let in_range = digit_at c.args.digits.now c.loop-digit.digit-index h.numeral.1 c.loop-digit-test.true in
     absurd (search (rules, in_range, c.if-not-is_ascii_digit.ensures.cases))
 
-none_is : (r : Option ℕ) (digits : List ℕ) → r ≡ None → ((place : ℕ) → ¬ IsPlace digits place) → MatchOption r ((place : ℕ) → ¬ IsPlace digits place) (IsPlace digits)
+none_is : (r : Option ℕ) (digits : List ℕ) → r ≡ None → ((place : ℕ) → ¬ IsPlace digits place)
+    → MatchOption r ((place : ℕ) → ¬ IsPlace digits place) (IsPlace digits)
 none_is None digits e h = h
 none_is (Some n) digits e h = absurd cc
 
@@ -43,8 +44,15 @@ loop-digit-preserved c =
     let digit = get_or c.args.digits.now c.loop-digit.digit-index 0 in
     let value : digit_value digit + 48 ≡ digit = digit_value_digit digit (search rules) in
     record {
-      decimal = digits_more 10 c.args.digits.now c.loop-digit.digit-index c.loop-digit-test.true c.loop-digit.invariant.decimal (c.if-not-is_ascii_digit.ensures.bound);
-      value = omega (arith, digits_value_more 10 c.args.digits.now c.loop-digit.digit-index c.loop-digit-test.true, c.from.ensures, c.in_ok-checked_mul.ensures, c.in_ok-place.ensures);
+      decimal = digits_more 10 c.args.digits.now c.loop-digit.digit-index c.loop-digit-test.true c.loop-digit.invariant.decimal
+          (c.if-not-is_ascii_digit.ensures.bound);
+      value = omega (
+        arith,
+        digits_value_more 10 c.args.digits.now c.loop-digit.digit-index c.loop-digit-test.true,
+        c.from.ensures,
+        c.in_ok-checked_mul.ensures,
+        c.in_ok-place.ensures,
+      );
       small = omega (arith, c.in_ok-place.ensures);
     }
 

@@ -26,11 +26,13 @@ returns-in-Err-2-clause-err g c =
 pub loop-turn-preserved : goal.loop-turn-preserved
 loop-turn-preserved g c = elim c.match-write.branch [
   | in-Ok w ↦
-      let left : c.match-write.rest.now ≡ drop w.in-Ok.count c.loop-turn.rest.now = ap (λ (r : Bor (List ℕ)). r.now) w.rest-is ∙ take_rest c.loop-turn.rest.now w.in-Ok.count in
+      let left : c.match-write.rest.now ≡ drop w.in-Ok.count c.loop-turn.rest.now = ap (λ (r : Bor (List ℕ)). r.now) w.rest-is
+      ∙ take_rest c.loop-turn.rest.now w.in-Ok.count in
       subst (λ (rest : List ℕ). IsUnderWay (g.W.Write.contents c.args.writer.now) (g.W.Write.contents c.write.new.self) c.args.text.now rest) (sym left)
       (way_more _ _ _ c.args.text.now c.loop-turn.rest.now w.in-Ok.count c.loop-turn.invariant w.in-Ok.ensures.bytes)
   | in-Err w ↦
-      subst (λ (rest : Bor (List ℕ)). IsUnderWay (g.W.Write.contents c.args.writer.now) (g.W.Write.contents c.write.new.self) c.args.text.now rest.now) (sym w.rest-is)
+      subst (λ (rest : Bor (List ℕ)). IsUnderWay (g.W.Write.contents c.args.writer.now) (g.W.Write.contents c.write.new.self) c.args.text.now rest.now)
+      (sym w.rest-is)
       (way_kept _ _ _ c.args.text.now c.loop-turn.rest.now c.loop-turn.invariant w.in-Err.ensures.bytes)
 ]
 

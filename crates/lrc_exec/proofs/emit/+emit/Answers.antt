@@ -11,7 +11,8 @@ use Rattle.lrc_exec.proofs.emit.+emit.Goals as goal
 pub put_block-loop-i-init : goal.put_block-loop-i-init
 put_block-loop-i-init t c =
     let nothing = drop-length c.args.statements.now in
-    subst (λ l. IsGrown c.args.code.now.items c.args.code.now.items l c.args.next c.args.next) (sym nothing) (grown_none c.args.code.now.items c.args.next c.requires)
+    subst (λ l. IsGrown c.args.code.now.items c.args.code.now.items l c.args.next c.args.next) (sym nothing)
+    (grown_none c.args.code.now.items c.args.next c.requires)
 
 pub put_block-loop-i-preserved : goal.put_block-loop-i-preserved
 put_block-loop-i-preserved t c =
@@ -26,10 +27,13 @@ put_block-loop-i-preserved t c =
     ∙ ap (λ x. x ∷ drop i statements) (sym c.index-statements-i.is)
     in
     subst (λ l. IsGrown c.args.code.now.items c.put_statement.new.code.items l c.args.next c.in_ok-place.place) (sym next)
-    (grown_on c.args.code.now.items c.loop-i.code.items c.put_statement.new.code.items (here ∷ []) (drop i statements) c.args.next c.loop-i.place c.in_ok-place.place c.requires c.loop-i.invariant c.in_ok-place.ensures)
+    (grown_on c.args.code.now.items c.loop-i.code.items c.put_statement.new.code.items (here ∷ [])
+    (drop i statements) c.args.next c.loop-i.place c.in_ok-place.place c.requires c.loop-i.invariant c.in_ok-place.ensures)
 
 -- where one instruction was put, the code has grown by it
-grown_put : {E : Type 0} (r : Result ℕ E) (base old new : List Instruction) (i : Instruction) (statements : List Statement) (next : ℕ) → IfOk r (λ place. place ≡ length new) → IfOk r (λ place. new ≡ old ++ i ∷ []) → IsGrown base (old ++ i ∷ []) statements next (length (old ++ i ∷ [])) → IfOk r (λ place. IsGrown base new statements next place)
+grown_put : {E : Type 0} (r : Result ℕ E) (base old new : List Instruction) (i : Instruction) (statements : List Statement) (next : ℕ)
+    → IfOk r (λ place. place ≡ length new) → IfOk r (λ place. new ≡ old ++ i ∷ []) → IsGrown base (old ++ i ∷ []) statements next (length (old ++ i ∷ []))
+    → IfOk r (λ place. IsGrown base new statements next place)
 grown_put (Err e) base old new i statements next place items grown = tt
 grown_put (Ok p) base old new i statements next place items grown =
     rw place (subst (λ c. IsGrown base c statements next (length c)) (sym items) grown)
@@ -77,7 +81,8 @@ put_statement-returns-in_ok-then-in-While t c =
     let grown = grown_loop old c2 c.args.statement c.in-While.field-0 c.in-While.body next then c.in-While.is c.requires body in
     let written : record { statement = read.statement; next = read.next; then = then; otherwise = read.otherwise } ≡ leading c.args.statement next then next =
     ap (λ (x : Instruction). leading x.statement x.next then x.otherwise) read_is in
-    let named = subst (λ x. IsGrown old (set c2 (length (old ++ before ∷ []) - 1) (leading c.args.statement next then next)) (x ∷ []) next (length (old ++ before ∷ []))) (sym c.in-While.is) grown in
+    let named = subst (λ x. IsGrown old (set c2 (length (old ++ before ∷ []) - 1) (leading c.args.statement next then next)) (x ∷ []) next (length (old
+    ++ before ∷ []))) (sym c.in-While.is) grown in
     let placed = subst (λ n. IsGrown old (set c2 (n - 1) (leading c.args.statement next then next)) (c.args.statement.now ∷ []) next n) (sym place_is) named in
     subst (λ x. IsGrown old (set c2 (place - 1) x) (c.args.statement.now ∷ []) next place) (sym written) placed
 

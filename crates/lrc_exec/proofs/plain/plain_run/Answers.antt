@@ -13,7 +13,8 @@ use Rattle.lrc_exec.proofs.plain.plain_run.Invariants.{HasCome}
 use Rattle.lrc_exec.proofs.plain.plain_run.Goals as goal
 
 -- at the beginning
-has_begun : (program : Program) (nodes : ℕ) (order : List ℕ) (acts : List Act) (machine : Plain) → acts ≡ [] → machine ≡ plain_start program nodes → HasCome (plain_start program nodes) order nodes 0 acts machine
+has_begun : (program : Program) (nodes : ℕ) (order : List ℕ) (acts : List Act) (machine : Plain) → acts ≡ [] → machine ≡ plain_start program nodes
+    → HasCome (plain_start program nodes) order nodes 0 acts machine
 has_begun program nodes order acts machine no_acts begun =
     record {
       acts_are = ap (λ a. Some (a, plain_start program nodes)) (sym no_acts) ∙ ap (λ m. Some (acts, m)) (sym begun);
@@ -22,7 +23,9 @@ has_begun program nodes order acts machine no_acts begun =
     }
 
 -- one act on
-goes_on : (start : Plain) (order : List ℕ) (nodes index : ℕ) (acts acts' : List Act) (machine after : Plain) (deed : Deed) → index < length order → HasCome start order nodes index acts machine → plain_step machine (get_or order index 0) ≡ Some (deed, after) → acts' ≡ acts ++ record { node = get_or order index 0; deed = deed } ∷ [] → HasCome start order nodes (index + 1) acts' after
+goes_on : (start : Plain) (order : List ℕ) (nodes index : ℕ) (acts acts' : List Act) (machine after : Plain) (deed : Deed) → index < length order
+    → HasCome start order nodes index acts machine → plain_step machine (get_or order index 0) ≡ Some (deed, after) → acts' ≡ acts
+    ++ record { node = get_or order index 0; deed = deed } ∷ [] → HasCome start order nodes (index + 1) acts' after
 goes_on start order nodes index acts acts' machine after deed inside come step acts_are =
     let grows = plain_step-grows machine (get_or order index 0) (deed, after) step in
     record {
@@ -39,14 +42,17 @@ stuck_step None e = refl
 stuck_step (Some step) e = cc
 
 -- where a node cannot step, there are no acts
-is_stuck : (program : Program) (order : List ℕ) (nodes index : ℕ) (acts : List Act) (machine : Plain) → index < length order → HasCome (plain_start program nodes) order nodes index acts machine → None ≡ option_map (λ step. step.0) (plain_step machine (get_or order index 0)) → None ≡ plain program nodes order
+is_stuck : (program : Program) (order : List ℕ) (nodes index : ℕ) (acts : List Act) (machine : Plain) → index < length order
+    → HasCome (plain_start program nodes) order nodes index acts machine → None ≡ option_map (λ step. step.0) (plain_step machine (get_or order index 0))
+    → None ≡ plain program nodes order
 is_stuck program order nodes index acts machine inside come none =
     let start = plain_start program nodes in
     let node = get_or order index 0 in
     let parts : take index order ++ node ∷ drop (suc index) order ≡ order =
     ap (λ l. take index order ++ l) (sym (drop-cons order index 0 inside)) ∙ take-append-drop index order in
     sym (ap (λ l. option_map (λ run. run.0) (plain_from start l)) (sym parts)
-    ∙ ap (option_map (λ run. run.0)) (plain_from-stuck start machine (take index order) (drop (suc index) order) acts node come.acts_are (stuck_step (plain_step machine node) none)))
+    ∙ ap (option_map (λ run. run.0))
+    (plain_from-stuck start machine (take index order) (drop (suc index) order) acts node come.acts_are (stuck_step (plain_step machine node) none)))
 
 pub loop-node-init : goal.loop-node-init
 loop-node-init c =
@@ -55,9 +61,11 @@ loop-node-init c =
 
 pub returns-in_default : goal.returns-in_default
 returns-in_default c =
-    is_stuck c.args.program.now c.args.order.now c.args.nodes c.loop-node.node-index c.loop-node.acts.items c.loop-node.machine c.loop-node-test.true c.loop-node.invariant
+    is_stuck c.args.program.now c.args.order.now c.args.nodes c.loop-node.node-index c.loop-node.acts.items c.loop-node.machine c.loop-node-test.true
+    c.loop-node.invariant
     (sym c.in_default.is ∙ c.next_deed.ensures)
 
 pub loop-node-preserved : goal.loop-node-preserved
 loop-node-preserved c =
-    goes_on (plain_start c.args.program.now c.args.nodes) c.args.order.now c.args.nodes c.loop-node.node-index c.loop-node.acts.items c.push.new.self.items c.loop-node.machine c.make.new.self c.in-Some.deed c.loop-node-test.true c.loop-node.invariant c.make.ensures c.in_ok-push.ensures.items
+    goes_on (plain_start c.args.program.now c.args.nodes) c.args.order.now c.args.nodes c.loop-node.node-index c.loop-node.acts.items c.push.new.self.items
+    c.loop-node.machine c.make.new.self c.in-Some.deed c.loop-node-test.true c.loop-node.invariant c.make.ensures c.in_ok-push.ensures.items

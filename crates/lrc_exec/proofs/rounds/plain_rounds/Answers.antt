@@ -26,7 +26,8 @@ loop-acts-init c =
 pub loop-acts-smaller : goal.loop-acts-smaller
 loop-acts-smaller c =
     let nodes : vec_len c.loop-acts.pace.left ≡ c.args.nodes = c.loop-acts.pace.left.ok.0 ∙ c.loop-acts.invariant.long in
-    let made = subst (λ n. MakesRound n (paced_of c.loop-acts.pace) (paced_of c.round.new.self) c.loop-acts.acts.items c.round.new.acts.items) nodes c.in_ok-round.ensures.made in
+    let made = subst (λ n. MakesRound n (paced_of c.loop-acts.pace)
+    (paced_of c.round.new.self) c.loop-acts.acts.items c.round.new.acts.items) nodes c.in_ok-round.ensures.made in
     let more : vec_len c.loop-acts.acts < vec_len c.round.new.acts = c.in_ok-round.ensures.more.0 c.if-branch.true in
     round_falls c.args.nodes (paced_of c.loop-acts.pace) (paced_of c.round.new.self) c.loop-acts.acts.items c.round.new.acts.items made
     (omega (arith, more, c.loop-acts.acts.ok.0, c.round.new.acts.ok.0))
@@ -34,13 +35,16 @@ loop-acts-smaller c =
 pub loop-acts-preserved : goal.loop-acts-preserved
 loop-acts-preserved c =
     let nodes : vec_len c.loop-acts.pace.left ≡ c.args.nodes = c.loop-acts.pace.left.ok.0 ∙ c.loop-acts.invariant.long in
-    let made = subst (λ n. MakesRound n (paced_of c.loop-acts.pace) (paced_of c.round.new.self) c.loop-acts.acts.items c.round.new.acts.items) nodes c.in_ok-round.ensures.made in
+    let made = subst (λ n. MakesRound n (paced_of c.loop-acts.pace)
+    (paced_of c.round.new.self) c.loop-acts.acts.items c.round.new.acts.items) nodes c.in_ok-round.ensures.made in
     rounded_on c.args.nodes _ (paced_of c.loop-acts.pace) (paced_of c.round.new.self) c.loop-acts.acts.items c.round.new.acts.items c.loop-acts.invariant made
 
 pub returns : goal.returns
 returns c =
     let nodes : vec_len c.loop-acts.pace.left ≡ c.args.nodes = c.loop-acts.pace.left.ok.0 ∙ c.loop-acts.invariant.long in
-    let made = subst (λ n. MakesRound n (paced_of c.loop-acts.pace) (paced_of c.round.new.self) c.loop-acts.acts.items c.round.new.acts.items) nodes c.in_ok-round.ensures.made in
+    let made = subst (λ n. MakesRound n (paced_of c.loop-acts.pace)
+    (paced_of c.round.new.self) c.loop-acts.acts.items c.round.new.acts.items) nodes c.in_ok-round.ensures.made in
     let none : vec_len c.round.new.acts ≤ vec_len c.loop-acts.acts = not_more c.in_ok-round.field-0 _ _ c.if-branch.false c.in_ok-round.ensures.more.1 in
-    rounds_over c.args.program.now c.args.nodes c.args.steps (paced_of c.loop-acts.pace) (paced_of c.round.new.self) c.loop-acts.acts.items c.round.new.acts.items c.loop-acts.invariant made
+    rounds_over c.args.program.now c.args.nodes c.args.steps (paced_of c.loop-acts.pace)
+    (paced_of c.round.new.self) c.loop-acts.acts.items c.round.new.acts.items c.loop-acts.invariant made
     (omega (arith, none, c.loop-acts.acts.ok.0, c.round.new.acts.ok.0))

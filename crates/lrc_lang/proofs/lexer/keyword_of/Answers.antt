@@ -9,5 +9,6 @@ use Rattle.lrc_lang.proofs.lexer.keyword_of.Goals as goal
 pub returns : goal.returns
 returns c =
     let word = c.args.word.now in
-    let found = find_from_yields_List (spells word) _ _ c.find.result c.find.ensures.ran (YieldsList-from_slice KEYWORDS cc) (λ x b q k. search (rules, tests)) in
+    let found = find_from_yields_List (spells word) _ _ c.find.result c.find.ensures.ran (YieldsList-from_slice KEYWORDS cc)
+    (λ x b q k. search (rules, tests)) in
     subst (λ r. MatchOption r (¬ IsKeyword word) (λ keyword. word ≡ keyword_text keyword)) (sym (c.copied.ensures ∙ found)) (find_keyword word)

@@ -7,7 +7,8 @@ use Rattle.lrc_lang.proofs.lexer.split_front.Goals as goal
 pub returns-then-not-is_in : goal.returns-then-not-is_in
 returns-then-not-is_in c =
     let here = c.split_at.ensures in
-    let no_more = span_before (Has c.args.class) c.args.text.now c.loop-place.place c.loop-place-test.true c.loop-place.invariant (λ h. let t = c.if-not-is_in.ensures.1 h in absurd (cc)) in
+    let no_more = span_before (Has c.args.class) c.args.text.now c.loop-place.place c.loop-place-test.true c.loop-place.invariant (λ h. let t =
+    c.if-not-is_in.ensures.1 h in absurd (cc)) in
     rw (here.front, here.back) no_more
 
 pub loop-place-preserved : goal.loop-place-preserved

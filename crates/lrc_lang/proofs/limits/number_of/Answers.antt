@@ -8,7 +8,8 @@ pub returns-clause-value : goal.returns-clause-value
 returns-clause-value c =
     let names = c.args.names.now in
     let bytes = c.args.name.now in
-    let at = position_from_yields_List (spells bytes) _ _ c.position.result c.position.ensures.ran (YieldsList-from_slice names cc) (λ x b q k. search (rules, tests)) in
+    let at = position_from_yields_List (spells bytes) _ _ c.position.result c.position.ensures.ran (YieldsList-from_slice names cc)
+    (λ x b q k. search (rules, tests)) in
     c.unwrap_or.ensures
     ∙ ap (λ found. unwrap_or found (length names)) at
     ∙ unwrap_or-cond _ _ (position-le (spells bytes) names)

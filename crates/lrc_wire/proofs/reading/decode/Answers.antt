@@ -8,7 +8,8 @@ use Rattle.lrc_wire.proofs.reading.decode.Goals as goal
 
 pub returns-clause-found : goal.returns-clause-found
 returns-clause-found c =
-    if_gives (λ read. read) c.read_envelope.result (envelope_of c.args.bytes.now) (λ e. (version : Version) × Spells version e c.args.bytes.now) c.read_envelope.ensures
+    if_gives (λ read. read) c.read_envelope.result (envelope_of c.args.bytes.now) (λ e. (version : Version)
+    × Spells version e c.args.bytes.now) c.read_envelope.ensures
     (λ e read. envelope_takes c.args.bytes.now e (λ i. omega (arith, c.type_inv.bytes i)) read)
 
 pub returns-clause-only : goal.returns-clause-only

@@ -12,46 +12,64 @@ returns-in_default c =
 
 pub invariant_of-self : goal.invariant_of-self
 invariant_of-self c =
-    running-at c.self.inside c.args.self.now c.index-self-index.result c.in-Some.index c.self.view_is c.self.invariant c.in-Some.ensures.0 c.in-Some.ensures.1 _ c.set_name.new.privates c.self.inside.held (next_within c.self.inside c.args.self.now c.index-self-index.result c.in-Some.index c.self.view_is c.self.invariant c.in-Some.ensures.0 c.in-Some.ensures.1)
+    running-at c.self.inside c.args.self.now c.index-self-index.result c.in-Some.index c.self.view_is c.self.invariant c.in-Some.ensures.0 c.in-Some.ensures.1 _
+    c.set_name.new.privates c.self.inside.held
+    (next_within c.self.inside c.args.self.now c.index-self-index.result c.in-Some.index c.self.view_is c.self.invariant c.in-Some.ensures.0
+    c.in-Some.ensures.1)
 
 pub returns-in-Assign-clause-answered : goal.returns-in-Assign-clause-answered
 returns-in-Assign-clause-answered c =
-    assign_answered c.self.inside c.args.self.now c.index-self-index.result c.in-Some.index c.self.view_is c.self.invariant c.in-Some.ensures.0 c.in-Some.ensures.1 c.args.value c.in-Assign.name c.number-number.result c.in-Assign.expression c.set_name.new.privates c.in-Assign.is
+    assign_answered c.self.inside c.args.self.now c.index-self-index.result c.in-Some.index c.self.view_is c.self.invariant c.in-Some.ensures.0
+    c.in-Some.ensures.1 c.args.value c.in-Assign.name c.number-number.result c.in-Assign.expression c.set_name.new.privates c.in-Assign.is
     c.number-number.ensures c.set_name.ensures c.requires
 
 pub returns-in-Read-clause-answered : goal.returns-in-Read-clause-answered
 returns-in-Read-clause-answered c =
-    read_answered c.self.inside c.args.self.now c.index-self-index.result c.in-Some.index c.self.view_is c.self.invariant c.in-Some.ensures.0 c.in-Some.ensures.1 c.args.value c.in-Read.name c.in-Read.field-1 c.set_name-in-Read.new.privates c.in-Read.is c.set_name-in-Read.ensures c.requires
+    read_answered c.self.inside c.args.self.now c.index-self-index.result c.in-Some.index c.self.view_is c.self.invariant c.in-Some.ensures.0
+    c.in-Some.ensures.1 c.args.value c.in-Read.name c.in-Read.field-1 c.set_name-in-Read.new.privates c.in-Read.is c.set_name-in-Read.ensures c.requires
 
 pub returns-in-Acquire-clause-answered : goal.returns-in-Acquire-clause-answered
 returns-in-Acquire-clause-answered c =
-    acquire_answered c.self.inside c.args.self.now c.index-self-index.result c.in-Some.index c.self.view_is c.self.invariant c.in-Some.ensures.0 c.in-Some.ensures.1 c.args.value c.number-number-in-Acquire.result c.in-Acquire.lock c.set_held.new.locks c.in-Acquire.is
+    acquire_answered c.self.inside c.args.self.now c.index-self-index.result c.in-Some.index c.self.view_is c.self.invariant c.in-Some.ensures.0
+    c.in-Some.ensures.1 c.args.value c.number-number-in-Acquire.result c.in-Acquire.lock c.set_held.new.locks c.in-Acquire.is
     c.number-number-in-Acquire.ensures c.set_held.ensures c.requires
 
 pub returns-in-Release-clause-answered : goal.returns-in-Release-clause-answered
 returns-in-Release-clause-answered c =
-    release_answered c.self.inside c.args.self.now c.index-self-index.result c.in-Some.index c.self.view_is c.self.invariant c.in-Some.ensures.0 c.in-Some.ensures.1 c.args.value c.number-number-in-Release.result c.in-Release.lock c.set_held-in-Release.new.locks c.in-Release.is
+    release_answered c.self.inside c.args.self.now c.index-self-index.result c.in-Some.index c.self.view_is c.self.invariant c.in-Some.ensures.0
+    c.in-Some.ensures.1 c.args.value c.number-number-in-Release.result c.in-Release.lock c.set_held-in-Release.new.locks c.in-Release.is
     c.number-number-in-Release.ensures c.set_held-in-Release.ensures c.requires
 
 pub returns-in_default-statement-clause-answered : goal.returns-in_default-statement-clause-answered
 returns-in_default-statement-clause-answered c =
     let h = c.in_default-statement in
-    other_answered c.self.inside c.args.self.now c.index-self-index.result c.in-Some.index c.self.view_is c.self.invariant c.in-Some.ensures.0 c.in-Some.ensures.1 c.args.value h.not-Assign h.not-Read h.not-Acquire h.not-Release h.not-If h.not-While c.requires
+    other_answered c.self.inside c.args.self.now c.index-self-index.result c.in-Some.index c.self.view_is c.self.invariant c.in-Some.ensures.0
+    c.in-Some.ensures.1 c.args.value h.not-Assign h.not-Read h.not-Acquire h.not-Release h.not-If h.not-While c.requires
 
 pub invariant_of-self-in-If : goal.invariant_of-self-in-If
 invariant_of-self-in-If c =
-    running-at c.self.inside c.args.self.now c.index-self-index.result c.in-Some.index c.self.view_is c.self.invariant c.in-Some.ensures.0 c.in-Some.ensures.1 _ c.self.inside.privates c.self.inside.held
-    (subst (λ p. p ≤ length c.self.inside.code.now) (sym c.chosen-self-inside.ensures) (chosen_within c.self.inside c.args.self.now c.index-self-index.result c.in-Some.index c.self.view_is c.self.invariant c.in-Some.ensures.0 c.in-Some.ensures.1 c.number-number-in-If.result))
+    running-at c.self.inside c.args.self.now c.index-self-index.result c.in-Some.index c.self.view_is c.self.invariant c.in-Some.ensures.0 c.in-Some.ensures.1 _
+    c.self.inside.privates c.self.inside.held
+    (subst (λ p. p ≤ length c.self.inside.code.now) (sym c.chosen-self-inside.ensures)
+    (chosen_within c.self.inside c.args.self.now c.index-self-index.result c.in-Some.index c.self.view_is c.self.invariant c.in-Some.ensures.0
+    c.in-Some.ensures.1 c.number-number-in-If.result))
 
 pub invariant_of-self-in-While : goal.invariant_of-self-in-While
 invariant_of-self-in-While c =
-    running-at c.self.inside c.args.self.now c.index-self-index.result c.in-Some.index c.self.view_is c.self.invariant c.in-Some.ensures.0 c.in-Some.ensures.1 _ c.self.inside.privates c.self.inside.held
-    (subst (λ p. p ≤ length c.self.inside.code.now) (sym c.chosen-self-inside-in-While.ensures) (chosen_within c.self.inside c.args.self.now c.index-self-index.result c.in-Some.index c.self.view_is c.self.invariant c.in-Some.ensures.0 c.in-Some.ensures.1 c.number-number-in-While.result))
+    running-at c.self.inside c.args.self.now c.index-self-index.result c.in-Some.index c.self.view_is c.self.invariant c.in-Some.ensures.0 c.in-Some.ensures.1 _
+    c.self.inside.privates c.self.inside.held
+    (subst (λ p. p ≤ length c.self.inside.code.now) (sym c.chosen-self-inside-in-While.ensures)
+    (chosen_within c.self.inside c.args.self.now c.index-self-index.result c.in-Some.index c.self.view_is c.self.invariant c.in-Some.ensures.0
+    c.in-Some.ensures.1 c.number-number-in-While.result))
 
 pub returns-in-If-clause-answered : goal.returns-in-If-clause-answered
 returns-in-If-clause-answered c =
-    if_answered c.self.inside c.args.self.now c.index-self-index.result c.in-Some.index c.self.view_is c.self.invariant c.in-Some.ensures.0 c.in-Some.ensures.1 c.args.value c.number-number-in-If.result c.chosen-self-inside.result c.in-If.condition c.in-If.field-1 c.in-If.field-2 c.in-If.is c.number-number-in-If.ensures c.chosen-self-inside.ensures c.requires
+    if_answered c.self.inside c.args.self.now c.index-self-index.result c.in-Some.index c.self.view_is c.self.invariant c.in-Some.ensures.0 c.in-Some.ensures.1
+    c.args.value c.number-number-in-If.result c.chosen-self-inside.result c.in-If.condition c.in-If.field-1 c.in-If.field-2 c.in-If.is
+    c.number-number-in-If.ensures c.chosen-self-inside.ensures c.requires
 
 pub returns-in-While-clause-answered : goal.returns-in-While-clause-answered
 returns-in-While-clause-answered c =
-    while_answered c.self.inside c.args.self.now c.index-self-index.result c.in-Some.index c.self.view_is c.self.invariant c.in-Some.ensures.0 c.in-Some.ensures.1 c.args.value c.number-number-in-While.result c.chosen-self-inside-in-While.result c.in-While.condition c.in-While.field-1 c.in-While.is c.number-number-in-While.ensures c.chosen-self-inside-in-While.ensures c.requires
+    while_answered c.self.inside c.args.self.now c.index-self-index.result c.in-Some.index c.self.view_is c.self.invariant c.in-Some.ensures.0
+    c.in-Some.ensures.1 c.args.value c.number-number-in-While.result c.chosen-self-inside-in-While.result c.in-While.condition c.in-While.field-1
+    c.in-While.is c.number-number-in-While.ensures c.chosen-self-inside-in-While.ensures c.requires

@@ -24,7 +24,8 @@ invariant_of-self c =
     let some = is_some_and (thread_in machine node) IsResumable c.requires in
     let runner = c.self.invariant.runners node r (node_within c.self.inside machine node c.self.view_is some) in
     let same : c.answer.new.self.setting ≡ (get_or c.self.inside.runners.items node r).machine.setting =
-    ap (λ (t : Thread). t.setting) c.answer.ensures.answered ∙ setting-answered c.args.value r.machine ∙ ap (λ (x : Runner). x.machine.setting) c.index_mut-runner.ensures.value in
+    ap (λ (t : Thread). t.setting) c.answer.ensures.answered ∙ setting-answered c.args.value r.machine
+    ∙ ap (λ (x : Runner). x.machine.setting) c.index_mut-runner.ensures.value in
     is_plain_with c.self.inside machine node r c.self.view_is c.self.invariant
     (record { machine = c.answer.new.self; arrived = c.args.arrived; stopped = r.stopped })
     (record {

@@ -21,7 +21,8 @@ none_clones : (R : Option ℕ → Type 0) → ((x : ℕ) → R (Some x) → ⊥)
 none_clones R never None h = refl
 none_clones R never (Some x) h = absurd (never x h)
 
-machine_is : (m m' : List ℕ) (h h' : List (Option ℕ)) (a a' : List ℕ) (t t' : List (Option Thread)) → m ≡ m' → h ≡ h' → a ≡ a' → t ≡ t' → ◌≡◌ {A = Plain} (record { memory = m; holders = h; arrivals = a; threads = t }) (record { memory = m'; holders = h'; arrivals = a'; threads = t' })
+machine_is : (m m' : List ℕ) (h h' : List (Option ℕ)) (a a' : List ℕ) (t t' : List (Option Thread)) → m ≡ m' → h ≡ h' → a ≡ a' → t ≡ t'
+    → ◌≡◌ {A = Plain} (record { memory = m; holders = h; arrivals = a; threads = t }) (record { memory = m'; holders = h'; arrivals = a'; threads = t' })
 machine_is m m' h h' a a' t t' em eh ea et = cc
 
 pub loop-me-preserved : goal.loop-me-preserved
@@ -38,9 +39,11 @@ loop-me-preserved c =
       ap (map runner_thread) c.in_ok-push.ensures.items
           ∙ map-append runner_thread c.loop-me.runners.items (runner ∷ [])
           ∙ ap (λ ts. ts ++ Some (record c.new.result { arrived = false }) ∷ []) c.loop-me.invariant.0
-          ∙ ap (λ (t : Thread). map (λ k. Some (start_of program c.args.nodes k)) (range_with_len 0 me) ++ Some (record t { arrived = false }) ∷ []) c.new.ensures
+          ∙ ap (λ (t : Thread). map (λ k. Some (start_of program c.args.nodes k)) (range_with_len 0 me)
+          ++ Some (record t { arrived = false }) ∷ []) c.new.ensures
           ∙ sym (map-range_with_len_more (λ k. Some (start_of program c.args.nodes k)) 0 me me (omega arith)),
-      subst (All (IsOf program)) (sym c.in_ok-push.ensures.items) (All-append (IsOf program) c.loop-me.runners.items (runner ∷ []) c.loop-me.invariant.1 (All-one (IsOf program) runner one)),
+      subst (All (IsOf program)) (sym c.in_ok-push.ensures.items)
+          (All-append (IsOf program) c.loop-me.runners.items (runner ∷ []) c.loop-me.invariant.1 (All-one (IsOf program) runner one)),
     )
 
 pub invariant_of-result : goal.invariant_of-result
@@ -72,4 +75,6 @@ returns c =
     ∙ ap (λ n. replicate n None) c.locks.ensures in
     let arrivals : c.in_ok-arrivals.arrivals.items ≡ replicate c.args.nodes 0 = search rules in
     let threads = c.loop-me.invariant.0 ∙ ap (λ n. map (λ me. Some (start_of c.args.code.now c.args.nodes me)) (range_with_len 0 n)) all in
-    machine_is c.in_ok-memory.memory.items (replicate c.args.code.now.words 0) c.in_ok-holders.holders.items (replicate c.args.code.now.locks None) c.in_ok-arrivals.arrivals.items (replicate c.args.nodes 0) (map runner_thread c.loop-me.runners.items) _ memory holders arrivals threads
+    machine_is c.in_ok-memory.memory.items (replicate c.args.code.now.words 0) c.in_ok-holders.holders.items
+    (replicate c.args.code.now.locks None) c.in_ok-arrivals.arrivals.items (replicate c.args.nodes 0)
+    (map runner_thread c.loop-me.runners.items) _ memory holders arrivals threads

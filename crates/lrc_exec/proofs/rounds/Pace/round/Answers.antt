@@ -13,7 +13,8 @@ use Rattle.lrc_exec.proofs.rounds.Pace.round.Goals as goal
 use Rattle.lrc_exec.proofs.rounds.Pace.round.Goals.{in-Some+in_ok-push, in_default}
 
 -- one node on, which made an act
-turned_on : (node : ℕ) (old now next : Paced) (acts after more : List Act) (deed : Deed) → HasTurned node old now acts after → MakesTurn now next node (Some deed) → more ≡ after ++ record { node = node; deed = deed } ∷ [] → HasTurned (node + 1) old next acts more
+turned_on : (node : ℕ) (old now next : Paced) (acts after more : List Act) (deed : Deed) → HasTurned node old now acts after
+    → MakesTurn now next node (Some deed) → more ≡ after ++ record { node = node; deed = deed } ∷ [] → HasTurned (node + 1) old next acts more
 turned_on node old now next acts after more deed h m more_is =
     let so_far = range_with_len 0 node in
     let act : Act = record { node = node; deed = deed } in
@@ -34,7 +35,8 @@ turned_on node old now next acts after more deed h m more_is =
     }
 
 -- one node on, which made none
-turned_none : (node : ℕ) (old now next : Paced) (acts after : List Act) → HasTurned node old now acts after → MakesTurn now next node None → HasTurned (node + 1) old next acts after
+turned_none : (node : ℕ) (old now next : Paced) (acts after : List Act) → HasTurned node old now acts after → MakesTurn now next node None
+    → HasTurned (node + 1) old next acts after
 turned_none node old now next acts after h m =
     let so_far = range_with_len 0 node in
     let last : range_with_len 0 (node + 1) ≡ so_far ++ node ∷ [] = range-last 0 node ∙ ap (λ k. so_far ++ k ∷ []) (omega arith) in

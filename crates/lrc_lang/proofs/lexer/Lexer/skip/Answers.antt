@@ -27,6 +27,7 @@ loop-self-preserved c =
     let so_far = c.loop-self.invariant in
     let within = simp (length-take, length-drop) at (span_keeps c.split_front.ensures) in
     record {
-      passed = λ all inside. so_far.passed all (comment_is_passed c.loop-self.self.line text _ _ c.in-len1-up.len_at_least c.in-35.is c.split_front.ensures all inside);
+      passed = λ all inside. so_far.passed all
+          (comment_is_passed c.loop-self.self.line text _ _ c.in-len1-up.len_at_least c.in-35.is c.split_front.ensures all inside);
       shorter = omega (arith, within);
     }

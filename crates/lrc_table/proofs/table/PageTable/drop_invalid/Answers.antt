@@ -14,7 +14,8 @@ invariant_of-self c =
     (same_table table.size table.size _ _ refl
     (written_back c.self.inside.slots.len c.loop-slot.slot-items c.self.inside.slots.items (map dropped c.self.inside.slots.items) same
     (omega (arith, c.deref_mut-slot-items.ensures.len, ap length c.deref_mut-slot-items.ensures.value))
-    (over_all dropped c.deref_mut-slot-items.result.now c.self.inside.slots.items c.loop-slot.slot-items c.loop-slot.slot-index c.loop-slot.invariant c.loop-slot-test.false c.deref_mut-slot-items.ensures.value)))
+    (over_all dropped c.deref_mut-slot-items.result.now c.self.inside.slots.items c.loop-slot.slot-items c.loop-slot.slot-index c.loop-slot.invariant
+    c.loop-slot-test.false c.deref_mut-slot-items.ensures.value)))
     (sound-with_each table c.self.inside.written dropped c.self.invariant
     (λ k d within. whole-dropped table.size (get_or table.copies k d) (c.self.invariant.whole k d within))
     written-dropped)

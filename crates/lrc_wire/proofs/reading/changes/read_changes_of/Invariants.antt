@@ -8,5 +8,7 @@ use Rattle.lrc_wire.proofs.reading.changes.read_changes_of.Given as goal
 abbrev pub invariant-loop : goal.invariant-loop
 invariant-loop l = record {
   last : (change : Change) → last_change l.changes ≡ Some change → l.before ≡ Some change.offset;
-  read : with_front l.changes (elements_at next_change_at (λ _ change. Some change.offset) (l.count - l.counter) l.before l.bytes.now) ≡ elements_at next_change_at (λ _ change. Some change.offset) l.count None l.fn.bytes.now;
+  read : with_front l.changes
+      (elements_at next_change_at (λ _ change. Some change.offset) (l.count - l.counter) l.before l.bytes.now) ≡ elements_at next_change_at
+      (λ _ change. Some change.offset) l.count None l.fn.bytes.now;
 }

@@ -26,7 +26,8 @@ pub returns-in_err-value-clause-put : goal.returns-in_err-value-clause-put
 returns-in_err-value-clause-put c =
     let p = err_from_is_err_and c.from_residual.result c.from_residual.ensures.1 in
     let lt : c.loop-offset.offset - c.args.first < c.args.more + 1 = omega (arith, c.loop-offset-test.true, c.from.ensures, c.from-2.ensures) in
-    rw (p.1, p.2) (ends (λ _ rest. number_at w64 rest) (λ state _. state) c.in_err-value.field-0.0 c.loop-offset.invariant.values (c.args.more + 1) (c.loop-offset.offset - c.args.first) (tt {0}) c.loop-offset.bytes.now _ lt c.in_err-value.ensures c.loop-offset.invariant.read)
+    rw (p.1, p.2) (ends (λ _ rest. number_at w64 rest) (λ state _. state) c.in_err-value.field-0.0 c.loop-offset.invariant.values (c.args.more + 1)
+    (c.loop-offset.offset - c.args.first) (tt {0}) c.loop-offset.bytes.now _ lt c.in_err-value.ensures c.loop-offset.invariant.read)
 
 pub loop-offset-preserved : goal.loop-offset-preserved
 loop-offset-preserved c =
@@ -42,12 +43,28 @@ loop-offset-preserved c =
     record {
       values = vs ++ value ∷ [];
       long = omega (arith, length-append vs (value ∷ []), long, from);
-      put = rw (c.in_ok-push.ensures.ok, c.loop-offset.invariant.put) (append_assoc c.args.changes.now (changes_of (record { first = first; values = vs })) (record { offset = offset; value = value } ∷ []) ∙ ap (λ (cs : List Change). c.args.changes.now ++ cs) (changes_of-push first vs offset value place));
-      last = λ x e. subst (λ (y : Change). y.offset < offset + 1) (last_pushed c.loop-offset.changes (record { offset = offset; value = value }) x (rw c.in_ok-push.ensures.ok at e)) (omega arith);
-      read = rw count (goes_on (λ _ rest. number_at w64 rest) (λ state _. state) vs (c.args.more + 1) (offset - first) (tt {0}) c.loop-offset.bytes.now value c.read_u64.new.bytes.now _ lt c.in_ok-value.ensures c.loop-offset.invariant.read);
+      put = rw (
+        c.in_ok-push.ensures.ok,
+        c.loop-offset.invariant.put,
+      ) (append_assoc c.args.changes.now (changes_of (record { first = first; values = vs })) (record {
+        offset = offset;
+        value =
+            value;
+      } ∷ []) ∙ ap (λ (cs : List Change). c.args.changes.now ++ cs) (changes_of-push first vs offset value place));
+      last = λ x e. subst (λ (y : Change). y.offset < offset + 1) (last_pushed c.loop-offset.changes (record {
+        offset = offset;
+        value =
+            value;
+      }) x (rw c.in_ok-push.ensures.ok at e)) (omega arith);
+      read = rw count (goes_on (λ _ rest. number_at w64 rest) (λ state _. state) vs (c.args.more + 1) (offset - first)
+          (tt {0}) c.loop-offset.bytes.now value c.read_u64.new.bytes.now _ lt c.in_ok-value.ensures c.loop-offset.invariant.read);
     }
 
 pub returns-clause-put : goal.returns-clause-put
 returns-clause-put c =
-    let past : c.args.more + 1 ≤ c.loop-offset.offset - c.args.first = omega (arith, c.loop-offset-test.false, c.from.ensures, c.from-2.ensures) in
-    (c.loop-offset.invariant.values, is_done (λ _ rest. number_at w64 rest) (λ state _. state) c.loop-offset.invariant.values (c.args.more + 1) (c.loop-offset.offset - c.args.first) (tt {0}) c.loop-offset.bytes.now _ past c.loop-offset.invariant.read, c.loop-offset.invariant.put)
+    let past : c.args.more + 1 ≤ c.loop-offset.offset - c.args.first = omega (arith, c.loop-offset-test.false, c.from.ensures, c.from-2.ensures) in (
+      c.loop-offset.invariant.values,
+      is_done (λ _ rest. number_at w64 rest) (λ state _. state) c.loop-offset.invariant.values (c.args.more + 1) (c.loop-offset.offset - c.args.first)
+          (tt {0}) c.loop-offset.bytes.now _ past c.loop-offset.invariant.read,
+      c.loop-offset.invariant.put,
+    )

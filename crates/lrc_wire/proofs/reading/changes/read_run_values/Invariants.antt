@@ -13,5 +13,6 @@ invariant-loop-offset l = record {
   long : length values ≡ l.offset - l.first;
   put : l.changes ≡ l.fn.changes ++ changes_of (record { first = l.first; values = values });
   last : ForSome (last_change l.changes) (λ c. c.offset < l.offset);
-  read : with_front values (elements_at (λ _ rest. number_at w64 rest) (λ state _. state) (l.more + 1 - (l.offset - l.first)) (tt {0}) l.bytes.now) ≡ values_at (l.more + 1) l.fn.bytes.now;
+  read : with_front values (elements_at (λ _ rest. number_at w64 rest) (λ state _. state) (l.more + 1 - (l.offset - l.first)) (tt {0}) l.bytes.now) ≡ values_at
+      (l.more + 1) l.fn.bytes.now;
 }

@@ -20,7 +20,10 @@ loop-init c =
 pub returns-in_err-last : goal.returns-in_err-last
 returns-in_err-last c =
     let p = err_from_is_err_and c.from_residual.result c.from_residual.ensures.1 in
-    rw (p.1, p.2) (λ other. ap whole_runs (ends next_run_at (λ _ run. Some (last_of run)) c.in_err-last.field-0.0 c.loop.invariant.runs c.args.count c.loop.counter c.loop.before c.loop.bytes.now _ c.loop-test.true c.in_err-last.ensures.put c.loop.invariant.read other))
+    rw (p.1, p.2) (λ other. ap whole_runs
+    (ends next_run_at (λ _ run. Some
+    (last_of run)) c.in_err-last.field-0.0 c.loop.invariant.runs c.args.count c.loop.counter c.loop.before c.loop.bytes.now _ c.loop-test.true
+    c.in_err-last.ensures.put c.loop.invariant.read other))
 
 pub loop-preserved : goal.loop-preserved
 loop-preserved c =
@@ -29,10 +32,14 @@ loop-preserved c =
       runs = c.loop.invariant.runs ++ put.0 ∷ [];
       put = put.2 ∙ ap (λ (cs : List Change). cs ++ changes_of put.0) c.loop.invariant.put ∙ flat_map_more changes_of [] c.loop.invariant.runs put.0;
       last = c.in_ok-last.ensures.last;
-      read = rw put.3 (goes_on next_run_at (λ _ run. Some (last_of run)) c.loop.invariant.runs c.args.count c.loop.counter c.loop.before c.loop.bytes.now put.0 c.read_run.new.bytes.now _ c.loop-test.true put.1 c.loop.invariant.read);
+      read = rw put.3 (goes_on next_run_at
+          (λ _ run. Some (last_of run)) c.loop.invariant.runs c.args.count c.loop.counter c.loop.before c.loop.bytes.now put.0 c.read_run.new.bytes.now _
+          c.loop-test.true put.1 c.loop.invariant.read);
     }
 
 pub returns : goal.returns
 returns c =
-    ap whole_runs (is_done next_run_at (λ _ run. Some (last_of run)) c.loop.invariant.runs c.args.count c.loop.counter c.loop.before c.loop.bytes.now _ c.loop-test.false c.loop.invariant.read)
+    ap whole_runs (is_done next_run_at
+    (λ _ run. Some (last_of run)) c.loop.invariant.runs c.args.count c.loop.counter c.loop.before c.loop.bytes.now _ c.loop-test.false
+    c.loop.invariant.read)
     ∙ ap (λ (cs : List Change). Ok (cs, c.loop.bytes.now)) (sym c.loop.invariant.put)

@@ -13,5 +13,6 @@ invariant-loop l = record {
   runs : List Run;
   put : l.changes ≡ flat_map changes_of runs;
   last : ForSome (last_change l.changes) (λ c. IsSomeAnd l.before (λ last. c.offset ≤ last));
-  read : with_front runs (elements_at next_run_at (λ _ run. Some (last_of run)) (l.count - l.counter) l.before l.bytes.now) ≡ elements_at next_run_at (λ _ run. Some (last_of run)) l.count None l.fn.bytes.now;
+  read : with_front runs (elements_at next_run_at (λ _ run. Some (last_of run)) (l.count - l.counter) l.before l.bytes.now) ≡ elements_at next_run_at
+      (λ _ run. Some (last_of run)) l.count None l.fn.bytes.now;
 }

@@ -19,7 +19,9 @@ pub returns-in_err-value : goal.returns-in_err-value
 returns-in_err-value c =
     let p = err_from_is_err_and c.from_residual.result c.from_residual.ensures.1 in
     let long : length c.args.page.now ≡ c.words-words.result = c.size.ensures ∙ sym c.words-words.ensures in
-    rw (p.1, p.2) (ends (λ _ rest. number_at w64 rest) (λ state _. state) c.in_err-value.field-0.0 (take c.loop-offset.offset c.loop-offset.page) c.words-words.result c.loop-offset.offset (tt {0}) c.loop-offset.bytes.now (values_at (length c.args.page.now) c.args.bytes.now.now) c.loop-offset-test.true c.in_err-value.ensures
+    rw (p.1, p.2) (ends (λ _ rest. number_at w64 rest) (λ state _. state) c.in_err-value.field-0.0
+    (take c.loop-offset.offset c.loop-offset.page) c.words-words.result c.loop-offset.offset (tt {0}) c.loop-offset.bytes.now
+    (values_at (length c.args.page.now) c.args.bytes.now.now) c.loop-offset-test.true c.in_err-value.ensures
     (c.loop-offset.invariant.read ∙ ap (λ (n : ℕ). values_at n c.args.bytes.now.now) (sym long)))
 
 pub loop-offset-preserved : goal.loop-offset-preserved
@@ -30,13 +32,17 @@ loop-offset-preserved c =
     record {
       long = rw c.set.ensures (length-set page offset c.in_ok-value.value ∙ c.loop-offset.invariant.long);
       read = rw (c.set.ensures, take_more_set page offset c.in_ok-value.value within)
-          (goes_on (λ _ rest. number_at w64 rest) (λ state _. state) (take offset page) c.words-words.result offset (tt {0}) c.loop-offset.bytes.now c.in_ok-value.value c.read_u64.new.bytes.now _ c.loop-offset-test.true c.in_ok-value.ensures c.loop-offset.invariant.read);
+          (goes_on (λ _ rest. number_at w64 rest) (λ state _. state) (take offset page) c.words-words.result offset
+          (tt {0}) c.loop-offset.bytes.now c.in_ok-value.value c.read_u64.new.bytes.now _ c.loop-offset-test.true c.in_ok-value.ensures
+          c.loop-offset.invariant.read);
     }
 
 pub returns : goal.returns
 returns c =
     let long : length c.args.page.now ≡ c.words-words.result = c.size.ensures ∙ sym c.words-words.ensures in
-    let all : take c.loop-offset.offset c.loop-offset.page ≡ c.loop-offset.page = take_all c.loop-offset.offset c.loop-offset.page (omega (arith, c.loop-offset.invariant.long, c.loop-offset-test.false)) in
+    let all : take c.loop-offset.offset c.loop-offset.page ≡ c.loop-offset.page =
+    take_all c.loop-offset.offset c.loop-offset.page (omega (arith, c.loop-offset.invariant.long, c.loop-offset-test.false)) in
     ap (λ (n : ℕ). values_at n c.args.bytes.now.now) long
-    ∙ is_done (λ _ rest. number_at w64 rest) (λ state _. state) (take c.loop-offset.offset c.loop-offset.page) c.words-words.result c.loop-offset.offset (tt {0}) c.loop-offset.bytes.now _ c.loop-offset-test.false c.loop-offset.invariant.read
+    ∙ is_done (λ _ rest. number_at w64 rest) (λ state _. state) (take c.loop-offset.offset c.loop-offset.page) c.words-words.result c.loop-offset.offset
+    (tt {0}) c.loop-offset.bytes.now _ c.loop-offset-test.false c.loop-offset.invariant.read
     ∙ ap (λ (page : List ℕ). Ok (page, c.loop-offset.bytes.now)) all

@@ -7,11 +7,19 @@ use Rattle.lrc_wire.proofs.reading.parts.read_parts_of.Goals as goal
 pub returns-in_err-part : goal.returns-in_err-part
 returns-in_err-part c =
     let p = err_from_is_err_and c.from_residual-in_err-part.result c.from_residual-in_err-part.ensures.1 in
-    rw (p.1, p.2) (ends (next_part_at c.args.version) (λ _ part. Some part.index) c.in_err-part.field-0.0 c.loop.parts.items c.args.count c.loop.counter c.loop.before c.loop.bytes.now _ c.loop-test.true c.in_err-part.ensures c.loop.invariant)
+    rw (p.1, p.2) (ends (next_part_at c.args.version)
+    (λ _ part. Some part.index) c.in_err-part.field-0.0 c.loop.parts.items c.args.count c.loop.counter c.loop.before c.loop.bytes.now _ c.loop-test.true
+    c.in_err-part.ensures c.loop.invariant)
 
 pub loop-preserved : goal.loop-preserved
 loop-preserved c =
-    rw (c.in_ok-push.ensures.items, c.index_of.ensures) (goes_on (next_part_at c.args.version) (λ _ part. Some part.index) c.loop.parts.items c.args.count c.loop.counter c.loop.before c.loop.bytes.now c.in_ok-part.part c.read_next_part.new.bytes.now _ c.loop-test.true c.in_ok-part.ensures c.loop.invariant)
+    rw (
+      c.in_ok-push.ensures.items,
+      c.index_of.ensures,
+    ) (goes_on (next_part_at c.args.version)
+    (λ _ part. Some part.index) c.loop.parts.items c.args.count c.loop.counter c.loop.before c.loop.bytes.now c.in_ok-part.part
+    c.read_next_part.new.bytes.now _ c.loop-test.true c.in_ok-part.ensures c.loop.invariant)
 
 pub returns : goal.returns
-returns c = is_done (next_part_at c.args.version) (λ _ part. Some part.index) c.loop.parts.items c.args.count c.loop.counter c.loop.before c.loop.bytes.now _ c.loop-test.false c.loop.invariant
+returns c = is_done (next_part_at c.args.version)
+    (λ _ part. Some part.index) c.loop.parts.items c.args.count c.loop.counter c.loop.before c.loop.bytes.now _ c.loop-test.false c.loop.invariant

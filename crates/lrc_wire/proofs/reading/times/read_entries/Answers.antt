@@ -27,7 +27,9 @@ loop-node-init c =
 pub returns-in_err-entry : goal.returns-in_err-entry
 returns-in_err-entry c =
     let p = err_from_is_err_and c.from_residual.result c.from_residual.ensures.1 in
-    rw (p.1, p.2) (ends (entry_at c.args.own) (λ node _. node + 1) c.in_err-entry.field-0.0 (take c.loop-node.node c.loop-node.time) c.args.nodes c.loop-node.node c.loop-node.node c.loop-node.bytes.now _ c.loop-node-test.true c.in_err-entry.ensures c.loop-node.invariant.read)
+    rw (p.1, p.2) (ends (entry_at c.args.own) (λ node _. node + 1) c.in_err-entry.field-0.0
+    (take c.loop-node.node c.loop-node.time) c.args.nodes c.loop-node.node c.loop-node.node c.loop-node.bytes.now _ c.loop-node-test.true
+    c.in_err-entry.ensures c.loop-node.invariant.read)
 
 pub loop-node-preserved : goal.loop-node-preserved
 loop-node-preserved c =
@@ -36,13 +38,18 @@ loop-node-preserved c =
     let within : node < length time = omega arith in
     record {
       long = rw c.fill.ensures (length-set time node c.in_ok-entry.entry ∙ c.loop-node.invariant.long);
-      zeros = λ k le. rw c.fill.ensures (get_or-set_other time node k c.in_ok-entry.entry 0 (λ same. omega arith) ∙ c.loop-node.invariant.zeros k (omega arith));
+      zeros = λ k le. rw c.fill.ensures (get_or-set_other time node k c.in_ok-entry.entry 0 (λ same. omega arith)
+          ∙ c.loop-node.invariant.zeros k (omega arith));
       read = rw (c.fill.ensures, take_more_set time node c.in_ok-entry.entry within)
-          (goes_on (entry_at c.args.own) (λ node _. node + 1) (take node time) c.args.nodes node node c.loop-node.bytes.now c.in_ok-entry.entry c.read_entry.new.bytes.now _ c.loop-node-test.true c.in_ok-entry.ensures c.loop-node.invariant.read);
+          (goes_on (entry_at c.args.own) (λ node _. node + 1)
+          (take node time) c.args.nodes node node c.loop-node.bytes.now c.in_ok-entry.entry c.read_entry.new.bytes.now _ c.loop-node-test.true
+          c.in_ok-entry.ensures c.loop-node.invariant.read);
     }
 
 pub returns : goal.returns
 returns c =
     let all : take c.loop-node.node c.loop-node.time ≡ c.loop-node.time = take_all c.loop-node.node c.loop-node.time (omega arith) in
-    is_done (entry_at c.args.own) (λ node _. node + 1) (take c.loop-node.node c.loop-node.time) c.args.nodes c.loop-node.node c.loop-node.node c.loop-node.bytes.now _ c.loop-node-test.false c.loop-node.invariant.read
+    is_done (entry_at c.args.own) (λ node _. node + 1)
+    (take c.loop-node.node c.loop-node.time) c.args.nodes c.loop-node.node c.loop-node.node c.loop-node.bytes.now _ c.loop-node-test.false
+    c.loop-node.invariant.read
     ∙ ap (λ (time : List ℕ). Ok (time, c.loop-node.bytes.now)) all

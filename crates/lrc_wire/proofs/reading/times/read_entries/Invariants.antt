@@ -8,5 +8,6 @@ abbrev pub invariant-loop-node : goal.invariant-loop-node
 invariant-loop-node l = record {
   long : length l.time ≡ l.nodes;
   zeros : (k : ℕ) → l.node ≤ k → entry l.time k ≡ 0;
-  read : with_front (take l.node l.time) (elements_at (entry_at l.own) (λ node _. node + 1) (l.nodes - l.node) l.node l.bytes.now) ≡ entries_at l.own l.nodes l.fn.bytes.now;
+  read : with_front (take l.node l.time)
+      (elements_at (entry_at l.own) (λ node _. node + 1) (l.nodes - l.node) l.node l.bytes.now) ≡ entries_at l.own l.nodes l.fn.bytes.now;
 }

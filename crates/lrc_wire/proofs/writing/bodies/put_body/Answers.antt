@@ -17,13 +17,27 @@ pub put_arrive-requires : goal.put_arrive-requires
 put_arrive-requires c =
     let m = c.in-Arrive.m in
     let short = rw c.in-Arrive.is at c.requires in
-    omega (arith, short, few_of_news m.time m.intervals, length-append (number w32 m.episode) (flag m.ask ++ news m.time m.intervals), length-append (flag m.ask) (news m.time m.intervals))
+    omega (
+      arith,
+      short,
+      few_of_news m.time m.intervals,
+      length-append (number w32 m.episode) (flag m.ask
+          ++ news m.time m.intervals),
+      length-append (flag m.ask) (news m.time m.intervals),
+    )
 
 pub put_depart-requires : goal.put_depart-requires
 put_depart-requires c =
     let m = c.in-Depart.m in
     let short = rw c.in-Depart.is at c.requires in
-    omega (arith, short, few_of_news m.time m.intervals, length-append (number w32 m.episode) (flag m.collect ++ news m.time m.intervals), length-append (flag m.collect) (news m.time m.intervals))
+    omega (
+      arith,
+      short,
+      few_of_news m.time m.intervals,
+      length-append (number w32 m.episode) (flag m.collect
+          ++ news m.time m.intervals),
+      length-append (flag m.collect) (news m.time m.intervals),
+    )
 
 pub put_changes_request-requires : goal.put_changes_request-requires
 put_changes_request-requires c =

@@ -13,6 +13,10 @@ loop-item-preserved c =
     let item = c.item-item.result in
     let within = c.loop-item-test.true in
     record {
-      written = rw (c.in_ok-put_part.ensures.written, c.loop-item.invariant.written, c.item-item.is) (flat_map-take_more (part Two runs_of) c.args.out.now.items list i item within);
+      written = rw (
+        c.in_ok-put_part.ensures.written,
+        c.loop-item.invariant.written,
+        c.item-item.is,
+      ) (flat_map-take_more (part Two runs_of) c.args.out.now.items list i item within);
       each = All-more (FitPart Two) list i item within c.loop-item.invariant.each (rw (← c.item-item.is) c.in_ok-put_part.ensures.fits);
     }

@@ -13,7 +13,12 @@ loop-record-preserved c =
     let item = c.record-item.result in
     let within = c.loop-record-test.true in
     record {
-      written = rw (c.in_ok-put_interval.ensures.written, c.loop-record.invariant.written, c.record-item.is) (flat_map-take_more interval c.args.out.now.items list i item within);
+      written = rw (
+        c.in_ok-put_interval.ensures.written,
+        c.loop-record.invariant.written,
+        c.record-item.is,
+      ) (flat_map-take_more interval c.args.out.now.items list i item within);
       each = All-more IsInterval list i item within c.loop-record.invariant.each (rw (← c.record-item.is) c.in_ok-put_interval.ensures.is_interval);
-      bits = All-more (λ x. All (HasBits 32) x.stamp) list i item within c.loop-record.invariant.bits (rw (← c.record-item.is) c.in_ok-put_interval.ensures.bits);
+      bits = All-more (λ x. All (HasBits 32) x.stamp) list i item within c.loop-record.invariant.bits
+          (rw (← c.record-item.is) c.in_ok-put_interval.ensures.bits);
     }

@@ -12,6 +12,10 @@ loop-node-preserved c =
     let within : c.loop-node.node < length c.args.entries.now = omega (arith, c.loop-node-test.true) in
     let fits : HasBits 32 c.at.result = omega arith in
     record {
-      written = rw (c.in_ok-put_u32.ensures.ok, c.at.ensures, c.loop-node.invariant.written) (numbers-take_more w32 c.args.out.now.items c.args.entries.now c.loop-node.node within);
+      written = rw (
+        c.in_ok-put_u32.ensures.ok,
+        c.at.ensures,
+        c.loop-node.invariant.written,
+      ) (numbers-take_more w32 c.args.out.now.items c.args.entries.now c.loop-node.node within);
       bits = All-more (HasBits 32) c.args.entries.now c.loop-node.node 0 within c.loop-node.invariant.bits (rw (← c.at.ensures) fits);
     }

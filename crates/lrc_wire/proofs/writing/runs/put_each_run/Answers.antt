@@ -6,7 +6,12 @@ use Rattle.lrc_wire.proofs.writing.runs.put_each_run.Goals as goal
 pub loop-start-preserved : goal.loop-start-preserved
 loop-start-preserved c =
     record {
-      written = rw (c.in_ok-put_run.ensures.written, c.run_end-end.ensures.exact) (run_written c.args.changes.now c.loop-start.start c.loop-start.out.items (omega (arith, c.loop-start-test.true, c.len.ensures.count)) ∙ c.loop-start.invariant.written);
+      written = rw (
+        c.in_ok-put_run.ensures.written,
+        c.run_end-end.ensures.exact,
+      )
+          (run_written c.args.changes.now c.loop-start.start c.loop-start.out.items (omega (arith, c.loop-start-test.true, c.len.ensures.count))
+          ∙ c.loop-start.invariant.written);
       within = c.run_end-end.ensures.within;
       bits = c.in_ok-put_run.ensures.bits;
     }

@@ -9,4 +9,8 @@ two_before out rest a b = append_assoc (out ++ a ∷ []) (b ∷ []) rest ∙ app
 pub returns-clause-written : goal.returns-clause-written
 returns-clause-written c =
     let text = run_text c.args.changes.now c.args.start c.args.end c.at.result c.requires.exact c.requires.within c.at.ensures in
-    rw text (on_ok_so c.put_run_values.result (λ h. h ∙ rw (c.in_ok-put_u8-2.ensures.ok, c.in_ok-put_u8.ensures.ok) (two_before c.args.out.now.items _ c.at.result.offset _)) c.put_run_values.ensures.written)
+    rw text (on_ok_so c.put_run_values.result (λ h. h
+    ∙ rw (
+      c.in_ok-put_u8-2.ensures.ok,
+      c.in_ok-put_u8.ensures.ok,
+    ) (two_before c.args.out.now.items _ c.at.result.offset _)) c.put_run_values.ensures.written)

@@ -21,7 +21,8 @@ loop-place-preserved c =
     let more = values_more cs c.args.start place x (omega arith) c.at.ensures in
     record {
       written = rw (c.in_ok-put_u64.ensures.ok, c.loop-place.invariant.written, more) (numbers-more w64 c.args.out.now.items _ x.value);
-      bits = All-more (λ (y : Change). HasBits 64 y.value) cs place x within c.loop-place.invariant.bits (rw (get_or_from_slice_get cs place x x c.at.ensures) fits);
+      bits = All-more (λ (y : Change). HasBits 64 y.value) cs place x within c.loop-place.invariant.bits
+          (rw (get_or_from_slice_get cs place x x c.at.ensures) fits);
     }
 
 pub returns-clause-bits : goal.returns-clause-bits

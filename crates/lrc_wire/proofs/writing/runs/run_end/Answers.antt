@@ -6,7 +6,8 @@ use Rattle.lrc_wire.proofs.writing.runs.run_end.Goals as goal
 
 pub returns-then-not-is_next-clause-exact : goal.returns-then-not-is_next-clause-exact
 returns-then-not-is_next-clause-exact c =
-    let one = lead_over_at c.args.changes.now (c.loop-end.end - 1) c.loop-end.end c.at.result c.at-in-loop-end.result (omega arith) c.at.ensures c.at-in-loop-end.ensures (sym c.is_next.ensures ∙ c.if-not-is_next.true) in
+    let one = lead_over_at c.args.changes.now (c.loop-end.end - 1) c.loop-end.end c.at.result c.at-in-loop-end.result
+    (omega arith) c.at.ensures c.at-in-loop-end.ensures (sym c.is_next.ensures ∙ c.if-not-is_next.true) in
     omega (arith, one, c.loop-end.invariant)
 
 pub returns-then-not-is_next-clause-few : goal.returns-then-not-is_next-clause-few
@@ -15,7 +16,8 @@ returns-then-not-is_next-clause-few c =
 
 pub loop-end-preserved : goal.loop-end-preserved
 loop-end-preserved c =
-    let more = lead_more_at c.args.changes.now (c.loop-end.end - 1) c.loop-end.end c.at.result c.at-in-loop-end.result (omega arith) c.at.ensures c.at-in-loop-end.ensures (sym c.is_next.ensures ∙ c.if-not-is_next.false) in
+    let more = lead_more_at c.args.changes.now (c.loop-end.end - 1) c.loop-end.end c.at.result c.at-in-loop-end.result
+    (omega arith) c.at.ensures c.at-in-loop-end.ensures (sym c.is_next.ensures ∙ c.if-not-is_next.false) in
     let same : c.loop-end.end + 1 - 1 ≡ c.loop-end.end = omega arith in
     rw same (omega (arith, more, c.loop-end.invariant))
 

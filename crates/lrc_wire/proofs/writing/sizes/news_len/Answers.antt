@@ -17,7 +17,8 @@ returns-then-len-gt-MOST_BODY_BYTES-clause-over c =
 pub returns-clause-within : goal.returns-clause-within
 returns-clause-within c =
     let past = rw c.as_slice-record-items.ensures.all at c.loop-record-test.false in
-    let all : take c.loop-record.record-index c.told.inside.intervals ≡ c.told.inside.intervals = take_all c.loop-record.record-index c.told.inside.intervals past in
+    let all : take c.loop-record.record-index c.told.inside.intervals ≡ c.told.inside.intervals =
+    take_all c.loop-record.record-index c.told.inside.intervals past in
     let exact = rw (← c.told.view_is) at c.loop-record.invariant.exact in
     let here = rw all at exact in
     rw (← c.told.view_is) (omega (arith, here, length_news c.told.inside.time c.told.inside.intervals))

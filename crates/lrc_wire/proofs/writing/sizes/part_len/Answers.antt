@@ -6,22 +6,26 @@ use Rattle.lrc_wire.proofs.writing.sizes.part_len.Goals as goal
 
 pub overflow_mul-result : goal.overflow_mul-result
 overflow_mul-result c =
-    let few : length c.item.inside.changes ≤ MOST_PAGE_WORDS = few_below (λ x. x.offset) c.item.inside.changes c.item.invariant.ascending MOST_PAGE_WORDS c.item.invariant.in_range in
+    let few : length c.item.inside.changes ≤ MOST_PAGE_WORDS =
+    few_below (λ x. x.offset) c.item.inside.changes c.item.invariant.ascending MOST_PAGE_WORDS c.item.invariant.in_range in
     omega (arith, few, c.count_runs.ensures.few)
 
 pub overflow_add-result : goal.overflow_add-result
 overflow_add-result c =
-    let few : length c.item.inside.changes ≤ MOST_PAGE_WORDS = few_below (λ x. x.offset) c.item.inside.changes c.item.invariant.ascending MOST_PAGE_WORDS c.item.invariant.in_range in
+    let few : length c.item.inside.changes ≤ MOST_PAGE_WORDS =
+    few_below (λ x. x.offset) c.item.inside.changes c.item.invariant.ascending MOST_PAGE_WORDS c.item.invariant.in_range in
     omega (arith, few, c.count_runs.ensures.few)
 
 pub overflow_mul-result-2 : goal.overflow_mul-result-2
 overflow_mul-result-2 c =
-    let few : length c.item.inside.changes ≤ MOST_PAGE_WORDS = few_below (λ x. x.offset) c.item.inside.changes c.item.invariant.ascending MOST_PAGE_WORDS c.item.invariant.in_range in
+    let few : length c.item.inside.changes ≤ MOST_PAGE_WORDS =
+    few_below (λ x. x.offset) c.item.inside.changes c.item.invariant.ascending MOST_PAGE_WORDS c.item.invariant.in_range in
     omega (arith, few, c.count_runs.ensures.few, c.len.ensures.count)
 
 pub overflow_add-result-2 : goal.overflow_add-result-2
 overflow_add-result-2 c =
-    let few : length c.item.inside.changes ≤ MOST_PAGE_WORDS = few_below (λ x. x.offset) c.item.inside.changes c.item.invariant.ascending MOST_PAGE_WORDS c.item.invariant.in_range in
+    let few : length c.item.inside.changes ≤ MOST_PAGE_WORDS =
+    few_below (λ x. x.offset) c.item.inside.changes c.item.invariant.ascending MOST_PAGE_WORDS c.item.invariant.in_range in
     omega (arith, few, c.count_runs.ensures.few, c.len.ensures.count)
 
 pub returns-clause-exact : goal.returns-clause-exact
@@ -31,5 +35,6 @@ returns-clause-exact c =
 
 pub returns-clause-small : goal.returns-clause-small
 returns-clause-small c =
-    let few : length c.item.inside.changes ≤ MOST_PAGE_WORDS = few_below (λ x. x.offset) c.item.inside.changes c.item.invariant.ascending MOST_PAGE_WORDS c.item.invariant.in_range in
+    let few : length c.item.inside.changes ≤ MOST_PAGE_WORDS =
+    few_below (λ x. x.offset) c.item.inside.changes c.item.invariant.ascending MOST_PAGE_WORDS c.item.invariant.in_range in
     omega (arith, few, c.len.ensures.count, c.count_runs.ensures.few)
