@@ -1,11 +1,17 @@
 // Laws of the definitions that the judge computes. Each function is a theorem: its body is empty, and its clause is the
 // law.
-ghost use Rattle.std.specs.Prelude.{ℕ, ◌↔◌, List};
+ghost use Rattle.std.specs.Prelude.{◌≡◌, ℕ, ◌↔◌, List};
 ghost use Rattle.lrc_trace.specs.declared.act.Act.{Act};
 ghost use Rattle.lrc_trace.specs.Reading.{ReadsLazily};
 ghost use Rattle.lrc_trace.specs.Synchronization.{IsWellSynchronized};
 ghost use Rattle.lrc_judge.specs.Reading.{Misreads};
 ghost use Rattle.lrc_judge.specs.Synchronization.{Breaks};
+ghost use Rattle.lrc_judge.specs.declared.TheConstants.{NODES};
+
+/// The judge takes runs of up to 16 nodes.
+pub fn the_limits()
+    ensures { NODES ≡ 16 }
+{}
 
 /// No read gives a value that it may not give, exactly where the run reads lazily.
 pub fn no_misread_is_lazy_reading()

@@ -4,7 +4,7 @@
 ghost use Rattle.std.specs.Prelude.{◌≡◌, ◌++◌, ◌<◌, ◌≤◌, List, ℕ, length, take, Ok, Err};
 ghost use Rattle.lrc_page.specs.declared.changes.Change.{Change};
 ghost use Rattle.lrc_page.specs.Changes.{IsAscending};
-ghost use Rattle.lrc_wire.specs.declared.limits.TheConstants.{MOST_BODY_BYTES};
+ghost use Rattle.lrc_wire.specs.declared.limits.TheConstants.{HEADER_BYTES, MOST_BODY_BYTES, MOST_LOCKS, MOST_NODES, MOST_RUNS};
 ghost use Rattle.lrc_wire.specs.declared.version.Version.{Version};
 ghost use Rattle.lrc_wire.specs.Envelope.{EnvelopeRecord};
 ghost use Rattle.lrc_wire.specs.Ranges.{IsFit};
@@ -13,6 +13,15 @@ ghost use Rattle.lrc_wire.specs.Spelling.{◌·◌, Cut, IsCut, Spells, header, 
 ghost use Rattle.lrc_wire.specs.Reading.{envelope_of};
 
 use crate::fault::WireFault;
+
+/// The limits as numbers: 64 locks, 16 nodes, 128 runs of changes in a page, bodies of 16,777,216 bytes behind 12 bytes.
+pub fn the_limits()
+    ensures locks { MOST_LOCKS ≡ 64 }
+    ensures nodes { MOST_NODES ≡ 16 }
+    ensures runs { MOST_RUNS ≡ 128 }
+    ensures body { MOST_BODY_BYTES ≡ 16777216 }
+    ensures header { HEADER_BYTES ≡ 12 }
+{}
 
 /// Ascending changes are cut into maximal runs in one way, which the function gives.
 pub fn changes_are_cut_in_one_way()
