@@ -139,6 +139,34 @@ fn a_barrier_joins_times(rt: HostRuntime) {
     assert!(rt; times_agree(rt.alloc(), &acts, 3) == Ok(true));
 }
 
+// Sixteen nodes take one lock in turn, four times each.
+fn turns_of_sixteen(alloc: Global) -> Result<Vec<Act>, AllocError> {
+    let mut acts = Vec::new(alloc);
+    for turn in 0..64u8 {
+        acts.push(act(turn % 16, Deed::Acquire(63)))?;
+        acts.push(act(turn % 16, Deed::Read(4095, 0)))?;
+        acts.push(act(turn % 16, Deed::Release(63)))?;
+    }
+    Ok(acts)
+}
+
+fn the_last_has_all(alloc: Global) -> Result<bool, AllocError> {
+    let acts = turns_of_sixteen(alloc)?;
+    has_time(alloc, &acts, 16, 191, &[8; 16])
+}
+
+fn all_turns_agree(alloc: Global) -> Result<bool, AllocError> {
+    let acts = turns_of_sixteen(alloc)?;
+    times_agree(alloc, &acts, 16)
+}
+
+// After the last release every node has closed eight intervals, and the last node knows all.
+#[test]
+fn a_long_run_has_times(rt: HostRuntime) {
+    assert!(rt; the_last_has_all(rt.alloc()) == Ok(true));
+    assert!(rt; all_turns_agree(rt.alloc()) == Ok(true));
+}
+
 // A lock that is taken from its holder.
 #[test]
 fn a_broken_run_has_no_times(rt: HostRuntime) {

@@ -118,6 +118,18 @@ fn counts_to_sixteen(alloc: Global) -> Result<bool, AllocError> {
     Ok((0..16u8).all(|node| acts.contains(&act(node, Deed::Print(16)))))
 }
 
+// Whether the nodes of the acts that sixteen nodes make in rounds lead the plain machine to the same acts.
+fn is_led_by_its_rounds(alloc: Global) -> Result<bool, AllocError> {
+    let acts = rounds_of(alloc, COUNTER, 16, 1_000_000)?;
+    let program = program_of(alloc, COUNTER)?;
+    let mut order = Vec::new(alloc);
+    for act in acts.iter() {
+        order.push(usize::from(act.node))?;
+    }
+    let led = plain_run(alloc, &program, 16, &order)?;
+    Ok(acts.len() > 100 && led.as_deref() == Some(acts.as_slice()))
+}
+
 // Whether these acts are among those of the traps.
 fn traps(alloc: Global, wanted: &[Act]) -> Result<bool, AllocError> {
     let acts = rounds_of(alloc, TRAPS, 6, 1_000_000)?;
@@ -127,6 +139,11 @@ fn traps(alloc: Global, wanted: &[Act]) -> Result<bool, AllocError> {
 #[test]
 fn each_node_counts(rt: HostRuntime) {
     assert!(rt; counts_to_sixteen(rt.alloc()) == Ok(true));
+}
+
+#[test]
+fn a_long_order_leads_the_plain_machine(rt: HostRuntime) {
+    assert!(rt; is_led_by_its_rounds(rt.alloc()) == Ok(true));
 }
 
 #[test]
