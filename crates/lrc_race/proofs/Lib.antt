@@ -1,0 +1,5 @@
+pub mod Additions
+pub mod PlaceLists
+pub mod PlaceOrder
+pub mod Stretches
+pub mod Found

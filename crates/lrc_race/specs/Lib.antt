@@ -1,0 +1,4 @@
+pub mod Adding
+pub mod Places
+pub mod Races
+pub mod Pairs
