@@ -3,3 +3,4 @@ pub mod PlaceLists
 pub mod PlaceOrder
 pub mod Stretches
 pub mod Found
+pub mod Agreement

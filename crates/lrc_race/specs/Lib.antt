@@ -2,3 +2,4 @@ pub mod Adding
 pub mod Places
 pub mod Races
 pub mod Pairs
+pub mod Epochs

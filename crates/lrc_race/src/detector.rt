@@ -37,7 +37,7 @@ fn lanes_of(alloc: Global, traces: &[Trace]) -> Result<Vec<Lane>, AllocError>
 }
 
 /// Whether the segment's time knows the interval of another, which is of this node.
-fn knows(segment: &Segment, node: u8, other: &Segment) -> bool
+pub fn knows(segment: &Segment, node: u8, other: &Segment) -> bool
     requires { node < length segment.now.time }
     ensures { IsTrue result ↔ Knows segment.now.time node other.now.interval }
 {

@@ -3,9 +3,11 @@
 #![tactic(auto)]
 
 mod detector;
+mod epochs;
 mod places;
 mod rising;
 
 pub use detector::races;
+pub use epochs::epochs_agree;
 pub use lrc_judge::first::first_race;
 pub use lrc_trace::race::Race;

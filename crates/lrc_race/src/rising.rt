@@ -8,7 +8,7 @@ ghost use Rattle.lrc_race.specs.Races.{AreTracesOf, RisesAlong};
 use lrc_trace::trace::Trace;
 
 /// Whether no time of the trace lacks what the one before has.
-fn times_rise(trace: &Trace) -> bool
+pub fn times_rise(trace: &Trace) -> bool
     requires { (nodes : ℕ) × ((s : Segment) → Contains trace.now.segments s → length s.time ≡ nodes) }
     ensures { IsTrue result → RisesAlong trace.now }
 {
