@@ -44,6 +44,10 @@ pub record AreRacesOf (traces : List TraceRecord) (races : List Race) : Type 0 w
   pub ascending : IsStrictlySortedBy race_cmp races
   pub exact : (race : Race) → Contains races race ↔ IsRaceOf traces race
 
+-- the trace is of a node below this number, and each of its times has as many entries
+abbrev pub IsTraceOf : ℕ → TraceRecord → Type 0
+IsTraceOf nodes a = (a.node < nodes) × ((s : Segment) → Contains a.segments s → length s.time ≡ nodes)
+
 -- the traces are of nodes below this number, and each time has an entry for each of these nodes
 pub record AreTracesOf (nodes : ℕ) (traces : List TraceRecord) : Type 0 where
   pub below : (a : TraceRecord) → Contains traces a → a.node < nodes

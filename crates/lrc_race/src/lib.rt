@@ -3,11 +3,13 @@
 #![tactic(auto)]
 
 mod detector;
+mod entries;
 mod epochs;
 mod places;
 mod rising;
 
 pub use detector::races;
+pub use entries::are_traces_of;
 pub use epochs::epochs_agree;
 pub use lrc_judge::first::first_race;
 pub use lrc_trace::race::Race;
