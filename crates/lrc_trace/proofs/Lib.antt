@@ -12,3 +12,4 @@ pub mod Named
 pub mod Outlines
 pub mod TouchedPages
 pub mod SegmentLists
+pub mod Noted

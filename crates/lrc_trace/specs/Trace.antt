@@ -1,11 +1,11 @@
 -- Traces: the accesses of one node, interval by interval.
-use Rattle.std.specs.Prelude.{◌≡◌, ℕ, ◌-◌, ◌<◌, ◌==◌, ◌⊎◌, Bool, true, false, if◌then◌else◌, List, [], ◌∷◌, ◌++◌, Option, Some, None, Contains, IsTrue, length, slice_get, slice_index_or, slice_set}
+use Rattle.std.specs.Prelude.{◌≡◌, ℕ, ◌-◌, ◌==◌, Bool, true, false, if◌then◌else◌, List, [], ◌∷◌, ◌++◌, Option, Some, None, Contains, IsTrue, length, slice_get, slice_index_or, slice_set}
 use Rattle.std.specs.Option.{ForSome}
 use Rattle.lrc_page.specs.declared.size.Size.{Size}
 use Rattle.lrc_page.specs.Place.{page_of, offset_of}
 use Rattle.lrc_trace.specs.declared.trace.Segment.{Segment}
 use Rattle.lrc_trace.specs.Touched.{has_word}
-use Rattle.lrc_trace.specs.Segments.{opened, with_access}
+use Rattle.lrc_trace.specs.Segments.{MayFollow, opened, with_access}
 
 -- the node, the size of its pages, and its segments
 pub record TraceRecord : Type 0 where
@@ -19,8 +19,7 @@ last_segment segments = slice_get segments (length segments - 1)
 
 -- the interval comes after those of the segments, or is the last of them, with its epoch and its time
 abbrev pub MayNote : List Segment → ℕ → ℕ → List ℕ → Type 0
-MayNote segments epoch interval time = ForSome (last_segment segments)
-    (λ s. (s.interval < interval) ⊎ ((s.interval ≡ interval) × (s.epoch ≡ epoch) × (s.time ≡ time)))
+MayNote segments epoch interval time = ForSome (last_segment segments) (λ s. MayFollow s epoch interval time)
 
 -- the segment is of the interval
 abbrev pub is_of : ℕ → Option Segment → Bool

@@ -1,8 +1,8 @@
 // Traces: what one node read and wrote, interval by interval.
 
-ghost use Rattle.std.specs.Prelude.{◌≡◌, ◌<◌, OnErr, OnOk, []};
+ghost use Rattle.std.specs.Prelude.{◌≡◌, ◌<◌, ◌↔◌, IsTrue, OnErr, OnOk, []};
 ghost use Rattle.lrc_page.specs.declared.TheConstants.{MOST_WORDS};
-ghost use Rattle.lrc_trace.specs.Segments.{opened, with_access};
+ghost use Rattle.lrc_trace.specs.Segments.{MayFollow, opened, with_access};
 
 use crate::touched::Touched;
 use lrc_page::{Size, offset_of, page_of};
@@ -37,6 +37,16 @@ impl Segment {
             reads: Touched::none(alloc),
             writes: Touched::none(alloc),
         }
+    }
+
+    /// Whether the interval is after this one, or is this one, with its epoch and its time.
+    fn goes_on(&self, epoch: u32, interval: u32, time: &Time) -> bool
+        ensures { IsTrue result ↔ MayFollow self.now epoch interval time.now }
+    {
+        if self.interval != interval {
+            return self.interval < interval;
+        }
+        self.epoch == epoch && self.time == *time
     }
 
     /// Adds an access. An error leaves the segment as it was.
@@ -85,6 +95,17 @@ impl Trace {
             node,
             size,
             segments: Vec::new(alloc),
+        }
+    }
+
+    /// Whether an access of this interval may be noted: one after the last one noted, or that one, with its epoch and its
+    /// time.
+    pub fn may_note(&self, epoch: u32, interval: u32, time: &Time) -> bool
+        ensures { IsTrue result ↔ MayNote self.now.segments epoch interval time.now }
+    {
+        match self.segments.last() {
+            Some(last) => last.goes_on(epoch, interval, time),
+            None => true,
         }
     }
 
