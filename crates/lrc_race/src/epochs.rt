@@ -12,7 +12,7 @@ use lrc_trace::trace::{Segment, Trace};
 
 /// Whether no epoch of the trace is lower than the one before.
 fn epochs_rise(trace: &Trace) -> bool
-    ensures { IsTrue result → EpochsRise trace.now }
+    ensures { IsTrue result ↔ EpochsRise trace.now }
 {
     let segments = trace.segments();
     for at in 1..segments.len() {

@@ -10,7 +10,7 @@ use lrc_trace::trace::Trace;
 /// Whether no time of the trace lacks what the one before has.
 pub fn times_rise(trace: &Trace) -> bool
     requires { (nodes : ℕ) × ((s : Segment) → Contains trace.now.segments s → length s.time ≡ nodes) }
-    ensures { IsTrue result → RisesAlong trace.now }
+    ensures { IsTrue result ↔ RisesAlong trace.now }
 {
     let segments = trace.segments();
     for at in 1..segments.len() {
@@ -24,7 +24,7 @@ pub fn times_rise(trace: &Trace) -> bool
 /// Whether the times of each trace rise, as they do in every run.
 pub fn all_rise(traces: &[Trace]) -> bool
     requires { (nodes : ℕ) × AreTracesOf nodes traces.now }
-    ensures { IsTrue result → (a : TraceRecord) → Contains traces.now a → RisesAlong a }
+    ensures { IsTrue result ↔ ((a : TraceRecord) → Contains traces.now a → RisesAlong a) }
 {
     for trace in traces {
         if !times_rise(trace) {

@@ -26,7 +26,7 @@ returns c = (
   λ yes. (
     omega (arith, c.node.ensures, c.if-node-nodes.false),
     each-all (λ (t : Segment). length t.time ≡ c.args.nodes) c.args.trace.now.segments c.loop-segment.segment-index
-    (omega (arith, ap length c.segments-segment-items.ensures.all)) c.loop-segment.invariant,
+        (omega (arith, ap length c.segments-segment-items.ensures.all)) c.loop-segment.invariant,
   ),
   λ of. refl,
 )

@@ -19,7 +19,7 @@ returns-then-not-agrees_between c =
     let a = c.a-item.result in (
       λ no. absurd (false≢true no),
       λ all. c.if-not-agrees_between.ensures.1
-      (all a (c.loop-a.a-index, c.loop-a-test.true, sym c.a-item.is) (λ same. c.if-node.true (c.node.ensures ∙ same ∙ sym c.node-in-loop-a.ensures))),
+          (all a (c.loop-a.a-index, c.loop-a-test.true, sym c.a-item.is) (λ same. c.if-node.true (c.node.ensures ∙ same ∙ sym c.node-in-loop-a.ensures))),
     )
 
 pub loop-a-preserved : goal.loop-a-preserved
