@@ -4,3 +4,4 @@ pub mod PlaceOrder
 pub mod Stretches
 pub mod Found
 pub mod Agreement
+pub mod OfRuns

@@ -5,6 +5,7 @@
 mod detector;
 mod entries;
 mod epochs;
+pub mod laws;
 mod places;
 mod rising;
 
