@@ -110,6 +110,20 @@ fn is_found(alloc: Global, traces: &[Trace], verdict: Verdict) -> Result<bool, A
     Ok(epochs_agree(traces) == verdict.agree && races(alloc, traces)?.as_slice() == verdict.races)
 }
 
+// The traces of two nodes, in this order.
+fn pair(
+    alloc: Global,
+    size: Size,
+    nodes: [u8; 2],
+    first: &[Access],
+    second: &[Access],
+) -> Result<Vec<Trace>, AllocError> {
+    let mut traces = Vec::new(alloc);
+    traces.push(traced(alloc, nodes[0], size, first)?)?;
+    traces.push(traced(alloc, nodes[1], size, second)?)?;
+    Ok(traces)
+}
+
 // Whether this is found in the traces of the nodes 0 and 1, in either order.
 fn is_found_in(
     alloc: Global,
@@ -118,14 +132,9 @@ fn is_found_in(
     second: &[Access],
     verdict: Verdict,
 ) -> Result<bool, AllocError> {
-    let one = traced(alloc, 0, size, first)?;
-    let other = traced(alloc, 1, size, second)?;
-    let traces = [one, other];
-    if !is_found(alloc, &traces, verdict)? {
-        return Ok(false);
-    }
-    let [one, other] = traces;
-    is_found(alloc, &[other, one], verdict)
+    let rising = pair(alloc, size, [0, 1], first, second)?;
+    let falling = pair(alloc, size, [1, 0], second, first)?;
+    Ok(is_found(alloc, &rising, verdict)? && is_found(alloc, &falling, verdict)?)
 }
 
 fn two_writes(alloc: Global, second: Access, verdict: Verdict) -> Result<bool, AllocError> {
