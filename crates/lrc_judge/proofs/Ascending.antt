@@ -18,12 +18,12 @@ use Rattle.lrc_judge.specs.Races.{race_cmp}
 abbrev pub race_eq : Race → Race → Bool
 race_eq a b = (a.word == b.word) && ((a.node_a == b.node_a) && ((a.node_b == b.node_b) && ((a.interval_a == b.interval_a) && (a.interval_b == b.interval_b))))
 
-is_eq-then : (o p : Ordering) → is_eq (ordering_then o p) ≡ (is_eq o && is_eq p)
+pub is_eq-then : (o p : Ordering) → is_eq (ordering_then o p) ≡ (is_eq o && is_eq p)
 is_eq-then Less p = refl
 is_eq-then Equal p = refl
 is_eq-then Greater p = refl
 
-is_eq-nat : (m n : ℕ) → is_eq (nat_cmp m n) ≡ (m == n)
+pub is_eq-nat : (m n : ℕ) → is_eq (nat_cmp m n) ≡ (m == n)
 is_eq-nat m n =
     elim (cases_lt m n) [
       | inl below ↦ rw (lt-ltb m n below) (sym (ne_eqb m n (λ e. omega arith)))

@@ -1,11 +1,13 @@
 -- Lemmas on masks, for the crates above too.
-use Rattle.std.proofs.Common.{ℕ, ◌≡◌, ◌≢◌, ◌*◌, ◌+◌, ◌/◌, ◌%◌, ◌^◌, ◌<◌, ◌≤◌, ◌∙◌, ◌||◌, List, length, get_or, set, eqb, min, refl, ap, sym, ⊎_elim, w64, arith, get_or-set_same, get_or-set_other}
+use Rattle.std.proofs.Common.{ℕ, zero, suc, false, ◌≡◌, ◌≢◌, ◌*◌, ◌+◌, ◌/◌, ◌%◌, ◌^◌, ◌<◌, ◌≤◌, ◌∙◌, ◌||◌, List, length, get_or, set, eqb, min, refl, ap, sym, ⊎_elim, w64, arith, length-set, get_or-set_same, get_or-set_other}
 use Rattle.std.specs.Prelude.{bit_and, bit_or}
 use Rattle.std.specs.Int.{bit_at, trailing_zeros}
 use Rattle.std.proofs.lemmas.Bool.{cases_eq, cases_lt, eqb-true, eq-eqb, ne_eqb}
 use Rattle.std.proofs.lemmas.List.{get_or_past}
+use Rattle.std.proofs.Math.Pow.{pow-lt}
+use Rattle.std.proofs.Math.Nat.{mod-eq_of_lt}
 use Rattle.std.proofs.lemmas.Nat.Bits.{bit_at_set_same, bit_at_set_other, bit_at_and, bit_at-zero, bit_at-lt, bit_at-trailing_zeros}
-use Rattle.lrc_page.specs.Mask.{has, Meets}
+use Rattle.lrc_page.specs.Mask.{has, no_offsets, with_offset, Meets}
 
 -- the number that holds an offset's bit
 abbrev word : List ℕ → ℕ → ℕ
@@ -80,3 +82,39 @@ meets-none a b long none meets =
     ap (λ n. bit_at n (offset % 64)) (get_or_past a (offset / 64) 0 (omega arith)) ∙ bit_at-zero (offset % 64) in
     omega (arith, first, zero_bit))
     (cases_lt (offset / 64) 4)
+
+-- ---- a mask with one offset more
+
+-- a bit of a number below 64 is one of its 64 bits
+shifted : (k : ℕ) → k < 64 → 1 * 2 ^ k % 2 ^ 64 ≡ 2 ^ k
+shifted k small =
+    let below : 2 ^ k < 2 ^ 64 = pow-lt small in
+    let one : 1 * 2 ^ k ≡ 2 ^ k = omega arith in
+    ap (λ n. n % 2 ^ 64) one ∙ mod-eq_of_lt below
+
+pub with_offset-is : (mask : List ℕ) (offset : ℕ)
+    → set mask (offset / 64) (bit_or (get_or mask (offset / 64) 0) (1 * 2 ^ (offset % 64) % 2 ^ 64)) ≡ with_offset mask offset
+with_offset-is mask offset =
+    ap (λ bit. set mask (offset / 64) (bit_or (get_or mask (offset / 64) 0) bit)) (shifted (offset % 64) (omega arith))
+
+-- an offset is in the mask if it is the new one or was there
+pub has-with_offset : (mask : List ℕ) (offset other : ℕ) → length mask ≡ 4 → offset < 256
+    → has (with_offset mask offset) other ≡ (eqb other offset || has mask other)
+has-with_offset mask offset other long within =
+    ap (λ m. has m other) (sym (with_offset-is mask offset)) ∙ has-with mask offset other long within
+
+pub length-with_offset : (mask : List ℕ) (offset : ℕ) → length (with_offset mask offset) ≡ length mask
+length-with_offset mask offset = simp length-set
+
+zero_word : (place : ℕ) → get_or no_offsets place 0 ≡ 0
+zero_word zero = refl
+zero_word (suc zero) = refl
+zero_word (suc (suc zero)) = refl
+zero_word (suc (suc (suc zero))) = refl
+zero_word (suc (suc (suc (suc place)))) = refl
+
+pub has-no_offsets : (offset : ℕ) → has no_offsets offset ≡ false
+has-no_offsets offset =
+    let none : bit_at (get_or no_offsets (offset / 64) 0) (offset % 64) ≡ 0 =
+    ap (λ word. bit_at word (offset % 64)) (zero_word (offset / 64)) ∙ bit_at-zero (offset % 64) in
+    ap (λ bit. eqb bit 1) none

@@ -1,5 +1,5 @@
 ghost use Rattle.std.specs.Prelude.{◌≡◌, ◌↔◌, ◌==◌, ◌||◌, ℕ, IsTrue, false};
-ghost use Rattle.lrc_page.specs.Mask.{has, Meets};
+ghost use Rattle.lrc_page.specs.Mask.{has, no_offsets, with_offset, Meets};
 
 use std::marker::Model;
 
@@ -22,14 +22,16 @@ impl Model for Mask {
 impl Mask {
     /// The set without members.
     pub fn none() -> Self
-        ensures { (offset : ℕ) → has result offset ≡ false }
+        ensures members { (offset : ℕ) → has result offset ≡ false }
+        ensures exact { result ≡ no_offsets }
     {
         Mask { words: [0; 4] }
     }
 
     /// The set with this offset added.
     pub fn with(&self, offset: u8) -> Self
-        ensures { (other : ℕ) → has result other ≡ (other == offset || has self.now other) }
+        ensures members { (other : ℕ) → has result other ≡ (other == offset || has self.now other) }
+        ensures exact { result ≡ with_offset self.now offset }
     {
         let mut words = self.words;
         let place = usize::from(offset / 64);

@@ -10,3 +10,6 @@ pub mod Locks
 pub mod Counts
 pub mod Named
 pub mod Outlines
+pub mod TouchedPages
+pub mod SegmentLists
+pub mod Noted

@@ -5,3 +5,6 @@ pub mod Reading
 pub mod Synchronization
 pub mod Interval
 pub mod Outline
+pub mod Touched
+pub mod Segments
+pub mod Trace

@@ -1,6 +1,6 @@
-// Laws of the definitions on runs. Each function is a theorem: its body is empty, and its clause is the law.
+// Laws of the definitions on runs, and of what a trace notes. Each function is a theorem: its body is empty, and its clause is the law.
 
-ghost use Rattle.std.specs.Prelude.{◌≡◌, ◌≢◌, ℕ, ◌<◌, ◌≤◌, ◌++◌, ◌↔◌, ◌⊎◌, List, [], ◌∷◌, false, IsTrue, length};
+ghost use Rattle.std.specs.Prelude.{◌≡◌, ◌≢◌, ℕ, ◌<◌, ◌≤◌, ◌++◌, ◌↔◌, ◌⊎◌, List, [], ◌∷◌, Bool, false, IsTrue, length};
 ghost use Rattle.lrc_trace.specs.declared.act.Act.{Act};
 ghost use Rattle.lrc_trace.specs.declared.act.Deed.{Deed};
 ghost use Rattle.lrc_trace.specs.declared.act.Deed.TheVariants.{Read};
@@ -11,6 +11,8 @@ ghost use Rattle.lrc_trace.specs.Conflict.{Accesses, Conflict, Races, IsRaceFree
 ghost use Rattle.lrc_trace.specs.Reading.{AreOrdered, MayRead, ReadsLazily};
 ghost use Rattle.lrc_trace.specs.Interval.{closes, interval_at, IsNamedRace};
 ghost use Rattle.lrc_trace.specs.Outline.{SameButValues};
+ghost use Rattle.lrc_trace.specs.Segments.{AreSegments};
+ghost use Rattle.lrc_trace.specs.Trace.{TraceRecord, NotedAccess, IsNoted, MayNote, noted};
 ghost use Rattle.lrc_trace.specs.Synchronization.{Holds, IsWellSynchronized, WaitsAtBarriers, MayGoOn};
 
 /// Happens before goes forward in the run.
@@ -116,4 +118,19 @@ pub fn races_do_not_depend_on_values()
     ensures races { (run other : List Act) (i j : ℕ) → SameButValues run other → (Races run i j ↔ Races other i j) }
     ensures names { (run other : List Act) (race : Race) → SameButValues run other
         → (IsNamedRace run race ↔ IsNamedRace other race) }
+{}
+
+/// Once an access is noted, a trace has that access and those that it had, and no other.
+pub fn what_is_noted_is_added()
+    ensures { (trace : TraceRecord) (epoch interval : ℕ) (time : List ℕ) (word : ℕ) (is_write : Bool)
+        → AreSegments trace.segments → MayNote trace.segments epoch interval time
+        → (access : NotedAccess)
+        → IsNoted (noted trace epoch interval time word is_write) access
+        ↔ (IsNoted trace access ⊎ (access ≡ record {
+          epoch = epoch;
+          interval = interval;
+          time = time;
+          word = word;
+          is_write = is_write;
+        })) }
 {}

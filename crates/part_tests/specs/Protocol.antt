@@ -1,6 +1,6 @@
 -- Worked runs of the protocol machine. Each node has a text of its own: the program with its conditions decided for that
 -- node, each condition's Quiet act made by an assignment.
-use Rattle.std.specs.Prelude.{ℕ, ◌==◌, if◌then◌else◌, length, Option, option_map, List, [], ◌∷◌, ◌++◌, map, filter, flat_map, replicate}
+use Rattle.std.specs.Prelude.{ℕ, ◌==◌, if◌then◌else◌, length, Option, option_map, List, [], ◌∷◌, map, filter, flat_map, replicate}
 use Rattle.std.specs.List.{enumerate_from}
 use Rattle.lrc_lang.specs.declared.program.Expression.TheVariants.{Number, Private}
 use Rattle.lrc_lang.specs.declared.program.Statement.{Statement}

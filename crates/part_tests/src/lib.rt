@@ -8,6 +8,8 @@ mod clocks;
 #[cfg(test)]
 mod copies;
 #[cfg(test)]
+mod detector;
+#[cfg(test)]
 mod execution;
 #[cfg(test)]
 mod language;

@@ -1,0 +1,309 @@
+-- The races found are those of the traces.
+use Rattle.std.proofs.Common.{◌≡◌, ℕ, ◌+◌, ◌<◌, ◌≤◌, ◌++◌, ◌∷◌, [], ◌∙◌, ◌≢◌, inr, Bool, true, false, Some, refl, List, length, get_or, take, ap, sym, subst, ⊎_elim, arith}
+use Rattle.std.specs.Prelude.{◌↔◌, Contains, IsTrue, slice_get}
+use Rattle.std.proofs.lemmas.Bool.{cases_lt, cases_order, lt-ltb, le-ltb, or_cases, or_right, false≢true}
+use Rattle.std.proofs.lemmas.Option.{slice_get_within}
+use Rattle.std.proofs.lemmas.List.{length_push, take_more, take_all}
+use Rattle.std.proofs.lemmas.List.Elements.{Contains-get_or, Contains-push_cases}
+use Rattle.lrc_trace.proofs.Positions.{slice_get-front, slice_get-seam}
+use Rattle.lrc_trace.specs.declared.race.Race.{Race}
+use Rattle.lrc_trace.specs.declared.trace.Segment.{Segment}
+use Rattle.lrc_trace.specs.Trace.{TraceRecord, has_access}
+use Rattle.lrc_race.specs.declared.places.Place.{Place}
+use Rattle.lrc_race.specs.declared.detector.Lane.{Lane}
+use Rattle.lrc_race.specs.Adding.{Adds, IsOfSome}
+use Rattle.lrc_race.specs.Places.{ArePlaces, touches}
+use Rattle.lrc_race.specs.Races.{AreUnordered, IsRaceOf, name_of}
+use Rattle.lrc_race.specs.Pairs.{AreWithin, IsLane, AreLanes, IsRaceOfPlaces, IsRaceOfTraces}
+use Rattle.lrc_race.proofs.Additions.{adds-same, adds-iff, some_same, IsBelow}
+use Rattle.lrc_race.proofs.Stretches.{at_contains, contains_at}
+
+-- the race is of the i-th trace with some trace
+abbrev pub IsRaceOfTrace : List TraceRecord → ℕ → Race → Type 0
+IsRaceOfTrace traces i race = (j : ℕ) × (j < length traces) × IsRaceOfTraces traces i j race
+
+-- ---- what holds of each of the first ones, and of one more
+
+module _ {X : Type 0} (P : X → Type 0) (xs : List X) where
+  pub each-more : (i : ℕ) (x : X) → i < length xs → x ≡ get_or xs i x → ((y : X) → Contains (take i xs) y → P y) → P x
+      → (y : X) → Contains (take (i + 1) xs) y → P y
+  each-more i x within is each so y there =
+      let more : take (i + 1) xs ≡ take i xs ++ x ∷ [] = take_more xs i x within ∙ ap (λ z. take i xs ++ z ∷ []) (sym is) in
+      ⊎_elim (λ old. each y old) (λ same. subst P same so)
+      (Contains-push_cases (take i xs) x y (subst (λ zs. Contains zs y) more there))
+
+  pub each-all : (n : ℕ) → length xs ≤ n → ((y : X) → Contains (take n xs) y → P y) → (y : X) → Contains xs y → P y
+  each-all n long each y there = each y (subst (λ zs. Contains zs y) (sym (take_all n xs long)) there)
+
+-- ---- lanes
+
+-- a lane for one trace more
+pub lanes-more : (traces : List TraceRecord) (lanes : List Lane) (i : ℕ) (trace : TraceRecord) (lane : Lane) → i < length traces
+    → trace ≡ get_or traces i trace → AreLanes (take i traces) lanes → IsLane trace lane
+    → AreLanes (take (i + 1) traces) (lanes ++ lane ∷ [])
+lanes-more traces lanes i trace lane within is are here =
+    let front = take i traces in
+    let more : take (i + 1) traces ≡ front ++ trace ∷ [] = take_more traces i trace within ∙ ap (λ z. front ++ z ∷ []) (sym is) in
+    subst (λ ts. AreLanes ts (lanes ++ lane ∷ [])) (sym more) (record {
+      long = omega (arith, are.long, length_push front trace, length_push lanes lane);
+      each = λ k t l t_is l_is.
+          ⊎_elim
+          (λ (low : k < length lanes).
+          are.each k t l (sym (slice_get-front front (trace ∷ []) k (omega (arith, are.long))) ∙ t_is)
+          (sym (slice_get-front lanes (lane ∷ []) k low) ∙ l_is))
+          (λ (high : length lanes ≤ k).
+          let last : k ≡ length lanes = omega (arith, slice_get_within (lanes ++ lane ∷ []) k l l_is, length_push lanes lane) in
+          let t_same : t ≡ trace =
+          some_same t trace
+          (sym t_is ∙ ap (slice_get (front ++ trace ∷ [])) (last ∙ are.long) ∙ slice_get-seam front trace []) in
+          let l_same : l ≡ lane =
+          some_same l lane (sym l_is ∙ ap (slice_get (lanes ++ lane ∷ [])) last ∙ slice_get-seam lanes lane []) in
+          rw (t_same, l_same) here)
+          (cases_lt k (length lanes));
+    })
+
+-- the places of a trace are of its segments
+pub places-within : (trace : TraceRecord) (with_reads : Bool) (places : List Place) → ArePlaces trace with_reads places
+    → AreWithin trace places
+places-within trace with_reads places are k d within =
+    let place = get_or places k d in
+    let (s, is, touched) = (are.exact place).0 (Contains-get_or places k d within) in
+    slice_get_within trace.segments place.segment s is
+
+-- ---- two traces
+
+-- the races of the places of two traces are those of the traces
+pub pair-found : (traces : List TraceRecord) (i j : ℕ) (a b : TraceRecord) (first second : Lane) (rs qs : List Race)
+    → slice_get traces i ≡ Some a → slice_get traces j ≡ Some b → a.node ≢ b.node → IsLane a first → IsLane b second
+    → Adds rs qs (IsOfSome first.accesses.items (λ x. IsOfSome second.writes.items (IsRaceOfPlaces a x b)))
+    → Adds rs qs (IsRaceOfTraces traces i j)
+pair-found traces i j a b first second rs qs a_is b_is apart of_a of_b adds =
+    adds-iff rs qs (IsOfSome first.accesses.items (λ x. IsOfSome second.writes.items (IsRaceOfPlaces a x b))) (IsRaceOfTraces traces i j)
+    (λ race (x, x_there, (y, y_there, r)).
+    let (s, s_is, s_touches) = (of_a.accesses.exact x).0 x_there in
+    let (t, t_is, t_touches) = (of_b.writes.exact y).0 y_there in
+    let s_same : s ≡ r.s = some_same s r.s (sym s_is ∙ r.first) in
+    let t_same : t ≡ r.t = some_same t r.t (sym t_is ∙ r.second) in
+    record {
+      a = a;
+      b = b;
+      s = r.s;
+      t = r.t;
+      a_there = a_is;
+      b_there = b_is;
+      s_there = at_contains a.segments x.segment r.s r.first;
+      t_there = at_contains b.segments y.segment r.t r.second;
+      apart = apart;
+      word = x.word;
+      first = subst (λ (u : Segment). IsTrue (touches a.size u true x.word)) s_same s_touches;
+      second =
+          subst (λ (w : ℕ). IsTrue (touches b.size r.t false w)) (sym r.word)
+          (subst (λ (u : Segment). IsTrue (touches b.size u false y.word)) t_same t_touches);
+      unordered = r.unordered;
+      named = r.named;
+    })
+    (λ race r.
+    let a_same : r.a ≡ a = some_same r.a a (sym r.a_there ∙ a_is) in
+    let b_same : r.b ≡ b = some_same r.b b (sym r.b_there ∙ b_is) in
+    let (m, m_is) = contains_at a.segments r.s (subst (λ (u : TraceRecord). Contains u.segments r.s) a_same r.s_there) in
+    let (n, n_is) = contains_at b.segments r.t (subst (λ (u : TraceRecord). Contains u.segments r.t) b_same r.t_there) in
+    let x : Place = record { word = r.word; segment = m } in
+    let y : Place = record { word = r.word; segment = n } in
+    let s_touches : IsTrue (touches a.size r.s true r.word) =
+    subst (λ (u : TraceRecord). IsTrue (touches u.size r.s true r.word)) a_same r.first in
+    let t_touches : IsTrue (touches b.size r.t false r.word) =
+    subst (λ (u : TraceRecord). IsTrue (touches u.size r.t false r.word)) b_same r.second in (
+      x,
+      (of_a.accesses.exact x).1 (r.s, m_is, s_touches),
+      (
+        y,
+        (of_b.writes.exact y).1 (r.t, n_is, t_touches),
+        record {
+          s = r.s;
+          t = r.t;
+          first = m_is;
+          second = n_is;
+          word = refl;
+          unordered = subst (λ (u : TraceRecord). AreUnordered a r.s u r.t) b_same (subst (λ (u : TraceRecord). AreUnordered u r.s r.b r.t) a_same r.unordered);
+          named = r.named ∙ ap (λ u. name_of r.word u r.s r.b r.t) a_same ∙ ap (λ u. name_of r.word a r.s u r.t) b_same;
+        },
+      ),
+    ))
+    adds
+
+-- a trace does not race with one of its node
+pub pair-none : (traces : List TraceRecord) (i j : ℕ) (a b : TraceRecord) (rs : List Race)
+    → slice_get traces i ≡ Some a → slice_get traces j ≡ Some b → a.node ≡ b.node → Adds rs rs (IsRaceOfTraces traces i j)
+pair-none traces i j a b rs a_is b_is same =
+    adds-same rs (IsRaceOfTraces traces i j)
+    (λ race r.
+    let a_same : r.a ≡ a = some_same r.a a (sym r.a_there ∙ a_is) in
+    let b_same : r.b ≡ b = some_same r.b b (sym r.b_there ∙ b_is) in
+    r.apart (ap (λ (u : TraceRecord). u.node) a_same ∙ same ∙ sym (ap (λ (u : TraceRecord). u.node) b_same)))
+
+-- ---- all traces
+
+named_low : (word : ℕ) (a : TraceRecord) (s : Segment) (b : TraceRecord) (t : Segment) → a.node < b.node
+    → name_of word a s b t ≡ record { word = word; node_a = a.node; node_b = b.node; interval_a = s.interval; interval_b = t.interval }
+named_low word a s b t low = rw (lt-ltb a.node b.node low) refl
+
+named_high : (word : ℕ) (a : TraceRecord) (s : Segment) (b : TraceRecord) (t : Segment) → b.node ≤ a.node
+    → name_of word a s b t ≡ record { word = word; node_a = b.node; node_b = a.node; interval_a = t.interval; interval_b = s.interval }
+named_high word a s b t high = rw (le-ltb a.node b.node high) refl
+
+-- one that is not written is read
+accessed : (a : TraceRecord) (s : Segment) (word : ℕ) → IsTrue (touches a.size s true word)
+    → (writes : Bool) × IsTrue (has_access a.size s writes word)
+accessed a s word either =
+    ⊎_elim (λ wrote. (true, wrote)) (λ read. (false, read)) (or_cases (has_access a.size s true word) (has_access a.size s false word) either)
+
+accesses : (a : TraceRecord) (s : Segment) (word : ℕ) (writes : Bool) → IsTrue (has_access a.size s writes word)
+    → IsTrue (touches a.size s true word)
+accesses a s word true wrote = rw wrote refl
+accesses a s word false read = or_right (has_access a.size s true word) (has_access a.size s false word) read
+
+written : (b : TraceRecord) (t : Segment) (word : ℕ) → IsTrue (touches b.size t false word) → IsTrue (has_access b.size t true word)
+written b t word either = ⊎_elim (λ wrote. wrote) (λ never. absurd (false≢true never)) (or_cases (has_access b.size t true word) false either)
+
+writes : (b : TraceRecord) (t : Segment) (word : ℕ) → IsTrue (has_access b.size t true word) → IsTrue (touches b.size t false word)
+writes b t word wrote = rw wrote refl
+
+-- the race of two traces is one of the traces
+race_from : (traces : List TraceRecord) (i j : ℕ) (race : Race) → IsRaceOfTraces traces i j race → IsRaceOf traces race
+race_from traces i j race r =
+    let (first_writes, first) = accessed r.a r.s r.word r.first in
+    let second = written r.b r.t r.word r.second in
+    ⊎_elim
+    (λ same. absurd (r.apart same))
+    (λ either.
+    ⊎_elim
+    (λ (low : r.a.node < r.b.node).
+    let named = r.named ∙ named_low r.word r.a r.s r.b r.t low in
+    rw named (record {
+      a = r.a;
+      b = r.b;
+      s = r.s;
+      t = r.t;
+      a_there = at_contains traces i r.a r.a_there;
+      b_there = at_contains traces j r.b r.b_there;
+      s_there = r.s_there;
+      t_there = r.t_there;
+      node_a = refl;
+      node_b = refl;
+      interval_a = refl;
+      interval_b = refl;
+      ascending = low;
+      conflicting = record {
+        first_writes = first_writes;
+        second_writes = true;
+        one = or_right first_writes true refl;
+        first = first;
+        second = second;
+      };
+      unordered = r.unordered;
+    }))
+    (λ (high : r.b.node < r.a.node).
+    let named = r.named ∙ named_high r.word r.a r.s r.b r.t (omega arith) in
+    rw named (record {
+      a = r.b;
+      b = r.a;
+      s = r.t;
+      t = r.s;
+      a_there = at_contains traces j r.b r.b_there;
+      b_there = at_contains traces i r.a r.a_there;
+      s_there = r.t_there;
+      t_there = r.s_there;
+      node_a = refl;
+      node_b = refl;
+      interval_a = refl;
+      interval_b = refl;
+      ascending = high;
+      conflicting = record { first_writes = true; second_writes = first_writes; one = refl; first = second; second = first };
+      unordered = record { first = r.unordered.second; second = r.unordered.first };
+    }))
+    either)
+    (cases_order r.a.node r.b.node)
+
+same_race : (race : Race) (node_a node_b interval_a interval_b : ℕ) → race.node_a ≡ node_a → race.node_b ≡ node_b
+    → race.interval_a ≡ interval_a → race.interval_b ≡ interval_b
+    → race ≡ record { word = race.word; node_a = node_a; node_b = node_b; interval_a = interval_a; interval_b = interval_b }
+same_race race node_a node_b interval_a interval_b first second third fourth =
+    let same : ◌≡◌ {A = Race} (record { word = race.word; node_a = race.node_a; node_b = race.node_b; interval_a = race.interval_a; interval_b = race.interval_b }) (record { word = race.word; node_a = node_a; node_b = node_b; interval_a = interval_a; interval_b = interval_b }) = cc in same
+
+-- a race of the traces is one of two of them
+race_to : (traces : List TraceRecord) (race : Race) → IsRaceOf traces race
+    → (i : ℕ) × (i < length traces) × IsRaceOfTrace traces i race
+race_to traces race r =
+    let (i, i_is) = contains_at traces r.a r.a_there in
+    let (j, j_is) = contains_at traces r.b r.b_there in
+    let low : r.a.node < r.b.node = omega (arith, r.ascending, r.node_a, r.node_b) in
+    let is = same_race race r.a.node r.b.node r.s.interval r.t.interval r.node_a r.node_b r.interval_a r.interval_b in
+    let c = r.conflicting in
+    ⊎_elim
+    (λ (first_writes : c.first_writes ≡ true). (
+      j,
+      slice_get_within traces j r.b j_is,
+      (
+        i,
+        slice_get_within traces i r.a i_is,
+        record {
+          a = r.b;
+          b = r.a;
+          s = r.t;
+          t = r.s;
+          a_there = j_is;
+          b_there = i_is;
+          s_there = r.t_there;
+          t_there = r.s_there;
+          apart = λ same. omega (arith, same, low);
+          word = race.word;
+          first = accesses r.b r.t race.word c.second_writes c.second;
+          second = writes r.a r.s race.word (subst (λ w. IsTrue (has_access r.a.size r.s w race.word)) first_writes c.first);
+          unordered = record { first = r.unordered.second; second = r.unordered.first };
+          named = is ∙ sym (named_high race.word r.b r.t r.a r.s (omega arith));
+        },
+      ),
+    ))
+    (λ (second_writes : c.second_writes ≡ true). (
+      i,
+      slice_get_within traces i r.a i_is,
+      (
+        j,
+        slice_get_within traces j r.b j_is,
+        record {
+          a = r.a;
+          b = r.b;
+          s = r.s;
+          t = r.t;
+          a_there = i_is;
+          b_there = j_is;
+          s_there = r.s_there;
+          t_there = r.t_there;
+          apart = λ same. omega (arith, same, low);
+          word = race.word;
+          first = accesses r.a r.s race.word c.first_writes c.first;
+          second = writes r.b r.t race.word (subst (λ w. IsTrue (has_access r.b.size r.t w race.word)) second_writes c.second);
+          unordered = r.unordered;
+          named = is ∙ sym (named_low race.word r.a r.s r.b r.t low);
+        },
+      ),
+    ))
+    (or_cases c.first_writes c.second_writes c.one)
+
+-- as many as there are traces are all
+pub below-all : (traces : List TraceRecord) (i n : ℕ) (rs qs : List Race) → length traces ≤ n → n ≤ length traces
+    → Adds rs qs (IsBelow (IsRaceOfTraces traces i) n) → Adds rs qs (IsRaceOfTrace traces i)
+below-all traces i n rs qs long short adds =
+    adds-iff rs qs (IsBelow (IsRaceOfTraces traces i) n) (IsRaceOfTrace traces i)
+    (λ race (j, below, r). (j, omega arith, r)) (λ race (j, below, r). (j, omega arith, r)) adds
+
+-- what was found is what there is
+pub found-all : (traces : List TraceRecord) (n : ℕ) (found : List Race) → length traces ≤ n
+    → Adds [] found (IsBelow (IsRaceOfTrace traces) n) → (race : Race) → Contains found race ↔ IsRaceOf traces race
+found-all traces n found long adds race = (
+  λ there. ⊎_elim
+      (λ (k, within, is). absurd (omega arith))
+      (λ (i, below, (j, within, r)). race_from traces i j race r)
+      ((adds.exact race).0 there),
+  λ r. let (i, within, of) = race_to traces race r in (adds.exact race).1 (inr (i, omega arith, of)),
+)

@@ -1,0 +1,7 @@
+pub mod Additions
+pub mod PlaceLists
+pub mod PlaceOrder
+pub mod Stretches
+pub mod Found
+pub mod Agreement
+pub mod OfRuns

@@ -1,0 +1,8 @@
+use Rattle.lrc_race.specs.Adding.{Adds}
+use Rattle.lrc_race.specs.Pairs.{IsRaceOfTraces}
+use Rattle.lrc_race.proofs.Additions.{IsBelow}
+use Rattle.lrc_race.proofs.detector.add_races_with.Given as goal
+
+-- the races with the traces so far are added
+abbrev pub invariant-loop-j : goal.invariant-loop-j
+invariant-loop-j l = Adds l.fn.races.items l.races.items (IsBelow (IsRaceOfTraces l.fn.traces l.fn.i) l.j)

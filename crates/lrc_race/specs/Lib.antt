@@ -1,0 +1,6 @@
+pub mod Adding
+pub mod Places
+pub mod Races
+pub mod Pairs
+pub mod Epochs
+pub mod OfRun

@@ -1,0 +1,76 @@
+-- Races by the places of words.
+use Rattle.std.specs.Prelude.{◌≡◌, ◌≢◌, ℕ, ◌<◌, ◌≤◌, ◌⊎◌, Bool, true, false, List, Some, All, Contains, IsTrue, length, slice_get}
+use Rattle.lrc_time.specs.Time.{Knows}
+use Rattle.lrc_trace.specs.declared.race.Race.{Race}
+use Rattle.lrc_trace.specs.declared.trace.Segment.{Segment}
+use Rattle.lrc_trace.specs.Trace.{TraceRecord}
+use Rattle.lrc_race.specs.declared.places.Place.{Place}
+use Rattle.lrc_race.specs.declared.detector.Lane.{Lane}
+use Rattle.lrc_race.specs.Places.{ArePlaces, touches}
+use Rattle.lrc_race.specs.Races.{AreUnordered, name_of}
+
+-- the lane has the words of the trace
+pub record IsLane (trace : TraceRecord) (lane : Lane) : Type 0 where
+  pub accesses : ArePlaces trace true lane.accesses.items
+  pub writes : ArePlaces trace false lane.writes.items
+
+-- there is a lane for each trace
+pub record AreLanes (traces : List TraceRecord) (lanes : List Lane) : Type 0 where
+  pub long : length lanes ≡ length traces
+  pub each : (i : ℕ) (trace : TraceRecord) (lane : Lane) → slice_get traces i ≡ Some trace → slice_get lanes i ≡ Some lane
+      → IsLane trace lane
+
+-- each place is of a segment of the trace
+abbrev pub AreWithin : TraceRecord → List Place → Type 0
+AreWithin trace places = All (λ place. place.segment < length trace.segments) places
+
+-- the times of each have an entry for the other's node
+pub record HaveEntries (a b : TraceRecord) : Type 0 where
+  pub first : (s : Segment) → Contains a.segments s → b.node < length s.time
+  pub second : (t : Segment) → Contains b.segments t → a.node < length t.time
+
+-- the time of the segment of the one place knows the interval of the other's
+pub record KnowsAt (a : TraceRecord) (x : Place) (b : TraceRecord) (y : Place) : Type 0 where
+  pub s : Segment
+  pub t : Segment
+  pub first : slice_get a.segments x.segment ≡ Some s
+  pub second : slice_get b.segments y.segment ≡ Some t
+  pub knows : Knows s.time b.node t.interval
+
+-- In order by words, and by what is known where times rise, the second place is before the first.
+abbrev pub IsBehind : Bool → TraceRecord → Place → TraceRecord → Place → Type 0
+IsBehind rise a x b y = (y.word < x.word) ⊎ (IsTrue rise × (y.word ≡ x.word) × KnowsAt a x b y)
+
+-- the places are of one word, and their segments race
+pub record IsRaceOfPlaces (a : TraceRecord) (x : Place) (b : TraceRecord) (y : Place) (race : Race) : Type 0 where
+  pub s : Segment
+  pub t : Segment
+  pub first : slice_get a.segments x.segment ≡ Some s
+  pub second : slice_get b.segments y.segment ≡ Some t
+  pub word : x.word ≡ y.word
+  pub unordered : AreUnordered a s b t
+  pub named : race ≡ name_of x.word a s b t
+
+-- the race is one of the place with that at number k, or at a later number
+abbrev pub IsRaceAt : TraceRecord → Place → TraceRecord → List Place → ℕ → Race → Type 0
+IsRaceAt a x b ys k race = (y : Place) × (slice_get ys k ≡ Some y) × IsRaceOfPlaces a x b y race
+
+abbrev pub IsRaceFrom : TraceRecord → Place → TraceRecord → List Place → ℕ → Race → Type 0
+IsRaceFrom a x b ys from race = (k : ℕ) × (from ≤ k) × IsRaceAt a x b ys k race
+
+-- the race is of the i-th trace, which accesses the word, and the j-th, of another node, which writes it
+pub record IsRaceOfTraces (traces : List TraceRecord) (i j : ℕ) (race : Race) : Type 0 where
+  pub a : TraceRecord
+  pub b : TraceRecord
+  pub s : Segment
+  pub t : Segment
+  pub a_there : slice_get traces i ≡ Some a
+  pub b_there : slice_get traces j ≡ Some b
+  pub s_there : Contains a.segments s
+  pub t_there : Contains b.segments t
+  pub apart : a.node ≢ b.node
+  pub word : ℕ
+  pub first : IsTrue (touches a.size s true word)
+  pub second : IsTrue (touches b.size t false word)
+  pub unordered : AreUnordered a s b t
+  pub named : race ≡ name_of word a s b t
