@@ -12,5 +12,7 @@ pub mod Ranks
 pub mod Records
 pub mod Risings
 pub mod Sought
+pub mod Starts
 pub mod Stores
 pub mod Walks
+pub mod Within

@@ -1,11 +1,11 @@
 // What always holds of stores. Each function is a law: its clauses are the statement, and there is nothing to do.
 
-ghost use Rattle.std.specs.Prelude.{◌≡◌, ◌≢◌, ◌+◌, ◌++◌, ◌∷◌, ◌<◌, ◌↔◌, ℕ, AllPairs, Contains, IsTrue, List, None, Some, filter, length, not, slice_index, []};
+ghost use Rattle.std.specs.Prelude.{◌≡◌, ◌≢◌, ◌+◌, ◌++◌, ◌∷◌, ◌<◌, ◌↔◌, ℕ, AllPairs, Contains, IsTrue, List, None, Some, filter, length, map, not, slice_get, slice_index, []};
 ghost use Rattle.lrc_time.specs.Time.{Covers, entry};
 ghost use Rattle.lrc_page.specs.declared.changes.Change.{Change};
 ghost use Rattle.lrc_store.specs.declared.key.Key.{Key};
 ghost use Rattle.lrc_store.specs.Interval.{IntervalRecord, by_weight, index_of};
-ghost use Rattle.lrc_store.specs.Lists.{Follows, before_of, first_on_page_of, list_of, newest_of, next_on_page_of, nodes_of, pages_noted};
+ghost use Rattle.lrc_store.specs.Lists.{Follows, before_of, first_notice_of, first_on_page_of, key_at, keys_of, list_of, newest_of, next_in_interval_of, next_on_page_of, nodes_of, notices_in, pages_noted};
 ghost use Rattle.lrc_store.specs.Store.{StoreRecord, IsMissing, IsNewer, IsStore, added, attached, discarded, is_covered, intervals_of, key_of, missing_of, newer_of, notice_at, stored_at, unread, without_changes};
 
 /// An interval that follows the last one of its node gets an entry of its own, with notices without changes. All others
@@ -65,6 +65,15 @@ pub fn links_run_through_the_lists()
         → Follows (before_of store) (newest_of store node) (list_of (nodes_of store) node) }
     ensures pages { (store : StoreRecord) (page : ℕ)
         → Follows (next_on_page_of store) (first_on_page_of store page) (list_of (pages_noted store) page) }
+{}
+
+/// Following the links of an interval ends, and gives its notices, one for each of its pages, in the order of the pages.
+pub fn links_run_through_each_interval()
+    ensures follows { (store : StoreRecord) (at : ℕ) → IsStore store
+        → Follows (next_in_interval_of store) (first_notice_of store at) (notices_in store at) }
+    ensures keys { (store : StoreRecord) (at : ℕ) (interval : IntervalRecord) → slice_get (intervals_of store) at ≡ Some interval
+        → map (key_at store) (notices_in store at) ≡ map Some (keys_of interval) }
+    ensures once { (store : StoreRecord) (at : ℕ) → AllPairs (λ a b. a < b) (notices_in store at) }
 {}
 
 /// A list has exactly the places of its key, newest first, each once.

@@ -10,6 +10,7 @@ pub mod laws;
 mod link;
 mod links;
 mod lists;
+mod nodes;
 pub mod store;
 mod stored;
 

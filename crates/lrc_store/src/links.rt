@@ -1,27 +1,31 @@
 // What links the intervals and the notices of a store.
 
-ghost use Rattle.std.specs.Prelude.{◌≡◌, ◌<◌, ◌≤◌, ◌+◌, All, AllPairs, IfOk, OnErr, OnOk, [], ◌∷◌, ◌++◌, filter, length, map, not, position, vec_capacity, vec_len};
+ghost use Rattle.std.specs.Prelude.{◌≡◌, ◌<◌, ◌≤◌, ◌+◌, All, AllPairs, IfOk, OnErr, OnOk, [], ◌∷◌, ◌++◌, filter, flat_map, length, map, not, position, vec_capacity, vec_len};
 ghost use Rattle.lrc_time.specs.Time.{knows};
 ghost use Rattle.lrc_store.specs.Interval.{index_of};
+ghost use Rattle.lrc_store.specs.Lists.{keys_of};
+ghost use Rattle.lrc_store.specs.Nodes.{AreStarts};
 ghost use Rattle.lrc_store.specs.Links.{page_named, ranked_pages, is_newer_of, is_unknown_on};
 ghost use Rattle.lrc_store.specs.Store.{interval_of, is_at};
 
 use crate::chains::{Chains, MOST_ENTRIES};
 use crate::interval::Interval;
 use crate::key::Key;
+use crate::nodes::Nodes;
 use crate::stored::Stored;
 use lrc_time::Time;
 use std::alloc::{AllocError, Global};
 
 /// Makes room for an interval with this many notices. An error changes nothing.
 pub(crate) fn make_room(
-    by_node: &mut Chains,
+    by_node: &mut Nodes,
     by_page: &mut Chains,
     notices: &mut Vec<(u64, Key)>,
     more: usize,
 ) -> Result<(), AllocError>
     ensures node_keys { by_node.new.keys ≡ by_node.old.keys }
     ensures node_lists { by_node.new.lists ≡ by_node.old.lists }
+    ensures node_starts { by_node.new.starts ≡ by_node.old.starts }
     ensures page_keys { by_page.new.keys ≡ by_page.old.keys }
     ensures page_lists { by_page.new.lists ≡ by_page.old.lists }
     ensures notices { notices.new.items ≡ notices.old.items }
@@ -31,7 +35,7 @@ pub(crate) fn make_room(
     ensures page_few { OnOk result (length by_page.old.keys + more ≤ MOST_ENTRIES) }
     ensures room { OnOk result (vec_len notices.old + more ≤ vec_capacity notices.new) }
 {
-    by_node.reserve(1)?;
+    by_node.reserve()?;
     by_page.reserve(more)?;
     notices.reserve(more)
 }
@@ -63,16 +67,20 @@ pub(crate) fn add_notices(notices: &mut Vec<(u64, Key)>, by_page: &mut Chains, i
 }
 
 /// Links the intervals again, fewer than there were.
-pub(crate) fn link_nodes(by_node: &mut Chains, entries: &[Stored])
+pub(crate) fn link_nodes(by_node: &mut Nodes, entries: &[Stored])
     requires in_range { All (λ stored. stored.node < by_node.old.lists) entries.now }
     requires fewer { length entries.now ≤ length by_node.old.keys }
+    requires few { length (flat_map keys_of (map interval_of entries.now)) ≤ MOST_ENTRIES }
     ensures keys { by_node.new.keys ≡ map (λ stored. stored.node) entries.now }
+    ensures starts { AreStarts by_node.new.starts (map interval_of entries.now) }
     ensures lists { by_node.new.lists ≡ by_node.old.lists }
 {
     let _room = by_node.len();
     by_node.clear();
+    let mut start = 0;
     for stored in entries {
-        by_node.push(u16::from(stored.node()));
+        by_node.push(u16::from(stored.node()), start as u32);
+        start += stored.len();
     }
 }
 
@@ -82,6 +90,7 @@ pub(crate) fn link_pages(by_page: &mut Chains, notices: &[(u64, Key)])
     requires fewer { length notices.now ≤ length by_page.old.keys }
     ensures keys { by_page.new.keys ≡ map page_named notices.now }
     ensures lists { by_page.new.lists ≡ by_page.old.lists }
+    ensures few { length notices.now ≤ MOST_ENTRIES }
 {
     let _room = by_page.len();
     by_page.clear();
@@ -119,7 +128,7 @@ pub(crate) fn unknown_on(
 pub(crate) fn newer_of_node(
     alloc: Global,
     entries: &[Stored],
-    by_node: &Chains,
+    by_node: &Nodes,
     node: u8,
     since: &Time,
     upto: &Time,
@@ -147,7 +156,7 @@ pub(crate) fn newer_of_node(
 }
 
 /// Where the interval of this node and index stands, found along the node's list.
-pub(crate) fn place_of(entries: &[Stored], by_node: &Chains, node: u8, index: u32) -> Option<usize>
+pub(crate) fn place_of(entries: &[Stored], by_node: &Nodes, node: u8, index: u32) -> Option<usize>
     requires linked { by_node.now.keys ≡ map (λ interval. interval.node) (map interval_of entries.now) }
     requires ascending { AllPairs (λ a b. a.node ≡ b.node → index_of a < index_of b) (map interval_of entries.now) }
     ensures { result ≡ position (is_at node index) entries.now }

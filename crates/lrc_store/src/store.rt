@@ -11,6 +11,7 @@ use crate::key::Key;
 use crate::links::{
     add_notices, is_known, link_nodes, link_pages, make_room, newer_of_node, place_of, unknown_on,
 };
+use crate::nodes::Nodes;
 use crate::stored::Stored;
 use lrc_page::{Changes, MOST_PAGES};
 use lrc_time::Time;
@@ -26,7 +27,7 @@ pub struct Store {
     pages: u16,
     last: Time,
     pub(crate) entries: Vec<Stored>,
-    pub(crate) by_node: Chains,
+    pub(crate) by_node: Nodes,
     pub(crate) by_page: Chains,
     pub(crate) notices: Vec<(u64, Key)>,
 }
@@ -60,7 +61,7 @@ impl Store {
             pages,
             last: Time::new(nodes),
             entries: Vec::new(alloc),
-            by_node: Chains::new(alloc, usize::from(nodes))?,
+            by_node: Nodes::new(alloc, usize::from(nodes))?,
             by_page: Chains::new(alloc, usize::from(pages))?,
             notices: Vec::new(alloc),
         })
@@ -85,8 +86,9 @@ impl Store {
             more,
         )?;
         self.entries.push(stored)?;
+        let start = self.by_page.len() as u32;
         add_notices(&mut self.notices, &mut self.by_page, interval);
-        self.by_node.push(u16::from(interval.node));
+        self.by_node.push(u16::from(interval.node), start);
         self.last.raise(interval.node, interval.index());
         Ok(())
     }
@@ -142,8 +144,8 @@ impl Store {
         self.entries.retain(|stored| !stored.is_known(time));
         self.notices
             .retain(|(_, key)| !is_known(time, key.node, key.index));
-        link_nodes(&mut self.by_node, &self.entries);
         link_pages(&mut self.by_page, &self.notices);
+        link_nodes(&mut self.by_node, &self.entries);
     }
 
     /// The intervals that `upto` knows and `since` does not, ascending by node and index.

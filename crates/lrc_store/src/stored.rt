@@ -1,6 +1,6 @@
 // One interval in a store.
 
-ghost use Rattle.std.specs.Prelude.{◌≡◌, ◌<◌, ◌==◌, All, IfOk, map, option_and_then, position};
+ghost use Rattle.std.specs.Prelude.{◌≡◌, ◌<◌, ◌==◌, All, IfOk, length, map, option_and_then, position};
 ghost use Rattle.std.specs.Option.{option_copied};
 ghost use Rattle.lrc_time.specs.Time.{knows};
 ghost use Rattle.lrc_page.specs.Pages.{IsRising};
@@ -95,6 +95,13 @@ impl Stored {
         ensures { result ≡ index_of (interval_of self.now) }
     {
         self.stamp.at(self.node)
+    }
+
+    /// How many notices the interval has.
+    pub(crate) fn len(&self) -> usize
+        ensures { result ≡ length self.now.notices }
+    {
+        self.notices.len()
     }
 
     /// Whether this is the interval of this node and index.
