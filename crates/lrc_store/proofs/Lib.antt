@@ -1,6 +1,8 @@
 pub mod Chained
+pub mod Filtered
 pub mod Followed
 pub mod IntervalLists
+pub mod KnownFirst
 pub mod LinkedStores
 pub mod ListPlaces
 pub mod Lookups

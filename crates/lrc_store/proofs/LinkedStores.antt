@@ -1,6 +1,6 @@
 -- What changes leave true of the links of a store.
 use Rattle.std.proofs.Common.{◌≡◌, ℕ, zero, suc, ◌+◌, ◌<◌, ◌∙◌, Bool, true, false, not, ◌&&◌, ◌||◌, cond, eqb, eqb-true, List, [], ◌∷◌, ◌++◌, length, get_or, map, refl, ap, sym, subst, arith}
-use Rattle.std.specs.List.{All, filter, flat_map, list_any}
+use Rattle.std.specs.List.{All, AllPairs, filter, flat_map, list_any}
 use Rattle.std.proofs.lemmas.Bool.{ne_eqb}
 use Rattle.std.proofs.lemmas.Grind.{flat_map-append}
 use Rattle.std.proofs.lemmas.List.{get_or-map, length-map, length-set, map-append, map_push, append-nil}
@@ -16,10 +16,12 @@ use Rattle.lrc_store.specs.Interval.{IntervalRecord, IsInterval, index_of}
 use Rattle.std.specs.Option.{option_map}
 use Rattle.std.specs.List.{slice_get}
 use Rattle.std.proofs.lemmas.Option.{slice_get-map}
-use Rattle.lrc_store.specs.Lists.{key_at, keys_of, notices_of, pages_noted}
+use Rattle.lrc_store.specs.Lists.{KnowsTheFirst, key_at, keys_of, knows_notice, notices_of, pages_noted}
 use Rattle.lrc_store.specs.Links.{IsLinkedUp, is_unknown_on, page_named, ranked, ranked_of, ranked_pages}
 use Rattle.lrc_store.specs.Store.{StoreRecord, added, attached, discarded, interval_of, intervals_of, is_covered, is_missing, key_of}
 use Rattle.lrc_store.proofs.Orders.{map-map}
+use Rattle.lrc_store.proofs.Walks.{IsKnownFirst}
+use Rattle.lrc_store.proofs.Filtered.{filter-flat_map}
 use Rattle.lrc_store.proofs.Starts.{count_of, AreStarts-push}
 use Rattle.lrc_store.proofs.Stores.{IsStore-added, IsStore-attached, IsStore-discarded, intervals_of-added, intervals_of-attached, intervals_of-discarded}
 
@@ -117,34 +119,14 @@ IsLinkedUp-attached store by_node by_page notices key changes linked =
 abbrev pub stays : List ℕ → ℕ × Key → Bool
 stays time notice = not (knows time notice.1.node notice.1.index)
 
--- notices that all pass or all fail
-all_or_none : (test : ℕ × Key → Bool) (interval : IntervalRecord) (b : Bool) (pages : List ℕ)
-    → ((page : ℕ) → test (ranked page interval) ≡ b)
-    → filter test (map (λ page. ranked page interval) pages) ≡ cond b (map (λ page. ranked page interval) pages) []
-all_or_none test interval true [] is = refl
-all_or_none test interval false [] is = refl
-all_or_none test interval true (page ∷ pages) is =
-    ap (λ v. cond v (ranked page interval ∷ filter test (map (λ p. ranked p interval) pages)) (filter test (map (λ p. ranked p interval) pages))) (is page)
-    ∙ ap (λ (l : List (ℕ × Key)). ranked page interval ∷ l) (all_or_none test interval true pages is)
-all_or_none test interval false (page ∷ pages) is =
-    ap (λ v. cond v (ranked page interval ∷ filter test (map (λ p. ranked p interval) pages)) (filter test (map (λ p. ranked p interval) pages))) (is page)
-    ∙ all_or_none test interval false pages is
+ranked_stay : (time : List ℕ) (interval : IntervalRecord) → All (λ notice. stays time notice ≡ not (is_covered time interval)) (ranked_pages interval)
+ranked_stay time interval = λ k d within.
+    let inside : k < length interval.pages = omega (arith, within, length-map interval.pages (λ page. ranked page interval)) in
+    ap (stays time) (get_or-map (λ page. ranked page interval) interval.pages k 0 d inside)
 
 ranked_of-filter : (time : List ℕ) (intervals : List IntervalRecord)
     → filter (stays time) (ranked_of intervals) ≡ ranked_of (filter (λ i. not (is_covered time i)) intervals)
-ranked_of-filter time [] = refl
-ranked_of-filter time (i ∷ is) =
-    ap (filter (stays time)) (flat_map-cons ranked_pages i is)
-    ∙ filter-append (stays time) (ranked_pages i) (ranked_of is)
-    ∙ ap (λ (l : List (ℕ × Key)). l ++ filter (stays time) (ranked_of is))
-    (all_or_none (stays time) i (not (is_covered time i)) i.pages (λ page. refl))
-    ∙ ap (λ (l : List (ℕ × Key)). cond (not (is_covered time i)) (ranked_pages i) [] ++ l) (ranked_of-filter time is)
-    ∙ by_test (not (is_covered time i)) (filter (λ j. not (is_covered time j)) is)
-  where
-    by_test : (b : Bool) (rest : List IntervalRecord)
-        → cond b (ranked_pages i) [] ++ ranked_of rest ≡ ranked_of (cond b (i ∷ rest) rest)
-    by_test true rest = sym (flat_map-cons ranked_pages i rest)
-    by_test false rest = refl
+ranked_of-filter time intervals = filter-flat_map ranked_pages (λ i. not (is_covered time i)) (stays time) (ranked_stay time) intervals
 
 -- the notices that are left are those of the intervals that are left
 pub noted-discarded : (store : StoreRecord) (notices notices' : List (ℕ × Key)) (time : List ℕ) → notices ≡ ranked_of (intervals_of store)
@@ -291,3 +273,17 @@ pub key_at-noted : (store : StoreRecord) (by_node : NodesRecord) (by_page : Chai
 key_at-noted store by_node by_page notices at linked =
     ap (λ (l : List Key). slice_get l at) (sym (noted_keys store by_node by_page notices linked))
     ∙ slice_get-map (λ (notice : ℕ × Key). notice.1) notices at
+
+-- what a time knows was added first, among the notices as they stand
+pub known_first : (store : StoreRecord) (by_node : NodesRecord) (by_page : ChainsRecord) (notices : List (ℕ × Key)) (page : ℕ) (since : List ℕ)
+    → IsLinkedUp store by_node by_page notices → KnowsTheFirst store page since → IsKnownFirst page since notices
+known_first store by_node by_page notices page since linked first = λ i j d less within.
+    let keys = map (λ (notice : ℕ × Key). notice.1) notices in
+    let same : keys ≡ notices_of store = noted_keys store by_node by_page notices linked in
+    let inside : j < length keys = omega (arith, within, length-map notices (λ (notice : ℕ × Key). notice.1)) in
+    let a : get_or keys i d.1 ≡ (get_or notices i d).1 = get_or-map (λ (notice : ℕ × Key). notice.1) notices i d d.1 (omega (arith, less, within)) in
+    let b : get_or keys j d.1 ≡ (get_or notices j d).1 = get_or-map (λ (notice : ℕ × Key). notice.1) notices j d d.1 within in
+    let kept = subst (AllPairs (λ earlier later. earlier.page ≡ page → later.page ≡ page → knows_notice since later ≡ true → knows_notice since earlier ≡ true)) (sym same) first in
+    λ earlier_on later_on known.
+    ap (knows_notice since) (sym a)
+    ∙ kept i j d.1 less inside (ap (λ (k : Key). k.page) a ∙ earlier_on) (ap (λ (k : Key). k.page) b ∙ later_on) (ap (knows_notice since) b ∙ known)

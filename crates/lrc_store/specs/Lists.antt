@@ -1,5 +1,6 @@
 -- The lists that run through a store. A link is a place in the order of adding, and each list is followed from the newest.
-use Rattle.std.specs.Prelude.{◌≡◌, ℕ, zero, suc, ◌+◌, ◌==◌, ◌&&◌, Bool, Option, None, Some, option_and_then, option_map, List, [], ◌∷◌, length, map, flat_map, take, reverse, slice_get, slice_index, if◌then◌else◌}
+use Rattle.std.specs.Prelude.{◌≡◌, ℕ, zero, suc, ◌+◌, ◌==◌, ◌&&◌, Bool, Option, None, Some, option_and_then, option_map, List, [], ◌∷◌, length, map, flat_map, take, reverse, slice_get, slice_index, AllPairs, IsTrue, if◌then◌else◌}
+use Rattle.lrc_time.specs.Time.{knows}
 use Rattle.lrc_store.specs.declared.key.Key.{Key}
 use Rattle.lrc_store.specs.Chains.{last_at}
 use Rattle.lrc_store.specs.Interval.{IntervalRecord, index_of}
@@ -76,6 +77,19 @@ next_in_interval_of store at =
     option_and_then
     (λ key. option_and_then (λ next. if is_of_one key next then Some (at + 1) else None) (key_at store (at + 1)))
     (key_at store at)
+
+-- ---- what a time knows of a page
+
+-- the time knows the notice's interval
+abbrev pub knows_notice : List ℕ → Key → Bool
+knows_notice time key = knows time key.node key.index
+
+-- of a page's notices the time knows those that were added first: where it knows one, it knows each that was added before
+abbrev pub KnowsTheFirst : StoreRecord → ℕ → List ℕ → Type 0
+KnowsTheFirst store page since =
+    AllPairs
+    (λ earlier later. earlier.page ≡ page → later.page ≡ page → IsTrue (knows_notice since later) → IsTrue (knows_notice since earlier))
+    (notices_of store)
 
 -- ---- the lists
 

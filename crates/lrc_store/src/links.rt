@@ -1,9 +1,9 @@
 // What links the intervals and the notices of a store.
 
-ghost use Rattle.std.specs.Prelude.{◌≡◌, ◌<◌, ◌≤◌, ◌+◌, All, AllPairs, IfOk, OnErr, OnOk, [], ◌∷◌, ◌++◌, filter, flat_map, length, map, not, position, vec_capacity, vec_len};
+ghost use Rattle.std.specs.Prelude.{◌≡◌, ◌<◌, ◌≤◌, ◌+◌, All, AllPairs, IfOk, IsTrue, OnErr, OnOk, [], ◌∷◌, ◌++◌, filter, flat_map, length, map, not, position, vec_capacity, vec_len};
 ghost use Rattle.lrc_time.specs.Time.{knows};
 ghost use Rattle.lrc_store.specs.Interval.{index_of};
-ghost use Rattle.lrc_store.specs.Lists.{keys_of};
+ghost use Rattle.lrc_store.specs.Lists.{keys_of, knows_notice};
 ghost use Rattle.lrc_store.specs.Nodes.{AreStarts};
 ghost use Rattle.lrc_store.specs.Links.{page_named, ranked_pages, is_newer_of, is_unknown_on};
 ghost use Rattle.lrc_store.specs.Store.{interval_of, is_at};
@@ -118,6 +118,34 @@ pub(crate) fn unknown_on(
             found.push((weight, key))?;
         }
         next = by_page.next(at);
+    }
+    found.reverse();
+    Ok(found)
+}
+
+/// The same where the time knows what was added first: the walk ends at the first notice that it knows.
+pub(crate) fn unknown_until_known(
+    alloc: Global,
+    notices: &[(u64, Key)],
+    by_page: &Chains,
+    page: u16,
+    since: &Time,
+) -> Result<Vec<(u64, Key)>, AllocError>
+    requires linked { by_page.now.keys ≡ map page_named notices.now }
+    requires first { AllPairs (λ earlier later. page_named earlier ≡ page → page_named later ≡ page
+        → IsTrue (knows_notice since.now later.1) → IsTrue (knows_notice since.now earlier.1)) notices.now }
+    ensures { IfOk result (λ found. found.items ≡ filter (is_unknown_on page since.now) notices.now) }
+{
+    let mut found = Vec::new(alloc);
+    let mut next = by_page.first(page);
+    while let Some(at) = next {
+        let (weight, key) = notices[at as usize];
+        if is_known(since, key.node, key.index) {
+            next = None;
+        } else {
+            found.push((weight, key))?;
+            next = by_page.next(at);
+        }
     }
     found.reverse();
     Ok(found)

@@ -1,8 +1,10 @@
 // The intervals that a node knows.
 
-ghost use Rattle.std.specs.Prelude.{◌≡◌, ◌+◌, ◌<◌, ◌≤◌, ◌↔◌, All, IfOk, IsTrue, OnErr, OnOk, length, map, []};
+ghost use Rattle.std.specs.Prelude.{◌≡◌, ◌+◌, ◌<◌, ◌≤◌, ◌↔◌, ℕ, All, IfOk, IsTrue, List, OnErr, OnOk, filter, length, map, []};
 ghost use Rattle.std.specs.Option.{option_copied};
 ghost use Rattle.lrc_time.specs.Time.{entry};
+ghost use Rattle.lrc_store.specs.Links.{ranked};
+ghost use Rattle.lrc_store.specs.Store.{StoreRecord, IsMissing, IsStore, intervals_of, is_missing};
 
 use crate::chains::Chains;
 use crate::interval::Interval;
@@ -10,6 +12,7 @@ use crate::intervals::Intervals;
 use crate::key::Key;
 use crate::links::{
     add_notices, is_known, link_nodes, link_pages, make_room, newer_of_node, place_of, unknown_on,
+    unknown_until_known,
 };
 use crate::nodes::Nodes;
 use crate::stored::Stored;
@@ -49,6 +52,7 @@ impl Store {
     ghost use Rattle.lrc_store.specs.Interval.{index_of};
     ghost use Rattle.lrc_store.specs.Store.{IsStore, empty_store, added, attached, discarded, notice_at, changes_at};
     ghost use Rattle.lrc_store.specs.Store.{IsMissing, IsNewer, missing_of, newer_of};
+    ghost use Rattle.lrc_store.specs.Lists.{KnowsTheFirst};
 
     /// A store that knows no interval, for this many nodes, 1 to 16, and pages, at most `MOST_PAGES`.
     pub fn new(alloc: Global, nodes: u8, pages: u16) -> Result<Self, AllocError>
@@ -172,10 +176,32 @@ impl Store {
         ensures value { IfOk result (λ found. found.items ≡ missing_of self.now page since.now) }
     {
         let alloc = *self.entries.allocator();
-        let mut found = unknown_on(alloc, &self.notices, &self.by_page, page, since)?;
-        found.sort_unstable();
-        keys_of(alloc, &found)
+        let found = unknown_on(alloc, &self.notices, &self.by_page, page, since)?;
+        keys_in_order(alloc, found)
     }
+
+    /// The same as `missing`, where `since` knows the first notices of the page in the order of adding. The walk along the
+    /// page's list ends at the newest notice that it knows. So it costs what is missing, however long the list is.
+    pub fn missing_until_known(&self, page: u16, since: &Time) -> Result<Vec<Key>, AllocError>
+        requires since { length since.now ≡ length self.now.last }
+        requires first { KnowsTheFirst self.now page since.now }
+        ensures missing { IfOk result (λ found. IsMissing self.now page since.now found.items) }
+        ensures value { IfOk result (λ found. found.items ≡ missing_of self.now page since.now) }
+    {
+        let alloc = *self.entries.allocator();
+        let found = unknown_until_known(alloc, &self.notices, &self.by_page, page, since)?;
+        keys_in_order(alloc, found)
+    }
+}
+
+/// The keys of what is missing, of whatever page and store, in the order in which changes are applied.
+fn keys_in_order(alloc: Global, mut found: Vec<(u64, Key)>) -> Result<Vec<Key>, AllocError>
+    ensures { IfOk result (λ keys. (store : StoreRecord) (page : ℕ) (since : List ℕ) → IsStore store
+        → found.items ≡ map (ranked page) (filter (is_missing page since) (intervals_of store))
+        → IsMissing store page since keys.items) }
+{
+    found.sort_unstable();
+    keys_of(alloc, &found)
 }
 
 /// The key of each pair.
