@@ -13,6 +13,7 @@ pub mod Places
 pub mod Ranks
 pub mod Records
 pub mod Risings
+pub mod Rowed
 pub mod Sought
 pub mod Starts
 pub mod Stores

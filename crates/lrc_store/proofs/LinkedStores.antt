@@ -1,14 +1,15 @@
 -- What changes leave true of the links of a store.
-use Rattle.std.proofs.Common.{◌≡◌, ℕ, zero, suc, ◌+◌, ◌<◌, ◌∙◌, Bool, true, false, not, ◌&&◌, ◌||◌, cond, eqb, eqb-true, List, [], ◌∷◌, ◌++◌, length, get_or, map, refl, ap, sym, subst, arith}
+use Rattle.std.proofs.Common.{◌≡◌, ℕ, zero, suc, ◌+◌, ◌<◌, ◌∙◌, Bool, true, false, not, ◌&&◌, ◌||◌, cond, eqb, eqb-true, List, [], ◌∷◌, ◌++◌, length, get_or, set, map, refl, ap, sym, subst, arith, ◌≤◌}
 use Rattle.std.specs.List.{All, AllPairs, filter, flat_map, list_any}
 use Rattle.std.proofs.lemmas.Bool.{ne_eqb}
 use Rattle.std.proofs.lemmas.Grind.{flat_map-append}
-use Rattle.std.proofs.lemmas.List.{get_or-map, length-map, length-set, map-append, map_push, append-nil}
+use Rattle.std.proofs.lemmas.List.{get_or-map, get_or-set_other, length-map, length-set, map-append, map_push, append-nil}
 use Rattle.std.proofs.lemmas.List.Concat.{flat_map-cons}
 use Rattle.std.proofs.lemmas.List.Elements.{All-append, All-filter, All-head, All-tail, All-push, filter-append}
 use Rattle.lrc_time.specs.Time.{entry, knows}
 use Rattle.lrc_page.specs.declared.changes.Change.{Change}
 use Rattle.lrc_page.specs.Pages.{IsRising}
+use Rattle.lrc_time.proofs.Times.{entry-set_same}
 use Rattle.lrc_store.specs.declared.key.Key.{Key}
 use Rattle.lrc_store.specs.Chains.{ChainsRecord}
 use Rattle.lrc_store.specs.Nodes.{NodesRecord, AreStarts}
@@ -16,12 +17,14 @@ use Rattle.lrc_store.specs.Interval.{IntervalRecord, IsInterval, index_of}
 use Rattle.std.specs.Option.{option_map}
 use Rattle.std.specs.List.{slice_get}
 use Rattle.std.proofs.lemmas.Option.{slice_get-map}
-use Rattle.lrc_store.specs.Lists.{KnowsTheFirst, key_at, keys_of, knows_notice, notices_of, pages_noted}
+use Rattle.lrc_store.specs.Lists.{KnowsTheFirst, key_at, keys_of, knows_notice, notices_of, pages_noted, places_from}
 use Rattle.lrc_store.specs.Links.{IsLinkedUp, is_unknown_on, page_named, ranked, ranked_of, ranked_pages}
 use Rattle.lrc_store.specs.Store.{StoreRecord, added, attached, discarded, interval_of, intervals_of, is_covered, is_missing, key_of}
 use Rattle.lrc_store.proofs.Orders.{map-map}
 use Rattle.lrc_store.proofs.Walks.{IsKnownFirst}
 use Rattle.lrc_store.proofs.Filtered.{filter-flat_map}
+use Rattle.lrc_store.specs.Rows.{HasNoGaps}
+use Rattle.lrc_store.proofs.Rowed.{HasNoGaps-push, HasNoGaps-filter, places_from-filter}
 use Rattle.lrc_store.proofs.Starts.{count_of, AreStarts-push}
 use Rattle.lrc_store.proofs.Stores.{IsStore-added, IsStore-attached, IsStore-discarded, intervals_of-added, intervals_of-attached, intervals_of-discarded}
 
@@ -83,6 +86,10 @@ IsLinkedUp-added store by_node by_node' by_page by_page' notices notices' interv
           ∙ sym (map_push (λ (i : IntervalRecord). i.node) all interval)
           ∙ ap (map (λ (i : IntervalRecord). i.node)) (sym same);
       node_lists = node_lists ∙ linked.node_lists ∙ sym (length-set store.last interval.node (index_of interval));
+      gapless = subst (HasNoGaps (set store.last interval.node (index_of interval))) (sym same)
+          (HasNoGaps-push store.last (set store.last interval.node (index_of interval)) all interval linked.gapless next
+          (entry-set_same store.last interval.node (index_of interval) (omega (arith, is.counted, stamp)))
+          (λ n other. get_or-set_other store.last interval.node n (index_of interval) 0 other));
       starts = subst (λ (l : List ℕ). AreStarts l (intervals_of (added store interval))) (sym node_starts)
           (subst (AreStarts (by_node.starts ++ start ∷ [])) (sym same)
           (AreStarts-push by_node.starts all interval start linked.starts
@@ -107,6 +114,7 @@ IsLinkedUp-attached store by_node by_page notices key changes linked =
       intervals = subst (All IsInterval) same linked.intervals;
       nodes = linked.nodes ∙ ap (map (λ (i : IntervalRecord). i.node)) same;
       node_lists = linked.node_lists;
+      gapless = subst (HasNoGaps store.last) same linked.gapless;
       starts = subst (AreStarts by_node.starts) same linked.starts;
       noted = linked.noted ∙ ap ranked_of same;
       pages = linked.pages;
@@ -150,6 +158,7 @@ IsLinkedUp-discarded store by_node by_node' by_page by_page' notices notices' ti
       intervals = subst (All IsInterval) (sym same) (All-filter (λ i. not (is_covered time i)) IsInterval all linked.intervals);
       nodes = node_keys ∙ sym (map-map interval_of (λ (i : IntervalRecord). i.node) (discarded store time).entries);
       node_lists = node_lists ∙ linked.node_lists;
+      gapless = subst (HasNoGaps store.last) (sym same) (HasNoGaps-filter store.last time all linked.gapless linked.sound.ascending);
       starts = node_starts;
       noted = noted-discarded store notices notices' time linked.noted noted;
       pages = page_keys;
@@ -167,6 +176,18 @@ nodes_in_range store by_node by_page notices linked k d within =
     let long = linked.sound.stamps k (interval_of d) inside in
     let node : (get_or all k (interval_of d)).node ≡ (get_or store.entries k d).node = ap (λ (i : IntervalRecord). i.node) here in
     omega (arith, counted, long, node, linked.node_lists)
+
+-- no node has more intervals than it had
+pub fewer_left : (store : StoreRecord) (by_node : NodesRecord) (by_page : ChainsRecord) (notices : List (ℕ × Key)) (time : List ℕ)
+    → IsLinkedUp store by_node by_page notices → (node : ℕ)
+    → length (places_from node 0 (map (λ stored. stored.node) (discarded store time).entries)) ≤ length (places_from node 0 by_node.keys)
+fewer_left store by_node by_page notices time linked node =
+    let left : map (λ stored. stored.node) (discarded store time).entries
+    ≡ map (λ (i : IntervalRecord). i.node) (filter (λ i. not (is_covered time i)) (intervals_of store)) =
+    sym (map-map interval_of (λ (i : IntervalRecord). i.node) (discarded store time).entries)
+    ∙ ap (map (λ (i : IntervalRecord). i.node)) (intervals_of-discarded store time) in
+    let fewer = places_from-filter node (λ i. not (is_covered time i)) (intervals_of store) in
+    omega (arith, fewer, ap (λ (l : List ℕ). length (places_from node 0 l)) left, ap (λ (l : List ℕ). length (places_from node 0 l)) linked.nodes)
 
 ranked_pages-in_range : (interval : IntervalRecord) (most : ℕ) (pages : List ℕ) → All (λ page. page < most) pages
     → All (λ notice. notice.1.page < most) (map (λ page. ranked page interval) pages)

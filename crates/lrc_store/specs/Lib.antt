@@ -5,4 +5,5 @@ pub mod Links
 pub mod Lists
 pub mod Nodes
 pub mod Order
+pub mod Rows
 pub mod Store

@@ -5,6 +5,7 @@ use Rattle.lrc_store.specs.declared.key.Key.{Key}
 use Rattle.lrc_store.specs.Chains.{ChainsRecord}
 use Rattle.lrc_store.specs.Interval.{IntervalRecord, IsInterval}
 use Rattle.lrc_store.specs.Nodes.{NodesRecord, AreStarts}
+use Rattle.lrc_store.specs.Rows.{HasNoGaps}
 use Rattle.lrc_store.specs.Store.{StoreRecord, IsStore, intervals_of, is_newer, key_of}
 
 -- an interval's notice of a page
@@ -37,6 +38,7 @@ pub record IsLinkedUp (store : StoreRecord) (by_node : NodesRecord) (by_page : C
   pub intervals : All IsInterval (intervals_of store)
   pub nodes : by_node.keys ≡ map (λ interval. interval.node) (intervals_of store)
   pub node_lists : by_node.lists ≡ length store.last
+  pub gapless : HasNoGaps store.last (intervals_of store)
   pub starts : AreStarts by_node.starts (intervals_of store)
   pub noted : notices ≡ ranked_of (intervals_of store)
   pub pages : by_page.keys ≡ map page_named notices

@@ -11,6 +11,7 @@ mod link;
 mod links;
 mod lists;
 mod nodes;
+mod row;
 pub mod store;
 mod stored;
 

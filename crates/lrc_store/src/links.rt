@@ -1,10 +1,11 @@
 // What links the intervals and the notices of a store.
 
-ghost use Rattle.std.specs.Prelude.{◌≡◌, ◌<◌, ◌≤◌, ◌+◌, All, AllPairs, IfOk, IsTrue, OnErr, OnOk, [], ◌∷◌, ◌++◌, filter, flat_map, length, map, not, position, vec_capacity, vec_len};
+ghost use Rattle.std.specs.Prelude.{◌≡◌, ◌<◌, ◌≤◌, ◌+◌, ℕ, All, AllPairs, IfOk, IsTrue, OnErr, OnOk, [], ◌∷◌, ◌++◌, filter, flat_map, length, map, not, position, vec_capacity, vec_len};
 ghost use Rattle.lrc_time.specs.Time.{knows};
 ghost use Rattle.lrc_store.specs.Interval.{index_of};
-ghost use Rattle.lrc_store.specs.Lists.{keys_of, knows_notice};
+ghost use Rattle.lrc_store.specs.Lists.{keys_of, knows_notice, places_from};
 ghost use Rattle.lrc_store.specs.Nodes.{AreStarts};
+ghost use Rattle.lrc_store.specs.Rows.{HasNoGaps, HasRoom};
 ghost use Rattle.lrc_store.specs.Links.{page_named, ranked_pages, is_newer_of, is_unknown_on};
 ghost use Rattle.lrc_store.specs.Store.{interval_of, is_at};
 
@@ -16,13 +17,15 @@ use crate::stored::Stored;
 use lrc_time::Time;
 use std::alloc::{AllocError, Global};
 
-/// Makes room for an interval with this many notices. An error changes nothing.
+/// Makes room for an interval of a node with this many notices. An error changes nothing.
 pub(crate) fn make_room(
     by_node: &mut Nodes,
     by_page: &mut Chains,
     notices: &mut Vec<(u64, Key)>,
+    node: u16,
     more: usize,
 ) -> Result<(), AllocError>
+    requires { node < by_node.old.lists }
     ensures node_keys { by_node.new.keys ≡ by_node.old.keys }
     ensures node_lists { by_node.new.lists ≡ by_node.old.lists }
     ensures node_starts { by_node.new.starts ≡ by_node.old.starts }
@@ -31,11 +34,12 @@ pub(crate) fn make_room(
     ensures notices { notices.new.items ≡ notices.old.items }
     ensures node_room { OnOk result (length by_node.old.keys < by_node.new.room) }
     ensures node_few { OnOk result (length by_node.old.keys < MOST_ENTRIES) }
+    ensures node_row { OnOk result (HasRoom by_node.new.rows by_node.old.keys node) }
     ensures page_room { OnOk result (length by_page.old.keys + more ≤ by_page.new.room) }
     ensures page_few { OnOk result (length by_page.old.keys + more ≤ MOST_ENTRIES) }
     ensures room { OnOk result (vec_len notices.old + more ≤ vec_capacity notices.new) }
 {
-    by_node.reserve()?;
+    by_node.reserve(node)?;
     by_page.reserve(more)?;
     notices.reserve(more)
 }
@@ -70,6 +74,8 @@ pub(crate) fn add_notices(notices: &mut Vec<(u64, Key)>, by_page: &mut Chains, i
 pub(crate) fn link_nodes(by_node: &mut Nodes, entries: &[Stored])
     requires in_range { All (λ stored. stored.node < by_node.old.lists) entries.now }
     requires fewer { length entries.now ≤ length by_node.old.keys }
+    requires fewer_of_each { (node : ℕ) → length (places_from node 0 (map (λ stored. stored.node) entries.now))
+        ≤ length (places_from node 0 by_node.old.keys) }
     requires few { length (flat_map keys_of (map interval_of entries.now)) ≤ MOST_ENTRIES }
     ensures keys { by_node.new.keys ≡ map (λ stored. stored.node) entries.now }
     ensures starts { AreStarts by_node.new.starts (map interval_of entries.now) }
@@ -183,21 +189,34 @@ pub(crate) fn newer_of_node(
     Ok(found)
 }
 
-/// Where the interval of this node and index stands, found along the node's list.
-pub(crate) fn place_of(entries: &[Stored], by_node: &Nodes, node: u8, index: u32) -> Option<usize>
+/// Where the interval of this node and index stands, counted back from the last of its node.
+pub(crate) fn place_of(
+    entries: &[Stored],
+    by_node: &Nodes,
+    last: &Time,
+    node: u8,
+    index: u32,
+) -> Option<usize>
     requires linked { by_node.now.keys ≡ map (λ interval. interval.node) (map interval_of entries.now) }
+    requires nodes { by_node.now.lists ≡ length last.now }
+    requires in_range { All (λ stored. stored.node < length last.now) entries.now }
     requires ascending { AllPairs (λ a b. a.node ≡ b.node → index_of a < index_of b) (map interval_of entries.now) }
+    requires gapless { HasNoGaps last.now (map interval_of entries.now) }
     ensures { result ≡ position (is_at node index) entries.now }
 {
-    let mut next = by_node.first(u16::from(node));
-    while let Some(at) = next {
-        let place = at as usize;
-        if entries[place].is_at(node, index) {
-            return Some(place);
-        }
-        next = by_node.next(at);
+    if node >= last.nodes() {
+        return None;
     }
-    None
+    let newest = last.at(node);
+    if index > newest {
+        return None;
+    }
+    let place = by_node.from_newest(u16::from(node), newest - index)? as usize;
+    if entries[place].is_at(node, index) {
+        Some(place)
+    } else {
+        None
+    }
 }
 
 /// Whether the time knows the interval of this node and index. Of a node that it does not count it knows none.

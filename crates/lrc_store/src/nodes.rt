@@ -1,18 +1,23 @@
 // The intervals of each node, as lists.
 
-ghost use Rattle.std.specs.Prelude.{◌≡◌, ◌<◌, ◌≤◌, ◌==◌, IfOk, OnOk, [], ◌∷◌, ◌++◌, length, slice_index, take};
+ghost use Rattle.std.specs.Prelude.{◌≡◌, ◌<◌, ◌≤◌, ◌==◌, ℕ, All, IfOk, List, OnOk, [], ◌∷◌, ◌++◌, length, slice_get, slice_index, slice_index_or, take};
+ghost use Rattle.lrc_store.specs.Lists.{list_of};
+ghost use Rattle.lrc_store.specs.Rows.{HasRoom, HaveRoom, RowRecord};
 ghost use Rattle.lrc_store.specs.Chains.{last_at};
 ghost use Rattle.lrc_store.specs.declared.chains.TheConstants.{MOST_ENTRIES};
 
 use crate::chains::Chains;
+use crate::row::Row;
 use std::alloc::{AllocError, Global};
 use std::marker::Model;
 
-/// For each node the list of its intervals, newest first, and for each interval the place of its first notice.
+/// For each node the list of its intervals, newest first, and the same as a row of places, where an interval is found by
+/// its index. For each interval the place of its first notice.
 #[derive(Drop)]
 pub(crate) struct Nodes {
     chains: Chains,
     starts: Vec<u32>,
+    rows: Vec<Row>,
 }
 
 impl Model for Nodes {
@@ -26,9 +31,12 @@ impl Model for Nodes {
       keys = n.chains.keys;
       starts = n.starts.items;
       room = min n.chains.room (vec_capacity n.starts);
+      rows = n.rows.items;
     } };
 
-    ghost invariant = { λ n. length n.starts.items ≡ length n.chains.keys };
+    ghost use Rattle.lrc_store.specs.Rows.{AreRows};
+
+    ghost invariant = { λ n. (length n.starts.items ≡ length n.chains.keys) × AreRows n.rows.items n.chains.lists n.chains.keys };
 }
 
 impl Nodes {
@@ -38,9 +46,11 @@ impl Nodes {
         ensures keys { IfOk result (λ by_node. by_node.keys ≡ []) }
         ensures starts { IfOk result (λ by_node. by_node.starts ≡ []) }
     {
+        let rows = empty_rows(alloc, nodes)?;
         Ok(Nodes {
             chains: Chains::new(alloc, nodes)?,
             starts: Vec::new(alloc),
+            rows,
         })
     }
 
@@ -54,14 +64,19 @@ impl Nodes {
         self.chains.len()
     }
 
-    /// Makes room for one more interval. An error, also where there would be too many, changes nothing.
-    pub(crate) fn reserve(&mut self) -> Result<(), AllocError>
-        ensures same { self.new ≡ record self.old { room = self.new.room } }
+    /// Makes room for one more interval of a node. An error, also where there would be too many, changes nothing.
+    pub(crate) fn reserve(&mut self, node: u16) -> Result<(), AllocError>
+        requires { node < self.old.lists }
+        ensures lists { self.new.lists ≡ self.old.lists }
+        ensures keys { self.new.keys ≡ self.old.keys }
+        ensures starts { self.new.starts ≡ self.old.starts }
         ensures ok { OnOk result (length self.old.keys < self.new.room) }
         ensures few { OnOk result (length self.old.keys < MOST_ENTRIES) }
+        ensures row { OnOk result (HasRoom self.new.rows self.old.keys node) }
     {
         self.chains.reserve(1)?;
-        self.starts.reserve(1)
+        self.starts.reserve(1)?;
+        self.rows[usize::from(node)].reserve()
     }
 
     /// Adds an interval, for which there is room, of a node. Its notices begin at this place.
@@ -69,23 +84,40 @@ impl Nodes {
         requires in_range { node < self.old.lists }
         requires room { length self.old.keys < self.old.room }
         requires few { length self.old.keys < MOST_ENTRIES }
+        requires row { HasRoom self.old.rows self.old.keys node }
         ensures lists { self.new.lists ≡ self.old.lists }
         ensures keys { self.new.keys ≡ self.old.keys ++ node ∷ [] }
         ensures starts { self.new.starts ≡ self.old.starts ++ start ∷ [] }
         ensures room { self.old.room ≤ self.new.room }
+        ensures rows { (keys : List ℕ) → HaveRoom self.old.lists self.old.rows keys → HaveRoom self.old.lists self.new.rows keys }
     {
+        let at = self.chains.len() as u32;
         self.chains.push(node);
         let Ok(()) = self.starts.push(start) else {
             unreachable!();
         };
+        self.rows[usize::from(node)].push(at);
     }
 
     /// Takes out all intervals and keeps their room.
     pub(crate) fn clear(&mut self)
-        ensures { self.new ≡ record self.old { keys = []; starts = [] } }
+        ensures lists { self.new.lists ≡ self.old.lists }
+        ensures keys { self.new.keys ≡ [] }
+        ensures starts { self.new.starts ≡ [] }
+        ensures room { self.old.room ≤ self.new.room }
+        ensures rows { HaveRoom self.old.lists self.new.rows self.old.keys }
     {
         self.chains.clear();
         self.starts.clear();
+        clear_rows(&mut self.rows);
+    }
+
+    /// The interval of a node behind which so many of that node were added.
+    pub(crate) fn from_newest(&self, node: u16, back: u32) -> Option<u32>
+        requires { node < self.now.lists }
+        ensures { result ≡ slice_get (list_of self.now.keys node) back }
+    {
+        self.rows[usize::from(node)].from_last(back)
     }
 
     /// The newest interval of a node.
@@ -109,5 +141,29 @@ impl Nodes {
         ensures { result ≡ slice_index self.now.starts at }
     {
         self.starts[at as usize]
+    }
+}
+
+/// A row for each node, without places.
+fn empty_rows(alloc: Global, nodes: usize) -> Result<Vec<Row>, AllocError>
+    ensures count { IfOk result (λ rows. length rows.items ≡ nodes) }
+    ensures none { IfOk result (λ rows. All (λ row. row.places ≡ []) rows.items) }
+{
+    let mut rows = Vec::new(alloc);
+    for _ in 0..nodes {
+        rows.push(Row::new(alloc))?;
+    }
+    Ok(rows)
+}
+
+/// Takes all places out of the rows.
+fn clear_rows(rows: &mut [Row])
+    ensures count { length rows.new ≡ length rows.old }
+    ensures none { All (λ row. row.places ≡ []) rows.new }
+    ensures room { (at : ℕ) (d : RowRecord) → at < length rows.old
+        → length (slice_index_or rows.old at d).places ≤ (slice_index_or rows.new at d).room }
+{
+    for at in 0..rows.len() {
+        rows[at].clear();
     }
 }

@@ -87,6 +87,7 @@ impl Store {
             &mut self.by_node,
             &mut self.by_page,
             &mut self.notices,
+            u16::from(interval.node),
             more,
         )?;
         self.entries.push(stored)?;
@@ -124,7 +125,13 @@ impl Store {
     pub fn changes(&self, key: Key) -> Option<&Changes>
         ensures { option_copied result ≡ changes_at self.now key }
     {
-        let place = place_of(&self.entries, &self.by_node, key.node, key.index)?;
+        let place = place_of(
+            &self.entries,
+            &self.by_node,
+            &self.last,
+            key.node,
+            key.index,
+        )?;
         let stored = &self.entries[place];
         stored.changes(key.page)
     }
@@ -134,7 +141,13 @@ impl Store {
         requires { notice_at self.old key ≡ Some (record { page = key.page; changes = None }) }
         ensures { self.new ≡ attached self.old key changes }
     {
-        if let Some(place) = place_of(&self.entries, &self.by_node, key.node, key.index) {
+        if let Some(place) = place_of(
+            &self.entries,
+            &self.by_node,
+            &self.last,
+            key.node,
+            key.index,
+        ) {
             self.entries[place].attach(key.page, changes);
         }
     }

@@ -36,7 +36,7 @@ linked c =
     let interval = c.args.interval.now in
     let is : c.args.self.now ≡ store = sym c.self.view_is in
     let same : after c ≡ added store interval = cc (last_after c, entries_after c) in
-    let node : c.from.result ≡ interval.node = c.from.ensures ∙ ap (λ (i : IntervalRecord). i.node) c.interval.view_is in
+    let node : c.from-2.result ≡ interval.node = c.from-2.ensures ∙ ap (λ (i : IntervalRecord). i.node) c.interval.view_is in
     subst (λ (s : StoreRecord). IsLinkedUp s c.push-2.new.self c.add_notices.new.by_page c.add_notices.new.notices.items) (sym same)
     (IsLinkedUp-added store c.self.inside.by_node c.push-2.new.self c.self.inside.by_page c.add_notices.new.by_page
     c.self.inside.notices.items c.add_notices.new.notices.items interval c.len-start.result c.self.invariant c.index.ensures.interval

@@ -5,8 +5,9 @@ use Rattle.std.proofs.lemmas.List.Elements.{All-filter}
 use Rattle.std.proofs.lemmas.Fn.{filter_same}
 use Rattle.lrc_store.specs.Store.{StoredRecord, StoreRecord, discarded, interval_of, intervals_of, is_covered}
 use Rattle.lrc_store.specs.Nodes.{AreStarts}
+use Rattle.lrc_store.specs.Lists.{places_from}
 use Rattle.lrc_store.specs.Links.{IsLinkedUp, page_named}
-use Rattle.lrc_store.proofs.LinkedStores.{IsLinkedUp-discarded, count_of-noted, noted-discarded, nodes_in_range, pages_in_range, stays}
+use Rattle.lrc_store.proofs.LinkedStores.{fewer_left, IsLinkedUp-discarded, count_of-noted, noted-discarded, nodes_in_range, pages_in_range, stays}
 use Rattle.lrc_store.proofs.Starts.{count_of}
 use Rattle.lrc_store.proofs.store.Store.discard.Goals as goal
 use Rattle.lrc_store.proofs.store.Store.discard.Goals.{After-retain, After-retain-2}
@@ -60,6 +61,13 @@ link_pages-requires-clause-in_range c =
     subst (All InRange) (sym (c.deref.ensures.value ∙ notices_after b))
     (All-filter (stays a.args.time.now) InRange a.self.inside.notices.items
     (pages_in_range (before a) a.self.inside.by_node a.self.inside.by_page a.self.inside.notices.items a.self.invariant))
+
+pub link_nodes-requires-clause-fewer_of_each : goal.link_nodes-requires-clause-fewer_of_each
+link_nodes-requires-clause-fewer_of_each c = λ node.
+    let a = (goal.at.link_nodes-requires-clause-fewer_of_each c).After-retain in
+    let fewer = fewer_left (before a) a.self.inside.by_node a.self.inside.by_page a.self.inside.notices.items a.args.time.now a.self.invariant node in
+    let same = ap (λ (l : List StoredRecord). length (places_from node 0 (map (λ (s : StoredRecord). s.node) l))) (c.deref-2.ensures.value ∙ entries_after a) in
+    omega (arith, fewer, same)
 
 pub link_nodes-requires-clause-few : goal.link_nodes-requires-clause-few
 link_nodes-requires-clause-few c =
