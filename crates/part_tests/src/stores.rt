@@ -2,6 +2,7 @@
 
 ghost use Rattle.std.specs.Prelude.{◌≡◌, ◌<◌, ◌≤◌, ◌∷◌, All, IfOk, length, []};
 ghost use Rattle.lrc_time.specs.Time.{entry};
+ghost use Rattle.lrc_store.specs.Lists.{KnowsTheFirst};
 ghost use Rattle.lrc_store.specs.Store.{added, empty_store};
 
 use lrc_page::{Changes, Pages};
@@ -104,6 +105,85 @@ fn node_list(store: &Store, node: u8) -> [Option<(u8, u32)>; 2] {
         None => None,
     };
     [store.interval(first), second]
+}
+
+/// The keys of the notices of an interval of a node, `back` intervals before its newest one, up to three.
+fn interval_list(store: &Store, node: u8, back: usize) -> [Option<Key>; 3] {
+    let mut interval = store.newest(node);
+    if back == 1
+        && let Some(newest) = interval
+    {
+        interval = store.before(newest);
+    }
+    let Some(interval) = interval else {
+        return [None, None, None];
+    };
+    let Some(first) = store.first_notice(interval) else {
+        return [None, None, None];
+    };
+    let Some(second) = store.next_in_interval(first) else {
+        return [store.key(first), None, None];
+    };
+    let third = match store.next_in_interval(second) {
+        Some(third) => store.key(third),
+        None => None,
+    };
+    [store.key(first), store.key(second), third]
+}
+
+#[test]
+fn lists_run_through_the_worked_intervals(rt: HostRuntime) -> Result<(), Fail> {
+    let mut store = worked(&rt, rt.alloc())?;
+    assert!(rt; interval_list(&store, 0, 1) == [Some(key_of(0, 1, 0)), None, None]);
+    assert!(rt;
+        interval_list(&store, 1, 0) == [Some(key_of(1, 1, 0)), Some(key_of(1, 1, 1)), None]
+    );
+    assert!(rt; interval_list(&store, 0, 0) == [Some(key_of(0, 2, 1)), None, None]);
+    assert!(rt; interval_list(&store, 2, 0) == [None, None, None]);
+    let known = time_of(&rt, [1, 1, 0]);
+    store.discard(&known);
+    assert!(rt; interval_list(&store, 0, 0) == [Some(key_of(0, 2, 1)), None, None]);
+    assert!(rt; interval_list(&store, 1, 0) == [None, None, None]);
+    Ok(())
+}
+
+#[test]
+fn freed_places_are_used_again(rt: HostRuntime) -> Result<(), Fail> {
+    let alloc = rt.alloc();
+    let mut store = worked(&rt, alloc)?;
+    let known = time_of(&rt, [1, 1, 0]);
+    store.discard(&known);
+    put(
+        &rt,
+        &mut store,
+        2,
+        [2, 1, 1],
+        pages_of(alloc, false, false)?,
+    )?;
+    put(&rt, &mut store, 1, [2, 2, 1], pages_of(alloc, true, true)?)?;
+    assert!(rt; interval_list(&store, 2, 0) == [None, None, None]);
+    assert!(rt;
+        interval_list(&store, 1, 0) == [Some(key_of(1, 2, 0)), Some(key_of(1, 2, 1)), None]
+    );
+    assert!(rt; page_list(&store, 1) == [Some(key_of(1, 2, 1)), Some(key_of(0, 2, 1)), None]);
+    assert!(rt; node_list(&store, 2) == [Some((2, 1)), None]);
+    assert!(rt; (store.len(), store.last(0), store.last(1), store.last(2)) == (3, 2, 2, 1));
+    Ok(())
+}
+
+#[test]
+fn discards_some_of_each_node(rt: HostRuntime) -> Result<(), Fail> {
+    let alloc = rt.alloc();
+    let mut store = worked(&rt, alloc)?;
+    put(&rt, &mut store, 1, [2, 2, 0], pages_of(alloc, true, false)?)?;
+    let known = time_of(&rt, [1, 1, 0]);
+    store.discard(&known);
+    assert!(rt; node_list(&store, 0) == [Some((0, 2)), None]);
+    assert!(rt; node_list(&store, 1) == [Some((1, 2)), None]);
+    assert!(rt; interval_list(&store, 1, 0) == [Some(key_of(1, 2, 0)), None, None]);
+    assert!(rt; page_list(&store, 0) == [Some(key_of(1, 2, 0)), None, None]);
+    assert!(rt; page_list(&store, 1) == [Some(key_of(0, 2, 1)), None, None]);
+    Ok(())
 }
 
 #[test]
@@ -252,6 +332,33 @@ fn one_written(alloc: Global) -> Result<Store, AllocError>
     let interval = Interval::new(0, stamp, pages);
     store.add(&interval)?;
     Ok(store)
+}
+
+/// Two intervals that wrote page 1, of nodes 0 and 1, and the time that knew all there was before the second came.
+fn known_and_new(alloc: Global) -> Result<(Store, Time), AllocError>
+    ensures nodes { IfOk result (λ both. length both.1 ≡ length both.0.last) }
+    ensures first { IfOk result (λ both. KnowsTheFirst both.0 1 both.1) }
+{
+    let mut store = one_written(alloc)?;
+    let mut since = Time::new(3);
+    since.raise(0, 1);
+    let mut stamp = Time::new(3);
+    stamp.raise(1, 1);
+    let mut pages = Pages::empty(alloc);
+    pages.push(1)?;
+    let interval = Interval::new(1, stamp, pages);
+    store.add(&interval)?;
+    Ok((store, since))
+}
+
+#[test]
+fn finds_what_is_missing_up_to_what_was_known(rt: HostRuntime) -> Result<(), Fail> {
+    let (store, since) = known_and_new(rt.alloc())?;
+    let found = store.missing_until_known(1, &since)?;
+    assert!(rt; found.as_slice() == [key_of(1, 1, 1)].as_slice());
+    let all = store.missing(1, &since)?;
+    assert!(rt; all.as_slice() == found.as_slice());
+    Ok(())
 }
 
 #[test]
