@@ -9,6 +9,7 @@ pub mod Lookups
 pub mod Newer
 pub mod NodeWalks
 pub mod Orders
+pub mod PagePlaces
 pub mod Places
 pub mod Ranks
 pub mod Records

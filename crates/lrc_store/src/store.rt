@@ -24,7 +24,9 @@ use std::marker::Model;
 /// The intervals that a node knows, each with its write notices, and the changes that came for some of these.
 ///
 /// Intervals and notices stand in the order of adding, each linked to the one before it of its node, or of its page. What
-/// is newer or missing is found along these lists; a look-up by key takes time linear in the number of intervals.
+/// is newer or missing is found along these lists. An interval is found by its node and its index at once, since no
+/// index is left out between a node's oldest interval and its newest; its notice of a page by halving. `add` and `attach`
+/// cost what they add, and `discard` costs what there is.
 #[derive(Drop)]
 pub struct Store {
     pages: u16,
