@@ -1,13 +1,13 @@
 -- When a time knows the first notices of a page.
-use Rattle.std.proofs.Common.{◌≡◌, ℕ, ◌-◌, ◌<◌, ◌≤◌, ◌∙◌, Bool, true, false, not, List, [], ◌∷◌, ◌++◌, length, get_or, refl, ap, sym, subst, ⊎_elim, arith}
+use Rattle.std.proofs.Common.{◌≡◌, ℕ, ◌+◌, ◌-◌, ◌<◌, ◌≤◌, ◌∙◌, Bool, true, false, not, List, [], ◌∷◌, ◌++◌, length, get_or, refl, ap, sym, subst, ⊎_elim, arith}
 use Rattle.std.specs.List.{All, AllPairs, filter, flat_map}
-use Rattle.std.proofs.lemmas.Bool.{true≢false, cases_lt, le-leb}
+use Rattle.std.proofs.lemmas.Bool.{true≢false, cases_lt, le-leb, lt-leb}
 use Rattle.std.proofs.lemmas.Grind.{flat_map-append}
 use Rattle.std.proofs.lemmas.List.{append-nil, get_or_append_left, get_or-append_right, get_or-map, length-append, length-map}
 use Rattle.std.proofs.lemmas.List.Concat.{flat_map-cons}
 use Rattle.std.proofs.lemmas.List.Elements.{All-append, All-head, All-tail}
 use Rattle.std.proofs.lemmas.List.Kept.{AllPairs-filter}
-use Rattle.lrc_time.specs.Time.{entry}
+use Rattle.lrc_time.specs.Time.{Covers, entry}
 use Rattle.lrc_page.specs.declared.changes.Change.{Change}
 use Rattle.lrc_store.specs.declared.key.Key.{Key}
 use Rattle.lrc_store.specs.Interval.{IntervalRecord, index_of}
@@ -86,6 +86,13 @@ known-added store interval page since before new =
     subst (AllPairs (Ordered page since)) (sym (notices_of-added store interval))
     (ordered_behind page since (notices_of store) (keys_of interval) before
     (keys_alike since interval false (not_true (is_covered since interval) new)))
+
+-- the next interval of a node is beyond every time that the last indices cover
+pub known-next : (store : StoreRecord) (interval : IntervalRecord) (page : ℕ) (since : List ℕ) → KnowsTheFirst store page since
+    → Covers store.last since → index_of interval ≡ entry store.last interval.node + 1 → KnowsTheFirst (added store interval) page since
+known-next store interval page since before covers next =
+    let beyond : entry since interval.node < index_of interval = omega (arith, covers interval.node, next) in
+    known-added store interval page since before (ap not (lt-leb (index_of interval) (entry since interval.node) beyond))
 
 -- ---- changes come
 

@@ -85,14 +85,17 @@ pub fn lists_have_exactly_their_places()
 
 /// When a time knows the first notices of a page, as `missing_until_known` asks. So it is with the last indices of the
 /// store itself, and with a time that knows none of them; and it stays so where an interval is added that the time does
-/// not know, where changes come, and where intervals are taken out. So a node that remembers with a page a time that its
-/// store's last indices once were has it ever after.
+/// not know, as is the next of its node where the last indices cover the time; where changes come; and where intervals are
+/// taken out. So a node that remembers with a page a time that its store's last indices once were has it ever after.
 pub fn what_was_known_was_added_first()
     ensures last { (store : StoreRecord) (page : ℕ) → IsStore store → KnowsTheFirst store page store.last }
     ensures none { (store : StoreRecord) (page : ℕ) (since : List ℕ)
         → All (λ key. IsTrue (not (knows_notice since key))) (notices_of store) → KnowsTheFirst store page since }
     ensures added { (store : StoreRecord) (interval : IntervalRecord) (page : ℕ) (since : List ℕ)
         → KnowsTheFirst store page since → IsTrue (not (is_covered since interval))
+        → KnowsTheFirst (added store interval) page since }
+    ensures next { (store : StoreRecord) (interval : IntervalRecord) (page : ℕ) (since : List ℕ)
+        → KnowsTheFirst store page since → Covers store.last since → index_of interval ≡ entry store.last interval.node + 1
         → KnowsTheFirst (added store interval) page since }
     ensures attached { (store : StoreRecord) (key : Key) (changes : List Change) (page : ℕ) (since : List ℕ)
         → KnowsTheFirst store page since → KnowsTheFirst (attached store key changes) page since }

@@ -1,4 +1,4 @@
-use Rattle.lrc_store.proofs.KnownFirst.{last-known, none-known, known-added, known-attached, known-discarded}
+use Rattle.lrc_store.proofs.KnownFirst.{last-known, none-known, known-added, known-next, known-attached, known-discarded}
 use Rattle.lrc_store.proofs.laws.what_was_known_was_added_first.Goals as goal
 
 pub returns-clause-last : goal.returns-clause-last
@@ -15,3 +15,6 @@ returns-clause-attached c = λ store key changes page since before. known-attach
 
 pub returns-clause-discarded : goal.returns-clause-discarded
 returns-clause-discarded c = λ store time page since before. known-discarded store time page since before
+
+pub returns-clause-next : goal.returns-clause-next
+returns-clause-next c = λ store interval page since before covers next. known-next store interval page since before covers next
