@@ -17,3 +17,5 @@ pub mod Rules
 pub mod Calls
 pub mod TakenNumbers
 pub mod TakenBelow
+pub mod TakenMessages
+pub mod Pending
