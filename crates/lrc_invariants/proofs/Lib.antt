@@ -17,3 +17,4 @@ pub mod Rules
 pub mod Calls
 pub mod TakenNumbers
 pub mod TakenBelow
+pub mod Sends
