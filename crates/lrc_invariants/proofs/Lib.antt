@@ -18,3 +18,4 @@ pub mod Calls
 pub mod TakenNumbers
 pub mod TakenBelow
 pub mod Sends
+pub mod Reached
