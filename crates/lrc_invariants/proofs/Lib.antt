@@ -19,3 +19,5 @@ pub mod TakenNumbers
 pub mod TakenBelow
 pub mod TakenMessages
 pub mod Pending
+pub mod Sends
+pub mod Reached
