@@ -21,3 +21,5 @@ pub mod TakenMessages
 pub mod Pending
 pub mod Sends
 pub mod Reached
+pub mod Flows
+pub mod Managers
