@@ -1,5 +1,5 @@
 -- One turn of a run, with the pending messages before and after it: what it takes from them and what it adds.
-use Rattle.std.proofs.Common.{◌≡◌, ℕ, ◌+◌, List, [], ◌∷◌, ◌++◌, Bool, true, false, cond, map, refl, sym, ap, subst, ◌∙◌, arith, append-nil}
+use Rattle.std.proofs.Common.{◌≡◌, ℕ, ◌+◌, ◌<◌, List, [], ◌∷◌, ◌++◌, Bool, true, false, cond, map, refl, sym, ap, subst, ◌∙◌, arith, append-nil}
 use Rattle.std.specs.Prelude.{Option, Some, None, count_by, slice_get, if◌then◌else◌}
 use Rattle.std.proofs.lemmas.List.Sums.{sum_by-append, sum_by-cons}
 use Rattle.lrc_lang.specs.declared.program.Program.{Program}
@@ -30,11 +30,17 @@ Brings me by_itself (Some e) = ⊥
 Brings me (comes from message) None = ⊥
 Brings me (comes from message) (Some e) = (e.to ≡ me) × (e.from ≡ from) × (e.message ≡ message)
 
+-- its sender is one of so many nodes
+abbrev pub IsFromNode : ℕ → Came → Type 0
+IsFromNode nodes by_itself = Unit {0}
+IsFromNode nodes (comes from message) = from < nodes
+
 -- a turn with the messages that were pending and those that are then: a repeat changes nothing; else the message that came
 -- is no longer pending, and what the turn sends is
 pub data Stepped (node : Node) (was now : List EnvelopeRecord) : TurnRecord → Node → Type 0 where
   again : now ≡ was → Stepped node was now empty_turn node
-  once : {turn : TurnRecord} {after : Node} (came : Came) (o : Option EnvelopeRecord) → Brings node.setting.me came o → Sent node came turn after
+  once : {turn : TurnRecord} {after : Node} (came : Came) (o : Option EnvelopeRecord) → Brings node.setting.me came o
+      → IsFromNode node.setting.nodes came → Sent node came turn after
       → Goes o was turn.out now → Stepped node was now turn after
 
 repeated : (node : Node) (e : EnvelopeRecord) (was now : List EnvelopeRecord) (b : Bool) → b ≡ true
@@ -48,10 +54,10 @@ fresh e was out now false is g = g
 
 steps : (node : Node) (input : Input) (turn : TurnRecord) (after : Node) (was now : List EnvelopeRecord) → Sending node input turn after
     → Goes (new_of node input) was turn.out now → Stepped node was now turn after
-steps node _ _ _ was now (alone k) g = once by_itself None tt k g
+steps node _ _ _ was now (alone k) g = once by_itself None tt tt k g
 steps node _ _ _ was now (repeats e is) g = again (repeated node e was now (is_repeat node e) is g)
 steps node _ _ _ was now (anew e {turn = turn} to from new k) g =
-    once (comes e.from e.message) (Some e) (to, refl, refl) k (fresh e was turn.out now (is_repeat node e) new g)
+    once (comes e.from e.message) (Some e) (to, refl, refl) from k (fresh e was turn.out now (is_repeat node e) new g)
 
 module _ (program : Program) (nodes : ℕ) (options : OptionsRecord) where
   -- each turn of each run is one of these

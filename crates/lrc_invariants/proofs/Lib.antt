@@ -23,3 +23,4 @@ pub mod Sends
 pub mod Reached
 pub mod Flows
 pub mod Managers
+pub mod Standing
