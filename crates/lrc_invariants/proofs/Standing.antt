@@ -17,7 +17,7 @@ use Rattle.lrc_protocol.specs.Locks.{Locks}
 use Rattle.lrc_protocol.specs.Barrier.{Barrier}
 use Rattle.lrc_invariants.specs.Barriers.{says_arrive, says_depart, says_clean, says_discard, arrive_from, depart_to, clean_from, discard_to, kept_of, noted_of, awaits_depart, awaits_word, StandsAt}
 use Rattle.lrc_invariants.proofs.Sends.{Came, by_itself, comes, Site, is_other, AreOthers, Grants, arrival_in, Sends, plain, misses, takes, asks, releasing, arriving, manages, forwarding, grants, gathers, lets_depart, departing, collecting, clean_at_once, notes_clean, lets_discard, discarding, serves, accessing, still_misses, still_collects, cleaning}
-use Rattle.lrc_invariants.proofs.Flows.{came_count, count_of, count-cons}
+use Rattle.lrc_invariants.proofs.Flows.{IsFromNode, came_count, count_of, count-cons}
 use Rattle.lrc_invariants.proofs.Managers.{passing, failing, Arrives, Gathered, gathered, LetGo, let_go, Noted, noted, LetDiscard, let_discard, Places, places-arrival, places-departed, places-noted, places-over, noted_in, kept-more, kept-all, kept-departed, noted-departed, noted-free, noted-more, noted-all, as_many, departs-once, departs-only, discards-once, discards-only}
 
 -- ---- the four tests
@@ -427,3 +427,84 @@ module _ (s : Site) (nodes : ℕ) (within : s.me < nodes) (manager : ManagerReco
               })
               (λ k lt. omega arith) (λ k lt. omega arith) (λ k lt. let e : _ = more k in let o : _ = one k lt in omega (arith, e, o)) f;
         })
+
+    pub standing : (came : Came) (acts : Bool) (wait : Wait) (locks : Locks) (barrier : Barrier) (letters : List Letter)
+        → Sends s came acts wait locks barrier letters → IsFromNode nodes came → Flow s.me came letters was now
+        → After (unwrap_or barrier.manager manager) wait barrier.episode
+    standing _ _ _ _ _ letters (plain next w n plain_is others) node f =
+        still_by by_itself letters nothing nothing w (mute_self s.me) (λ m. silent_others s.me m letters others) refl refl f
+    standing _ _ _ _ _ letters (misses {need = need} w n others) node f =
+        still_by by_itself letters nothing (access need) w (mute_self s.me) (λ m. silent_others s.me m letters others) refl refl f
+    standing _ _ _ _ _ _ (takes lock w n free) node f =
+        still_by by_itself [] nothing nothing w (mute_self s.me) (silent_none s.me) refl refl f
+    standing _ _ _ _ _ letters (asks lock w n away) node f =
+        still_by by_itself letters nothing (grant lock) w (mute_self s.me)
+        (λ m. silent_one s.me m _ [] (record { no_arrive = refl; no_depart = refl; no_clean = refl; no_discard = refl }) (silent_none s.me m)) refl refl f
+    standing _ _ _ _ _ letters (releasing lock next w n passed) node f =
+        still_by by_itself letters nothing nothing w (mute_self s.me) (λ m. silent_grants s.me m _ letters passed) refl refl f
+    standing _ _ _ _ _ _ (arriving next ask intervals w n) node f = arrives-at _ f w
+    standing _ _ _ _ _ letters (manages from m lt counted mine) node f =
+        still_by (comes from (LockRequest m)) letters s.wait s.wait refl
+        (λ k. mute_other s.me k from (LockRequest m) (record { no_arrive = refl; no_depart = refl; no_clean = refl; no_discard = refl }))
+        (λ k. silent_one s.me k _ [] (record { no_arrive = refl; no_depart = refl; no_clean = refl; no_discard = refl }) (silent_none s.me k)) refl refl f
+    standing _ _ _ _ _ letters (forwarding from m lt asker counted managed taken passed) node f =
+        still_by (comes from (LockForward m)) letters s.wait s.wait refl
+        (λ k. mute_other s.me k from (LockForward m) (record { no_arrive = refl; no_depart = refl; no_clean = refl; no_discard = refl }))
+        (λ k. silent_grants s.me k _ letters passed) refl refl f
+    standing _ _ _ _ _ _ (grants from m lt w k) node f =
+        still_by (comes from (LockGrant m)) [] (grant m.lock) nothing w
+        (λ k. mute_other s.me k from (LockGrant m) (record { no_arrive = refl; no_depart = refl; no_clean = refl; no_discard = refl }))
+        (silent_none s.me) refl refl f
+    standing _ _ _ _ _ _ (gathers from m before after at counted step) node f =
+        gathers-at from m after node
+        (subst (λ b. Gathered b from (arrival_in m) after) (is before at) (gathered before from (arrival_in m) after step)) f
+    standing _ _ _ _ _ _ (lets_depart from m before after departures at counted step) node f =
+        lets_depart-at from m after departures node
+        (subst (λ b. LetGo b from (arrival_in m) after departures) (is before at) (let_go before from (arrival_in m) after departures step)) f
+    standing _ _ _ _ _ _ (departing from m a no_collection) node f =
+        departs-at from m [] nothing f a.wait (silent_none s.me) refl refl
+    standing _ _ _ _ _ letters (collecting from m {collection = c} {needs = ns} a collects same others) node f =
+        departs-at from m letters (upkeep c ns) f a.wait (λ k. silent_others s.me k letters others) refl refl
+    standing _ _ _ _ _ _ (clean_at_once from m {collection = c} a collects same) node f =
+        cleans-at (comes from (Depart m)) s.barrier.episode c departure (λ k. k) refl refl refl
+        (λ k. record {
+          came_arrive = refl;
+          sent_arrive = refl;
+          came_depart = refl;
+          sent_depart = refl;
+          came_clean = refl;
+          sent_clean = omega arith;
+          came_discard = refl;
+          sent_discard = refl;
+        }) f a.wait
+    standing _ _ _ _ _ _ (notes_clean from episode before after at step) node f =
+        notes-at from episode after node (subst (λ b. Noted b from episode after) (is before at) (noted before from episode after step)) f
+    standing _ _ _ _ _ _ (lets_discard from episode over before after at step) node f =
+        lets_discard-at from episode over after node
+        (subst (λ b. LetDiscard b from episode after over) (is before at) (let_discard before from episode after over step)) f
+    standing _ _ _ _ _ _ (discarding from episode collection w zero_is episode_is) node f = discards-at from episode collection f w
+    standing _ _ _ _ _ letters (serves from message other others) node f =
+        still_by (comes from message) letters s.wait s.wait refl (λ k. mute_other s.me k from message (others_say message other))
+        (λ k. silent_others s.me k letters others) refl refl f
+    standing _ _ _ _ _ _ (accessing from message need other w) node f =
+        still_by (comes from message) [] (access need) nothing w (λ k. mute_other s.me k from message (others_say message other))
+        (silent_none s.me) refl refl f
+    standing _ _ _ _ _ _ (still_misses from message before {need = need} other w) node f =
+        still_by (comes from message) [] (access before) (access need) w (λ k. mute_other s.me k from message (others_say message other))
+        (silent_none s.me) refl refl f
+    standing _ _ _ _ _ _ (still_collects from message before had {collection = c} {needs = ns} other w same) node f =
+        still_by (comes from message) [] (upkeep before had) (upkeep c ns) w (λ k. mute_other s.me k from message (others_say message other))
+        (silent_none s.me) refl refl f
+    standing _ _ _ _ _ _ (cleaning from message before had {collection = c} other w same) node f =
+        let mute : (k : ℕ) → Mute s.me k (comes from message) = λ k. mute_other s.me k from message (others_say message other) in
+        cleans-at (comes from message) s.barrier.episode c (upkeep before had) (λ k. 0) refl refl refl
+        (λ k. record {
+          came_arrive = (mute k).arrives;
+          sent_arrive = refl;
+          came_depart = (mute k).departs;
+          sent_depart = refl;
+          came_clean = (mute k).cleans;
+          sent_clean = omega arith;
+          came_discard = (mute k).discards;
+          sent_discard = refl;
+        }) f w
