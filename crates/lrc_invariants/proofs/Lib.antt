@@ -24,3 +24,4 @@ pub mod Reached
 pub mod Flows
 pub mod Managers
 pub mod Standing
+pub mod AllStand

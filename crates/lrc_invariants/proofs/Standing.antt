@@ -1,5 +1,5 @@
 -- Where nodes stand at the barrier is kept by every turn.
-use Rattle.std.proofs.Common.{◌≡◌, ℕ, zero, suc, ◌+◌, ◌<◌, ◌≤◌, ◌&&◌, List, [], ◌∷◌, Bool, true, false, cond, is_some, length, map, refl, sym, ap, subst, ◌∙◌, arith}
+use Rattle.std.proofs.Common.{◌≡◌, ℕ, ◌+◌, ◌<◌, ◌&&◌, List, [], ◌∷◌, Bool, true, false, cond, length, map, refl, sym, ap, subst, ◌∙◌, arith}
 use Rattle.std.specs.Prelude.{Option, Some, None, ◌==◌, unwrap_or, count_by, slice_set}
 use Rattle.std.specs.List.{range_with_len}
 use Rattle.std.proofs.lemmas.Bool.{eq-eqb, ne_eqb}
@@ -18,7 +18,7 @@ use Rattle.lrc_protocol.specs.Barrier.{Barrier}
 use Rattle.lrc_invariants.specs.Barriers.{says_arrive, says_depart, says_clean, says_discard, arrive_from, depart_to, clean_from, discard_to, kept_of, noted_of, awaits_depart, awaits_word, StandsAt}
 use Rattle.lrc_invariants.proofs.Sends.{Came, by_itself, comes, Site, is_other, AreOthers, Grants, arrival_in, Sends, plain, misses, takes, asks, releasing, arriving, manages, forwarding, grants, gathers, lets_depart, departing, collecting, clean_at_once, notes_clean, lets_discard, discarding, serves, accessing, still_misses, still_collects, cleaning}
 use Rattle.lrc_invariants.proofs.Flows.{IsFromNode, came_count, count_of, count-cons}
-use Rattle.lrc_invariants.proofs.Managers.{passing, failing, Arrives, Gathered, gathered, LetGo, let_go, Noted, noted, LetDiscard, let_discard, Places, places-arrival, places-departed, places-noted, places-over, noted_in, kept-more, kept-all, kept-departed, noted-departed, noted-free, noted-more, noted-all, as_many, departs-once, departs-only, discards-once, discards-only}
+use Rattle.lrc_invariants.proofs.Managers.{passing, failing, Gathered, gathered, LetGo, let_go, Noted, noted, LetDiscard, let_discard, Places, places-arrival, places-departed, places-noted, places-over, noted_in, kept-more, kept-all, kept-departed, noted-departed, noted-free, noted-more, noted-all, as_many, departs-once, departs-only, discards-once, discards-only}
 
 -- ---- the four tests
 
@@ -157,7 +157,7 @@ stands me m came letters ca sa cd sd ck sk cx sx was now old new w wait e episod
 
 -- ---- every turn
 
-same_manager : (o : Option ManagerRecord) (manager : ManagerRecord) → ((before : ManagerRecord) → o ≡ Some before → before ≡ manager) → manager ≡ unwrap_or o manager
+pub same_manager : (o : Option ManagerRecord) (manager : ManagerRecord) → ((before : ManagerRecord) → o ≡ Some before → before ≡ manager) → manager ≡ unwrap_or o manager
 same_manager None manager is = refl
 same_manager (Some before) manager is = sym (is before refl)
 
