@@ -25,3 +25,4 @@ pub mod Flows
 pub mod Managers
 pub mod Standing
 pub mod AllStand
+pub mod Departs

@@ -1,4 +1,5 @@
 //! What holds of every run of the protocol machine, whatever its events: the invariants of synchronization. Laws alone.
 #![tactic(auto)]
 
+pub mod barriers;
 pub mod laws;
