@@ -26,3 +26,5 @@ pub mod Managers
 pub mod Standing
 pub mod AllStand
 pub mod Departs
+pub mod Joins
+pub mod Passing
