@@ -28,3 +28,5 @@ pub mod AllStand
 pub mod Departs
 pub mod Joins
 pub mod Passing
+pub mod Moves
+pub mod Arrivals

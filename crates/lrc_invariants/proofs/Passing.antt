@@ -15,18 +15,9 @@ use Rattle.lrc_protocol.specs.Letters.{letter, departure_of, discards_to}
 use Rattle.lrc_protocol.specs.Locks.{Locks}
 use Rattle.lrc_protocol.specs.Barrier.{Barrier}
 use Rattle.lrc_invariants.specs.Waiting.{next_in}
-use Rattle.lrc_invariants.specs.Barriers.{says_arrive, says_depart}
+use Rattle.lrc_invariants.specs.Barriers.{says_arrive, says_depart, time_in}
 use Rattle.lrc_invariants.proofs.Sends.{Came, by_itself, comes, Site, is_other, AreOthers, Grants, arrival_in, Sends, plain, misses, takes, asks, releasing, arriving, manages, forwarding, grants, gathers, lets_depart, departing, collecting, clean_at_once, notes_clean, lets_discard, discarding, serves, accessing, still_misses, still_collects, cleaning}
 use Rattle.lrc_invariants.proofs.Managers.{Noted, noted, LetDiscard, let_discard}
-
--- the time of the collection that a node is in
-abbrev pub time_in : Wait → Option (List ℕ)
-time_in nothing = None
-time_in (grant lock) = None
-time_in departure = None
-time_in (access need) = None
-time_in (upkeep collection needs) = Some collection.time
-time_in (discard collection) = Some collection.time
 
 -- none of these letters is an Arrive or a Depart
 abbrev pub AreQuiet : List Letter → Type 0
@@ -87,7 +78,7 @@ quiet_discards (to ∷ nodes) episode = (refl, refl, quiet_discards nodes episod
 
 -- ---- the manager
 
-same_arrivals : (o : Option ManagerRecord) → Keeps o o
+pub same_arrivals : (o : Option ManagerRecord) → Keeps o o
 same_arrivals None = λ manager is. record { done = refl; arrivals = refl }
 same_arrivals (Some x) = λ manager is. record { done = ap (λ (m : ManagerRecord). m.done) (is x refl); arrivals = ap (λ (m : ManagerRecord). m.arrivals) (is x refl) }
 
@@ -113,7 +104,7 @@ module _ (s : Site) where
       (λ t is. ap time_in e ∙ times t is)
 
   -- the same wait and the same time
-  serving : (came : Came) (locks : Locks) (barrier : Barrier) (letters : List Letter) → AreQuiet letters → Keeps s.barrier.manager barrier.manager
+  pub serving : (came : Came) (locks : Locks) (barrier : Barrier) (letters : List Letter) → AreQuiet letters → Keeps s.barrier.manager barrier.manager
       → barrier.episode ≡ s.barrier.episode → locks.time ≡ s.locks.time → Passing s came false s.wait locks barrier letters
   serving came locks barrier letters quiet keeps episode time =
       other_so quiet keeps episode (λ d. (d, refl)) (λ d. time) (λ t is. is)
