@@ -5,6 +5,8 @@ use Rattle.std.proofs.lemmas.Option.{same_Some}
 use Rattle.lrc_wire.specs.Records.{ArriveRecord, DepartRecord}
 use Rattle.lrc_wire.specs.declared.message.Message.{Message}
 use Rattle.lrc_wire.specs.declared.message.Message.TheVariants.{Arrive, Depart}
+use Rattle.lrc_exec.specs.Meaning.{Thread, arrives}
+use Rattle.lrc_invariants.specs.Waiting.{next_in}
 use Rattle.lrc_store.proofs.Orders.{cases_Contains, none_Contains}
 use Rattle.lrc_barrier.specs.declared.arrival.Arrival.{Arrival}
 use Rattle.lrc_barrier.specs.declared.departure.Departure.{Departure}
@@ -13,7 +15,7 @@ use Rattle.lrc_protocol.specs.Mail.{Letter, Wait, nothing, departure}
 use Rattle.lrc_protocol.specs.Letters.{letter, departure_of}
 use Rattle.lrc_protocol.specs.Locks.{Locks}
 use Rattle.lrc_protocol.specs.Barrier.{Barrier}
-use Rattle.lrc_invariants.specs.Barriers.{says_depart, time_in}
+use Rattle.lrc_invariants.specs.Barriers.{says_arrive, says_depart, time_in}
 use Rattle.lrc_invariants.proofs.Sends.{Came, comes, Site, arrival_in}
 use Rattle.lrc_invariants.proofs.Managers.{Gathered, gathered, LetGo, let_go}
 use Rattle.lrc_invariants.proofs.Moves.{quiet_in}
@@ -132,3 +134,76 @@ own_time s _ _ _ _ _ _ (told_so from r w ne times quiet) d none = absurd (none f
 own_time s _ _ _ _ _ _ (gathers_so from r before after at step manager_is episode) d none = refl
 own_time s _ _ _ _ _ _ (lets_depart_so from r before after departures at sized step manager_is episode) d none = refl
 own_time s _ _ _ _ _ _ (other_so quiet keeps episode waits time times) d none = time d
+
+-- ---- what is sent
+
+arrive_time : Message → Option (List ℕ)
+arrive_time (Arrive r) = Some r.time
+arrive_time _ = None
+
+no_arrive : (message : Message) (m : ArriveRecord) → message ≡ Arrive m → says_arrive message ≡ false → ⊥
+no_arrive message m e not_so = impossible (ap says_arrive (sym e) ∙ not_so)
+  where
+    impossible : true ≡ false → ⊥
+    impossible e = cc
+
+all_departs : (departures : List Departure) (l : Letter) → Contains (map departure_of departures) l → says_arrive l.message ≡ false
+all_departs [] l there = absurd (none_Contains l there)
+all_departs (d ∷ departures) l there = elim (cases_Contains (departure_of d) (map departure_of departures) l there) [
+  | inl e ↦ subst (λ (l : Letter). says_arrive l.message ≡ false) e refl
+  | inr later ↦ all_departs departures l later
+]
+
+-- an Arrive that is sent has the node's time
+pub sent_time : (s : Site) (came : Came) (acts : Bool) (wait : Wait) (locks : Locks) (barrier : Barrier) (letters : List Letter)
+    → Passing s came acts wait locks barrier letters → (l : Letter) (m : ArriveRecord) → Contains letters l → l.message ≡ Arrive m → m.time ≡ locks.time
+unfolding arrive_time
+sent_time s _ _ _ _ _ _ (arrives_so r after w n time same episode) l m there e = elim (cases_Contains (letter 0 (Arrive r)) [] l there) [
+  | inl is ↦ same_Some m.time r.time (ap arrive_time (sym e) ∙ ap (λ (l : Letter). arrive_time l.message) (sym is)) ∙ time
+  | inr none ↦ absurd (none_Contains l none)
+]
+sent_time s _ _ _ _ _ letters (told_so from r w ne times quiet) l m there e = absurd (no_arrive l.message m e (quiet_in letters l quiet there).0)
+sent_time s _ _ _ _ _ _ (gathers_so from r before after at step manager_is episode) l m there e = absurd (none_Contains l there)
+sent_time s _ _ _ _ _ _ (lets_depart_so from r before after departures at sized step manager_is episode) l m there e =
+    absurd (no_arrive l.message m e (all_departs departures l there))
+sent_time s _ _ _ _ _ letters (other_so quiet keeps episode waits time times) l m there e =
+    absurd (no_arrive l.message m e (quiet_in letters l quiet there).0)
+
+-- ---- who waits to depart, and who collects
+
+-- who waits to depart afterwards has just arrived, or waited so before
+pub record Arrives_now (s : Site) (acts : Bool) (barrier : Barrier) : Type 0 where
+  pub after : Thread
+  pub next : next_in s.course ≡ Some (arrives after)
+  pub acts_is : acts ≡ true
+  pub episode : barrier.episode ≡ s.barrier.episode + 1
+
+pub record Waited (s : Site) (acts : Bool) (locks : Locks) (barrier : Barrier) : Type 0 where
+  pub waited : s.wait ≡ departure
+  pub acts_is : acts ≡ false
+  pub time : locks.time ≡ s.locks.time
+  pub episode : barrier.episode ≡ s.barrier.episode
+
+pub waiting_then : (s : Site) (came : Came) (acts : Bool) (wait : Wait) (locks : Locks) (barrier : Barrier) (letters : List Letter)
+    → Passing s came acts wait locks barrier letters → wait ≡ departure → Arrives_now s acts barrier ⊎ Waited s acts locks barrier
+waiting_then s _ _ _ _ _ _ (arrives_so r after w n time same episode) d = inl (record { after = after; next = n; acts_is = refl; episode = episode })
+waiting_then s _ _ _ _ _ _ (told_so from r w ne times quiet) d = absurd (ne d)
+waiting_then s _ _ _ _ _ _ (gathers_so from r before after at step manager_is episode) d =
+    inr (record { waited = d; acts_is = refl; time = refl; episode = episode })
+waiting_then s _ _ _ _ _ _ (lets_depart_so from r before after departures at sized step manager_is episode) d =
+    inr (record { waited = d; acts_is = refl; time = refl; episode = episode })
+waiting_then s _ _ _ _ _ _ (other_so quiet keeps episode waits time times) d =
+    inr (record { waited = (waits d).0; acts_is = (waits d).1; time = time (waits d).0; episode = episode })
+
+-- who collects afterwards is told so, or collected before
+pub collecting_then : (s : Site) (came : Came) (acts : Bool) (wait : Wait) (locks : Locks) (barrier : Barrier) (letters : List Letter)
+    → Passing s came acts wait locks barrier letters → (t : List ℕ) → time_in wait ≡ Some t
+    → ((from : ℕ) × (r : DepartRecord) × (came ≡ comes from (Depart r)) × (r.time ≡ t)) ⊎ (time_in s.wait ≡ Some t)
+collecting_then s _ _ _ _ _ _ (arrives_so r after w n time same episode) t e = absurd (none_some e)
+  where
+    none_some : None ≡ Some t → ⊥
+    none_some e = cc
+collecting_then s _ _ _ _ _ _ (told_so from r w ne times quiet) t e = inl (from, r, refl, times t e)
+collecting_then s _ _ _ _ _ _ (gathers_so from r before after at step manager_is episode) t e = inr e
+collecting_then s _ _ _ _ _ _ (lets_depart_so from r before after departures at sized step manager_is episode) t e = inr e
+collecting_then s _ _ _ _ _ _ (other_so quiet keeps episode waits time times) t e = inr (times t e)

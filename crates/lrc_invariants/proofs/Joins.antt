@@ -1,20 +1,21 @@
 -- The time of a barrier: what the manager joins, and the join of the times at the arrives.
-use Rattle.std.proofs.Common.{◌≡◌, ℕ, zero, suc, ◌+◌, ◌<◌, List, [], ◌∷◌, ◌++◌, true, false, cond, is_some, length, map, refl, sym, ap, subst, ◌∙◌, inl, inr, arith, append-nil}
+use Rattle.std.proofs.Common.{◌≡◌, ◌⊎◌, ℕ, zero, suc, ◌+◌, ◌<◌, ◌≤◌, List, [], ◌∷◌, ◌++◌, true, false, cond, is_some, length, map, refl, sym, ap, subst, ◌∙◌, inl, inr, arith, append-nil}
 use Rattle.std.specs.Prelude.{Option, Some, None, Contains, slice_index_or}
 use Rattle.std.specs.List.{filter_map, fold, list_all}
 use Rattle.std.proofs.lemmas.Bool.{cases_Bool}
-use Rattle.std.proofs.lemmas.List.{length_push}
+use Rattle.std.proofs.lemmas.List.{get_or_push, length_push}
 use Rattle.lrc_trace.specs.declared.act.Act.{Act}
 use Rattle.lrc_trace.specs.declared.act.Deed.{Deed}
 use Rattle.lrc_trace.specs.declared.act.Deed.TheVariants.{Arrive}
-use Rattle.lrc_trace.specs.Run.{act_of, Does, arrives_before}
-use Rattle.lrc_trace.proofs.Positions.{Does-last, Does-one_node, Does-one_deed, arrives_before-prefix}
+use Rattle.lrc_trace.specs.Run.{act_of, Does, is_arrive, arrives_before}
+use Rattle.lrc_trace.proofs.Positions.{Does-last, Does-cases, Does-one_node, Does-one_deed, arrives_before-prefix}
+use Rattle.lrc_trace.proofs.Intervals.{count_of-rises, count_of-more}
 use Rattle.lrc_time.specs.Time.{zeros, joined, Covers}
 use Rattle.lrc_time.proofs.Times.{length-zeros, length-joined_same, covers-antisym}
 use Rattle.lrc_clock.specs.Times.{time_at, arrives_at, arrived_time}
 use Rattle.lrc_clock.proofs.Lasting.{join-length, join-covers, join-least}
 use Rattle.lrc_clock.proofs.Passing.{arrives_at-true, arrives_at-act}
-use Rattle.lrc_clock.proofs.Prefixes.{arrived_time-prefix}
+use Rattle.lrc_clock.proofs.Prefixes.{time_at-prefix, arrived_time-prefix}
 use Rattle.lrc_store.proofs.Orders.{Contains-first, Contains-later, cases_Contains, none_Contains}
 use Rattle.lrc_barrier.specs.declared.arrival.Arrival.{Arrival}
 use Rattle.lrc_barrier.specs.Barrier.{joined_time}
@@ -127,3 +128,44 @@ place_of (Some b ∷ places) a there = elim (cases_Contains b (filter_map (λ a.
       let (m, lt, at) = place_of places a later in
       (suc m, omega (arith, lt), at)
 ]
+
+-- ---- the arrive of a node that waits
+
+-- at the node's arrive that makes it so many, it had this time
+abbrev pub HadTime : List Act → List (List ℕ) → ℕ → ℕ → List ℕ → Type 0
+HadTime acts times m episode time = (k : ℕ) → Does acts k m Arrive → arrives_before acts m k + 1 ≡ episode → time_at times k ≡ time
+
+module _ (acts : List Act) (times : List (List ℕ)) (timed : length times ≡ length acts) (n : ℕ) (time : List ℕ) where
+  -- it stays so as others act
+  had-other : (d : Deed) (m episode : ℕ) (had : List ℕ) → (n ≡ m → ⊥) → HadTime acts times m episode had
+      → HadTime (acts ++ act_of n d ∷ []) (times ++ time ∷ []) m episode had
+  had-other d m episode had ne h = λ k does count. elim (Does-cases does) [
+    | inl (lt, does') ↦
+        time_at-prefix acts (act_of n d ∷ []) times (time ∷ []) timed k lt
+        ∙ h k does' (ap (λ c. c + 1) (sym (arrives_before-prefix acts (act_of n d ∷ []) m k (omega (arith, lt)))) ∙ count)
+    | inr (here, own, is) ↦ absurd (ne own)
+  ]
+
+  pub had-more : (deed : Option Deed) (m episode : ℕ) (had : List ℕ) → (n ≡ m → ⊥) ⊎ (deed ≡ None) → HadTime acts times m episode had
+      → HadTime (acts ++ more_acts n deed) (times ++ more_times n time deed) m episode had
+  had-more None m episode had ne h =
+      subst (λ acts. HadTime acts (times ++ []) m episode had) (sym (append-nil acts)) (subst (λ times. HadTime acts times m episode had) (sym (append-nil times)) h)
+  had-more (Some d) m episode had ne h = elim ne [
+    | inl other ↦ had-other d m episode had other h
+    | inr none ↦ absurd (some_none none)
+  ]
+    where
+      some_none : Some d ≡ None → ⊥
+      some_none e = cc
+
+  -- and a node's newest arrive has the time just after it
+  pub had-new : (episode : ℕ) → arrives_before acts n (length acts) ≡ episode
+      → HadTime (acts ++ act_of n Arrive ∷ []) (times ++ time ∷ []) n (episode + 1) time
+  had-new episode all = λ k does count. elim (Does-cases does) [
+    | inl (lt, does') ↦
+        let before : arrives_before (acts ++ act_of n Arrive ∷ []) n k ≡ arrives_before acts n k = arrives_before-prefix acts (act_of n Arrive ∷ []) n k (omega (arith, lt)) in
+        let more : arrives_before acts n (k + 1) ≡ arrives_before acts n k + 1 = count_of-more is_arrive acts n k Arrive does' refl in
+        let rises : arrives_before acts n (k + 1) ≤ arrives_before acts n (length acts) = count_of-rises is_arrive acts n (k + 1) (length acts) (omega (arith, lt)) in
+        absurd (omega (arith, before, more, rises, all, count))
+    | inr (here, own, is) ↦ ap (time_at (times ++ time ∷ [])) here ∙ get_or_push times time [] (length acts) timed
+  ]
