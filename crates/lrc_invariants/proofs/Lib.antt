@@ -30,3 +30,4 @@ pub mod Joins
 pub mod Passing
 pub mod Moves
 pub mod Arrivals
+pub mod Timely
