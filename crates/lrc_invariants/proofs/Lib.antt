@@ -31,3 +31,4 @@ pub mod Passing
 pub mod Moves
 pub mod Arrivals
 pub mod Timely
+pub mod AllTimely

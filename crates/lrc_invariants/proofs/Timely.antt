@@ -68,7 +68,7 @@ at_most_one (access need) = omega arith
 at_most_one (upkeep collection needs) = omega arith
 at_most_one (discard collection) = omega arith
 
-get_within : {X : Type 0} (xs : List X) (n : ℕ) → n < length xs → (x : X) × (slice_get xs n ≡ Some x)
+pub get_within : {X : Type 0} (xs : List X) (n : ℕ) → n < length xs → (x : X) × (slice_get xs n ≡ Some x)
 get_within [] n lt = absurd (omega (arith, lt))
 get_within (x ∷ xs) zero lt = (x, refl)
 get_within (x ∷ xs) (suc n) lt = get_within xs n (omega (arith, lt))
@@ -99,12 +99,12 @@ module _ (program : Program) (nodes : ℕ) (options : OptionsRecord) where
   -- ---- one world
 
   -- a node whose arrival is on its way or kept
-  record Gate (world : World) (s : AllStand program nodes options world) (n : ℕ) (l : Logged) : Type 0 where
-    waits : l.node.mail.wait ≡ departure
-    one : count_by (arrive_from n) (pending world) + kept_of s.manager n ≡ 1
-    none : count_by (depart_to n) (pending world) ≡ 0
+  pub record Gate (world : World) (s : AllStand program nodes options world) (n : ℕ) (l : Logged) : Type 0 where
+    pub waits : l.node.mail.wait ≡ departure
+    pub one : count_by (arrive_from n) (pending world) + kept_of s.manager n ≡ 1
+    pub none : count_by (depart_to n) (pending world) ≡ 0
 
-  gate : (world : World) (s : AllStand program nodes options world) (n : ℕ) (l : Logged) → slice_get world.nodes n ≡ Some l
+  pub gate : (world : World) (s : AllStand program nodes options world) (n : ℕ) (l : Logged) → slice_get world.nodes n ≡ Some l
       → 1 ≤ count_by (arrive_from n) (pending world) + kept_of s.manager n → Gate world s n l
   gate world s n l at some =
       let so : count_by (arrive_from n) (pending world) + kept_of s.manager n + count_by (depart_to n) (pending world) ≡ awaits_depart l.node.mail.wait =
@@ -116,19 +116,19 @@ module _ (program : Program) (nodes : ℕ) (options : OptionsRecord) where
         none = omega (arith, so, some, most);
       }
 
-  is_kept : (world : World) (s : AllStand program nodes options world) (n : ℕ) (a : Arrival) → slice_index_or s.manager.arrivals n None ≡ Some a
+  pub is_kept : (world : World) (s : AllStand program nodes options world) (n : ℕ) (a : Arrival) → slice_index_or s.manager.arrivals n None ≡ Some a
       → 1 ≤ count_by (arrive_from n) (pending world) + kept_of s.manager n
   is_kept world s n a e =
       let one : kept_of s.manager n ≡ 1 = ap (λ (o : Option Arrival). cond {A = ℕ} (is_some o) 1 0) e in
       omega (arith, one)
 
-  is_sent : (world : World) (s : AllStand program nodes options world) (e : EnvelopeRecord) (m : ArriveRecord) → Contains (pending world) e → e.message ≡ Arrive m
+  pub is_sent : (world : World) (s : AllStand program nodes options world) (e : EnvelopeRecord) (m : ArriveRecord) → Contains (pending world) e → e.message ≡ Arrive m
       → 1 ≤ count_by (arrive_from e.from) (pending world) + kept_of s.manager e.from
   is_sent world s e m there is =
       let one : 1 ≤ count_by (arrive_from e.from) (pending world) = counted_in (arrive_from e.from) (pending world) e there (is_arrive_from e m is) in
       omega (arith, one)
 
-  is_told : (world : World) (e : EnvelopeRecord) (m : DepartRecord) → Contains (pending world) e → e.message ≡ Depart m
+  pub is_told : (world : World) (e : EnvelopeRecord) (m : DepartRecord) → Contains (pending world) e → e.message ≡ Depart m
       → 1 ≤ count_by (depart_to e.to) (pending world)
   is_told world e m there is = counted_in (depart_to e.to) (pending world) e there (is_depart_to e m is)
 
