@@ -19,7 +19,7 @@ use Rattle.lrc_exec.specs.Plain.{setting_of}
 use Rattle.lrc_barrier.specs.declared.arrival.Arrival.{Arrival}
 use Rattle.lrc_barrier.specs.Barrier.{ManagerRecord}
 use Rattle.lrc_protocol.specs.declared.event.Event.{Event}
-use Rattle.lrc_protocol.specs.Mail.{Wait, departure}
+use Rattle.lrc_protocol.specs.Mail.{Wait, nothing, departure}
 use Rattle.lrc_protocol.specs.Node.{Node, OptionsRecord}
 use Rattle.lrc_protocol.specs.Log.{Input, EntryRecord, Logged}
 use Rattle.lrc_protocol.specs.World.{World, Flying, fresh_world, with_turn, pending, run_of}
@@ -310,3 +310,95 @@ module _ (program : Program) (nodes : ℕ) (options : OptionsRecord) where
                     newest-stays g t (h.learned m b.old t b.was (ap (λ (x : Logged). time_in x.node.mail.wait) other.1 ∙ e))
               ]
         ]
+
+    -- along the acts and times of the world after the turn
+    had-next : (m episode : ℕ) (time : List ℕ) (deed : Option Deed) → made.deed ≡ deed
+        → HadTime (world.acts ++ more_acts n deed) (world.times ++ more_times n after.node.locks.time deed) m episode time
+        → HadTime next.acts next.times m episode time
+    had-next m episode time deed e k =
+        subst (λ acts. HadTime acts next.times m episode time) (sym (made.acts_are ∙ ap (λ d. world.acts ++ more_acts n d) e))
+        (subst (λ times. HadTime (world.acts ++ more_acts n deed) times m episode time)
+        (sym (made.times_are ∙ ap (λ d. world.times ++ more_times n after.node.locks.time d) e)) k)
+
+    had-own : after.node.mail.wait ≡ departure → HadTime next.acts next.times n after.node.barrier.episode after.node.locks.time
+    had-own d =
+        elim (waiting_then (site_of l.node) mv.came mv.acts after.node.mail.wait after.node.locks after.node.barrier mv.letters mv.passes d) [
+          | inl a ↦
+              let moved : Acted l.node.course (deed_made entry.turn) after.node.course =
+              subst (λ b. Moved b l.node.course (deed_made entry.turn) after.node.course) a.acts_is mv.moved in
+              let deed_is : made.deed ≡ Some Arrives =
+              sym made.deed_is ∙ moved.deed_is ∙ deed_next moved.value l.node.course (arrives a.after) a.next in
+              let arrived : arrives_before world.acts n (length world.acts) ≡ l.node.barrier.episode = (standing_at program nodes options world r n l at).arrived in
+              had-next n after.node.barrier.episode after.node.locks.time (Some Arrives) deed_is
+              (subst (λ k. HadTime (world.acts ++ act_of n Arrives ∷ []) (world.times ++ after.node.locks.time ∷ []) n k after.node.locks.time) (sym a.episode)
+              (had-new world.acts world.times timed n after.node.locks.time l.node.barrier.episode arrived))
+          | inr w ↦
+              subst (λ k. HadTime next.acts next.times n k after.node.locks.time) (sym w.episode)
+              (subst (HadTime next.acts next.times n l.node.barrier.episode) (sym w.time)
+              (had-next n l.node.barrier.episode l.node.locks.time made.deed refl
+              (had-more world.acts world.times timed n after.node.locks.time made.deed n l.node.barrier.episode l.node.locks.time
+              (inr (no_deed w.acts_is)) (h.had n l at w.waited))))
+        ]
+
+    had-kept : (m : ℕ) (lm : Logged) → slice_get next.nodes m ≡ Some lm → lm.node.mail.wait ≡ departure
+        → HadTime next.acts next.times m lm.node.barrier.episode lm.node.locks.time
+    had-kept m lm at_m d =
+        let b : Before m lm = before m lm at_m in
+        elim b.is_own [
+          | inl own ↦
+              subst (λ k. HadTime next.acts next.times k lm.node.barrier.episode lm.node.locks.time) own.0
+              (subst (λ (x : Logged). HadTime next.acts next.times n x.node.barrier.episode x.node.locks.time) own.1
+              (had-own (ap (λ (x : Logged). x.node.mail.wait) own.1 ∙ d)))
+          | inr other ↦
+              subst (λ (x : Logged). HadTime next.acts next.times m x.node.barrier.episode x.node.locks.time) other.1
+              (had-next m b.old.node.barrier.episode b.old.node.locks.time made.deed refl
+              (had-more world.acts world.times timed n after.node.locks.time made.deed m b.old.node.barrier.episode b.old.node.locks.time (inl other.0)
+              (h.had m b.old b.was (ap (λ (x : Logged). x.node.mail.wait) other.1 ∙ d))))
+        ]
+
+    next-timely : Timely program nodes options next
+    next-timely = record {
+      stand = stand;
+      sent = sent-kept;
+      kept = kept-kept;
+      told = told-kept;
+      learned = learned-kept;
+      had = had-kept;
+    }
+
+  timely-kept : KeptByReached program nodes options (Timely program nodes options)
+  timely-kept world flight n l after input entry at come i r r' h = next-timely world flight n l after input entry at come i r r' h
+
+  timely-fresh : Timely program nodes options (fresh_world program nodes options)
+  timely-fresh =
+      let stand : AllStand program nodes options (fresh_world program nodes options) = all_stand program nodes options [] (fresh_world program nodes options) refl in
+      record {
+        stand = stand;
+        sent = λ e m l there. absurd (none_Contains e there);
+        kept = λ n a l there at.
+            let some : 1 ≤ count_by (arrive_from n) [] + kept_of stand.manager n = is_kept program nodes options (fresh_world program nodes options) stand n a there in
+            let g : Gate program nodes options (fresh_world program nodes options) stand n l =
+            gate program nodes options (fresh_world program nodes options) stand n l at some in
+            absurd (not_waiting n l at g.waits);
+        told = λ e m l there. absurd (none_Contains e there);
+        learned = λ n l t at e. absurd (not_collecting n l t at e);
+        had = λ n l at d. absurd (not_waiting n l at d);
+      }
+    where
+      fresh_wait : (n : ℕ) (l : Logged) → slice_get (fresh_world program nodes options).nodes n ≡ Some l → l.node.mail.wait ≡ nothing
+      fresh_wait n l at = ap (λ (x : Logged). x.node.mail.wait) (fresh_at program nodes options 0 nodes n l at)
+
+      not_departure : nothing ≡ departure → ⊥
+      not_departure e = cc
+
+      not_waiting : (n : ℕ) (l : Logged) → slice_get (fresh_world program nodes options).nodes n ≡ Some l → l.node.mail.wait ≡ departure → ⊥
+      not_waiting n l at d = not_departure (sym (fresh_wait n l at) ∙ d)
+
+      none_some : (t : List ℕ) → None ≡ Some t → ⊥
+      none_some t e = cc
+
+      not_collecting : (n : ℕ) (l : Logged) (t : List ℕ) → slice_get (fresh_world program nodes options).nodes n ≡ Some l → time_in l.node.mail.wait ≡ Some t → ⊥
+      not_collecting n l t at e = none_some t (sym (ap time_in (fresh_wait n l at)) ∙ e)
+
+  pub all_timely : (events : List Event) (world : World) → run_of program nodes options events ≡ Some world → Timely program nodes options world
+  all_timely events world e = by_reached program nodes options (Timely program nodes options) timely-kept events world timely-fresh e
