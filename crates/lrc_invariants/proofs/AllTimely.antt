@@ -1,5 +1,5 @@
 -- In every run the times that go by barriers are those of the nodes that arrive, and their join: every turn keeps it.
-use Rattle.std.proofs.Common.{◌≡◌, ◌⊎◌, ℕ, zero, suc, ◌+◌, ◌<◌, ◌≤◌, List, [], ◌∷◌, ◌++◌, Bool, true, false, length, map, refl, sym, ap, subst, ◌∙◌, inl, inr, arith, append-nil}
+use Rattle.std.proofs.Common.{◌≡◌, ◌⊎◌, ℕ, ◌+◌, ◌<◌, ◌≤◌, List, [], ◌∷◌, ◌++◌, true, false, length, map, refl, sym, ap, subst, ◌∙◌, inl, inr, arith}
 use Rattle.std.specs.Prelude.{Option, Some, None, Contains, unwrap_or, option_map, count_by, slice_get, slice_set, slice_index_or}
 use Rattle.std.specs.Option.{option_to_list}
 use Rattle.std.proofs.lemmas.Bool.{cases_eq}
@@ -19,28 +19,27 @@ use Rattle.lrc_exec.specs.Plain.{setting_of}
 use Rattle.lrc_barrier.specs.declared.arrival.Arrival.{Arrival}
 use Rattle.lrc_barrier.specs.Barrier.{ManagerRecord}
 use Rattle.lrc_protocol.specs.declared.event.Event.{Event}
-use Rattle.lrc_protocol.specs.Mail.{Wait, nothing, departure}
-use Rattle.lrc_protocol.specs.Node.{Node, OptionsRecord}
+use Rattle.lrc_protocol.specs.Mail.{nothing, departure}
+use Rattle.lrc_protocol.specs.Node.{OptionsRecord}
 use Rattle.lrc_protocol.specs.Log.{Input, EntryRecord, Logged}
 use Rattle.lrc_protocol.specs.World.{World, Flying, fresh_world, with_turn, pending, run_of}
 use Rattle.lrc_protocol.specs.Follows.{turns_of}
 use Rattle.lrc_protocol.proofs.Worlds.{IsEntry, get_set_same, get_set_other, fresh_at}
 use Rattle.lrc_protocol.proofs.Turned.{Turned, Turns, turns}
 use Rattle.lrc_protocol.proofs.Induction.{Comes}
-use Rattle.lrc_invariants.specs.Barriers.{says_depart, arrive_from, depart_to, kept_of, time_in, IsNewestTime, StandsAt}
+use Rattle.lrc_invariants.specs.Barriers.{says_depart, arrive_from, depart_to, kept_of, time_in, IsNewestTime}
 use Rattle.lrc_invariants.proofs.Shift.{Acted, Rested, Moved, deed_made}
 use Rattle.lrc_invariants.proofs.Counts.{deed_next}
 use Rattle.lrc_invariants.proofs.Present.{more_acts, more_times}
 use Rattle.lrc_invariants.proofs.PresentTimes.{all_present, deed_back}
 use Rattle.lrc_invariants.proofs.Shape.{NodeShape, shape_at}
-use Rattle.lrc_invariants.proofs.Sends.{Came, comes, Site, site_of, letter_in, arrival_in}
+use Rattle.lrc_invariants.proofs.Sends.{comes, site_of, letter_in}
 use Rattle.lrc_invariants.proofs.Flows.{IsFromNode, stepped}
-use Rattle.lrc_invariants.proofs.Managers.{LetGo}
 use Rattle.lrc_invariants.proofs.Moves.{in-now, Brought, brought, sent_from, among_letters, Moves, moves}
-use Rattle.lrc_invariants.proofs.Arrivals.{kept_before, LetsAll, GoesOn, lets_or_not, own_time, sent_time, Arrives_now, Waited, waiting_then, collecting_then}
+use Rattle.lrc_invariants.proofs.Arrivals.{kept_before, LetsAll, GoesOn, lets_or_not, own_time, sent_time, waiting_then, collecting_then}
 use Rattle.lrc_invariants.proofs.Joins.{arrived-stays, HadTime, had-more, had-new}
 use Rattle.lrc_invariants.proofs.AllStand.{AllStand, all_stand, its_manager}
-use Rattle.lrc_invariants.proofs.Departs.{Standing_at, standing_at}
+use Rattle.lrc_invariants.proofs.Departs.{standing_at}
 use Rattle.lrc_invariants.proofs.Timely.{Timely, Gate, gate, is_kept, is_sent, is_told, get_within, all_in, told_time}
 use Rattle.lrc_invariants.proofs.Reached.{IsReached, KeptByReached, by_reached}
 
@@ -86,9 +85,9 @@ module _ (program : Program) (nodes : ℕ) (options : OptionsRecord) where
       ]
 
   module _ (world : World) (flight : List Flying) (n : ℕ) (l after : Logged) (input : Input) (entry : EntryRecord)
-    (at : slice_get world.nodes n ≡ Some l) (come : Comes world n input flight) (i : IsEntry l input entry after)
-    (r : IsReached program nodes options world) (r' : IsReached program nodes options (with_turn world flight n entry after))
-    (h : Timely program nodes options world) where
+      (at : slice_get world.nodes n ≡ Some l) (come : Comes world n input flight) (i : IsEntry l input entry after)
+      (r : IsReached program nodes options world) (r' : IsReached program nodes options (with_turn world flight n entry after))
+      (h : Timely program nodes options world) where
     abbrev next : World
     next = with_turn world flight n entry after
 

@@ -1,5 +1,5 @@
 -- What a turn does to the arrivals that the manager keeps, and whether it ends the episode.
-use Rattle.std.proofs.Common.{◌≡◌, ◌⊎◌, ℕ, zero, suc, ◌+◌, ◌≤◌, List, [], ◌∷◌, Bool, true, false, length, map, refl, sym, ap, subst, ◌∙◌, inl, inr, arith}
+use Rattle.std.proofs.Common.{◌≡◌, ◌⊎◌, ℕ, zero, suc, ◌+◌, List, [], ◌∷◌, Bool, true, false, map, refl, sym, ap, subst, ◌∙◌, inl, inr}
 use Rattle.std.specs.Prelude.{Option, Some, None, Contains, unwrap_or, replicate, slice_index_or, slice_set}
 use Rattle.std.proofs.lemmas.Option.{same_Some}
 use Rattle.lrc_wire.specs.Records.{ArriveRecord, DepartRecord}
@@ -19,7 +19,7 @@ use Rattle.lrc_invariants.specs.Barriers.{says_arrive, says_depart, time_in}
 use Rattle.lrc_invariants.proofs.Sends.{Came, comes, Site, arrival_in}
 use Rattle.lrc_invariants.proofs.Managers.{Gathered, gathered, LetGo, let_go}
 use Rattle.lrc_invariants.proofs.Moves.{quiet_in}
-use Rattle.lrc_invariants.proofs.Passing.{AreQuiet, SameArrivals, Keeps, same_arrivals, Passing, arrives_so, told_so, gathers_so, lets_depart_so, other_so}
+use Rattle.lrc_invariants.proofs.Passing.{SameArrivals, same_arrivals, Passing, arrives_so, told_so, gathers_so, lets_depart_so, other_so}
 
 -- ---- places
 

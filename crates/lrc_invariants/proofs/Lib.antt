@@ -32,3 +32,4 @@ pub mod Moves
 pub mod Arrivals
 pub mod Timely
 pub mod AllTimely
+pub mod DepartLine

@@ -1,5 +1,5 @@
 -- One turn, a repeat too, with the messages that it takes and sends, one by one.
-use Rattle.std.proofs.Common.{◌≡◌, ◌⊎◌, ℕ, ◌+◌, ◌≤◌, List, [], ◌∷◌, ◌++◌, Bool, true, false, cond, length, map, refl, sym, ap, subst, ◌∙◌, inl, inr, arith, append-nil}
+use Rattle.std.proofs.Common.{◌≡◌, ◌⊎◌, ℕ, ◌+◌, ◌≤◌, List, [], ◌∷◌, ◌++◌, Bool, true, false, cond, map, refl, sym, ap, subst, ◌∙◌, inl, inr, arith, append-nil}
 use Rattle.std.specs.Prelude.{Option, Some, None, Contains, count_by}
 use Rattle.std.proofs.lemmas.List.Elements.{Contains-append_left, Contains-append_right, Contains-append_cases}
 use Rattle.lrc_exec.specs.Meaning.{Setting}
@@ -7,12 +7,11 @@ use Rattle.lrc_wire.specs.Envelope.{EnvelopeRecord}
 use Rattle.lrc_wire.specs.declared.message.Message.{Message}
 use Rattle.lrc_store.proofs.Orders.{Contains-first, Contains-later, cases_Contains, none_Contains}
 use Rattle.lrc_protocol.specs.Mail.{Letter}
-use Rattle.lrc_protocol.specs.Letters.{letter}
 use Rattle.lrc_protocol.specs.Node.{Node}
 use Rattle.lrc_protocol.specs.Turn.{TurnRecord}
 use Rattle.lrc_invariants.specs.Barriers.{says_arrive, says_depart}
 use Rattle.lrc_invariants.proofs.Shift.{AllFrom, Moved, deed_made}
-use Rattle.lrc_invariants.proofs.Sends.{Came, by_itself, comes, site_of, letter_in, Sends}
+use Rattle.lrc_invariants.proofs.Sends.{Came, by_itself, comes, site_of, letter_in}
 use Rattle.lrc_invariants.proofs.Flows.{Brings, IsFromNode, Stepped, again, once, count-cons}
 use Rattle.lrc_invariants.proofs.Pending.{Goes}
 use Rattle.lrc_invariants.proofs.Passing.{AreQuiet, Passing, serving, same_arrivals, passing}

@@ -1,56 +1,43 @@
 -- In every run: the times that go by barriers are those of the nodes that arrive, and their join.
-use Rattle.std.proofs.Common.{◌≡◌, ◌⊎◌, ℕ, zero, suc, ◌+◌, ◌<◌, ◌≤◌, ◌&&◌, List, [], ◌∷◌, ◌++◌, Bool, true, false, cond, is_some, length, map, refl, sym, ap, subst, ◌∙◌, inl, inr, arith}
-use Rattle.std.specs.Prelude.{Option, Some, None, ◌==◌, All, Contains, unwrap_or, option_map, count_by, slice_get, slice_set, slice_index_or}
-use Rattle.std.specs.Option.{option_to_list}
-use Rattle.std.specs.List.{enumerate_from, list_all}
+use Rattle.std.proofs.Common.{◌≡◌, ℕ, zero, suc, ◌+◌, ◌<◌, ◌≤◌, List, [], ◌∷◌, true, cond, is_some, length, map, refl, sym, ap, subst, ◌∙◌, inl, inr, arith}
+use Rattle.std.specs.Prelude.{Option, Some, None, ◌==◌, Contains, count_by, slice_get, slice_index_or}
+use Rattle.std.specs.List.{enumerate_from}
 use Rattle.std.proofs.lemmas.Bool.{cases_eq, eq-eqb, ne_eqb, and_from}
 use Rattle.std.proofs.lemmas.List.{length-set}
-use Rattle.std.proofs.lemmas.Option.{same_Some, slice_get_within, slice_get-get_or}
+use Rattle.std.proofs.lemmas.Option.{same_Some, slice_get-get_or}
 use Rattle.lrc_lang.specs.declared.program.Program.{Program}
 use Rattle.lrc_trace.specs.declared.act.Act.{Act}
 use Rattle.lrc_trace.specs.declared.act.Deed.{Deed}
-use Rattle.lrc_trace.specs.declared.act.Deed.TheVariants.{Arrive as Arrives, Depart as Departs}
-use Rattle.lrc_trace.specs.Run.{act_of, Does, arrives_before, departs_before}
+use Rattle.lrc_trace.specs.declared.act.Deed.TheVariants.{Arrive as Arrives}
+use Rattle.lrc_trace.specs.Run.{act_of, Does, arrives_before}
 use Rattle.lrc_trace.proofs.Positions.{Does-within}
 use Rattle.lrc_trace.proofs.Intervals.{numbered_arrive}
-use Rattle.lrc_clock.specs.Times.{time_at, arrived_time}
+use Rattle.lrc_clock.specs.Times.{arrived_time}
 use Rattle.lrc_wire.specs.Envelope.{EnvelopeRecord}
 use Rattle.lrc_wire.specs.Records.{ArriveRecord, DepartRecord}
 use Rattle.lrc_wire.specs.declared.message.Message.{Message}
 use Rattle.lrc_wire.specs.declared.message.Message.TheVariants.{Arrive, Depart}
-use Rattle.lrc_exec.specs.Meaning.{Setting, Thread, arrives}
 use Rattle.lrc_exec.specs.Plain.{setting_of}
 use Rattle.lrc_store.proofs.Orders.{Contains-first, Contains-later, cases_Contains, none_Contains}
 use Rattle.lrc_barrier.specs.declared.arrival.Arrival.{Arrival}
 use Rattle.lrc_barrier.specs.declared.departure.Departure.{Departure}
-use Rattle.lrc_barrier.specs.Barrier.{ManagerRecord, with_arrival, arrivals_of, departure_to, departures_of, joined_time}
-use Rattle.lrc_protocol.specs.declared.event.Event.{Event}
+use Rattle.lrc_barrier.specs.Barrier.{ManagerRecord, with_arrival, arrivals_of, departure_to, joined_time}
 use Rattle.lrc_protocol.specs.Mail.{Letter, Wait, nothing, grant, departure, access, upkeep, discard}
-use Rattle.lrc_protocol.specs.Letters.{letter, departure_of}
-use Rattle.lrc_protocol.specs.Course.{Course}
-use Rattle.lrc_protocol.specs.Node.{Node, OptionsRecord}
-use Rattle.lrc_protocol.specs.Turn.{TurnRecord}
-use Rattle.lrc_protocol.specs.Log.{Input, EntryRecord, Logged}
-use Rattle.lrc_protocol.specs.World.{World, Flying, fresh_world, with_turn, pending, run_of}
-use Rattle.lrc_protocol.proofs.Worlds.{run-whole, IsEntry, get_set_same, get_set_other, fresh_at}
-use Rattle.lrc_protocol.proofs.Turned.{Turned, Turns, turns}
-use Rattle.lrc_protocol.proofs.Induction.{Comes}
-use Rattle.lrc_invariants.specs.Waiting.{next_in}
-use Rattle.lrc_invariants.specs.Barriers.{says_arrive, says_depart, arrive_from, depart_to, kept_of, awaits_depart, StandsAt, time_in, IsNewestTime}
-use Rattle.lrc_invariants.proofs.Shift.{Acted, Rested, Moved, deed_in, deed_made}
-use Rattle.lrc_invariants.proofs.Counts.{deed_next}
-use Rattle.lrc_invariants.proofs.Present.{more_acts, more_times}
-use Rattle.lrc_invariants.proofs.PresentTimes.{all_present, deed_back}
+use Rattle.lrc_protocol.specs.Letters.{departure_of}
+use Rattle.lrc_protocol.specs.Node.{OptionsRecord}
+use Rattle.lrc_protocol.specs.Log.{Logged}
+use Rattle.lrc_protocol.specs.World.{World, pending}
+use Rattle.lrc_protocol.proofs.Worlds.{run-whole}
+use Rattle.lrc_invariants.specs.Barriers.{says_arrive, says_depart, arrive_from, depart_to, kept_of, awaits_depart, time_in, IsNewestTime}
 use Rattle.lrc_invariants.proofs.Shape.{NodeShape, shape_at}
-use Rattle.lrc_invariants.proofs.Sends.{Came, comes, site_of, letter_in, arrival_in}
-use Rattle.lrc_invariants.proofs.Flows.{stepped}
-use Rattle.lrc_invariants.proofs.Managers.{failing, LetGo, Places, kept-more, kept-all}
-use Rattle.lrc_invariants.proofs.Moves.{in-now, Brought, brought, sent_from, among_letters, counted_in, Moves, moves}
-use Rattle.lrc_invariants.proofs.Arrivals.{get_set, kept_before, LetsAll, GoesOn, lets_or_not, own_time, sent_time, Arrives_now, Waited, waiting_then, collecting_then}
-use Rattle.lrc_invariants.proofs.Joins.{arrived-stays, AreTimes, same_join, InPlace, in_place, place_of, HadTime, had-more, had-new}
-use Rattle.lrc_invariants.proofs.AllStand.{AllStand, all_stand, its_manager}
-use Rattle.lrc_invariants.proofs.Departs.{Standing_at, standing_at}
-use Rattle.lrc_invariants.proofs.Reached.{IsReached, KeptByReached, by_reached}
+use Rattle.lrc_invariants.proofs.Sends.{arrival_in}
+use Rattle.lrc_invariants.proofs.Managers.{failing, LetGo, kept-more, kept-all}
+use Rattle.lrc_invariants.proofs.Moves.{Brought, counted_in}
+use Rattle.lrc_invariants.proofs.Arrivals.{get_set}
+use Rattle.lrc_invariants.proofs.Joins.{AreTimes, same_join, InPlace, in_place, place_of, HadTime}
+use Rattle.lrc_invariants.proofs.AllStand.{AllStand}
+use Rattle.lrc_invariants.proofs.Departs.{standing_at}
+use Rattle.lrc_invariants.proofs.Reached.{IsReached}
 
 waits_for_departure : (w : Wait) → 1 ≤ awaits_depart w → w ≡ departure
 waits_for_departure departure e = refl
@@ -60,7 +47,7 @@ waits_for_departure (access need) e = absurd (omega (arith, e))
 waits_for_departure (upkeep collection needs) e = absurd (omega (arith, e))
 waits_for_departure (discard collection) e = absurd (omega (arith, e))
 
-at_most_one : (w : Wait) → awaits_depart w ≤ 1
+pub at_most_one : (w : Wait) → awaits_depart w ≤ 1
 at_most_one departure = omega arith
 at_most_one nothing = omega arith
 at_most_one (grant lock) = omega arith
@@ -142,8 +129,8 @@ module _ (program : Program) (nodes : ℕ) (options : OptionsRecord) where
 
   -- the manager has all arrivals once this one has come
   module _ (world : World) (r : IsReached program nodes options world) (h : Timely world) (me from : ℕ) (m : ArriveRecord)
-    (b : Brought me from (Arrive m) (pending world)) (lt : from < nodes) (after : ManagerRecord) (departures : List Departure)
-    (g : LetGo h.stand.manager from (arrival_in m) after departures) where
+      (b : Brought me from (Arrive m) (pending world)) (lt : from < nodes) (after : ManagerRecord) (departures : List Departure)
+      (g : LetGo h.stand.manager from (arrival_in m) after departures) where
     abbrev full : ManagerRecord
     full = with_arrival h.stand.manager from (arrival_in m)
 
@@ -199,15 +186,19 @@ module _ (program : Program) (nodes : ℕ) (options : OptionsRecord) where
           let arrived : arrives_before world.acts k (length world.acts) ≡ l.0.node.barrier.episode =
           (standing_at program nodes options world r k l.0 l.1).arrived in
           let (i, lt_i, does, same) = numbered_arrive world.acts k (length world.acts) h.stand.manager.done (omega arith) (omega (arith, episode, arrived)) in
-          (i, k, lt_i, does, same,
-          h.had k l.0 l.1 (gate_at k l.0 l.1 lt').waits i does (ap (λ c. c + 1) same ∙ sym episode) ∙ sym (time_of k a l.0 at l.1));
+          let count : arrives_before world.acts k i + 1 ≡ l.0.node.barrier.episode = omega (arith, same, episode) in
+          (i, k, lt_i, does, same, h.had k l.0 l.1 (gate_at k l.0 l.1 lt').waits i does count ∙ sym (time_of k a l.0 at l.1));
       back = λ i node does same.
           let lt' : node < nodes = in_range world r i node Arrives does in
           let l : (l : Logged) × (slice_get world.nodes node ≡ Some l) = node_at node lt' in
-          let p : InPlace full.arrivals node = in_place full.arrivals node g.all (subst (λ n. node < n) (sym size) lt') in
-          (p.arrival, p.among,
-          time_of node p.arrival l.0 p.at l.1
-          ∙ sym (h.had node l.0 l.1 (gate_at node l.0 l.1 lt').waits i does (ap (λ c. c + 1) same ∙ sym (episode_at node l.0 l.1 lt'))));
+          let episode : l.0.node.barrier.episode ≡ h.stand.manager.done + 1 = episode_at node l.0 l.1 lt' in
+          let count : arrives_before world.acts node i + 1 ≡ l.0.node.barrier.episode = omega (arith, same, episode) in
+          let p : InPlace full.arrivals node = in_place full.arrivals node g.all (subst (λ n. node < n) (sym size) lt') in (
+            p.arrival,
+            p.among,
+            time_of node p.arrival l.0 p.at l.1
+                ∙ sym (h.had node l.0 l.1 (gate_at node l.0 l.1 lt').waits i does count),
+          );
     }
 
     pub joins_all : joined_time nodes (arrivals_of full) ≡ arrived_time nodes world.acts world.times h.stand.manager.done (length world.acts)
