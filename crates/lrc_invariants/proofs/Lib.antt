@@ -19,5 +19,6 @@ pub mod TakenNumbers
 pub mod TakenBelow
 pub mod TakenMessages
 pub mod Pending
+pub mod LockMoves
 pub mod Sends
 pub mod Reached
