@@ -20,5 +20,7 @@ pub mod TakenBelow
 pub mod TakenMessages
 pub mod Pending
 pub mod LockMoves
+pub mod LockActs
+pub mod TokenSteps
 pub mod Sends
 pub mod Reached
