@@ -22,5 +22,9 @@ pub mod Pending
 pub mod LockMoves
 pub mod LockActs
 pub mod TokenSteps
+pub mod LockLines
+pub mod PendingGrants
+pub mod TokenTurns
+pub mod TokenWorlds
 pub mod Sends
 pub mod Reached

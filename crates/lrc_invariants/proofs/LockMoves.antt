@@ -94,7 +94,7 @@ covers-next me time = covers-raised time me (entry time me + 1) (omega arith)
 
 -- ---- deeds of no lock, or of another
 
-no_deed : (l : ℕ) (deed : Option Deed) → deed ≡ None → IsNeither l deed
+pub no_deed : (l : ℕ) (deed : Option Deed) → deed ≡ None → IsNeither l deed
 no_deed l deed e = record { acquire = λ is. none_some (sym e ∙ is); release = λ is. none_some (sym e ∙ is) }
   where
     none_some : {d : Deed} → None ≡ Some d → ⊥

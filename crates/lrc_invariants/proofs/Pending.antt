@@ -196,7 +196,7 @@ cond_true : (c : Bool) (e : EnvelopeRecord) (rest : List EnvelopeRecord) → c �
 cond_true true e rest is = refl
 cond_true false e rest is = cc
 
-get_within : {X : Type 0} (xs : List X) (n : ℕ) → n < length xs → (x : X) × (slice_get xs n ≡ Some x)
+pub get_within : {X : Type 0} (xs : List X) (n : ℕ) → n < length xs → (x : X) × (slice_get xs n ≡ Some x)
 get_within [] n lt = absurd (omega (arith, lt))
 get_within (x ∷ xs) zero lt = (x, refl)
 get_within (x ∷ xs) (suc n) lt = get_within xs n (omega (arith, lt))

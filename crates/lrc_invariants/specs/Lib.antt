@@ -5,3 +5,4 @@ pub mod Tokens
 pub mod Present
 pub mod Numbers
 pub mod Rules
+pub mod LockLines
