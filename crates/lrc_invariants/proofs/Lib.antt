@@ -26,5 +26,6 @@ pub mod LockLines
 pub mod PendingGrants
 pub mod TokenTurns
 pub mod TokenWorlds
+pub mod TokenCounts
 pub mod Sends
 pub mod Reached

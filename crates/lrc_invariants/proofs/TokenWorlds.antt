@@ -245,3 +245,10 @@ module _ (program : Program) (nodes : ℕ) (options : OptionsRecord) where
 
   pub all_tokens : (events : List Event) (world : World) → run_of program nodes options events ≡ Some world → AllTokens world
   all_tokens events world e = by_reached program nodes options AllTokens tokens-kept events world tokens-fresh e
+
+-- a node of a run makes one node at least
+pub some_node : (program : Program) (nodes : ℕ) (options : OptionsRecord) (events : List Event) (world : World) (n : ℕ) (l : Logged)
+    → run_of program nodes options events ≡ Some world → slice_get world.nodes n ≡ Some l → 0 < nodes
+some_node program nodes options events world n l e at =
+    let lt : n < nodes = subst (λ k. n < k) (run-whole program nodes options events world e).count (slice_get_within world.nodes n l at) in
+    omega (arith, lt)
