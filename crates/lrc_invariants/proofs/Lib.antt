@@ -27,5 +27,6 @@ pub mod PendingGrants
 pub mod TokenTurns
 pub mod TokenWorlds
 pub mod TokenCounts
+pub mod Joining
 pub mod Sends
 pub mod Reached
