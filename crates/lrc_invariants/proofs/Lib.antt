@@ -30,3 +30,7 @@ pub mod TokenCounts
 pub mod Joining
 pub mod Sends
 pub mod Reached
+pub mod Flows
+pub mod Managers
+pub mod Standing
+pub mod AllStand

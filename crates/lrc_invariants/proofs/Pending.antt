@@ -116,7 +116,7 @@ module _ (program : Program) (nodes : ℕ) (options : OptionsRecord) where
 
   -- what a node sends has not been taken when it is sent
   module _ (world : World) (flight : List Flying) (n : ℕ) (l after : Logged) (input : Input) (entry : EntryRecord)
-    (at : slice_get world.nodes n ≡ Some l) (comes : Comes world n input flight) (i : IsEntry l input entry after) (h : AllPending world) where
+      (at : slice_get world.nodes n ≡ Some l) (comes : Comes world n input flight) (i : IsEntry l input entry after) (h : AllPending world) where
     own : Sends (setting_of program nodes n) options (envelopes_in world.flight) l.node
     own = h.taken.sends.each n l at
 
@@ -214,7 +214,7 @@ without-taken all e es without s is =
 module _ (program : Program) (nodes : ℕ) (options : OptionsRecord) where
   -- the sender of a message that is taken anew is a node, and no other message in flight is the same
   module _ (world : World) (n : ℕ) (l after : Logged) (e : EnvelopeRecord) (entry : EntryRecord) (at : slice_get world.nodes n ≡ Some l)
-    (i : IsEntry l (taken e) entry after) (h : AllPending program nodes options world) (to : n ≡ e.to) (new : is_repeat l.node e ≡ false) where
+      (i : IsEntry l (taken e) entry after) (h : AllPending program nodes options world) (to : n ≡ e.to) (new : is_repeat l.node e ≡ false) where
     k : Took l.node e entry.turn after.node
     k = took l.node e entry.turn after.node new i.turn_is
 

@@ -138,11 +138,13 @@ module _ (e : EnvelopeRecord) where
   others_before (x ∷ xs) ys least bound r =
       let rest : (lower : ℕ) × (Rises lower bound (numbers (xs ++ e ∷ ys))) × (least ≤ lower) × (here x ≡ true → x.number < lower) =
       rest_rises (here x) least bound x.number (numbers (xs ++ e ∷ ys)) (subst (Rises least bound) (map_cond (here x) x (filter here (xs ++ e ∷ ys))) r) in
-      let le : rest.0 ≤ e.number = at_least xs ys rest.0 bound rest.1 in
-      (λ s.
-      let lt : x.number < rest.0 = rest.3 (is_here x s) in
-      let same : x.number ≡ e.number = s.number in
-      absurd (omega (arith, lt, le, same)), others_before xs ys rest.0 bound rest.1)
+      let le : rest.0 ≤ e.number = at_least xs ys rest.0 bound rest.1 in (
+        λ s.
+            let lt : x.number < rest.0 = rest.3 (is_here x s) in
+            let same : x.number ≡ e.number = s.number in
+            absurd (omega (arith, lt, le, same)),
+        others_before xs ys rest.0 bound rest.1,
+      )
 
   above : (xs : List EnvelopeRecord) (least bound : ℕ) → e.number < least → Rises least bound (numbers xs) → Others e xs
   above [] least bound lt r = tt
@@ -150,11 +152,13 @@ module _ (e : EnvelopeRecord) where
       let r' : Rises least bound (cond (here x) (x.number ∷ numbers xs) (numbers xs)) = subst (Rises least bound) (map_cond (here x) x (filter here xs)) r in
       let rest : (lower : ℕ) × (Rises lower bound (numbers xs)) × (least ≤ lower) × (here x ≡ true → x.number < lower) =
       rest_rises (here x) least bound x.number (numbers xs) r' in
-      let more : least ≤ rest.0 = rest.2 in
-      (λ s.
-      let le : least ≤ x.number = least_first (here x) least bound x.number (numbers xs) (is_here x s) r' in
-      let same : x.number ≡ e.number = s.number in
-      absurd (omega (arith, lt, le, same)), above xs rest.0 bound (omega (arith, lt, more)) rest.1)
+      let more : least ≤ rest.0 = rest.2 in (
+        λ s.
+            let le : least ≤ x.number = least_first (here x) least bound x.number (numbers xs) (is_here x s) r' in
+            let same : x.number ≡ e.number = s.number in
+            absurd (omega (arith, lt, le, same)),
+        above xs rest.0 bound (omega (arith, lt, more)) rest.1,
+      )
 
   others_after : (xs ys : List EnvelopeRecord) (least bound : ℕ) → Rises least bound (numbers (xs ++ e ∷ ys)) → Others e ys
   others_after [] ys least bound r =

@@ -6,3 +6,4 @@ pub mod Present
 pub mod Numbers
 pub mod Rules
 pub mod LockLines
+pub mod Barriers
