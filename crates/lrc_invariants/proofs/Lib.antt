@@ -34,3 +34,4 @@ pub mod Flows
 pub mod Managers
 pub mod Standing
 pub mod AllStand
+pub mod Departs

@@ -1,5 +1,6 @@
 //! What holds of every run of the protocol machine, whatever its events: the invariants of synchronization. Laws alone.
 #![tactic(auto)]
 
+pub mod barriers;
 pub mod laws;
 pub mod locks;
