@@ -4,3 +4,4 @@
 pub mod barriers;
 pub mod laws;
 pub mod locks;
+pub mod synchronization;
