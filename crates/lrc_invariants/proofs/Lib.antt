@@ -28,6 +28,8 @@ pub mod TokenTurns
 pub mod TokenWorlds
 pub mod TokenCounts
 pub mod Joining
+pub mod LockMessages
+pub mod LockPasses
 pub mod Sends
 pub mod Reached
 pub mod Flows

@@ -158,10 +158,10 @@ pass-none l (Some p) letters ne g = subst (NoGrants l) (sym g.1) (ne_eqb p.lock 
 
 -- ---- one lock's state afterwards
 
-own_state : (held : HeldRecord) (l : ℕ) (s : LockState) → l < length held.locks → lock_at (with_lock held l s) l ≡ s
+pub own_state : (held : HeldRecord) (l : ℕ) (s : LockState) → l < length held.locks → lock_at (with_lock held l s) l ≡ s
 own_state held l s lt = get_or-set_same held.locks l s Away lt
 
-other_state : (held : HeldRecord) (k l : ℕ) (s : LockState) → (k ≡ l → ⊥) → lock_at (with_lock held k s) l ≡ lock_at held l
+pub other_state : (held : HeldRecord) (k l : ℕ) (s : LockState) → (k ≡ l → ⊥) → lock_at (with_lock held k s) l ≡ lock_at held l
 other_state held k l s ne = get_or-set_other held.locks k l s Away (λ e. ne (sym e))
 
 pub own_after : (held : HeldRecord) (l : ℕ) (step : LockStep) → l < length held.locks → lock_at (held_after held l step) l ≡ state_after (lock_at held l) step
