@@ -30,6 +30,8 @@ pub mod TokenCounts
 pub mod Joining
 pub mod LockMessages
 pub mod LockPasses
+pub mod LockBalance
+pub mod LockStands
 pub mod Sends
 pub mod Reached
 pub mod Flows

@@ -51,7 +51,17 @@ pub record Passed (l : ℕ) (s : Site) (came : Came) (letters : List Letter) (lo
   pub comes_so : ComesSaying l came from brings
   pub sends_so : Says l letters to sends
   pub passing : Passing s.me (recent_in s.locks l) from brings to sends (recent_in locks l) (lock_at s.locks.held l) (lock_at locks.held l)
-  pub steady : (manager_of s.nodes l ≡ s.me → ⊥) → recent_in locks l ≡ recent_in s.locks l
+  -- only the lock's manager takes a request
+  pub manager : brings ≡ request → manager_of s.nodes l ≡ s.me
+
+no_request : no ≡ request → ⊥
+no_request e = cc
+
+forward_request : (b : ℕ) → forward b ≡ request → ⊥
+forward_request b e = cc
+
+grant_request : grant ≡ request → ⊥
+grant_request e = cc
 
 module _ (l : ℕ) (s : Site) (waits : AwaitsOne s.wait s.locks.held) (holding : HoldsTokens s.course s.locks.held)
   (counted : length s.locks.held.locks ≡ s.tokens) (askers : length s.locks.managed.recent ≡ s.tokens)
@@ -60,10 +70,10 @@ module _ (l : ℕ) (s : Site) (waits : AwaitsOne s.wait s.locks.held) (holding :
   state = lock_at s.locks.held l
 
   -- with the same note of who asked last
-  so : (came : Came) (letters : List Letter) (locks : Locks) (from : ℕ) (brings : Saying) (to : ℕ) (sends : Saying) → ComesSaying l came from brings
+  so : (came : Came) (letters : List Letter) (locks : Locks) (from : ℕ) (brings : Saying) (to : ℕ) (sends : Saying) → (brings ≡ request → ⊥) → ComesSaying l came from brings
       → Says l letters to sends → recent_in locks l ≡ recent_in s.locks l → (a b : LockState) → state ≡ a → lock_at locks.held l ≡ b
       → Passing s.me (recent_in s.locks l) from brings to sends (recent_in s.locks l) a b → Passed l s came letters locks
-  so came letters locks from brings to sends c k r a b ea eb p = record {
+  so came letters locks from brings to sends other c k r a b ea eb p = record {
     from = from;
     brings = brings;
     to = to;
@@ -74,12 +84,12 @@ module _ (l : ℕ) (s : Site) (waits : AwaitsOne s.wait s.locks.held) (holding :
         subst (λ r. Passing s.me (recent_in s.locks l) from brings to sends r state (lock_at locks.held l)) (sym r)
         (subst (λ x. Passing s.me (recent_in s.locks l) from brings to sends (recent_in s.locks l) x (lock_at locks.held l)) (sym ea)
         (subst (Passing s.me (recent_in s.locks l) from brings to sends (recent_in s.locks l) a) (sym eb) p));
-    steady = λ ne. r;
+    manager = λ is. absurd (other is);
   }
 
   quiet_so : (came : Came) (letters : List Letter) (locks : Locks) (from : ℕ) → ComesSaying l came from no → AllSilent l letters
       → recent_in locks l ≡ recent_in s.locks l → lock_at locks.held l ≡ state → Passed l s came letters locks
-  quiet_so came letters locks from c k r e = so came letters locks from no 0 no c (silent k) r state state refl e same
+  quiet_so came letters locks from c k r e = so came letters locks from no 0 no no_request c (silent k) r state state refl e same
 
   within_lock : (lock : ℕ) → lock ≡ l → lock < s.tokens → l < length s.locks.held.locks
   within_lock lock e lt = subst (λ k. k < length s.locks.held.locks) e (subst (λ k. lock < k) (sym counted) lt)
@@ -87,7 +97,7 @@ module _ (l : ℕ) (s : Site) (waits : AwaitsOne s.wait s.locks.held) (holding :
   -- a free lock is taken
   taking_at : (locks : Locks) → recent_in locks l ≡ recent_in s.locks l → (x : LockState) → state ≡ x → is_free x ≡ true → lock_at locks.held l ≡ Held None
       → Passed l s by_itself [] locks
-  taking_at locks r (Free kept) e f eb = so by_itself [] locks 0 no 0 no refl (silent tt) r (Free kept) (Held None) e eb (takes kept)
+  taking_at locks r (Free kept) e f eb = so by_itself [] locks 0 no 0 no no_request refl (silent tt) r (Free kept) (Held None) e eb (takes kept)
   taking_at locks r Away e f eb = cc
   taking_at locks r (Awaited successor) e f eb = cc
   taking_at locks r (Held successor) e f eb = cc
@@ -121,7 +131,7 @@ module _ (l : ℕ) (s : Site) (waits : AwaitsOne s.wait s.locks.held) (holding :
       let unawaited : is_awaited (lock_at s.locks.held lock) ≡ false = subst (λ w. AwaitsOne w s.locks.held) w waits lock in
       elim (cases_eq lock l) [
         | inl e ↦
-            so by_itself (x ∷ []) locks 0 no to request refl (says x (said lock l request e)) r Away (Awaited None)
+            so by_itself (x ∷ []) locks 0 no to request no_request refl (says x (said lock l request e)) r Away (Awaited None)
             (subst (λ k. lock_at s.locks.held k ≡ Away) e (away_is (lock_at s.locks.held lock) f unheld unawaited))
             (ap (λ held. lock_at held l) h ∙ ap (λ k. lock_at (asked s.locks.held k) l) e ∙ own_state s.locks.held l (Awaited None) (within_lock lock e (below lock n)))
             requests
@@ -141,9 +151,9 @@ module _ (l : ℕ) (s : Site) (waits : AwaitsOne s.wait s.locks.held) (holding :
       → Grants (pass_of (released_at l now x)) letters → lock_at locks.held l ≡ state_after x (released_at l now x)
       → Passed l s by_itself letters locks
   releasing_at now letters locks r (Held None) e h g eb =
-      so by_itself letters locks 0 no 0 no refl (silent (subst (AllSilent l) (sym g) tt)) r (Held None) (Free now) e eb (keeps now)
+      so by_itself letters locks 0 no 0 no no_request refl (silent (subst (AllSilent l) (sym g) tt)) r (Held None) (Free now) e eb (keeps now)
   releasing_at now letters locks r (Held (Some w)) e h g eb =
-      so by_itself letters locks 0 no w.node grant refl (grant_letter l w.node _ letters refl g.1 refl) r (Held (Some w)) Away e eb (passes w)
+      so by_itself letters locks 0 no w.node grant no_request refl (grant_letter l w.node _ letters refl g.1 refl) r (Held (Some w)) Away e eb (passes w)
   releasing_at now letters locks r Away e h g eb = cc
   releasing_at now letters locks r (Awaited successor) e h g eb = cc
   releasing_at now letters locks r (Free kept) e h g eb = cc
@@ -196,7 +206,7 @@ module _ (l : ℕ) (s : Site) (waits : AwaitsOne s.wait s.locks.held) (holding :
           passing =
               subst (λ r. Passing s.me (recent_in s.locks l) from request (recent_in s.locks l) (forward from) r state (lock_at locks.held l)) (sym now)
               (subst (Passing s.me (recent_in s.locks l) from request (recent_in s.locks l) (forward from) from state) (ap (λ held. lock_at held l) (sym h)) (manages from));
-          steady = λ ne. absurd (ne (ap (manager_of s.nodes) (sym it) ∙ mine));
+          manager = λ is. ap (manager_of s.nodes) (sym it) ∙ mine;
         }
     | inr ne ↦
         quiet_so (comes from (LockRequest m)) letters locks from (refl, unsaid m.lock l request ne)
@@ -215,15 +225,15 @@ module _ (l : ℕ) (s : Site) (waits : AwaitsOne s.wait s.locks.held) (holding :
   forwarding_at from m letters locks it r Away e false t g eb = cc
   forwarding_at from m letters locks it r (Awaited None) e false t g eb =
       let w : Waiter = record { node = m.asker; time = m.time } in
-      so (comes from (LockForward m)) letters locks from (forward m.asker) 0 no (refl, said m.lock l (forward m.asker) it) (silent (subst (AllSilent l) (sym g) tt)) r
+      so (comes from (LockForward m)) letters locks from (forward m.asker) 0 no (forward_request m.asker) (refl, said m.lock l (forward m.asker) it) (silent (subst (AllSilent l) (sym g) tt)) r
       (Awaited None) (Awaited (Some w)) e eb (notes_awaited w)
   forwarding_at from m letters locks it r (Awaited (Some first)) e false t g eb = cc
   forwarding_at from m letters locks it r (Free kept) e false t g eb =
-      so (comes from (LockForward m)) letters locks from (forward m.asker) m.asker grant (refl, said m.lock l (forward m.asker) it)
+      so (comes from (LockForward m)) letters locks from (forward m.asker) m.asker grant (forward_request m.asker) (refl, said m.lock l (forward m.asker) it)
       (grant_letter l m.asker _ letters refl g.1 refl) r (Free kept) Away e eb (gives m.asker kept)
   forwarding_at from m letters locks it r (Held None) e false t g eb =
       let w : Waiter = record { node = m.asker; time = m.time } in
-      so (comes from (LockForward m)) letters locks from (forward m.asker) 0 no (refl, said m.lock l (forward m.asker) it) (silent (subst (AllSilent l) (sym g) tt)) r
+      so (comes from (LockForward m)) letters locks from (forward m.asker) 0 no (forward_request m.asker) (refl, said m.lock l (forward m.asker) it) (silent (subst (AllSilent l) (sym g) tt)) r
       (Held None) (Held (Some w)) e eb (notes_held w)
   forwarding_at from m letters locks it r (Held (Some first)) e false t g eb = cc
 
@@ -261,7 +271,7 @@ module _ (l : ℕ) (s : Site) (waits : AwaitsOne s.wait s.locks.held) (holding :
   granting_at : (from : ℕ) (m : LockGrantRecord) (locks : Locks) → m.lock ≡ l → recent_in locks l ≡ recent_in s.locks l → (x : LockState) → state ≡ x
       → is_awaited x ≡ true → lock_at locks.held l ≡ state_after x (granted_at x) → Passed l s (comes from (LockGrant m)) [] locks
   granting_at from m locks it r (Awaited next) e a eb =
-      so (comes from (LockGrant m)) [] locks from grant 0 no (refl, said m.lock l grant it) (silent tt) r (Awaited next) (Held next) e eb (gets next)
+      so (comes from (LockGrant m)) [] locks from grant 0 no grant_request (refl, said m.lock l grant it) (silent tt) r (Awaited next) (Held next) e eb (gets next)
   granting_at from m locks it r Away e a eb = cc
   granting_at from m locks it r (Free kept) e a eb = cc
   granting_at from m locks it r (Held next) e a eb = cc

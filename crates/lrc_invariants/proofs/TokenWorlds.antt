@@ -74,7 +74,7 @@ past [] k le = refl
 past (x ∷ held) zero le = absurd (omega (arith, le))
 past (x ∷ held) (suc k) le = past held k (omega (arith, le))
 
-first_at : (me nodes a locks k : ℕ) → k < locks
+pub first_at : (me nodes a locks k : ℕ) → k < locks
     → slice_index_or (map (first_state me nodes) (range_with_len a locks)) k Away ≡ first_state me nodes (a + k)
 first_at me nodes a zero k lt = absurd (omega (arith, lt))
 first_at me nodes a (suc locks) zero lt = ap (first_state me nodes) (omega arith)
