@@ -1,7 +1,7 @@
 -- In every run: how the pending messages change. At a turn that takes a message anew they lose that one, at each other
 -- turn none; and they gain what the turn sends.
 use Rattle.std.proofs.Common.{◌≡◌, ◌⊎◌, ℕ, zero, suc, ◌+◌, ◌<◌, ◌≤◌, List, [], ◌∷◌, ◌++◌, Bool, true, false, length, refl, sym, ap, subst, ◌∙◌, inl, inr, arith}
-use Rattle.std.specs.Prelude.{Option, Some, None, ◌==◌, cond, not, remove, filter, slice_get, slice_set, slice_index, slice_index_or, if◌then◌else◌}
+use Rattle.std.specs.Prelude.{Option, Some, None, ◌==◌, cond, not, remove, filter, slice_get, slice_set, slice_index, slice_index_or, if◌then◌else◌, nat_lt}
 use Rattle.std.proofs.lemmas.Bool.{cases_eq, eq-eqb, ltb-true, and_parts}
 use Rattle.std.proofs.lemmas.List.{length-set, map-append, length-replicate}
 use Rattle.std.proofs.lemmas.List.Elements.{filter-append}
@@ -9,6 +9,7 @@ use Rattle.std.proofs.lemmas.Option.{same_Some, slice_get_within}
 use Rattle.lrc_lang.specs.declared.program.Program.{Program}
 use Rattle.lrc_exec.specs.Meaning.{Setting}
 use Rattle.lrc_exec.specs.Plain.{setting_of}
+use Rattle.lrc_store.specs.Order.{placed}
 use Rattle.lrc_wire.specs.Envelope.{EnvelopeRecord}
 use Rattle.lrc_protocol.specs.declared.event.Event.{Event}
 use Rattle.lrc_protocol.specs.Follows.{numbers_to}
@@ -196,7 +197,7 @@ cond_true : (c : Bool) (e : EnvelopeRecord) (rest : List EnvelopeRecord) → c �
 cond_true true e rest is = refl
 cond_true false e rest is = cc
 
-get_within : {X : Type 0} (xs : List X) (n : ℕ) → n < length xs → (x : X) × (slice_get xs n ≡ Some x)
+pub get_within : {X : Type 0} (xs : List X) (n : ℕ) → n < length xs → (x : X) × (slice_get xs n ≡ Some x)
 get_within [] n lt = absurd (omega (arith, lt))
 get_within (x ∷ xs) zero lt = (x, refl)
 get_within (x ∷ xs) (suc n) lt = get_within xs n (omega (arith, lt))
@@ -327,7 +328,7 @@ module _ (program : Program) (nodes : ℕ) (options : OptionsRecord) where
   taken_length : (node : Node) (input : Input) (t : List (List ℕ)) → Takes node input t → length t ≡ length node.mail.taken
   taken_length node _ _ by_itself = refl
   taken_length node _ _ (repeats e again) = refl
-  taken_length node _ _ (anew e new) = length-set node.mail.taken e.from (e.number ∷ slice_index_or node.mail.taken e.from [])
+  taken_length node _ _ (anew e new) = length-set node.mail.taken e.from (placed nat_lt e.number (slice_index_or node.mail.taken e.from []))
 
   pub pending-kept : KeptByTurns (AllPending program nodes options)
   pending-kept world flight n l after input entry at comes i h = record {

@@ -1,9 +1,10 @@
 -- Which messages count as taken: what one number more among those taken changes, by what the nodes have taken.
 use Rattle.std.proofs.Common.{◌≡◌, ℕ, zero, suc, ◌+◌, ◌<◌, ◌≤◌, List, [], ◌∷◌, ◌++◌, Bool, true, false, length, map, refl, sym, ap, subst, ◌∙◌, arith}
-use Rattle.std.specs.Prelude.{Option, Some, None, ◌==◌, ◌||◌, cond, not, unwrap_or, option_map, filter, remove, slice_get, slice_set, slice_index_or}
+use Rattle.std.specs.Prelude.{Option, Some, None, ◌==◌, ◌||◌, cond, not, unwrap_or, option_map, filter, remove, slice_get, slice_set, slice_index_or, nat_lt}
 use Rattle.std.specs.List.{list_any}
-use Rattle.std.proofs.lemmas.Bool.{eq-eqb, ne_eqb, and_from}
+use Rattle.std.proofs.lemmas.Bool.{eq-eqb, ne_eqb, and_from, or_right}
 use Rattle.std.proofs.lemmas.Option.{same_Some}
+use Rattle.lrc_store.specs.Order.{placed}
 use Rattle.lrc_wire.specs.Envelope.{EnvelopeRecord}
 use Rattle.lrc_protocol.specs.Node.{Node}
 use Rattle.lrc_protocol.specs.Turn.{is_repeat}
@@ -184,18 +185,35 @@ has number xs = list_any (λ k. k == number) xs
 has-other : (k number : ℕ) (xs : List ℕ) → (k ≡ number → ⊥) → has number (k ∷ xs) ≡ has number xs
 has-other k number xs ne = ap (λ b. b || has number xs) (ne_eqb k number ne)
 
+-- a number more, at its place among those that are there
+placed-other : (k number : ℕ) (xs : List ℕ) → (k ≡ number → ⊥) → has number (placed nat_lt k xs) ≡ has number xs
+placed-other k number [] ne = has-other k number [] ne
+placed-other k number (y ∷ xs) ne = by_test (placed-other k number xs ne) (nat_lt k y)
+  where
+    by_test : has number (placed nat_lt k xs) ≡ has number xs → (b : Bool) → has number (cond b (k ∷ y ∷ xs) (y ∷ placed nat_lt k xs)) ≡ has number (y ∷ xs)
+    by_test rest true = has-other k number (y ∷ xs) ne
+    by_test rest false = ap (λ b. (y == number) || b) rest
+
+placed-itself : (k : ℕ) (xs : List ℕ) → has k (placed nat_lt k xs) ≡ true
+placed-itself k [] = ap (λ b. b || has k []) (eq-eqb k k refl)
+placed-itself k (y ∷ xs) = by_test (placed-itself k xs) (nat_lt k y)
+  where
+    by_test : has k (placed nat_lt k xs) ≡ true → (b : Bool) → has k (cond b (k ∷ y ∷ xs) (y ∷ placed nat_lt k xs)) ≡ true
+    by_test rest true = ap (λ b. b || has k (y ∷ xs)) (eq-eqb k k refl)
+    by_test rest false = or_right (y == k) (has k (placed nat_lt k xs)) rest
+
 -- no message counts as taken with another's number
 taken-other : (t : List (List ℕ)) (a k from number : ℕ) → (a ≡ from → k ≡ number → ⊥)
-    → has number (slice_index_or (slice_set t a (k ∷ slice_index_or t a [])) from []) ≡ has number (slice_index_or t from [])
+    → has number (slice_index_or (slice_set t a (placed nat_lt k (slice_index_or t a []))) from []) ≡ has number (slice_index_or t from [])
 taken-other [] a k from number ne = refl
-taken-other (y ∷ t) zero k zero number ne = has-other k number y (ne refl)
+taken-other (y ∷ t) zero k zero number ne = placed-other k number y (ne refl)
 taken-other (y ∷ t) zero k (suc from) number ne = refl
 taken-other (y ∷ t) (suc a) k zero number ne = refl
 taken-other (y ∷ t) (suc a) k (suc from) number ne = taken-other t a k from number (λ e. ne (ap suc e))
 
-pub taken-itself : (t : List (List ℕ)) (a k : ℕ) → a < length t → has k (slice_index_or (slice_set t a (k ∷ slice_index_or t a [])) a []) ≡ true
+pub taken-itself : (t : List (List ℕ)) (a k : ℕ) → a < length t → has k (slice_index_or (slice_set t a (placed nat_lt k (slice_index_or t a []))) a []) ≡ true
 taken-itself [] a k lt = absurd (omega (arith, lt))
-taken-itself (y ∷ t) zero k lt = ap (λ b. b || has k y) (eq-eqb k k refl)
+taken-itself (y ∷ t) zero k lt = placed-itself k y
 taken-itself (y ∷ t) (suc a) k lt = taken-itself t a k (omega (arith, lt))
 
 not-below : (bound number : ℕ) (xs : List ℕ) → bound ≤ number → Below bound xs → has number xs ≡ false
@@ -218,13 +236,13 @@ nowhere-taken nodes e at = ap (taken_by e) at
 pub repeat-same : (a b : Node) (e : EnvelopeRecord) → a.mail.taken ≡ b.mail.taken → is_repeat a e ≡ is_repeat b e
 repeat-same a b e is = ap (λ t. has e.number (slice_index_or t e.from [])) is
 
-pub repeat-other : (a b : Node) (e x : EnvelopeRecord) → a.mail.taken ≡ slice_set b.mail.taken e.from (e.number ∷ slice_index_or b.mail.taken e.from [])
+pub repeat-other : (a b : Node) (e x : EnvelopeRecord) → a.mail.taken ≡ slice_set b.mail.taken e.from (placed nat_lt e.number (slice_index_or b.mail.taken e.from []))
     → x.to ≡ e.to → (Same x e → ⊥) → is_repeat a x ≡ is_repeat b x
 repeat-other a b e x is to ne =
     ap (λ t. has x.number (slice_index_or t x.from [])) is
     ∙ taken-other b.mail.taken e.from e.number x.from x.number (λ from number. ne (record { from = sym from; to = to; number = sym number }))
 
-pub repeat-itself : (a b : Node) (e : EnvelopeRecord) → a.mail.taken ≡ slice_set b.mail.taken e.from (e.number ∷ slice_index_or b.mail.taken e.from [])
+pub repeat-itself : (a b : Node) (e : EnvelopeRecord) → a.mail.taken ≡ slice_set b.mail.taken e.from (placed nat_lt e.number (slice_index_or b.mail.taken e.from []))
     → e.from < length b.mail.taken → is_repeat a e ≡ true
 repeat-itself a b e is lt = ap (λ t. has e.number (slice_index_or t e.from [])) is ∙ taken-itself b.mail.taken e.from e.number lt
 

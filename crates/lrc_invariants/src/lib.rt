@@ -3,3 +3,5 @@
 
 pub mod barriers;
 pub mod laws;
+pub mod locks;
+pub mod synchronization;
