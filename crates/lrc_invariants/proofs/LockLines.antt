@@ -40,7 +40,7 @@ module _ (nodes : ℕ) (acts : List Act) (times : List (List ℕ)) (timed : leng
 
   module _ (d : Deed) (takes : (l : ℕ) → d ≡ Acquire l → NobodyHolds acts l
       × (time ≡ joined (stamp_at nodes acts times n (length acts)) (released_time nodes acts times l (length acts))))
-    (lets : (l : ℕ) → d ≡ Release l → HeldNow acts n l) where
+      (lets : (l : ℕ) → d ≡ Release l → HeldNow acts n l) where
     abbrev more : List Act
     more = act_of n d ∷ []
 

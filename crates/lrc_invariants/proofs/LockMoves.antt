@@ -182,7 +182,7 @@ held_within (x ∷ xs) (suc l) e = let lt : l < length xs = held_within xs l e i
 -- ---- each kind of turn
 
 module _ (l : ℕ) (s : Site) (fits : FixesNext s.wait (next_in s.course)) (waits : AwaitsOne s.wait s.locks.held) (holding : HoldsTokens s.course s.locks.held)
-  (counted : length s.locks.held.locks ≡ s.tokens) (below : (lock : ℕ) → acquiring (next_in s.course) ≡ Some lock → lock < s.tokens) where
+    (counted : length s.locks.held.locks ≡ s.tokens) (below : (lock : ℕ) → acquiring (next_in s.course) ≡ Some lock → lock < s.tokens) where
   abbrev at_lock : HeldRecord → Status
   at_lock held = status_of (lock_at held l)
 

@@ -64,8 +64,8 @@ grant_request : grant ≡ request → ⊥
 grant_request e = cc
 
 module _ (l : ℕ) (s : Site) (waits : AwaitsOne s.wait s.locks.held) (holding : HoldsTokens s.course s.locks.held)
-  (counted : length s.locks.held.locks ≡ s.tokens) (askers : length s.locks.managed.recent ≡ s.tokens)
-  (below : (lock : ℕ) → acquiring (next_in s.course) ≡ Some lock → lock < s.tokens) where
+    (counted : length s.locks.held.locks ≡ s.tokens) (askers : length s.locks.managed.recent ≡ s.tokens)
+    (below : (lock : ℕ) → acquiring (next_in s.course) ≡ Some lock → lock < s.tokens) where
   abbrev state : LockState
   state = lock_at s.locks.held l
 

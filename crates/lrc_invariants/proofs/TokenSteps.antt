@@ -117,16 +117,16 @@ pub record Stepped (l nodes n : ℕ) (st : ℕ → Status) (T : ℕ → List ℕ
   pub releases : deed ≡ Some (Release l) → HeldNow acts n l
 
 module _ (l nodes n : ℕ) (st st' : ℕ → Status) (T T' : ℕ → List ℕ) (elsewhere : (m : ℕ) → (m ≡ n → ⊥) → st' m ≡ st m)
-  (times_elsewhere : (m : ℕ) → (m ≡ n → ⊥) → T' m ≡ T m) (s : Site) (me : s.me ≡ n) (time_was : s.locks.time ≡ T n) (time : List ℕ) (time_is : T' n ≡ time)
-  (counted : length time ≡ nodes) (was now out : List EnvelopeRecord) (acts : List Act) (times : List (List ℕ)) (timed : length times ≡ length acts)
-  (deed : Option Deed) (came : Came) (letters : List Letter) (stays : brings l came ≡ false → now ≡ was ++ out)
-  (some : (from : ℕ) (m : LockGrantRecord) → came ≡ comes from (LockGrant m) → m.lock ≡ l → was ≡ [] → ⊥)
-  (loses : (from : ℕ) (m : LockGrantRecord) (e : EnvelopeRecord) → came ≡ comes from (LockGrant m) → m.lock ≡ l → was ≡ e ∷ []
-      → (e.message ≡ LockGrant m) × (now ≡ out))
-  (none_out : NoGrants l letters → out ≡ [])
-  (one_out : (time : List ℕ) (g : OneGrant l time letters) → (e : EnvelopeRecord) × ((out ≡ e ∷ []) × (e.message ≡ LockGrant g.m)))
-  (idle : s.wait ≡ nothing → T n ≡ time_before nodes acts times n (length acts))
-  (waiting : s.wait ≡ grant l → T n ≡ raised (time_before nodes acts times n (length acts)) n) where
+    (times_elsewhere : (m : ℕ) → (m ≡ n → ⊥) → T' m ≡ T m) (s : Site) (me : s.me ≡ n) (time_was : s.locks.time ≡ T n) (time : List ℕ) (time_is : T' n ≡ time)
+    (counted : length time ≡ nodes) (was now out : List EnvelopeRecord) (acts : List Act) (times : List (List ℕ)) (timed : length times ≡ length acts)
+    (deed : Option Deed) (came : Came) (letters : List Letter) (stays : brings l came ≡ false → now ≡ was ++ out)
+    (some : (from : ℕ) (m : LockGrantRecord) → came ≡ comes from (LockGrant m) → m.lock ≡ l → was ≡ [] → ⊥)
+    (loses : (from : ℕ) (m : LockGrantRecord) (e : EnvelopeRecord) → came ≡ comes from (LockGrant m) → m.lock ≡ l → was ≡ e ∷ []
+    → (e.message ≡ LockGrant m) × (now ≡ out))
+    (none_out : NoGrants l letters → out ≡ [])
+    (one_out : (time : List ℕ) (g : OneGrant l time letters) → (e : EnvelopeRecord) × ((out ≡ e ∷ []) × (e.message ≡ LockGrant g.m)))
+    (idle : s.wait ≡ nothing → T n ≡ time_before nodes acts times n (length acts))
+    (waiting : s.wait ≡ grant l → T n ≡ raised (time_before nodes acts times n (length acts)) n) where
   abbrev last : List ℕ
   last = time_before nodes acts times n (length acts)
 
@@ -187,10 +187,12 @@ module _ (l nodes n : ℕ) (st st' : ℕ → Status) (T T' : ℕ → List ℕ) (
       let covering : Covers time kept = covers-trans time (T n) kept (subst (λ x. Covers x (T n)) (sym t') (covers-next n (T n))) at.below in
       record {
         token = held_at n eb (λ m ne. elsewhere m ne ∙ at.alone m ne) (nothing_new bf g ∙ at.none) (alone-taken nodes acts times timed n time l deed d at.nobody);
-        acquires = λ e. (at.nobody,
-        sym (joined-covers time kept (counted ∙ sym at.counted) covering)
-        ∙ ap (λ x. joined x kept) (t' ∙ ap (λ x. raised x n) (idle w))
-        ∙ ap (joined (raised last n)) at.last);
+        acquires = λ e. (
+          at.nobody,
+          sym (joined-covers time kept (counted ∙ sym at.counted) covering)
+              ∙ ap (λ x. joined x kept) (t' ∙ ap (λ x. raised x n) (idle w))
+              ∙ ap (joined (raised last n)) at.last,
+        );
         releases = λ e. absurd (release_no_acquire e d);
       }
   stepped _ _ (keeps bf d g t) ea eb token =
@@ -229,8 +231,10 @@ module _ (l nodes n : ℕ) (st st' : ℕ → Status) (T T' : ℕ → List ℕ) (
       let same : at.m.time ≡ m.time = grant_time at.m m (sym at.is ∙ lost.0) in
       record {
         token = held_at n eb (λ q ne. elsewhere q ne ∙ at.nowhere q) (lost.1 ∙ none_out g) (alone-taken nodes acts times timed n time l deed d at.nobody);
-        acquires = λ e. (at.nobody,
-        t ∙ ap (λ x. joined x m.time) (time_was ∙ waiting w) ∙ ap (joined (raised last n)) (sym same ∙ at.last));
+        acquires = λ e. (
+          at.nobody,
+          t ∙ ap (λ x. joined x m.time) (time_was ∙ waiting w) ∙ ap (joined (raised last n)) (sym same ∙ at.last),
+        );
         releases = λ e. absurd (release_no_acquire e d);
       }
     where

@@ -83,8 +83,8 @@ first_at me nodes a (suc locks) (suc k) lt = first_at me nodes (a + 1) locks k (
 module _ (program : Program) (nodes : ℕ) (options : OptionsRecord) where
   -- one turn
   module _ (world : World) (flight : List Flying) (n : ℕ) (l after : Logged) (input : Input) (entry : EntryRecord)
-    (at : slice_get world.nodes n ≡ Some l) (comes : Comes world n input flight) (i : IsEntry l input entry after)
-    (reached : IsReached program nodes options world) (reached' : IsReached program nodes options (with_turn world flight n entry after)) where
+      (at : slice_get world.nodes n ≡ Some l) (comes : Comes world n input flight) (i : IsEntry l input entry after)
+      (reached : IsReached program nodes options world) (reached' : IsReached program nodes options (with_turn world flight n entry after)) where
     abbrev all : List Logged
     all = slice_set world.nodes n after
 
