@@ -46,3 +46,4 @@ pub mod Arrivals
 pub mod Timely
 pub mod AllTimely
 pub mod DepartLine
+pub mod Timed
