@@ -47,3 +47,4 @@ pub mod Timely
 pub mod AllTimely
 pub mod DepartLine
 pub mod Timed
+pub mod Barring

@@ -60,6 +60,11 @@ abbrev pub awaits_word : Wait → ℕ
 awaits_word (discard collection) = 1
 awaits_word _ = 0
 
+-- 1 for who fetches what the pages need that it keeps, in a collection
+abbrev pub is_collecting : Wait → ℕ
+is_collecting (upkeep collection needs) = 1
+is_collecting _ = 0
+
 -- A node has arrived as often as episodes are over, and once more where its arrival is on its way or kept. While it waits to
 -- depart, and never else, just one of these is so: its arrival is on its way, or kept, or its departure is on its way. And
 -- while it waits for the word to discard, and never else, just one of these: its word that its copies are clean is on its
