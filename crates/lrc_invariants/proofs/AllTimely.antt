@@ -69,7 +69,7 @@ module _ (program : Program) (nodes : ℕ) (options : OptionsRecord) where
       }
 
   -- the manager that a world after a turn speaks of
-  manager_after : (world world' : World) (s : AllStand program nodes options world) (s' : AllStand program nodes options world') (n : ℕ) (l after : Logged)
+  pub manager_after : (world world' : World) (s : AllStand program nodes options world) (s' : AllStand program nodes options world') (n : ℕ) (l after : Logged)
       → slice_get world.nodes n ≡ Some l → world'.nodes ≡ slice_set world.nodes n after → unwrap_or after.node.barrier.manager s.manager ≡ s'.manager
   manager_after world world' s s' n l after at nodes_are =
       let here : slice_get world'.nodes n ≡ Some after = ap (λ ls. slice_get ls n) nodes_are ∙ get_set_same world.nodes n l after at in

@@ -48,3 +48,4 @@ pub mod AllTimely
 pub mod DepartLine
 pub mod Timed
 pub mod Barring
+pub mod Exclusive

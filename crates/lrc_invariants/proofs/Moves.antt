@@ -14,6 +14,8 @@ use Rattle.lrc_invariants.proofs.Shift.{AllFrom, Moved, deed_made}
 use Rattle.lrc_invariants.proofs.Sends.{Came, by_itself, comes, site_of, letter_in}
 use Rattle.lrc_invariants.proofs.Flows.{Brings, IsFromNode, Stepped, again, once, count-cons}
 use Rattle.lrc_invariants.proofs.Pending.{Goes}
+use Rattle.lrc_invariants.proofs.Standing.{silent_none}
+use Rattle.lrc_invariants.proofs.Barring.{Barring, other_at, barring}
 use Rattle.lrc_invariants.proofs.Passing.{AreQuiet, Passing, serving, same_arrivals, passing}
 
 -- ---- messages among others
@@ -68,7 +70,7 @@ among_letters (x ∷ out) e there = elim (cases_Contains x out e there) [
 ]
 
 -- a message that passes is counted
-pub counted_in : (p : EnvelopeRecord → Bool) (es : List EnvelopeRecord) (e : EnvelopeRecord) → Contains es e → p e ≡ true → 1 ≤ count_by p es
+pub counted_in : {X : Type 0} (p : X → Bool) (es : List X) (e : X) → Contains es e → p e ≡ true → 1 ≤ count_by p es
 counted_in p [] e there is = absurd (none_Contains e there)
 counted_in p (x ∷ es) e there is =
     let both : count_by p (x ∷ es) ≡ cond (p x) 1 0 + count_by p es = count-cons p x es in
@@ -95,6 +97,7 @@ pub record Moves (node : Node) (was now : List EnvelopeRecord) (nodes : ℕ) (tu
   pub acts : Bool
   pub letters : List Letter
   pub passes : Passing (site_of node) came acts after.mail.wait after.locks after.barrier letters
+  pub bars : Barring (site_of node) came after.mail.wait after.barrier letters
   pub moved : Moved acts node.course (deed_made turn) after.course
   pub o : Option EnvelopeRecord
   pub brings : Brings node.setting.me came o
@@ -110,6 +113,7 @@ moves node was now nodes _ _ nodes_is same (again e) = record {
   acts = false;
   letters = [];
   passes = serving (site_of node) by_itself node.locks node.barrier [] tt (same_arrivals node.barrier.manager) refl refl;
+  bars = other_at refl refl refl (silent_none node.setting.me);
   moved = record { deed_is = refl; course_is = refl };
   o = None;
   brings = tt;
@@ -123,6 +127,7 @@ moves node was now nodes turn after nodes_is same (once came o brings from sent 
   acts = sent.acts;
   letters = sent.letters;
   passes = passing (site_of node) came sent.acts after.mail.wait after.locks after.barrier sent.letters sent.sent;
+  bars = barring (site_of node) came sent.acts after.mail.wait after.locks after.barrier sent.letters sent.sent;
   moved = sent.moved;
   o = o;
   brings = brings;

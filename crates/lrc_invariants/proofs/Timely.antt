@@ -39,7 +39,7 @@ use Rattle.lrc_invariants.proofs.AllStand.{AllStand}
 use Rattle.lrc_invariants.proofs.Departs.{standing_at}
 use Rattle.lrc_invariants.proofs.Reached.{IsReached}
 
-waits_for_departure : (w : Wait) → 1 ≤ awaits_depart w → w ≡ departure
+pub waits_for_departure : (w : Wait) → 1 ≤ awaits_depart w → w ≡ departure
 waits_for_departure departure e = refl
 waits_for_departure nothing e = absurd (omega (arith, e))
 waits_for_departure (grant lock) e = absurd (omega (arith, e))
