@@ -1,9 +1,10 @@
 -- In every run a collection is exclusive: while it is under way all nodes are inside the barrier and none is told to discard;
 -- and else nobody is told to collect, or does.
 use Rattle.std.proofs.Common.{◌≡◌, ◌⊎◌, ℕ, zero, suc, ◌+◌, ◌<◌, ◌≤◌, ◌&&◌, List, [], ◌∷◌, Bool, true, false, cond, is_some, length, map, refl, sym, ap, subst, ◌∙◌, inl, inr, arith}
-use Rattle.std.specs.Prelude.{Option, Some, None, ◌==◌, Contains, unwrap_or, count_by, slice_get, slice_set, replicate, if◌then◌else◌}
+use Rattle.std.specs.Prelude.{Option, Some, None, ◌==◌, Contains, unwrap_or, count_by, slice_get, slice_set, slice_index_or, replicate, if◌then◌else◌}
 use Rattle.std.specs.List.{range_with_len, enumerate_from}
 use Rattle.std.proofs.lemmas.Bool.{cases_eq, eq-eqb, and_from}
+use Rattle.std.proofs.lemmas.List.{length-set}
 use Rattle.std.proofs.lemmas.Option.{same_Some, slice_get_within}
 use Rattle.lrc_lang.specs.declared.program.Program.{Program}
 use Rattle.lrc_wire.specs.Envelope.{EnvelopeRecord}
@@ -31,7 +32,7 @@ use Rattle.lrc_invariants.specs.Counts.{is_inside}
 use Rattle.lrc_invariants.specs.Barriers.{says_arrive, says_depart, says_clean, says_discard, arrive_from, depart_to, clean_from, discard_to, kept_of, noted_of, awaits_depart, awaits_word, is_collecting, StandsAt}
 use Rattle.lrc_invariants.proofs.Shape.{NodeShape, shape_at}
 use Rattle.lrc_invariants.proofs.Sends.{Came, by_itself, comes, Site, site_of, letter_in, arrival_in}
-use Rattle.lrc_invariants.proofs.Flows.{stepped, counts, came_count, count_of}
+use Rattle.lrc_invariants.proofs.Flows.{IsFromNode, stepped, counts, came_count, count_of}
 use Rattle.lrc_invariants.proofs.Managers.{Gathered, gathered, LetGo, let_go, Noted, noted, LetDiscard, let_discard, Places, kept-more, kept-all, kept-departed, as_many, departs-once, departs-only, discards-once, discards-only}
 use Rattle.lrc_invariants.proofs.Standing.{same_manager, arrive_test, depart_test, clean_test, discard_test, Silent}
 use Rattle.lrc_invariants.proofs.Moves.{in-now, Brought, brought, sent_from, among_letters, counted_in, Moves, moves}
@@ -160,7 +161,7 @@ module _ (program : Program) (nodes : ℕ) (options : OptionsRecord) where
           → LetGo old_manager from (arrival_in m) now departures → Kind
       notes : (now : ManagerRecord) (from episode : ℕ) → new_manager ≡ now → mv.letters ≡ [] → after.node.mail.wait ≡ l.node.mail.wait
           → Noted old_manager from episode now → Kind
-      ends : (now : ManagerRecord) (from episode over : ℕ) → new_manager ≡ now → mv.letters ≡ discards_to (range_with_len 0 nodes) over
+      ends : (now : ManagerRecord) (from episode over : ℕ) → mv.came ≡ comes from (Clean episode) → new_manager ≡ now → mv.letters ≡ discards_to (range_with_len 0 nodes) over
           → LetDiscard old_manager from episode now over → Kind
 
     same_as : (barrier : Barrier) → after.node.barrier ≡ barrier → barrier.manager ≡ l.node.barrier.manager → new_manager ≡ old_manager
@@ -257,7 +258,7 @@ module _ (program : Program) (nodes : ℕ) (options : OptionsRecord) where
         notes now from episode (named_as barrier now b manager_is) ls e
         (subst (λ x. Noted x from episode now) (is was at_manager) (noted was from episode now step))
     by_bars _ wait barrier letters (lets_discard_at from episode over was now at_manager step manager_is) c e b ls =
-        ends now from episode over (named_as barrier now b manager_is)
+        ends now from episode over c (named_as barrier now b manager_is)
         (ls ∙ ap (λ (s : Setting). discards_to (range_with_len 0 s.nodes) over) own_shape.setting)
         (subst (λ x. LetDiscard x from episode now over) (is was at_manager) (let_discard was from episode now over step))
     by_bars _ wait barrier letters (discards_at from episode collection w) c e b ls =
@@ -276,3 +277,267 @@ module _ (program : Program) (nodes : ℕ) (options : OptionsRecord) where
 
     kind : Kind
     kind = by_bars mv.came after.node.mail.wait after.node.barrier mv.letters mv.bars refl refl refl refl
+
+    collect_in : Message → Option Bool
+    collect_in (Depart d) = Some d.collect
+    collect_in _ = None
+
+    -- each departure says whether somebody has asked
+    all_asked : (arrivals : List Arrival) (k : ℕ) (rest : List Arrival) (x : Letter) (d : DepartRecord)
+        → Contains (map departure_of (map (departure_to arrivals) (enumerate_from k rest))) x → x.message ≡ Depart d → d.collect ≡ asks arrivals
+    unfolding collect_in
+    all_asked arrivals k [] x d there e = absurd (none_Contains x there)
+    all_asked arrivals k (a ∷ rest) x d there e =
+        elim (cases_Contains (departure_of (departure_to arrivals (k, a))) (map departure_of (map (departure_to arrivals) (enumerate_from (k + 1) rest))) x there) [
+          | inl same ↦
+              same_Some d.collect (asks arrivals) (ap collect_in (sym e) ∙ ap (λ (x : Letter). collect_in x.message) (sym same))
+          | inr later ↦ all_asked arrivals (k + 1) rest x d later e
+        ]
+
+    -- ---- where a collection begins
+
+    module _ (from : ℕ) (m : ArriveRecord) (now : ManagerRecord) (departures : List Departure) (came_is : mv.came ≡ comes from (Arrive m))
+      (manager_is : new_manager ≡ now) (letters_is : mv.letters ≡ map departure_of departures) (g : LetGo old_manager from (arrival_in m) now departures) where
+      abbrev full : ManagerRecord
+      full = with_arrival old_manager from (arrival_in m)
+
+      from_node : from < nodes
+      from_node = subst (IsFromNode nodes) came_is mv.sender
+
+      gate_of : (k : ℕ) (x : Logged) → slice_get world.nodes k ≡ Some x → Gate program nodes options world h.timely.stand k x
+      gate_of k x at_k =
+          gate program nodes options world h.timely.stand k x at_k
+          (all_in program nodes options world r h.timely l.node.setting.me from m
+          (brought l.node.setting.me from (Arrive m) mv.came mv.o (pending world) entry.turn.out (pending next) came_is mv.brings mv.goes)
+          from_node now departures g k (subst (λ n. k < n) h.timely.stand.count (slice_get_within world.nodes k x at_k)))
+
+      told_once : (k : ℕ) → k < nodes → 1 ≤ count_by (depart_to k) (pending next)
+      told_once k lt =
+          let f : count_of (depart_test k) (pending next) + came_count (depart_test k) l.node.setting.me mv.came
+          ≡ count_of (depart_test k) (pending world) + count_by (depart_test k l.node.setting.me) mv.letters = flow (depart_test k) in
+          let none : came_count (depart_test k) l.node.setting.me mv.came ≡ 0 = ap (came_count (depart_test k) l.node.setting.me) came_is in
+          let size : length (arrivals_of full) ≡ nodes =
+          as_many (arrival_in m) full g.all ∙ length-set old_manager.arrivals from (Some (arrival_in m)) ∙ h.timely.stand.places.arrivals in
+          let one : count_by (depart_test k l.node.setting.me) mv.letters ≡ 1 =
+          ap (count_by (depart_test k l.node.setting.me)) (letters_is ∙ ap (map departure_of) g.told)
+          ∙ departs-once (arrivals_of full) k (subst (λ n. k < n) (sym size) lt) in
+          omega (arith, f, none, one)
+
+      record Begun (k : ℕ) (lm : Logged) : Type 0 where
+        waits : lm.node.mail.wait ≡ departure
+        none : count_by (arrive_from k) (pending next) + kept_of new_manager k ≡ 0
+        no_word : count_by (discard_to k) (pending next) ≡ 0
+        no_clean : count_by (clean_from k) (pending next) ≡ 0
+
+      begun : (k : ℕ) (lm : Logged) → slice_get next.nodes k ≡ Some lm → Begun k lm
+      begun k lm at_k =
+          let lt : k < nodes = subst (λ n. k < n) timely.stand.count (slice_get_within next.nodes k lm at_k) in
+          let some : 1 ≤ count_by (depart_to k) (pending next) = told_once k lt in
+          let departs : count_by (arrive_from k) (pending next) + kept_of new_manager k + count_by (depart_to k) (pending next) ≡ awaits_depart lm.node.mail.wait =
+          (timely.stand.each k lm at_k).departs in
+          let discards : count_by (clean_from k) (pending next) + noted_of new_manager k + count_by (discard_to k) (pending next) ≡ awaits_word lm.node.mail.wait =
+          (timely.stand.each k lm at_k).discards in
+          let most : awaits_depart lm.node.mail.wait + awaits_word lm.node.mail.wait ≤ 1 = one_of lm.node.mail.wait in
+          record {
+            waits = waits_for_departure lm.node.mail.wait (omega (arith, some, departs));
+            none = omega (arith, some, departs, most);
+            no_word = omega (arith, some, departs, discards, most);
+            no_clean = omega (arith, some, departs, discards, most);
+          }
+
+      -- who was told to depart before is none
+      not_told : (e : EnvelopeRecord) (d : DepartRecord) (lm : Logged) → Contains (pending world) e → e.message ≡ Depart d → slice_get next.nodes e.to ≡ Some lm → ⊥
+      not_told e d lm there says at_to =
+          let b : Before e.to lm = before e.to lm at_to in
+          let some : 1 ≤ count_by (depart_to e.to) (pending world) = is_told program nodes options world e d there says in
+          let none : count_by (depart_to e.to) (pending world) ≡ 0 = (gate_of e.to b.old b.was).none in
+          absurd (omega (arith, some, none))
+
+      -- and who is told now is told whether somebody asked
+      told_asked : (e : EnvelopeRecord) (d : DepartRecord) → Contains entry.turn.out e → e.message ≡ Depart d → d.collect ≡ asks (arrivals_of full)
+      told_asked e d there says =
+          all_asked (arrivals_of full) 0 (arrivals_of full) (letter_in e) d
+          (subst (λ ls. Contains ls (letter_in e)) (mv.out ∙ letters_is ∙ ap (map departure_of) g.told) (among_letters entry.turn.out e there)) says
+
+      asked_cleans : new_manager.cleans ≡ (if asks (arrivals_of full) then Some (replicate (length full.last) false) else None)
+      asked_cleans = ap (λ (x : ManagerRecord). x.cleans) (manager_is ∙ g.after_is)
+
+    none_asks : (b : Bool) (k : ℕ) → (if b then Some (replicate k false) else None) ≡ None → b ≡ false
+    none_asks true k e = none_some (replicate k false) (sym e)
+    none_asks false k e = refl
+
+    some_asks : (b : Bool) (k : ℕ) (cleans : List Bool) → (if b then Some (replicate k false) else None) ≡ Some cleans → b ≡ true
+    some_asks true k cleans e = refl
+    some_asks false k cleans e = none_some cleans e
+
+    -- ---- where it ends
+
+    record Ended (k : ℕ) (lm : Logged) : Type 0 where
+      no_clean : count_by (clean_from k) (pending next) ≡ 0
+      collecting : is_collecting lm.node.mail.wait ≡ 0
+      no_depart : count_by (depart_to k) (pending next) ≡ 0
+
+    ended : (from episode over : ℕ) → mv.came ≡ comes from (Clean episode) → mv.letters ≡ discards_to (range_with_len 0 nodes) over
+        → (k : ℕ) (lm : Logged) → slice_get next.nodes k ≡ Some lm → Ended k lm
+    ended from episode over came_is letters_is k lm at_k =
+        let lt : k < nodes = subst (λ n. k < n) timely.stand.count (slice_get_within next.nodes k lm at_k) in
+        let f : count_of (discard_test k) (pending next) + came_count (discard_test k) l.node.setting.me mv.came
+        ≡ count_of (discard_test k) (pending world) + count_by (discard_test k l.node.setting.me) mv.letters = flow (discard_test k) in
+        let none : came_count (discard_test k) l.node.setting.me mv.came ≡ 0 = ap (came_count (discard_test k) l.node.setting.me) came_is in
+        let one : count_by (discard_test k l.node.setting.me) mv.letters ≡ 1 =
+        ap (count_by (discard_test k l.node.setting.me)) letters_is ∙ discards-once over nodes k lt in
+        let departs : count_by (arrive_from k) (pending next) + kept_of new_manager k + count_by (depart_to k) (pending next) ≡ awaits_depart lm.node.mail.wait =
+        (timely.stand.each k lm at_k).departs in
+        let discards : count_by (clean_from k) (pending next) + noted_of new_manager k + count_by (discard_to k) (pending next) ≡ awaits_word lm.node.mail.wait =
+        (timely.stand.each k lm at_k).discards in
+        let most : awaits_depart lm.node.mail.wait + awaits_word lm.node.mail.wait ≤ 1 = one_of lm.node.mail.wait in
+        record {
+          no_clean = omega (arith, f, none, one, discards, most);
+          collecting = waits_for_word lm.node.mail.wait (omega (arith, f, none, one, discards, most));
+          no_depart = omega (arith, f, none, one, departs, discards, most);
+        }
+
+    -- ---- after the turn
+
+    -- a letter that is a Depart is counted
+    depart_sent : (e : EnvelopeRecord) (d : DepartRecord) → Contains entry.turn.out e → e.message ≡ Depart d
+        → 1 ≤ count_by (depart_test e.to l.node.setting.me) mv.letters
+    depart_sent e d there says =
+        counted_in (depart_test e.to l.node.setting.me) mv.letters (letter_in e)
+        (subst (λ ls. Contains ls (letter_in e)) mv.out (among_letters entry.turn.out e there))
+        (and_from (says_depart e.message) (e.to == e.to) (ap says_depart says) (eq-eqb e.to e.to refl))
+
+    kept_same : new_manager.arrivals ≡ old_manager.arrivals → (m : ℕ) → kept_of new_manager m ≡ kept_of old_manager m
+    kept_same e m = ap (λ (xs : List (Option Arrival)). cond {A = ℕ} (is_some (slice_index_or xs m None)) 1 0) e
+
+    Free : ℕ → Logged → Type 0
+    Free m lm = (count_by (clean_from m) (pending next) ≡ 0) × (is_collecting lm.node.mail.wait ≡ 0)
+
+    free_by : Kind → new_manager.cleans ≡ None → (m : ℕ) (lm : Logged) → slice_get next.nodes m ≡ Some lm → Free m lm
+    unfolding Free
+    free_by (stays st calm_if) none m lm at_m =
+        let old_none : old_manager.cleans ≡ None = sym st.cleans ∙ none in
+        let b : Before m lm = before m lm at_m in
+        let was : count_by (clean_from m) (pending world) ≡ 0 = (h.free old_none m b.old b.was).0 in
+        let less : count_by (clean_from m) (pending next) ≤ count_by (clean_from m) (pending world) = none_sent (clean_test m) ((st.free old_none).1 m) in
+        (omega (arith, was, less), elim b.is_own [
+          | inl own ↦ ap is_collecting own ∙ (st.free old_none).0
+          | inr other ↦ ap is_collecting other ∙ (h.free old_none m b.old b.was).1
+        ])
+    free_by (begins from r now departures came_is wait_is manager_is letters_is g) none m lm at_m =
+        let k : Begun from r now departures came_is manager_is letters_is g m lm = begun from r now departures came_is manager_is letters_is g m lm at_m in
+        (k.no_clean, ap is_collecting k.waits)
+    free_by (notes now from episode manager_is letters_is wait_is g) none m lm at_m =
+        none_some (slice_set g.cleans from true) (sym none ∙ ap (λ (x : ManagerRecord). x.cleans) (manager_is ∙ g.after_is))
+    free_by (ends now from episode over came_is manager_is letters_is g) none m lm at_m =
+        let k : Ended m lm = ended from episode over came_is letters_is m lm at_m in
+        (k.no_clean, k.collecting)
+
+    Busy : ℕ → Logged → Type 0
+    Busy m lm = (is_inside lm.node.mail.wait ≡ 1) × (count_by (arrive_from m) (pending next) + kept_of new_manager m ≡ 0) × (count_by (discard_to m) (pending next) ≡ 0)
+
+    busy_by : Kind → (cleans : List Bool) → new_manager.cleans ≡ Some cleans → (m : ℕ) (lm : Logged) → slice_get next.nodes m ≡ Some lm → Busy m lm
+    unfolding Busy
+    busy_by (stays st calm_if) cleans some m lm at_m =
+        let old_some : old_manager.cleans ≡ Some cleans = sym st.cleans ∙ some in
+        let k : Calm = calm_if cleans old_some in
+        let b : Before m lm = before m lm at_m in
+        let was : count_by (arrive_from m) (pending world) + kept_of old_manager m ≡ 0 = (h.busy cleans old_some m b.old b.was).1 in
+        let word : count_by (discard_to m) (pending world) ≡ 0 = (h.busy cleans old_some m b.old b.was).2 in
+        let less : count_by (arrive_from m) (pending next) ≤ count_by (arrive_from m) (pending world) = none_sent (arrive_test m) (k.arrives m) in
+        let fewer : count_by (discard_to m) (pending next) ≤ count_by (discard_to m) (pending world) = none_sent (discard_test m) (k.discards m) in
+        let kept : kept_of new_manager m ≡ kept_of old_manager m = kept_same k.arrivals m in
+        (elim b.is_own [
+          | inl own ↦ ap is_inside own ∙ k.inside
+          | inr other ↦ ap is_inside other ∙ (h.busy cleans old_some m b.old b.was).0
+        ], omega (arith, was, less, kept), omega (arith, word, fewer))
+    busy_by (begins from r now departures came_is wait_is manager_is letters_is g) cleans some m lm at_m =
+        let k : Begun from r now departures came_is manager_is letters_is g m lm = begun from r now departures came_is manager_is letters_is g m lm at_m in
+        (ap is_inside k.waits, k.none, k.no_word)
+    busy_by (notes now from episode manager_is letters_is wait_is g) cleans some m lm at_m =
+        let b : Before m lm = before m lm at_m in
+        let was : count_by (arrive_from m) (pending world) + kept_of old_manager m ≡ 0 = (h.busy g.cleans g.under_way m b.old b.was).1 in
+        let word : count_by (discard_to m) (pending world) ≡ 0 = (h.busy g.cleans g.under_way m b.old b.was).2 in
+        let less : count_by (arrive_from m) (pending next) ≤ count_by (arrive_from m) (pending world) =
+        none_sent (arrive_test m) (ap (count_by (arrive_test m l.node.setting.me)) letters_is) in
+        let fewer : count_by (discard_to m) (pending next) ≤ count_by (discard_to m) (pending world) =
+        none_sent (discard_test m) (ap (count_by (discard_test m l.node.setting.me)) letters_is) in
+        let kept : kept_of new_manager m ≡ kept_of old_manager m = kept_same (ap (λ (x : ManagerRecord). x.arrivals) (manager_is ∙ g.after_is)) m in
+        (elim b.is_own [
+          | inl own ↦ ap is_inside (own ∙ wait_is) ∙ (h.busy g.cleans g.under_way n l at).0
+          | inr other ↦ ap is_inside other ∙ (h.busy g.cleans g.under_way m b.old b.was).0
+        ], omega (arith, was, less, kept), omega (arith, word, fewer))
+    busy_by (ends now from episode over came_is manager_is letters_is g) cleans some m lm at_m =
+        none_some cleans (sym (ap (λ (x : ManagerRecord). x.cleans) (manager_is ∙ g.after_is)) ∙ some)
+
+    free_departs_by : Kind → new_manager.cleans ≡ None → (e : EnvelopeRecord) (m : DepartRecord) (lm : Logged) → Contains (pending next) e
+        → e.message ≡ Depart m → slice_get next.nodes e.to ≡ Some lm → m.collect ≡ false
+    free_departs_by (stays st calm_if) none e m lm there says at_to =
+        elim (in-now mv.o (pending world) entry.turn.out (pending next) e mv.goes there) [
+          | inl old ↦
+              let b : Before e.to lm = before e.to lm at_to in
+              h.free_departs (sym st.cleans ∙ none) e m b.old old says b.was
+          | inr new ↦
+              let some : 1 ≤ count_by (depart_test e.to l.node.setting.me) mv.letters = depart_sent e m new says in
+              let zero : count_by (depart_test e.to l.node.setting.me) mv.letters ≡ 0 = st.departs e.to in
+              absurd (omega (arith, some, zero))
+        ]
+    free_departs_by (begins from r now departures came_is wait_is manager_is letters_is g) none e m lm there says at_to =
+        elim (in-now mv.o (pending world) entry.turn.out (pending next) e mv.goes there) [
+          | inl old ↦ absurd (not_told from r now departures came_is manager_is letters_is g e m lm old says at_to)
+          | inr new ↦
+              told_asked from r now departures came_is manager_is letters_is g e m new says
+              ∙ none_asks _ _ (sym (asked_cleans from r now departures came_is manager_is letters_is g) ∙ none)
+        ]
+    free_departs_by (notes now from episode manager_is letters_is wait_is g) none e m lm there says at_to =
+        none_some (slice_set g.cleans from true) (sym none ∙ ap (λ (x : ManagerRecord). x.cleans) (manager_is ∙ g.after_is))
+    free_departs_by (ends now from episode over came_is manager_is letters_is g) none e m lm there says at_to =
+        let k : Ended e.to lm = ended from episode over came_is letters_is e.to lm at_to in
+        let some : 1 ≤ count_by (depart_to e.to) (pending next) = is_told program nodes options next e m there says in
+        let zero : count_by (depart_to e.to) (pending next) ≡ 0 = k.no_depart in
+        absurd (omega (arith, some, zero))
+
+    busy_departs_by : Kind → (cleans : List Bool) → new_manager.cleans ≡ Some cleans → (e : EnvelopeRecord) (m : DepartRecord) (lm : Logged)
+        → Contains (pending next) e → e.message ≡ Depart m → slice_get next.nodes e.to ≡ Some lm → m.collect ≡ true
+    busy_departs_by (stays st calm_if) cleans some_is e m lm there says at_to =
+        elim (in-now mv.o (pending world) entry.turn.out (pending next) e mv.goes there) [
+          | inl old ↦
+              let b : Before e.to lm = before e.to lm at_to in
+              h.busy_departs cleans (sym st.cleans ∙ some_is) e m b.old old says b.was
+          | inr new ↦
+              let some : 1 ≤ count_by (depart_test e.to l.node.setting.me) mv.letters = depart_sent e m new says in
+              let zero : count_by (depart_test e.to l.node.setting.me) mv.letters ≡ 0 = st.departs e.to in
+              absurd (omega (arith, some, zero))
+        ]
+    busy_departs_by (begins from r now departures came_is wait_is manager_is letters_is g) cleans some_is e m lm there says at_to =
+        elim (in-now mv.o (pending world) entry.turn.out (pending next) e mv.goes there) [
+          | inl old ↦ absurd (not_told from r now departures came_is manager_is letters_is g e m lm old says at_to)
+          | inr new ↦
+              told_asked from r now departures came_is manager_is letters_is g e m new says
+              ∙ some_asks _ _ cleans (sym (asked_cleans from r now departures came_is manager_is letters_is g) ∙ some_is)
+        ]
+    busy_departs_by (notes now from episode manager_is letters_is wait_is g) cleans some_is e m lm there says at_to =
+        elim (in-now mv.o (pending world) entry.turn.out (pending next) e mv.goes there) [
+          | inl old ↦
+              let b : Before e.to lm = before e.to lm at_to in
+              h.busy_departs g.cleans g.under_way e m b.old old says b.was
+          | inr new ↦
+              let some : 1 ≤ count_by (depart_test e.to l.node.setting.me) mv.letters = depart_sent e m new says in
+              let zero : count_by (depart_test e.to l.node.setting.me) mv.letters ≡ 0 = ap (count_by (depart_test e.to l.node.setting.me)) letters_is in
+              absurd (omega (arith, some, zero))
+        ]
+    busy_departs_by (ends now from episode over came_is manager_is letters_is g) cleans some_is e m lm there says at_to =
+        none_some cleans (sym (ap (λ (x : ManagerRecord). x.cleans) (manager_is ∙ g.after_is)) ∙ some_is)
+
+    next-exclusive : Exclusive next
+    unfolding Free Busy
+    next-exclusive = record {
+      timely = timely;
+      free = free_by kind;
+      free_departs = free_departs_by kind;
+      busy = busy_by kind;
+      busy_departs = busy_departs_by kind;
+    }
+
+  exclusive-kept : KeptByReached program nodes options Exclusive
+  exclusive-kept world flight n l after input entry at come i r r' h = next-exclusive world flight n l after input entry at come i r r' h
