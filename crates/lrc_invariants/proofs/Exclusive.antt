@@ -16,7 +16,7 @@ use Rattle.lrc_exec.specs.Meaning.{Setting}
 use Rattle.lrc_exec.specs.Plain.{setting_of}
 use Rattle.lrc_barrier.specs.declared.arrival.Arrival.{Arrival}
 use Rattle.lrc_barrier.specs.declared.departure.Departure.{Departure}
-use Rattle.lrc_barrier.specs.Barrier.{ManagerRecord, with_arrival, arrivals_of, asks, departure_to, departures_of, departed}
+use Rattle.lrc_barrier.specs.Barrier.{ManagerRecord, first_manager, with_arrival, arrivals_of, asks, departure_to, departures_of, departed}
 use Rattle.lrc_protocol.specs.declared.event.Event.{Event}
 use Rattle.lrc_protocol.specs.Mail.{Letter, Wait, nothing, grant, departure, access, upkeep, discard}
 use Rattle.lrc_protocol.specs.Letters.{letter, departure_of, discards_to}
@@ -38,7 +38,7 @@ use Rattle.lrc_invariants.proofs.Standing.{same_manager, arrive_test, depart_tes
 use Rattle.lrc_invariants.proofs.Moves.{in-now, Brought, brought, sent_from, among_letters, counted_in, Moves, moves}
 use Rattle.lrc_invariants.proofs.Barring.{Barring, arrives_at, gathers_at, lets_depart_at, departs_at, collects_at, clean_once_at, cleans_at, notes_at, lets_discard_at, discards_at, other_at}
 use Rattle.lrc_invariants.proofs.AllStand.{AllStand, its_manager}
-use Rattle.lrc_invariants.proofs.Timely.{Timely, Gate, gate, is_told, all_in, waits_for_departure}
+use Rattle.lrc_invariants.proofs.Timely.{get_within, Timely, Gate, gate, is_told, all_in, waits_for_departure}
 use Rattle.lrc_invariants.proofs.AllTimely.{manager_after, all_timely}
 use Rattle.lrc_invariants.proofs.Reached.{IsReached, KeptByReached, by_reached}
 
@@ -81,9 +81,9 @@ module _ (program : Program) (nodes : ℕ) (options : OptionsRecord) where
         → Contains (pending world) e → e.message ≡ Depart m → slice_get world.nodes e.to ≡ Some l → m.collect ≡ true
 
   module _ (world : World) (flight : List Flying) (n : ℕ) (l after : Logged) (input : Input) (entry : EntryRecord)
-    (at : slice_get world.nodes n ≡ Some l) (come : Comes world n input flight) (i : IsEntry l input entry after)
-    (r : IsReached program nodes options world) (r' : IsReached program nodes options (with_turn world flight n entry after))
-    (h : Exclusive world) where
+      (at : slice_get world.nodes n ≡ Some l) (come : Comes world n input flight) (i : IsEntry l input entry after)
+      (r : IsReached program nodes options world) (r' : IsReached program nodes options (with_turn world flight n entry after))
+      (h : Exclusive world) where
     abbrev next : World
     next = with_turn world flight n entry after
 
@@ -297,7 +297,7 @@ module _ (program : Program) (nodes : ℕ) (options : OptionsRecord) where
     -- ---- where a collection begins
 
     module _ (from : ℕ) (m : ArriveRecord) (now : ManagerRecord) (departures : List Departure) (came_is : mv.came ≡ comes from (Arrive m))
-      (manager_is : new_manager ≡ now) (letters_is : mv.letters ≡ map departure_of departures) (g : LetGo old_manager from (arrival_in m) now departures) where
+        (manager_is : new_manager ≡ now) (letters_is : mv.letters ≡ map departure_of departures) (g : LetGo old_manager from (arrival_in m) now departures) where
       abbrev full : ManagerRecord
       full = with_arrival old_manager from (arrival_in m)
 
@@ -419,11 +419,13 @@ module _ (program : Program) (nodes : ℕ) (options : OptionsRecord) where
         let old_none : old_manager.cleans ≡ None = sym st.cleans ∙ none in
         let b : Before m lm = before m lm at_m in
         let was : count_by (clean_from m) (pending world) ≡ 0 = (h.free old_none m b.old b.was).0 in
-        let less : count_by (clean_from m) (pending next) ≤ count_by (clean_from m) (pending world) = none_sent (clean_test m) ((st.free old_none).1 m) in
-        (omega (arith, was, less), elim b.is_own [
-          | inl own ↦ ap is_collecting own ∙ (st.free old_none).0
-          | inr other ↦ ap is_collecting other ∙ (h.free old_none m b.old b.was).1
-        ])
+        let less : count_by (clean_from m) (pending next) ≤ count_by (clean_from m) (pending world) = none_sent (clean_test m) ((st.free old_none).1 m) in (
+          omega (arith, was, less),
+          elim b.is_own [
+            | inl own ↦ ap is_collecting own ∙ (st.free old_none).0
+            | inr other ↦ ap is_collecting other ∙ (h.free old_none m b.old b.was).1
+          ],
+        )
     free_by (begins from r now departures came_is wait_is manager_is letters_is g) none m lm at_m =
         let k : Begun from r now departures came_is manager_is letters_is g m lm = begun from r now departures came_is manager_is letters_is g m lm at_m in
         (k.no_clean, ap is_collecting k.waits)
@@ -446,11 +448,14 @@ module _ (program : Program) (nodes : ℕ) (options : OptionsRecord) where
         let word : count_by (discard_to m) (pending world) ≡ 0 = (h.busy cleans old_some m b.old b.was).2 in
         let less : count_by (arrive_from m) (pending next) ≤ count_by (arrive_from m) (pending world) = none_sent (arrive_test m) (k.arrives m) in
         let fewer : count_by (discard_to m) (pending next) ≤ count_by (discard_to m) (pending world) = none_sent (discard_test m) (k.discards m) in
-        let kept : kept_of new_manager m ≡ kept_of old_manager m = kept_same k.arrivals m in
-        (elim b.is_own [
-          | inl own ↦ ap is_inside own ∙ k.inside
-          | inr other ↦ ap is_inside other ∙ (h.busy cleans old_some m b.old b.was).0
-        ], omega (arith, was, less, kept), omega (arith, word, fewer))
+        let kept : kept_of new_manager m ≡ kept_of old_manager m = kept_same k.arrivals m in (
+          elim b.is_own [
+            | inl own ↦ ap is_inside own ∙ k.inside
+            | inr other ↦ ap is_inside other ∙ (h.busy cleans old_some m b.old b.was).0
+          ],
+          omega (arith, was, less, kept),
+          omega (arith, word, fewer),
+        )
     busy_by (begins from r now departures came_is wait_is manager_is letters_is g) cleans some m lm at_m =
         let k : Begun from r now departures came_is manager_is letters_is g m lm = begun from r now departures came_is manager_is letters_is g m lm at_m in
         (ap is_inside k.waits, k.none, k.no_word)
@@ -462,11 +467,14 @@ module _ (program : Program) (nodes : ℕ) (options : OptionsRecord) where
         none_sent (arrive_test m) (ap (count_by (arrive_test m l.node.setting.me)) letters_is) in
         let fewer : count_by (discard_to m) (pending next) ≤ count_by (discard_to m) (pending world) =
         none_sent (discard_test m) (ap (count_by (discard_test m l.node.setting.me)) letters_is) in
-        let kept : kept_of new_manager m ≡ kept_of old_manager m = kept_same (ap (λ (x : ManagerRecord). x.arrivals) (manager_is ∙ g.after_is)) m in
-        (elim b.is_own [
-          | inl own ↦ ap is_inside (own ∙ wait_is) ∙ (h.busy g.cleans g.under_way n l at).0
-          | inr other ↦ ap is_inside other ∙ (h.busy g.cleans g.under_way m b.old b.was).0
-        ], omega (arith, was, less, kept), omega (arith, word, fewer))
+        let kept : kept_of new_manager m ≡ kept_of old_manager m = kept_same (ap (λ (x : ManagerRecord). x.arrivals) (manager_is ∙ g.after_is)) m in (
+          elim b.is_own [
+            | inl own ↦ ap is_inside (own ∙ wait_is) ∙ (h.busy g.cleans g.under_way n l at).0
+            | inr other ↦ ap is_inside other ∙ (h.busy g.cleans g.under_way m b.old b.was).0
+          ],
+          omega (arith, was, less, kept),
+          omega (arith, word, fewer),
+        )
     busy_by (ends now from episode over came_is manager_is letters_is g) cleans some m lm at_m =
         none_some cleans (sym (ap (λ (x : ManagerRecord). x.cleans) (manager_is ∙ g.after_is)) ∙ some)
 
@@ -541,3 +549,29 @@ module _ (program : Program) (nodes : ℕ) (options : OptionsRecord) where
 
   exclusive-kept : KeptByReached program nodes options Exclusive
   exclusive-kept world flight n l after input entry at come i r r' h = next-exclusive world flight n l after input entry at come i r r' h
+
+  fresh_wait : (n : ℕ) (l : Logged) → slice_get (fresh_world program nodes options).nodes n ≡ Some l → l.node.mail.wait ≡ nothing
+  fresh_wait n l at = ap (λ (x : Logged). x.node.mail.wait) (fresh_at program nodes options 0 nodes n l at)
+
+  fresh_manager : (s : AllStand program nodes options (fresh_world program nodes options)) (n : ℕ) (l : Logged)
+      → slice_get (fresh_world program nodes options).nodes n ≡ Some l → s.manager.cleans ≡ None
+  fresh_manager s n l at =
+      let within : n < length (fresh_world program nodes options).nodes = slice_get_within (fresh_world program nodes options).nodes n l at in
+      let first : (x : Logged) × (slice_get (fresh_world program nodes options).nodes 0 ≡ Some x) =
+      get_within (fresh_world program nodes options).nodes 0 (omega (arith, within)) in
+      let its : first.0.node.barrier.manager ≡ Some (first_manager nodes) = ap (λ (x : Logged). x.node.barrier.manager) (fresh_at program nodes options 0 nodes 0 first.0 first.1) in
+      ap (λ (x : ManagerRecord). x.cleans) (same_Some s.manager (first_manager nodes) (sym (s.here first.0 first.1) ∙ its))
+
+  exclusive-fresh : Exclusive (fresh_world program nodes options)
+  exclusive-fresh =
+      let timely : Timely program nodes options (fresh_world program nodes options) = all_timely program nodes options [] (fresh_world program nodes options) refl in
+      record {
+        timely = timely;
+        free = λ none n l at. (refl, ap is_collecting (fresh_wait n l at));
+        free_departs = λ none e m l there. absurd (none_Contains e there);
+        busy = λ cleans some n l at. none_some cleans (sym (fresh_manager timely.stand n l at) ∙ some);
+        busy_departs = λ cleans some e m l there. absurd (none_Contains e there);
+      }
+
+  pub all_exclusive : (events : List Event) (world : World) → run_of program nodes options events ≡ Some world → Exclusive world
+  all_exclusive events world e = by_reached program nodes options Exclusive exclusive-kept events world exclusive-fresh e

@@ -1,6 +1,6 @@
 // What holds of barriers in every run. Each function is a theorem: its body is empty, and its clauses are the law.
 
-ghost use Rattle.std.specs.Prelude.{◌≡◌, ◌≢◌, ℕ, ◌+◌, ◌<◌, Contains, List, Some, None, slice_get, slice_index_or};
+ghost use Rattle.std.specs.Prelude.{◌≡◌, ◌≢◌, ℕ, ◌+◌, ◌<◌, true, false, Bool, Contains, count_by, List, Some, None, slice_get, slice_index_or};
 ghost use Rattle.lrc_lang.specs.declared.program.Program.{Program};
 ghost use Rattle.lrc_barrier.specs.Barrier.{ManagerRecord};
 ghost use Rattle.lrc_barrier.specs.declared.arrival.Arrival.{Arrival};
@@ -16,7 +16,8 @@ ghost use Rattle.lrc_protocol.specs.Mail.{departure};
 ghost use Rattle.lrc_protocol.specs.Node.{OptionsRecord};
 ghost use Rattle.lrc_protocol.specs.Log.{Logged};
 ghost use Rattle.lrc_protocol.specs.World.{World, pending, run_of};
-ghost use Rattle.lrc_invariants.specs.Barriers.{StandsAt, time_in, IsNewestTime};
+ghost use Rattle.lrc_invariants.specs.Barriers.{arrive_from, clean_from, discard_to, kept_of, is_collecting, StandsAt, time_in, IsNewestTime};
+ghost use Rattle.lrc_invariants.specs.Counts.{is_inside};
 
 /// In every run node 0 has the barrier's manager, and no other node has one. A node has arrived as often as episodes are
 /// over, and once more where its arrival is on its way or kept by the manager. While it waits to depart, just one of these
@@ -76,4 +77,31 @@ pub fn departs_learn_what_all_arrived_with()
         (j node : ℕ) → run_of program nodes options events ≡ Some world → Does world.acts j node DepartDeed
         → time_at world.times j ≡ joined (time_before nodes world.acts world.times node j)
         (arrived_time nodes world.acts world.times (departs_before world.acts node j) j) }
+{}
+
+/// In every run a collection is exclusive. With none under way no Clean is on its way, nobody fetches what pages need that it
+/// keeps, and nobody is told at a departure to collect. While one is under way every node is inside the barrier, none has
+/// arrived anew, none is told to discard, and who is told to depart is told to collect.
+pub fn collections_are_exclusive()
+    ensures none { (program : Program) (nodes : ℕ) (options : OptionsRecord) (events : List Event) (world : World)
+        (first : Logged) (manager : ManagerRecord) (n : ℕ) (l : Logged) → run_of program nodes options events ≡ Some world
+        → slice_get world.nodes 0 ≡ Some first → first.node.barrier.manager ≡ Some manager → manager.cleans ≡ None
+        → slice_get world.nodes n ≡ Some l → (count_by (clean_from n) (pending world) ≡ 0) × (is_collecting l.node.mail.wait ≡ 0) }
+    ensures none_told { (program : Program) (nodes : ℕ) (options : OptionsRecord) (events : List Event) (world : World)
+        (first : Logged) (manager : ManagerRecord) (e : EnvelopeRecord) (m : DepartRecord) (l : Logged)
+        → run_of program nodes options events ≡ Some world
+        → slice_get world.nodes 0 ≡ Some first → first.node.barrier.manager ≡ Some manager → manager.cleans ≡ None
+        → Contains (pending world) e → e.message ≡ Depart m → slice_get world.nodes e.to ≡ Some l → m.collect ≡ false }
+    ensures one { (program : Program) (nodes : ℕ) (options : OptionsRecord) (events : List Event) (world : World)
+        (first : Logged) (manager : ManagerRecord) (cleans : List Bool) (n : ℕ) (l : Logged)
+        → run_of program nodes options events ≡ Some world
+        → slice_get world.nodes 0 ≡ Some first → first.node.barrier.manager ≡ Some manager → manager.cleans ≡ Some cleans
+        → slice_get world.nodes n ≡ Some l
+        → (is_inside l.node.mail.wait ≡ 1) × (count_by (arrive_from n) (pending world) + kept_of manager n ≡ 0)
+        × (count_by (discard_to n) (pending world) ≡ 0) }
+    ensures one_told { (program : Program) (nodes : ℕ) (options : OptionsRecord) (events : List Event) (world : World)
+        (first : Logged) (manager : ManagerRecord) (cleans : List Bool) (e : EnvelopeRecord) (m : DepartRecord) (l : Logged)
+        → run_of program nodes options events ≡ Some world
+        → slice_get world.nodes 0 ≡ Some first → first.node.barrier.manager ≡ Some manager → manager.cleans ≡ Some cleans
+        → Contains (pending world) e → e.message ≡ Depart m → slice_get world.nodes e.to ≡ Some l → m.collect ≡ true }
 {}
