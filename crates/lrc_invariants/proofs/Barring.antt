@@ -19,7 +19,7 @@ use Rattle.lrc_invariants.proofs.Standing.{Silent, Says, silent_none, silent_one
 
 pub data Barring (s : Site) : Came → Wait → Barrier → List Letter → Type 0 where
   -- the node arrives,
-  arrives_at : (m : ArriveRecord) {barrier : Barrier} → s.wait ≡ nothing → m.episode ≡ s.barrier.episode + 1
+  arrives_at : (m : ArriveRecord) {barrier : Barrier} → s.wait ≡ nothing → m.episode ≡ barrier.episode
       → barrier.manager ≡ s.barrier.manager → Barring s by_itself departure barrier (letter 0 (Arrive m) ∷ [])
   -- the manager keeps an arrival, or with the last one lets all depart,
   gathers_at : (from : ℕ) (m : ArriveRecord) (before after : ManagerRecord) {barrier : Barrier} → s.barrier.manager ≡ Some before

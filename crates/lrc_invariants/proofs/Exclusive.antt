@@ -146,6 +146,7 @@ module _ (program : Program) (nodes : ℕ) (options : OptionsRecord) where
     record Steady : Type 0 where
       cleans : new_manager.cleans ≡ old_manager.cleans
       departs : (k : ℕ) → count_by (depart_test k l.node.setting.me) mv.letters ≡ 0
+      words : (k : ℕ) → count_by (discard_test k l.node.setting.me) mv.letters ≡ 0
       free : old_manager.cleans ≡ None → (is_collecting after.node.mail.wait ≡ 0) × ((k : ℕ) → count_by (clean_test k l.node.setting.me) mv.letters ≡ 0)
 
     record Calm : Type 0 where
@@ -175,11 +176,13 @@ module _ (program : Program) (nodes : ℕ) (options : OptionsRecord) where
     -- with the manager as it was
     steady : (barrier : Barrier) (letters : List Letter) → after.node.barrier ≡ barrier → barrier.manager ≡ l.node.barrier.manager → mv.letters ≡ letters
         → ((k : ℕ) → count_by (depart_test k l.node.setting.me) letters ≡ 0)
+        → ((k : ℕ) → count_by (discard_test k l.node.setting.me) letters ≡ 0)
         → (old_manager.cleans ≡ None → (is_collecting after.node.mail.wait ≡ 0) × ((k : ℕ) → count_by (clean_test k l.node.setting.me) letters ≡ 0))
         → Steady
-    steady barrier letters b e ls departs free = record {
+    steady barrier letters b e ls departs words free = record {
       cleans = ap (λ (x : ManagerRecord). x.cleans) (same_as barrier b e);
       departs = λ k. ap (count_by (depart_test k l.node.setting.me)) ls ∙ departs k;
+      words = λ k. ap (count_by (discard_test k l.node.setting.me)) ls ∙ words k;
       free = λ none. ((free none).0, λ k. ap (count_by (clean_test k l.node.setting.me)) ls ∙ (free none).1 k);
     }
 
@@ -214,7 +217,7 @@ module _ (program : Program) (nodes : ℕ) (options : OptionsRecord) where
         → mv.came ≡ came → after.node.mail.wait ≡ wait → after.node.barrier ≡ barrier → mv.letters ≡ letters → Kind
     by_bars _ wait barrier letters (arrives_at m w episode same) c e b ls =
         stays
-        (steady barrier letters b same ls (λ k. refl) (λ none. (ap is_collecting e, λ k. refl)))
+        (steady barrier letters b same ls (λ k. refl) (λ k. refl) (λ none. (ap is_collecting e, λ k. refl)))
         (λ cleans some.
         let inside : is_inside l.node.mail.wait ≡ 1 = (h.busy cleans some n l at).0 in
         let outside : is_inside l.node.mail.wait ≡ 0 = ap is_inside w in
@@ -226,6 +229,7 @@ module _ (program : Program) (nodes : ℕ) (options : OptionsRecord) where
         (record {
           cleans = ap (λ (x : ManagerRecord). x.cleans) (named_as barrier now b manager_is ∙ g.after_is);
           departs = λ k. ap (count_by (depart_test k l.node.setting.me)) ls;
+          words = λ k. ap (count_by (discard_test k l.node.setting.me)) ls;
           free = λ none. (ap is_collecting e ∙ (h.free none n l at).1, λ k. ap (count_by (clean_test k l.node.setting.me)) ls);
         })
         (λ cleans some. none_some cleans (sym g.arrives.free ∙ some))
@@ -234,21 +238,21 @@ module _ (program : Program) (nodes : ℕ) (options : OptionsRecord) where
         (subst (λ x. LetGo x from (arrival_in m) now departures) (is was at_manager) (let_go was from (arrival_in m) now departures step))
     by_bars _ wait barrier letters (departs_at from m w no_collection) c e b ls =
         stays
-        (steady barrier letters b refl ls (λ k. refl) (λ none. (ap is_collecting e, λ k. refl)))
+        (steady barrier letters b refl ls (λ k. refl) (λ k. refl) (λ none. (ap is_collecting e, λ k. refl)))
         (λ cleans some. true_false (sym (told_collect true from m c (h.busy_departs cleans some)) ∙ no_collection))
     by_bars _ wait barrier letters (collects_at from m w collects silent) c e b ls =
         stays
-        (steady barrier letters b refl ls (λ k. (silent k).departs)
+        (steady barrier letters b refl ls (λ k. (silent k).departs) (λ k. (silent k).discards)
         (λ none. true_false (sym collects ∙ told_collect false from m c (h.free_departs none))))
         (λ cleans some. calm barrier letters b refl ls (ap is_inside e) (λ k. (silent k).arrives) (λ k. (silent k).discards))
     by_bars _ wait barrier letters (clean_once_at from m w collects) c e b ls =
         stays
-        (steady barrier letters b refl ls (λ k. refl)
+        (steady barrier letters b refl ls (λ k. refl) (λ k. refl)
         (λ none. true_false (sym collects ∙ told_collect false from m c (h.free_departs none))))
         (λ cleans some. calm barrier letters b refl ls (ap is_inside e) (λ k. refl) (λ k. refl))
     by_bars _ wait barrier letters (cleans_at had needs w) c e b ls =
         stays
-        (steady barrier letters b refl ls (λ k. refl)
+        (steady barrier letters b refl ls (λ k. refl) (λ k. refl)
         (λ none.
         let zero : is_collecting l.node.mail.wait ≡ 0 = (h.free none n l at).1 in
         let one : is_collecting l.node.mail.wait ≡ 1 = ap is_collecting w in
@@ -263,14 +267,14 @@ module _ (program : Program) (nodes : ℕ) (options : OptionsRecord) where
         (subst (λ x. LetDiscard x from episode now over) (is was at_manager) (let_discard was from episode now over step))
     by_bars _ wait barrier letters (discards_at from episode collection w) c e b ls =
         stays
-        (steady barrier letters b refl ls (λ k. refl) (λ none. (ap is_collecting e, λ k. refl)))
+        (steady barrier letters b refl ls (λ k. refl) (λ k. refl) (λ none. (ap is_collecting e, λ k. refl)))
         (λ cleans some.
         let zero : count_by (discard_to n) (pending world) ≡ 0 = (h.busy cleans some n l at).2 in
         let one : 1 ≤ count_by (discard_to n) (pending world) = told_discard from episode c in
         absurd (omega (arith, zero, one)))
     by_bars _ wait barrier letters (other_at same inside collecting silent) c e b ls =
         stays
-        (steady barrier letters b same ls (λ k. (silent k).departs)
+        (steady barrier letters b same ls (λ k. (silent k).departs) (λ k. (silent k).discards)
         (λ none. (ap is_collecting e ∙ collecting ∙ (h.free none n l at).1, λ k. (silent k).cleans)))
         (λ cleans some.
         calm barrier letters b same ls (ap is_inside e ∙ inside ∙ (h.busy cleans some n l at).0) (λ k. (silent k).arrives) (λ k. (silent k).discards))
