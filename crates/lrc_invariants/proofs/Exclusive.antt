@@ -84,38 +84,38 @@ module _ (program : Program) (nodes : ℕ) (options : OptionsRecord) where
       (at : slice_get world.nodes n ≡ Some l) (come : Comes world n input flight) (i : IsEntry l input entry after)
       (r : IsReached program nodes options world) (r' : IsReached program nodes options (with_turn world flight n entry after))
       (h : Exclusive world) where
-    abbrev next : World
+    abbrev pub next : World
     next = with_turn world flight n entry after
 
-    abbrev old_manager : ManagerRecord
+    abbrev pub old_manager : ManagerRecord
     old_manager = h.timely.stand.manager
 
-    timely : Timely program nodes options next
+    pub timely : Timely program nodes options next
     timely = all_timely program nodes options r'.events next r'.runs
 
-    abbrev new_manager : ManagerRecord
+    abbrev pub new_manager : ManagerRecord
     new_manager = timely.stand.manager
 
-    rel : unwrap_or after.node.barrier.manager old_manager ≡ new_manager
+    pub rel : unwrap_or after.node.barrier.manager old_manager ≡ new_manager
     rel = manager_after program nodes options world next h.timely.stand timely.stand n l after at refl
 
-    own_shape : NodeShape (setting_of program nodes n) options (record { node = l.node; turns = turns_of l.log })
+    pub own_shape : NodeShape (setting_of program nodes n) options (record { node = l.node; turns = turns_of l.log })
     own_shape = shape_at program nodes options r.events world n l r.runs at
 
-    me_is : l.node.setting.me ≡ n
+    pub me_is : l.node.setting.me ≡ n
     me_is = ap (λ (s : Setting). s.me) own_shape.setting
 
-    mv : Moves l.node (pending world) (pending next) nodes entry.turn after.node
+    pub mv : Moves l.node (pending world) (pending next) nodes entry.turn after.node
     mv =
         let t : Turned l.node entry.turn after.node = subst (Turns l.node) i.turn_is (turns l.node input) in
         moves l.node (pending world) (pending next) nodes entry.turn after.node (ap (λ (s : Setting). s.nodes) own_shape.setting) t.setting
         (stepped program nodes options world flight n l after input entry at come i r)
 
-    is : (x : ManagerRecord) → l.node.barrier.manager ≡ Some x → x ≡ old_manager
+    pub is : (x : ManagerRecord) → l.node.barrier.manager ≡ Some x → x ≡ old_manager
     is = its_manager program nodes options world h.timely.stand n l at
 
     -- what passes a test goes by what comes and what is sent
-    flow : (test : ℕ → Letter → Bool) → count_of test (pending next) + came_count test l.node.setting.me mv.came
+    pub flow : (test : ℕ → Letter → Bool) → count_of test (pending next) + came_count test l.node.setting.me mv.came
         ≡ count_of test (pending world) + count_by (test l.node.setting.me) mv.letters
     flow test = counts test l.node.setting.me mv.came mv.o (pending world) (pending next) entry.turn.out mv.letters mv.brings mv.goes mv.from mv.out
 
@@ -143,27 +143,27 @@ module _ (program : Program) (nodes : ℕ) (options : OptionsRecord) where
     -- ---- the kinds of turns
 
     -- what a collection that is under way, or none, needs of a turn that neither begins nor ends one
-    record Steady : Type 0 where
-      cleans : new_manager.cleans ≡ old_manager.cleans
-      departs : (k : ℕ) → count_by (depart_test k l.node.setting.me) mv.letters ≡ 0
-      words : (k : ℕ) → count_by (discard_test k l.node.setting.me) mv.letters ≡ 0
-      free : old_manager.cleans ≡ None → (is_collecting after.node.mail.wait ≡ 0) × ((k : ℕ) → count_by (clean_test k l.node.setting.me) mv.letters ≡ 0)
+    pub record Steady : Type 0 where
+      pub cleans : new_manager.cleans ≡ old_manager.cleans
+      pub departs : (k : ℕ) → count_by (depart_test k l.node.setting.me) mv.letters ≡ 0
+      pub words : (k : ℕ) → count_by (discard_test k l.node.setting.me) mv.letters ≡ 0
+      pub free : old_manager.cleans ≡ None → (is_collecting after.node.mail.wait ≡ 0) × ((k : ℕ) → count_by (clean_test k l.node.setting.me) mv.letters ≡ 0)
 
-    record Calm : Type 0 where
-      inside : is_inside after.node.mail.wait ≡ 1
-      arrives : (k : ℕ) → count_by (arrive_test k l.node.setting.me) mv.letters ≡ 0
-      discards : (k : ℕ) → count_by (discard_test k l.node.setting.me) mv.letters ≡ 0
-      arrivals : new_manager.arrivals ≡ old_manager.arrivals
+    pub record Calm : Type 0 where
+      pub inside : is_inside after.node.mail.wait ≡ 1
+      pub arrives : (k : ℕ) → count_by (arrive_test k l.node.setting.me) mv.letters ≡ 0
+      pub discards : (k : ℕ) → count_by (discard_test k l.node.setting.me) mv.letters ≡ 0
+      pub arrivals : new_manager.arrivals ≡ old_manager.arrivals
 
-    data Kind : Type 0 where
+    pub data Kind : Type 0 where
       stays : Steady → ((cleans : List Bool) → old_manager.cleans ≡ Some cleans → Calm) → Kind
       begins : (from : ℕ) (m : ArriveRecord) (now : ManagerRecord) (departures : List Departure) → mv.came ≡ comes from (Arrive m)
           → after.node.mail.wait ≡ l.node.mail.wait → new_manager ≡ now → mv.letters ≡ map departure_of departures
-          → LetGo old_manager from (arrival_in m) now departures → Kind
+          → LetGo old_manager from (arrival_in m) now departures → is_some l.node.barrier.manager ≡ true → Kind
       notes : (now : ManagerRecord) (from episode : ℕ) → new_manager ≡ now → mv.letters ≡ [] → after.node.mail.wait ≡ l.node.mail.wait
           → Noted old_manager from episode now → Kind
       ends : (now : ManagerRecord) (from episode over : ℕ) → mv.came ≡ comes from (Clean episode) → new_manager ≡ now → mv.letters ≡ discards_to (range_with_len 0 nodes) over
-          → LetDiscard old_manager from episode now over → Kind
+          → LetDiscard old_manager from episode now over → is_some l.node.barrier.manager ≡ true → Kind
 
     same_as : (barrier : Barrier) → after.node.barrier ≡ barrier → barrier.manager ≡ l.node.barrier.manager → new_manager ≡ old_manager
     same_as barrier b e =
@@ -235,7 +235,7 @@ module _ (program : Program) (nodes : ℕ) (options : OptionsRecord) where
         (λ cleans some. none_some cleans (sym g.arrives.free ∙ some))
     by_bars _ wait barrier letters (lets_depart_at from m was now departures at_manager step manager_is) c e b ls =
         begins from m now departures c e (named_as barrier now b manager_is) ls
-        (subst (λ x. LetGo x from (arrival_in m) now departures) (is was at_manager) (let_go was from (arrival_in m) now departures step))
+        (subst (λ x. LetGo x from (arrival_in m) now departures) (is was at_manager) (let_go was from (arrival_in m) now departures step)) (ap is_some at_manager)
     by_bars _ wait barrier letters (departs_at from m w no_collection) c e b ls =
         stays
         (steady barrier letters b refl ls (λ k. refl) (λ k. refl) (λ none. (ap is_collecting e, λ k. refl)))
@@ -264,7 +264,7 @@ module _ (program : Program) (nodes : ℕ) (options : OptionsRecord) where
     by_bars _ wait barrier letters (lets_discard_at from episode over was now at_manager step manager_is) c e b ls =
         ends now from episode over c (named_as barrier now b manager_is)
         (ls ∙ ap (λ (s : Setting). discards_to (range_with_len 0 s.nodes) over) own_shape.setting)
-        (subst (λ x. LetDiscard x from episode now over) (is was at_manager) (let_discard was from episode now over step))
+        (subst (λ x. LetDiscard x from episode now over) (is was at_manager) (let_discard was from episode now over step)) (ap is_some at_manager)
     by_bars _ wait barrier letters (discards_at from episode collection w) c e b ls =
         stays
         (steady barrier letters b refl ls (λ k. refl) (λ k. refl) (λ none. (ap is_collecting e, λ k. refl)))
@@ -279,7 +279,7 @@ module _ (program : Program) (nodes : ℕ) (options : OptionsRecord) where
         (λ cleans some.
         calm barrier letters b same ls (ap is_inside e ∙ inside ∙ (h.busy cleans some n l at).0) (λ k. (silent k).arrives) (λ k. (silent k).discards))
 
-    kind : Kind
+    pub kind : Kind
     kind = by_bars mv.came after.node.mail.wait after.node.barrier mv.letters mv.bars refl refl refl refl
 
     collect_in : Message → Option Bool
@@ -430,12 +430,12 @@ module _ (program : Program) (nodes : ℕ) (options : OptionsRecord) where
             | inr other ↦ ap is_collecting other ∙ (h.free old_none m b.old b.was).1
           ],
         )
-    free_by (begins from r now departures came_is wait_is manager_is letters_is g) none m lm at_m =
+    free_by (begins from r now departures came_is wait_is manager_is letters_is g managed) none m lm at_m =
         let k : Begun from r now departures came_is manager_is letters_is g m lm = begun from r now departures came_is manager_is letters_is g m lm at_m in
         (k.no_clean, ap is_collecting k.waits)
     free_by (notes now from episode manager_is letters_is wait_is g) none m lm at_m =
         none_some (slice_set g.cleans from true) (sym none ∙ ap (λ (x : ManagerRecord). x.cleans) (manager_is ∙ g.after_is))
-    free_by (ends now from episode over came_is manager_is letters_is g) none m lm at_m =
+    free_by (ends now from episode over came_is manager_is letters_is g managed) none m lm at_m =
         let k : Ended m lm = ended from episode over came_is letters_is m lm at_m in
         (k.no_clean, k.collecting)
 
@@ -460,7 +460,7 @@ module _ (program : Program) (nodes : ℕ) (options : OptionsRecord) where
           omega (arith, was, less, kept),
           omega (arith, word, fewer),
         )
-    busy_by (begins from r now departures came_is wait_is manager_is letters_is g) cleans some m lm at_m =
+    busy_by (begins from r now departures came_is wait_is manager_is letters_is g managed) cleans some m lm at_m =
         let k : Begun from r now departures came_is manager_is letters_is g m lm = begun from r now departures came_is manager_is letters_is g m lm at_m in
         (ap is_inside k.waits, k.none, k.no_word)
     busy_by (notes now from episode manager_is letters_is wait_is g) cleans some m lm at_m =
@@ -479,7 +479,7 @@ module _ (program : Program) (nodes : ℕ) (options : OptionsRecord) where
           omega (arith, was, less, kept),
           omega (arith, word, fewer),
         )
-    busy_by (ends now from episode over came_is manager_is letters_is g) cleans some m lm at_m =
+    busy_by (ends now from episode over came_is manager_is letters_is g managed) cleans some m lm at_m =
         none_some cleans (sym (ap (λ (x : ManagerRecord). x.cleans) (manager_is ∙ g.after_is)) ∙ some)
 
     free_departs_by : Kind → new_manager.cleans ≡ None → (e : EnvelopeRecord) (m : DepartRecord) (lm : Logged) → Contains (pending next) e
@@ -494,7 +494,7 @@ module _ (program : Program) (nodes : ℕ) (options : OptionsRecord) where
               let zero : count_by (depart_test e.to l.node.setting.me) mv.letters ≡ 0 = st.departs e.to in
               absurd (omega (arith, some, zero))
         ]
-    free_departs_by (begins from r now departures came_is wait_is manager_is letters_is g) none e m lm there says at_to =
+    free_departs_by (begins from r now departures came_is wait_is manager_is letters_is g managed) none e m lm there says at_to =
         elim (in-now mv.o (pending world) entry.turn.out (pending next) e mv.goes there) [
           | inl old ↦ absurd (not_told from r now departures came_is manager_is letters_is g e m lm old says at_to)
           | inr new ↦
@@ -503,7 +503,7 @@ module _ (program : Program) (nodes : ℕ) (options : OptionsRecord) where
         ]
     free_departs_by (notes now from episode manager_is letters_is wait_is g) none e m lm there says at_to =
         none_some (slice_set g.cleans from true) (sym none ∙ ap (λ (x : ManagerRecord). x.cleans) (manager_is ∙ g.after_is))
-    free_departs_by (ends now from episode over came_is manager_is letters_is g) none e m lm there says at_to =
+    free_departs_by (ends now from episode over came_is manager_is letters_is g managed) none e m lm there says at_to =
         let k : Ended e.to lm = ended from episode over came_is letters_is e.to lm at_to in
         let some : 1 ≤ count_by (depart_to e.to) (pending next) = is_told program nodes options next e m there says in
         let zero : count_by (depart_to e.to) (pending next) ≡ 0 = k.no_depart in
@@ -521,7 +521,7 @@ module _ (program : Program) (nodes : ℕ) (options : OptionsRecord) where
               let zero : count_by (depart_test e.to l.node.setting.me) mv.letters ≡ 0 = st.departs e.to in
               absurd (omega (arith, some, zero))
         ]
-    busy_departs_by (begins from r now departures came_is wait_is manager_is letters_is g) cleans some_is e m lm there says at_to =
+    busy_departs_by (begins from r now departures came_is wait_is manager_is letters_is g managed) cleans some_is e m lm there says at_to =
         elim (in-now mv.o (pending world) entry.turn.out (pending next) e mv.goes there) [
           | inl old ↦ absurd (not_told from r now departures came_is manager_is letters_is g e m lm old says at_to)
           | inr new ↦
@@ -538,7 +538,7 @@ module _ (program : Program) (nodes : ℕ) (options : OptionsRecord) where
               let zero : count_by (depart_test e.to l.node.setting.me) mv.letters ≡ 0 = ap (count_by (depart_test e.to l.node.setting.me)) letters_is in
               absurd (omega (arith, some, zero))
         ]
-    busy_departs_by (ends now from episode over came_is manager_is letters_is g) cleans some_is e m lm there says at_to =
+    busy_departs_by (ends now from episode over came_is manager_is letters_is g managed) cleans some_is e m lm there says at_to =
         none_some cleans (sym (ap (λ (x : ManagerRecord). x.cleans) (manager_is ∙ g.after_is)) ∙ some_is)
 
     next-exclusive : Exclusive next
