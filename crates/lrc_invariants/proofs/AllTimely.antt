@@ -182,7 +182,7 @@ module _ (program : Program) (nodes : ℕ) (options : OptionsRecord) where
           | inr new ↦
               let c : Brought l.node.setting.me m (Arrive new.0) (pending world) =
               brought l.node.setting.me m (Arrive new.0) mv.came mv.o (pending world) entry.turn.out (pending next) new.1 mv.brings mv.goes in
-              new.2
+              ap (λ (a : Arrival). a.time) new.2
               ∙ h.sent c.envelope new.0 b.old c.among c.message_is (ap (slice_get world.nodes) c.from_is ∙ b.was)
               ∙ sym (b.time (subst (λ k. 1 ≤ count_by (arrive_from k) (pending world) + kept_of h.stand.manager k) c.from_is
               (is_sent program nodes options world h.stand c.envelope new.0 c.among c.message_is)))

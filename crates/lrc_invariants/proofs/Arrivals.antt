@@ -48,7 +48,7 @@ module _ (s : Site) (manager : ManagerRecord) (is : (x : ManagerRecord) → s.ba
   -- an arrival that is kept afterwards was kept before, or came
   pub kept_before : (came : Came) (acts : Bool) (wait : Wait) (locks : Locks) (barrier : Barrier) (letters : List Letter)
       → Passing s came acts wait locks barrier letters → (m : ℕ) (a : Arrival) → slice_index_or (unwrap_or barrier.manager manager).arrivals m None ≡ Some a
-      → (slice_index_or manager.arrivals m None ≡ Some a) ⊎ ((r : ArriveRecord) × (came ≡ comes m (Arrive r)) × (a.time ≡ r.time))
+      → (slice_index_or manager.arrivals m None ≡ Some a) ⊎ ((r : ArriveRecord) × (came ≡ comes m (Arrive r)) × (a ≡ arrival_in r))
   kept_before _ _ _ _ barrier _ (arrives_so r after w n time same episode) m a e =
       inl (ap (λ xs. slice_index_or xs m None) (sym (by_keeps s.barrier.manager barrier.manager manager same is).arrivals) ∙ e)
   kept_before _ _ _ _ barrier _ (told_so from r w ne times quiet) m a e =
@@ -58,7 +58,7 @@ module _ (s : Site) (manager : ManagerRecord) (is : (x : ManagerRecord) → s.ba
       let now : slice_index_or (slice_set manager.arrivals from (Some (arrival_in r))) m None ≡ Some a =
       ap (λ (x : ManagerRecord). slice_index_or x.arrivals m None) (sym (ap (λ o. unwrap_or o manager) manager_is ∙ g.after_is)) ∙ e in
       elim (get_set manager.arrivals from m (arrival_in r) a now) [
-        | inl here ↦ inr (r, ap (λ k. comes k (Arrive r)) here.0, ap (λ (a : Arrival). a.time) (sym here.1))
+        | inl here ↦ inr (r, ap (λ k. comes k (Arrive r)) here.0, sym here.1)
         | inr there ↦ inl there
       ]
   kept_before _ _ _ _ barrier _ (lets_depart_so from r before after departures at sized step manager_is episode) m a e =

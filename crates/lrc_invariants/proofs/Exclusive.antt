@@ -50,7 +50,7 @@ waits_for_word departure e = refl
 waits_for_word (access need) e = refl
 waits_for_word (upkeep collection needs) e = absurd (omega (arith, e))
 
-one_of : (w : Wait) → awaits_depart w + awaits_word w ≤ 1
+pub one_of : (w : Wait) → awaits_depart w + awaits_word w ≤ 1
 one_of departure = omega arith
 one_of nothing = omega arith
 one_of (grant lock) = omega arith
@@ -404,7 +404,7 @@ module _ (program : Program) (nodes : ℕ) (options : OptionsRecord) where
     -- ---- after the turn
 
     -- a letter that is a Depart is counted
-    depart_sent : (e : EnvelopeRecord) (d : DepartRecord) → Contains entry.turn.out e → e.message ≡ Depart d
+    pub depart_sent : (e : EnvelopeRecord) (d : DepartRecord) → Contains entry.turn.out e → e.message ≡ Depart d
         → 1 ≤ count_by (depart_test e.to l.node.setting.me) mv.letters
     depart_sent e d there says =
         counted_in (depart_test e.to l.node.setting.me) mv.letters (letter_in e)

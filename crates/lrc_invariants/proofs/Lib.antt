@@ -49,3 +49,4 @@ pub mod DepartLine
 pub mod Timed
 pub mod Barring
 pub mod Exclusive
+pub mod Addressed

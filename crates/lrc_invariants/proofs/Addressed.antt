@@ -1,0 +1,160 @@
+-- In every run: messages of barriers go to node 0 or come from it, and are of the episode of the node that they concern.
+use Rattle.std.proofs.Common.{◌≡◌, ◌⊎◌, ℕ, zero, suc, ◌+◌, ◌<◌, ◌≤◌, ◌&&◌, List, [], ◌∷◌, Bool, true, false, cond, is_some, length, map, refl, sym, ap, subst, ◌∙◌, inl, inr, arith}
+use Rattle.std.specs.Prelude.{Option, Some, None, ◌==◌, Contains, unwrap_or, count_by, slice_get, slice_set, slice_index_or}
+use Rattle.std.specs.List.{range_with_len, enumerate_from, filter_map, list_all}
+use Rattle.std.proofs.lemmas.Bool.{cases_eq, eq-eqb, and_from}
+use Rattle.std.proofs.lemmas.Option.{same_Some, slice_get_within}
+use Rattle.lrc_lang.specs.declared.program.Program.{Program}
+use Rattle.lrc_wire.specs.Envelope.{EnvelopeRecord}
+use Rattle.lrc_wire.specs.Records.{ArriveRecord, DepartRecord}
+use Rattle.lrc_wire.specs.declared.message.Message.{Message}
+use Rattle.lrc_wire.specs.declared.message.Message.TheVariants.{Arrive, Depart, Clean, Discard}
+use Rattle.lrc_store.proofs.Orders.{cases_Contains, none_Contains}
+use Rattle.lrc_barrier.specs.declared.arrival.Arrival.{Arrival}
+use Rattle.lrc_barrier.specs.declared.departure.Departure.{Departure}
+use Rattle.lrc_barrier.specs.Barrier.{ManagerRecord, with_arrival, arrivals_of, departure_to}
+use Rattle.lrc_protocol.specs.declared.event.Event.{Event}
+use Rattle.lrc_protocol.specs.Mail.{Letter, Wait, nothing, grant, departure, access, upkeep, discard}
+use Rattle.lrc_protocol.specs.Letters.{letter, departure_of, discards_to}
+use Rattle.lrc_protocol.specs.Locks.{Locks}
+use Rattle.lrc_protocol.specs.Barrier.{Barrier}
+use Rattle.lrc_protocol.specs.Node.{Node, OptionsRecord}
+use Rattle.lrc_protocol.specs.Log.{Input, EntryRecord, Logged}
+use Rattle.lrc_protocol.specs.World.{World, Flying, fresh_world, with_turn, pending, run_of}
+use Rattle.lrc_protocol.proofs.Worlds.{IsEntry, get_set_same, get_set_other}
+use Rattle.lrc_protocol.proofs.Induction.{Comes}
+use Rattle.lrc_invariants.specs.Barriers.{says_arrive, says_depart, says_clean, says_discard, arrive_from, depart_to, clean_from, discard_to, kept_of, noted_of, awaits_depart, awaits_word}
+use Rattle.lrc_invariants.proofs.Sends.{Came, comes, Site, site_of, letter_in, arrival_in}
+use Rattle.lrc_invariants.proofs.Managers.{LetGo, Noted, LetDiscard, departs-only, discards-only}
+use Rattle.lrc_invariants.proofs.Standing.{arrive_test, depart_test, clean_test, discard_test}
+use Rattle.lrc_invariants.proofs.Moves.{in-now, Brought, brought, sent_from, among_letters, counted_in}
+use Rattle.lrc_invariants.proofs.Arrivals.{get_set, kept_before}
+use Rattle.lrc_invariants.proofs.Barring.{Barring, arrives_at, gathers_at, lets_depart_at, departs_at, collects_at, clean_once_at, cleans_at, notes_at, lets_discard_at, discards_at, other_at}
+use Rattle.lrc_invariants.proofs.Passing.{Passing, arrives_so, told_so, gathers_so, lets_depart_so, other_so}
+use Rattle.lrc_invariants.proofs.AllStand.{AllStand}
+use Rattle.lrc_invariants.proofs.Timely.{Timely, is_kept, is_sent, is_told}
+use Rattle.lrc_invariants.proofs.Exclusive.{Exclusive, all_exclusive, one_of, Kind, stays, begins, notes, ends, kind, mv, me_is, is, rel, depart_sent}
+use Rattle.lrc_invariants.proofs.Reached.{IsReached, KeptByReached, by_reached}
+
+-- ---- what a letter says
+
+none_such : {X : Type 0} (test : Letter → Bool) (letters : List Letter) (x : Letter) → count_by test letters ≡ 0 → Contains letters x → test x ≡ true → X
+none_such test letters x none there passes =
+    let some : 1 ≤ count_by test letters = counted_in test letters x there passes in
+    let never : ⊥ = absurd (omega (arith, none, some)) in
+    absurd never
+
+passes_arrive : (me : ℕ) (x : Letter) (m : ArriveRecord) → x.message ≡ Arrive m → arrive_test me me x ≡ true
+passes_arrive me x m e = and_from (says_arrive x.message) (me == me) (ap says_arrive e) (eq-eqb me me refl)
+
+passes_clean : (me : ℕ) (x : Letter) (episode : ℕ) → x.message ≡ Clean episode → clean_test me me x ≡ true
+passes_clean me x episode e = and_from (says_clean x.message) (me == me) (ap says_clean e) (eq-eqb me me refl)
+
+passes_discard : (me : ℕ) (x : Letter) (episode : ℕ) → x.message ≡ Discard episode → discard_test x.to me x ≡ true
+passes_discard me x episode e = and_from (says_discard x.message) (x.to == x.to) (ap says_discard e) (eq-eqb x.to x.to refl)
+
+episode_in : Message → Option ℕ
+episode_in (Arrive m) = Some m.episode
+episode_in (Depart m) = Some m.episode
+episode_in (Clean episode) = Some episode
+episode_in (Discard episode) = Some episode
+episode_in _ = None
+
+-- an Arrive goes to node 0, with the node's episode
+arrive_letter : (s : Site) (came : Came) (wait : Wait) (barrier : Barrier) (letters : List Letter) → Barring s came wait barrier letters
+    → (x : Letter) (m : ArriveRecord) → Contains letters x → x.message ≡ Arrive m → (x.to ≡ 0) × (m.episode ≡ barrier.episode)
+unfolding episode_in
+arrive_letter s _ _ barrier letters (arrives_at r w episode same) x m there e = elim (cases_Contains (letter 0 (Arrive r)) [] x there) [
+  | inl is ↦
+      (ap (λ (x : Letter). x.to) (sym is),
+      same_Some m.episode r.episode (ap episode_in (sym e) ∙ ap (λ (x : Letter). episode_in x.message) (sym is)) ∙ episode)
+  | inr none ↦ absurd (none_Contains x none)
+]
+arrive_letter s _ _ _ letters (gathers_at from r before after at step manager_is) x m there e = absurd (none_Contains x there)
+arrive_letter s _ _ _ letters (lets_depart_at from r before after departures at step manager_is) x m there e =
+    none_such (arrive_test s.me s.me) letters x (departs-only (arrive_test s.me s.me) (λ d. refl) departures) there (passes_arrive s.me x m e)
+arrive_letter s _ _ _ letters (departs_at from r w no_collection) x m there e = absurd (none_Contains x there)
+arrive_letter s _ _ _ letters (collects_at from r w collects silent) x m there e =
+    none_such (arrive_test s.me s.me) letters x (silent s.me).arrives there (passes_arrive s.me x m e)
+arrive_letter s _ _ _ letters (clean_once_at from r w collects) x m there e =
+    none_such (arrive_test s.me s.me) letters x refl there (passes_arrive s.me x m e)
+arrive_letter s _ _ _ letters (cleans_at had needs w) x m there e =
+    none_such (arrive_test s.me s.me) letters x refl there (passes_arrive s.me x m e)
+arrive_letter s _ _ _ letters (notes_at from episode before after at step manager_is) x m there e = absurd (none_Contains x there)
+arrive_letter s _ _ _ letters (lets_discard_at from episode over before after at step manager_is) x m there e =
+    none_such (arrive_test s.me s.me) letters x (discards-only (arrive_test s.me s.me) over (λ to. refl) (range_with_len 0 s.nodes)) there (passes_arrive s.me x m e)
+arrive_letter s _ _ _ letters (discards_at from episode collection w) x m there e = absurd (none_Contains x there)
+arrive_letter s _ _ _ letters (other_at same inside collecting silent) x m there e =
+    none_such (arrive_test s.me s.me) letters x (silent s.me).arrives there (passes_arrive s.me x m e)
+
+-- a Clean goes to node 0, with the node's episode
+clean_letter : (s : Site) (came : Came) (wait : Wait) (barrier : Barrier) (letters : List Letter) → Barring s came wait barrier letters
+    → (x : Letter) (k : ℕ) → Contains letters x → x.message ≡ Clean k → (x.to ≡ 0) × (k ≡ barrier.episode)
+unfolding episode_in
+clean_letter s _ _ barrier letters (arrives_at r w episode same) x k there e =
+    none_such (clean_test s.me s.me) letters x refl there (passes_clean s.me x k e)
+clean_letter s _ _ _ letters (gathers_at from r before after at step manager_is) x k there e = absurd (none_Contains x there)
+clean_letter s _ _ _ letters (lets_depart_at from r before after departures at step manager_is) x k there e =
+    none_such (clean_test s.me s.me) letters x (departs-only (clean_test s.me s.me) (λ d. refl) departures) there (passes_clean s.me x k e)
+clean_letter s _ _ _ letters (departs_at from r w no_collection) x k there e = absurd (none_Contains x there)
+clean_letter s _ _ _ letters (collects_at from r w collects silent) x k there e =
+    none_such (clean_test s.me s.me) letters x (silent s.me).cleans there (passes_clean s.me x k e)
+clean_letter s _ _ barrier letters (clean_once_at from r w collects) x k there e = elim (cases_Contains (letter 0 (Clean s.barrier.episode)) [] x there) [
+  | inl is ↦
+      (ap (λ (x : Letter). x.to) (sym is),
+      same_Some k s.barrier.episode (ap episode_in (sym e) ∙ ap (λ (x : Letter). episode_in x.message) (sym is)))
+  | inr none ↦ absurd (none_Contains x none)
+]
+clean_letter s _ _ barrier letters (cleans_at had needs w) x k there e = elim (cases_Contains (letter 0 (Clean s.barrier.episode)) [] x there) [
+  | inl is ↦
+      (ap (λ (x : Letter). x.to) (sym is),
+      same_Some k s.barrier.episode (ap episode_in (sym e) ∙ ap (λ (x : Letter). episode_in x.message) (sym is)))
+  | inr none ↦ absurd (none_Contains x none)
+]
+clean_letter s _ _ _ letters (notes_at from episode before after at step manager_is) x k there e = absurd (none_Contains x there)
+clean_letter s _ _ _ letters (lets_discard_at from episode over before after at step manager_is) x k there e =
+    none_such (clean_test s.me s.me) letters x (discards-only (clean_test s.me s.me) over (λ to. refl) (range_with_len 0 s.nodes)) there (passes_clean s.me x k e)
+clean_letter s _ _ _ letters (discards_at from episode collection w) x k there e = absurd (none_Contains x there)
+clean_letter s _ _ _ letters (other_at same inside collecting silent) x k there e =
+    none_such (clean_test s.me s.me) letters x (silent s.me).cleans there (passes_clean s.me x k e)
+
+-- a word to discard is of the episode that is over
+word_letter : (nodes : List ℕ) (over : ℕ) (x : Letter) (k : ℕ) → Contains (discards_to nodes over) x → x.message ≡ Discard k → k ≡ over
+unfolding episode_in
+word_letter [] over x k there e = absurd (none_Contains x there)
+word_letter (to ∷ nodes) over x k there e = elim (cases_Contains (letter to (Discard over)) (discards_to nodes over) x there) [
+  | inl is ↦ same_Some k over (ap episode_in (sym e) ∙ ap (λ (x : Letter). episode_in x.message) (sym is))
+  | inr later ↦ word_letter nodes over x k later e
+]
+
+-- a departure is of the episode of its node's arrival
+depart_letter : (all : List Arrival) (first : ℕ) (places : List (Option Arrival)) (x : Letter) (m : DepartRecord) → list_all is_some places ≡ true
+    → Contains (map departure_of (map (departure_to all) (enumerate_from first (filter_map (λ a. a) places)))) x → x.message ≡ Depart m
+    → (k : ℕ) × (x.to ≡ first + k) × ((a : Arrival) × (slice_index_or places k None ≡ Some a) × (m.episode ≡ a.episode))
+unfolding episode_in
+depart_letter all first [] x m full there e = absurd (none_Contains x there)
+depart_letter all first (None ∷ places) x m full there e = cc
+depart_letter all first (Some a ∷ places) x m full there e =
+    elim (cases_Contains (departure_of (departure_to all (first, a))) (map departure_of (map (departure_to all) (enumerate_from (first + 1) (filter_map (λ a. a) places)))) x there) [
+      | inl is ↦
+          (0, (let to : x.to ≡ first = ap (λ (x : Letter). x.to) (sym is) in omega (arith, to)),
+          (a, refl, same_Some m.episode a.episode (ap episode_in (sym e) ∙ ap (λ (x : Letter). episode_in x.message) (sym is))))
+      | inr later ↦
+          let (k, to, rest) = depart_letter all (first + 1) places x m full later e in
+          (suc k, omega (arith, to), rest)
+    ]
+
+-- who waits for something keeps its episode
+episode_kept : (s : Site) (came : Came) (acts : Bool) (wait : Wait) (locks : Locks) (barrier : Barrier) (letters : List Letter)
+    → Passing s came acts wait locks barrier letters → (s.wait ≡ nothing → ⊥) → barrier.episode ≡ s.barrier.episode
+episode_kept s _ _ _ _ _ _ (arrives_so r after w n time same episode) some = absurd (some w)
+episode_kept s _ _ _ _ _ _ (told_so from r w ne times quiet) some = refl
+episode_kept s _ _ _ _ _ _ (gathers_so from r before after at step manager_is episode) some = episode
+episode_kept s _ _ _ _ _ _ (lets_depart_so from r before after departures at sized step manager_is episode) some = episode
+episode_kept s _ _ _ _ _ _ (other_so quiet keeps episode waits time times) some = episode
+
+departs_something : (w : Wait) → 1 ≤ awaits_depart w → w ≡ nothing → ⊥
+departs_something w some e = let zero : awaits_depart w ≡ 0 = ap awaits_depart e in absurd (omega (arith, some, zero))
+
+discards_something : (w : Wait) → 1 ≤ awaits_word w → w ≡ nothing → ⊥
+discards_something w some e = let zero : awaits_word w ≡ 0 = ap awaits_word e in absurd (omega (arith, some, zero))
