@@ -33,6 +33,7 @@ use Rattle.lrc_invariants.proofs.Barring.{Barring, arrives_at, gathers_at, lets_
 use Rattle.lrc_invariants.proofs.Passing.{Passing, arrives_so, told_so, gathers_so, lets_depart_so, other_so}
 use Rattle.lrc_invariants.proofs.AllStand.{AllStand}
 use Rattle.lrc_invariants.proofs.Timely.{Timely, is_kept, is_sent, is_told}
+use Rattle.lrc_invariants.proofs.AllTimely.{manager_after}
 use Rattle.lrc_invariants.proofs.Exclusive.{Exclusive, all_exclusive, one_of, Kind, stays, begins, notes, ends, kind, mv, me_is, is, rel, depart_sent}
 use Rattle.lrc_invariants.proofs.Reached.{IsReached, KeptByReached, by_reached}
 
@@ -158,3 +159,141 @@ departs_something w some e = let zero : awaits_depart w ≡ 0 = ap awaits_depart
 
 discards_something : (w : Wait) → 1 ≤ awaits_word w → w ≡ nothing → ⊥
 discards_something w some e = let zero : awaits_word w ≡ 0 = ap awaits_word e in absurd (omega (arith, some, zero))
+
+module _ (program : Program) (nodes : ℕ) (options : OptionsRecord) where
+  pub record Addressed (world : World) : Type 0 where
+    pub exclusive : Exclusive program nodes options world
+    pub arrive : (e : EnvelopeRecord) (m : ArriveRecord) → Contains (pending world) e → e.message ≡ Arrive m
+        → (e.to ≡ 0) × ((l : Logged) → slice_get world.nodes e.from ≡ Some l → m.episode ≡ l.node.barrier.episode)
+    pub kept : (n : ℕ) (a : Arrival) (l : Logged) → slice_index_or exclusive.timely.stand.manager.arrivals n None ≡ Some a
+        → slice_get world.nodes n ≡ Some l → a.episode ≡ l.node.barrier.episode
+    pub depart : (e : EnvelopeRecord) (m : DepartRecord) → Contains (pending world) e → e.message ≡ Depart m
+        → (e.from ≡ 0) × ((l : Logged) → slice_get world.nodes e.to ≡ Some l → m.episode ≡ l.node.barrier.episode)
+    pub clean : (e : EnvelopeRecord) (episode : ℕ) → Contains (pending world) e → e.message ≡ Clean episode
+        → (e.to ≡ 0) × ((l : Logged) → slice_get world.nodes e.from ≡ Some l → episode ≡ l.node.barrier.episode)
+    pub word : (e : EnvelopeRecord) (episode : ℕ) → Contains (pending world) e → e.message ≡ Discard episode
+        → (e.from ≡ 0) × ((l : Logged) → slice_get world.nodes e.to ≡ Some l → episode ≡ l.node.barrier.episode)
+
+  module _ (world : World) (flight : List Flying) (n : ℕ) (l after : Logged) (input : Input) (entry : EntryRecord)
+    (at : slice_get world.nodes n ≡ Some l) (come : Comes world n input flight) (i : IsEntry l input entry after)
+    (r : IsReached program nodes options world) (r' : IsReached program nodes options (with_turn world flight n entry after))
+    (h : Addressed world) where
+    abbrev next : World
+    next = with_turn world flight n entry after
+
+    abbrev old_manager : ManagerRecord
+    old_manager = h.exclusive.timely.stand.manager
+
+    exclusive : Exclusive program nodes options next
+    exclusive = all_exclusive program nodes options r'.events next r'.runs
+
+    mine : l.node.setting.me ≡ n
+    mine = me_is program nodes options world flight n l after input entry at come i r r' h.exclusive
+
+    -- a node after the turn, and before: who waited for something has the episode that it had
+    record Before (m : ℕ) (lm : Logged) : Type 0 where
+      old : Logged
+      was : slice_get world.nodes m ≡ Some old
+      episode : (old.node.mail.wait ≡ nothing → ⊥) → lm.node.barrier.episode ≡ old.node.barrier.episode
+
+    before : (m : ℕ) (lm : Logged) → slice_get next.nodes m ≡ Some lm → Before m lm
+    before m lm there = elim (cases_eq n m) [
+      | inl e ↦
+          let same : after ≡ lm = same_Some after lm (sym (get_set_same world.nodes n l after at) ∙ ap (slice_get (slice_set world.nodes n after)) e ∙ there) in
+          let moves : _ = mv program nodes options world flight n l after input entry at come i r r' h.exclusive in
+          record {
+            old = l;
+            was = subst (λ k. slice_get world.nodes k ≡ Some l) e at;
+            episode = λ some.
+                ap (λ (x : Logged). x.node.barrier.episode) (sym same)
+                ∙ episode_kept (site_of l.node) moves.came moves.acts after.node.mail.wait after.node.locks after.node.barrier moves.letters moves.passes some;
+          }
+      | inr ne ↦ record { old = lm; was = sym (get_set_other world.nodes n m after ne) ∙ there; episode = λ some. refl }
+    ]
+
+    -- who has arrived, is told to depart, is clean or is told to discard waits for something
+    gate_waits : (m : ℕ) (x : Logged) → slice_get world.nodes m ≡ Some x
+        → 1 ≤ count_by (arrive_from m) (pending world) + kept_of old_manager m + count_by (depart_to m) (pending world) → x.node.mail.wait ≡ nothing → ⊥
+    gate_waits m x at_m some =
+        let so : count_by (arrive_from m) (pending world) + kept_of old_manager m + count_by (depart_to m) (pending world) ≡ awaits_depart x.node.mail.wait =
+        (h.exclusive.timely.stand.each m x at_m).departs in
+        departs_something x.node.mail.wait (omega (arith, some, so))
+
+    word_waits : (m : ℕ) (x : Logged) → slice_get world.nodes m ≡ Some x
+        → 1 ≤ count_by (clean_from m) (pending world) + noted_of old_manager m + count_by (discard_to m) (pending world) → x.node.mail.wait ≡ nothing → ⊥
+    word_waits m x at_m some =
+        let so : count_by (clean_from m) (pending world) + noted_of old_manager m + count_by (discard_to m) (pending world) ≡ awaits_word x.node.mail.wait =
+        (h.exclusive.timely.stand.each m x at_m).discards in
+        discards_something x.node.mail.wait (omega (arith, some, so))
+
+    -- what is sent is from the node, and so is an arrival's or a Clean's node
+    own_node : (e : EnvelopeRecord) → Contains entry.turn.out e → (lm : Logged) → slice_get next.nodes e.from ≡ Some lm → (e.from ≡ n) × (after ≡ lm)
+    own_node e new lm at_from =
+        let moves : _ = mv program nodes options world flight n l after input entry at come i r r' h.exclusive in
+        let from_is : e.from ≡ n = sent_from l.node.setting.me entry.turn.out e moves.from new ∙ mine in
+        (from_is, same_Some after lm (sym (get_set_same world.nodes n l after at) ∙ ap (slice_get next.nodes) (sym from_is) ∙ at_from))
+
+    sent_letter : (e : EnvelopeRecord) → Contains entry.turn.out e
+        → Contains (mv program nodes options world flight n l after input entry at come i r r' h.exclusive).letters (letter_in e)
+    sent_letter e new =
+        let moves : _ = mv program nodes options world flight n l after input entry at come i r r' h.exclusive in
+        subst (λ ls. Contains ls (letter_in e)) moves.out (among_letters entry.turn.out e new)
+
+    arrive-kept : (e : EnvelopeRecord) (m : ArriveRecord) → Contains (pending next) e → e.message ≡ Arrive m
+        → (e.to ≡ 0) × ((lm : Logged) → slice_get next.nodes e.from ≡ Some lm → m.episode ≡ lm.node.barrier.episode)
+    arrive-kept e m there says =
+        let moves : _ = mv program nodes options world flight n l after input entry at come i r r' h.exclusive in
+        elim (in-now moves.o (pending world) entry.turn.out (pending next) e moves.goes there) [
+          | inl old ↦
+              ((h.arrive e m old says).0,
+              λ lm at_from.
+              let b : Before e.from lm = before e.from lm at_from in
+              let some : 1 ≤ count_by (arrive_from e.from) (pending world) + kept_of old_manager e.from =
+              is_sent program nodes options world h.exclusive.timely.stand e m old says in
+              (h.arrive e m old says).1 b.old b.was ∙ sym (b.episode (gate_waits e.from b.old b.was (omega (arith, some)))))
+          | inr new ↦
+              let k : _ = arrive_letter (site_of l.node) moves.came after.node.mail.wait after.node.barrier moves.letters moves.bars (letter_in e) m (sent_letter e new) says in
+              (k.0, λ lm at_from. k.1 ∙ ap (λ (x : Logged). x.node.barrier.episode) (own_node e new lm at_from).1)
+        ]
+
+    clean-kept : (e : EnvelopeRecord) (episode : ℕ) → Contains (pending next) e → e.message ≡ Clean episode
+        → (e.to ≡ 0) × ((lm : Logged) → slice_get next.nodes e.from ≡ Some lm → episode ≡ lm.node.barrier.episode)
+    clean-kept e episode there says =
+        let moves : _ = mv program nodes options world flight n l after input entry at come i r r' h.exclusive in
+        elim (in-now moves.o (pending world) entry.turn.out (pending next) e moves.goes there) [
+          | inl old ↦
+              ((h.clean e episode old says).0,
+              λ lm at_from.
+              let b : Before e.from lm = before e.from lm at_from in
+              let some : 1 ≤ count_by (clean_from e.from) (pending world) =
+              counted_in (clean_from e.from) (pending world) e old
+              (and_from (says_clean e.message) (e.from == e.from) (ap says_clean says) (eq-eqb e.from e.from refl)) in
+              (h.clean e episode old says).1 b.old b.was ∙ sym (b.episode (word_waits e.from b.old b.was (omega (arith, some)))))
+          | inr new ↦
+              let k : _ = clean_letter (site_of l.node) moves.came after.node.mail.wait after.node.barrier moves.letters moves.bars (letter_in e) episode (sent_letter e new) says in
+              (k.0, λ lm at_from. k.1 ∙ ap (λ (x : Logged). x.node.barrier.episode) (own_node e new lm at_from).1)
+        ]
+
+    kept-kept : (m : ℕ) (a : Arrival) (lm : Logged) → slice_index_or exclusive.timely.stand.manager.arrivals m None ≡ Some a
+        → slice_get next.nodes m ≡ Some lm → a.episode ≡ lm.node.barrier.episode
+    kept-kept m a lm there at_m =
+        let moves : _ = mv program nodes options world flight n l after input entry at come i r r' h.exclusive in
+        let b : Before m lm = before m lm at_m in
+        elim (kept_before (site_of l.node) old_manager (is program nodes options world flight n l after input entry at come i r r' h.exclusive)
+        moves.came moves.acts after.node.mail.wait after.node.locks after.node.barrier moves.letters moves.passes m a
+        (ap (λ (x : ManagerRecord). slice_index_or x.arrivals m None)
+        (manager_after program nodes options world next h.exclusive.timely.stand exclusive.timely.stand n l after at refl) ∙ there)) [
+          | inl old ↦
+              let some : 1 ≤ count_by (arrive_from m) (pending world) + kept_of old_manager m =
+              is_kept program nodes options world h.exclusive.timely.stand m a old in
+              h.kept m a b.old old b.was ∙ sym (b.episode (gate_waits m b.old b.was (omega (arith, some))))
+          | inr new ↦
+              let c : Brought l.node.setting.me m (Arrive new.0) (pending world) =
+              brought l.node.setting.me m (Arrive new.0) moves.came moves.o (pending world) entry.turn.out (pending next) new.1 moves.brings moves.goes in
+              let some : 1 ≤ count_by (arrive_from m) (pending world) + kept_of old_manager m =
+              subst (λ k. 1 ≤ count_by (arrive_from k) (pending world) + kept_of old_manager k) c.from_is
+              (is_sent program nodes options world h.exclusive.timely.stand c.envelope new.0 c.among c.message_is) in
+              ap (λ (a : Arrival). a.episode) new.2
+              ∙ (h.arrive c.envelope new.0 c.among c.message_is).1 b.old (ap (slice_get world.nodes) c.from_is ∙ b.was)
+              ∙ sym (b.episode (gate_waits m b.old b.was (omega (arith, some))))
+        ]
