@@ -34,7 +34,7 @@ use Rattle.lrc_invariants.proofs.Passing.{Passing, arrives_so, told_so, gathers_
 use Rattle.lrc_invariants.proofs.AllStand.{AllStand}
 use Rattle.lrc_invariants.proofs.Timely.{Timely, is_kept, is_sent, is_told}
 use Rattle.lrc_invariants.proofs.AllTimely.{manager_after}
-use Rattle.lrc_invariants.proofs.Exclusive.{Exclusive, all_exclusive, one_of, Kind, stays, begins, notes, ends, kind, mv, me_is, is, rel, depart_sent}
+use Rattle.lrc_invariants.proofs.Exclusive.{Exclusive, all_exclusive, one_of, Kind, stays, begins, notes, ends, kind, mv, timely, me_is, is, depart_sent, fresh_wait}
 use Rattle.lrc_invariants.proofs.Reached.{IsReached, KeptByReached, by_reached}
 
 -- ---- what a letter says
@@ -297,3 +297,156 @@ module _ (program : Program) (nodes : ℕ) (options : OptionsRecord) where
               ∙ (h.arrive c.envelope new.0 c.among c.message_is).1 b.old (ap (slice_get world.nodes) c.from_is ∙ b.was)
               ∙ sym (b.episode (gate_waits m b.old b.was (omega (arith, some))))
         ]
+
+    zero_node : is_some l.node.barrier.manager ≡ true → n ≡ 0
+    zero_node managed = elim (cases_eq n 0) [
+      | inl e ↦ e
+      | inr ne ↦ absurd (impossible (sym (ap is_some (h.exclusive.timely.stand.nowhere n l at ne)) ∙ managed))
+    ]
+      where
+        impossible : false ≡ true → ⊥
+        impossible e = cc
+
+    Told : EnvelopeRecord → ℕ → Type 0
+    Told e episode = (e.from ≡ 0) × ((lm : Logged) → slice_get next.nodes e.to ≡ Some lm → episode ≡ lm.node.barrier.episode)
+
+    depart-new : (e : EnvelopeRecord) (m : DepartRecord) → Contains entry.turn.out e → e.message ≡ Depart m
+        → Kind program nodes options world flight n l after input entry at come i r r' h.exclusive → Told e m.episode
+    unfolding Told
+    depart-new e m new says (stays st calm_if) =
+        let some : _ = depart_sent program nodes options world flight n l after input entry at come i r r' h.exclusive e m new says in
+        let none : _ = st.departs e.to in
+        absurd (omega (arith, some, none))
+    depart-new e m new says (begins from a now departures came_is wait_is manager_is letters_is g managed) =
+        let moves : _ = mv program nodes options world flight n l after input entry at come i r r' h.exclusive in
+        let full : ManagerRecord = with_arrival old_manager from (arrival_in a) in
+        let told : (k : ℕ) × (e.to ≡ 0 + k) × ((x : Arrival) × (slice_index_or full.arrivals k None ≡ Some x) × (m.episode ≡ x.episode)) =
+        depart_letter (arrivals_of full) 0 full.arrivals (letter_in e) m g.all
+        (subst (λ ls. Contains ls (letter_in e)) (letters_is ∙ ap (map departure_of) g.told) (sent_letter e new)) says in
+        let to_is : told.0 ≡ e.to = (let t : e.to ≡ 0 + told.0 = told.1 in omega (arith, t)) in
+        let x : Arrival = told.2.0 in
+        (sent_from l.node.setting.me entry.turn.out e moves.from new ∙ mine ∙ zero_node managed,
+        λ lm at_to.
+        let b : Before e.to lm = before e.to lm at_to in
+        told.2.2
+        ∙ elim (get_set old_manager.arrivals from told.0 (arrival_in a) x told.2.1) [
+          | inl here ↦
+              let c : Brought l.node.setting.me from (Arrive a) (pending world) =
+              brought l.node.setting.me from (Arrive a) moves.came moves.o (pending world) entry.turn.out (pending next) came_is moves.brings moves.goes in
+              let to_from : c.envelope.from ≡ e.to = c.from_is ∙ here.0 ∙ to_is in
+              let some : 1 ≤ count_by (arrive_from e.to) (pending world) + kept_of old_manager e.to =
+              subst (λ k. 1 ≤ count_by (arrive_from k) (pending world) + kept_of old_manager k) to_from
+              (is_sent program nodes options world h.exclusive.timely.stand c.envelope a c.among c.message_is) in
+              ap (λ (a : Arrival). a.episode) (sym here.1)
+              ∙ (h.arrive c.envelope a c.among c.message_is).1 b.old (ap (slice_get world.nodes) to_from ∙ b.was)
+              ∙ sym (b.episode (gate_waits e.to b.old b.was (omega (arith, some))))
+          | inr there ↦
+              let kept : slice_index_or old_manager.arrivals e.to None ≡ Some x = subst (λ k. slice_index_or old_manager.arrivals k None ≡ Some x) to_is there in
+              let some : 1 ≤ count_by (arrive_from e.to) (pending world) + kept_of old_manager e.to =
+              is_kept program nodes options world h.exclusive.timely.stand e.to x kept in
+              h.kept e.to x b.old kept b.was ∙ sym (b.episode (gate_waits e.to b.old b.was (omega (arith, some))))
+        ])
+    depart-new e m new says (notes now from episode manager_is letters_is wait_is g) =
+        absurd (none_Contains (letter_in e) (subst (λ ls. Contains ls (letter_in e)) letters_is (sent_letter e new)))
+    depart-new e m new says (ends now from episode over came_is manager_is letters_is g managed) =
+        let some : _ = depart_sent program nodes options world flight n l after input entry at come i r r' h.exclusive e m new says in
+        let none : _ =
+        ap (count_by (depart_test e.to l.node.setting.me)) letters_is
+        ∙ discards-only (depart_test e.to l.node.setting.me) over (λ to. refl) (range_with_len 0 nodes) in
+        absurd (omega (arith, some, none))
+
+    depart-kept : (e : EnvelopeRecord) (m : DepartRecord) → Contains (pending next) e → e.message ≡ Depart m → Told e m.episode
+    unfolding Told
+    depart-kept e m there says =
+        let moves : _ = mv program nodes options world flight n l after input entry at come i r r' h.exclusive in
+        elim (in-now moves.o (pending world) entry.turn.out (pending next) e moves.goes there) [
+          | inl old ↦
+              ((h.depart e m old says).0,
+              λ lm at_to.
+              let b : Before e.to lm = before e.to lm at_to in
+              let some : 1 ≤ count_by (depart_to e.to) (pending world) = is_told program nodes options world e m old says in
+              (h.depart e m old says).1 b.old b.was ∙ sym (b.episode (gate_waits e.to b.old b.was (omega (arith, some)))))
+          | inr new ↦ depart-new e m new says (kind program nodes options world flight n l after input entry at come i r r' h.exclusive)
+        ]
+
+    word-new : (e : EnvelopeRecord) (episode : ℕ) → Contains (pending next) e → Contains entry.turn.out e → e.message ≡ Discard episode
+        → Kind program nodes options world flight n l after input entry at come i r r' h.exclusive → Told e episode
+    unfolding Told
+    word-new e k there new says (stays st calm_if) =
+        none_such (discard_test e.to l.node.setting.me) _ (letter_in e) (st.words e.to) (sent_letter e new) (passes_discard l.node.setting.me (letter_in e) k says)
+    word-new e k there new says (begins from a now departures came_is wait_is manager_is letters_is g managed) =
+        none_such (discard_test e.to l.node.setting.me) (map departure_of departures) (letter_in e)
+        (departs-only (discard_test e.to l.node.setting.me) (λ d. refl) departures)
+        (subst (λ ls. Contains ls (letter_in e)) letters_is (sent_letter e new)) (passes_discard l.node.setting.me (letter_in e) k says)
+    word-new e k there new says (notes now from episode manager_is letters_is wait_is g) =
+        absurd (none_Contains (letter_in e) (subst (λ ls. Contains ls (letter_in e)) letters_is (sent_letter e new)))
+    word-new e k there new says (ends now from episode over came_is manager_is letters_is g managed) =
+        let moves : _ = mv program nodes options world flight n l after input entry at come i r r' h.exclusive in
+        let t : Timely program nodes options next = timely program nodes options world flight n l after input entry at come i r r' h.exclusive in
+        let is_over : k ≡ over =
+        word_letter (range_with_len 0 nodes) over (letter_in e) k (subst (λ ls. Contains ls (letter_in e)) letters_is (sent_letter e new)) says in
+        let done_same : t.stand.manager.done ≡ old_manager.done = ap (λ (x : ManagerRecord). x.done) (manager_is ∙ g.after_is) in
+        let over_is : over ≡ old_manager.done = g.over_is in
+        (sent_from l.node.setting.me entry.turn.out e moves.from new ∙ mine ∙ zero_node managed,
+        λ lm at_to.
+        let some : 1 ≤ count_by (discard_to e.to) (pending next) =
+        counted_in (discard_to e.to) (pending next) e there
+        (and_from (says_discard e.message) (e.to == e.to) (ap says_discard says) (eq-eqb e.to e.to refl)) in
+        let arrived : lm.node.barrier.episode ≡ t.stand.manager.done + (count_by (arrive_from e.to) (pending next) + kept_of t.stand.manager e.to) =
+        (t.stand.each e.to lm at_to).arrived in
+        let departs : count_by (arrive_from e.to) (pending next) + kept_of t.stand.manager e.to + count_by (depart_to e.to) (pending next) ≡ awaits_depart lm.node.mail.wait =
+        (t.stand.each e.to lm at_to).departs in
+        let discards : count_by (clean_from e.to) (pending next) + noted_of t.stand.manager e.to + count_by (discard_to e.to) (pending next) ≡ awaits_word lm.node.mail.wait =
+        (t.stand.each e.to lm at_to).discards in
+        let most : awaits_depart lm.node.mail.wait + awaits_word lm.node.mail.wait ≤ 1 = one_of lm.node.mail.wait in
+        omega (arith, is_over, over_is, done_same, some, arrived, departs, discards, most))
+
+    word-kept : (e : EnvelopeRecord) (episode : ℕ) → Contains (pending next) e → e.message ≡ Discard episode → Told e episode
+    unfolding Told
+    word-kept e k there says =
+        let moves : _ = mv program nodes options world flight n l after input entry at come i r r' h.exclusive in
+        elim (in-now moves.o (pending world) entry.turn.out (pending next) e moves.goes there) [
+          | inl old ↦
+              ((h.word e k old says).0,
+              λ lm at_to.
+              let b : Before e.to lm = before e.to lm at_to in
+              let some : 1 ≤ count_by (discard_to e.to) (pending world) =
+              counted_in (discard_to e.to) (pending world) e old
+              (and_from (says_discard e.message) (e.to == e.to) (ap says_discard says) (eq-eqb e.to e.to refl)) in
+              (h.word e k old says).1 b.old b.was ∙ sym (b.episode (word_waits e.to b.old b.was (omega (arith, some)))))
+          | inr new ↦ word-new e k there new says (kind program nodes options world flight n l after input entry at come i r r' h.exclusive)
+        ]
+
+    next-addressed : Addressed next
+    unfolding Told
+    next-addressed = record {
+      exclusive = exclusive;
+      arrive = arrive-kept;
+      kept = kept-kept;
+      depart = depart-kept;
+      clean = clean-kept;
+      word = word-kept;
+    }
+
+  addressed-kept : KeptByReached program nodes options Addressed
+  addressed-kept world flight n l after input entry at come i r r' h = next-addressed world flight n l after input entry at come i r r' h
+
+  addressed-fresh : Addressed (fresh_world program nodes options)
+  addressed-fresh =
+      let exclusive : Exclusive program nodes options (fresh_world program nodes options) = all_exclusive program nodes options [] (fresh_world program nodes options) refl in
+      record {
+        exclusive = exclusive;
+        arrive = λ e m there. absurd (none_Contains e there);
+        kept = λ n a l there at.
+            let some : 1 ≤ count_by (arrive_from n) [] + kept_of exclusive.timely.stand.manager n =
+            is_kept program nodes options (fresh_world program nodes options) exclusive.timely.stand n a there in
+            let so : count_by (arrive_from n) [] + kept_of exclusive.timely.stand.manager n + count_by (depart_to n) [] ≡ awaits_depart l.node.mail.wait =
+            (exclusive.timely.stand.each n l at).departs in
+            absurd (departs_something l.node.mail.wait (omega (arith, some, so)) (fresh_wait program nodes options n l at));
+        depart = λ e m there. absurd (none_Contains e there);
+        clean = λ e k there. absurd (none_Contains e there);
+        word = λ e k there. absurd (none_Contains e there);
+      }
+
+  pub all_addressed : (events : List Event) (world : World) → run_of program nodes options events ≡ Some world → Addressed world
+  all_addressed events world e = by_reached program nodes options Addressed addressed-kept events world addressed-fresh e

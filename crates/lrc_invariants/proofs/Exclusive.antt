@@ -554,7 +554,7 @@ module _ (program : Program) (nodes : ℕ) (options : OptionsRecord) where
   exclusive-kept : KeptByReached program nodes options Exclusive
   exclusive-kept world flight n l after input entry at come i r r' h = next-exclusive world flight n l after input entry at come i r r' h
 
-  fresh_wait : (n : ℕ) (l : Logged) → slice_get (fresh_world program nodes options).nodes n ≡ Some l → l.node.mail.wait ≡ nothing
+  pub fresh_wait : (n : ℕ) (l : Logged) → slice_get (fresh_world program nodes options).nodes n ≡ Some l → l.node.mail.wait ≡ nothing
   fresh_wait n l at = ap (λ (x : Logged). x.node.mail.wait) (fresh_at program nodes options 0 nodes n l at)
 
   fresh_manager : (s : AllStand program nodes options (fresh_world program nodes options)) (n : ℕ) (l : Logged)
