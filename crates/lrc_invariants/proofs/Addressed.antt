@@ -66,9 +66,10 @@ arrive_letter : (s : Site) (came : Came) (wait : Wait) (barrier : Barrier) (lett
     → (x : Letter) (m : ArriveRecord) → Contains letters x → x.message ≡ Arrive m → (x.to ≡ 0) × (m.episode ≡ barrier.episode)
 unfolding episode_in
 arrive_letter s _ _ barrier letters (arrives_at r w episode same) x m there e = elim (cases_Contains (letter 0 (Arrive r)) [] x there) [
-  | inl is ↦
-      (ap (λ (x : Letter). x.to) (sym is),
-      same_Some m.episode r.episode (ap episode_in (sym e) ∙ ap (λ (x : Letter). episode_in x.message) (sym is)) ∙ episode)
+  | inl is ↦ (
+    ap (λ (x : Letter). x.to) (sym is),
+    same_Some m.episode r.episode (ap episode_in (sym e) ∙ ap (λ (x : Letter). episode_in x.message) (sym is)) ∙ episode,
+  )
   | inr none ↦ absurd (none_Contains x none)
 ]
 arrive_letter s _ _ _ letters (gathers_at from r before after at step manager_is) x m there e = absurd (none_Contains x there)
@@ -101,15 +102,17 @@ clean_letter s _ _ _ letters (departs_at from r w no_collection) x k there e = a
 clean_letter s _ _ _ letters (collects_at from r w collects silent) x k there e =
     none_such (clean_test s.me s.me) letters x (silent s.me).cleans there (passes_clean s.me x k e)
 clean_letter s _ _ barrier letters (clean_once_at from r w collects) x k there e = elim (cases_Contains (letter 0 (Clean s.barrier.episode)) [] x there) [
-  | inl is ↦
-      (ap (λ (x : Letter). x.to) (sym is),
-      same_Some k s.barrier.episode (ap episode_in (sym e) ∙ ap (λ (x : Letter). episode_in x.message) (sym is)))
+  | inl is ↦ (
+    ap (λ (x : Letter). x.to) (sym is),
+    same_Some k s.barrier.episode (ap episode_in (sym e) ∙ ap (λ (x : Letter). episode_in x.message) (sym is)),
+  )
   | inr none ↦ absurd (none_Contains x none)
 ]
 clean_letter s _ _ barrier letters (cleans_at had needs w) x k there e = elim (cases_Contains (letter 0 (Clean s.barrier.episode)) [] x there) [
-  | inl is ↦
-      (ap (λ (x : Letter). x.to) (sym is),
-      same_Some k s.barrier.episode (ap episode_in (sym e) ∙ ap (λ (x : Letter). episode_in x.message) (sym is)))
+  | inl is ↦ (
+    ap (λ (x : Letter). x.to) (sym is),
+    same_Some k s.barrier.episode (ap episode_in (sym e) ∙ ap (λ (x : Letter). episode_in x.message) (sym is)),
+  )
   | inr none ↦ absurd (none_Contains x none)
 ]
 clean_letter s _ _ _ letters (notes_at from episode before after at step manager_is) x k there e = absurd (none_Contains x there)
@@ -137,9 +140,11 @@ depart_letter all first [] x m full there e = absurd (none_Contains x there)
 depart_letter all first (None ∷ places) x m full there e = cc
 depart_letter all first (Some a ∷ places) x m full there e =
     elim (cases_Contains (departure_of (departure_to all (first, a))) (map departure_of (map (departure_to all) (enumerate_from (first + 1) (filter_map (λ a. a) places)))) x there) [
-      | inl is ↦
-          (0, (let to : x.to ≡ first = ap (λ (x : Letter). x.to) (sym is) in omega (arith, to)),
-          (a, refl, same_Some m.episode a.episode (ap episode_in (sym e) ∙ ap (λ (x : Letter). episode_in x.message) (sym is))))
+      | inl is ↦ (
+        0,
+        (let to : x.to ≡ first = ap (λ (x : Letter). x.to) (sym is) in omega (arith, to)),
+        (a, refl, same_Some m.episode a.episode (ap episode_in (sym e) ∙ ap (λ (x : Letter). episode_in x.message) (sym is))),
+      )
       | inr later ↦
           let (k, to, rest) = depart_letter all (first + 1) places x m full later e in
           (suc k, omega (arith, to), rest)
@@ -175,9 +180,9 @@ module _ (program : Program) (nodes : ℕ) (options : OptionsRecord) where
         → (e.from ≡ 0) × ((l : Logged) → slice_get world.nodes e.to ≡ Some l → episode ≡ l.node.barrier.episode)
 
   module _ (world : World) (flight : List Flying) (n : ℕ) (l after : Logged) (input : Input) (entry : EntryRecord)
-    (at : slice_get world.nodes n ≡ Some l) (come : Comes world n input flight) (i : IsEntry l input entry after)
-    (r : IsReached program nodes options world) (r' : IsReached program nodes options (with_turn world flight n entry after))
-    (h : Addressed world) where
+      (at : slice_get world.nodes n ≡ Some l) (come : Comes world n input flight) (i : IsEntry l input entry after)
+      (r : IsReached program nodes options world) (r' : IsReached program nodes options (with_turn world flight n entry after))
+      (h : Addressed world) where
     abbrev next : World
     next = with_turn world flight n entry after
 
@@ -244,13 +249,14 @@ module _ (program : Program) (nodes : ℕ) (options : OptionsRecord) where
     arrive-kept e m there says =
         let moves : _ = mv program nodes options world flight n l after input entry at come i r r' h.exclusive in
         elim (in-now moves.o (pending world) entry.turn.out (pending next) e moves.goes there) [
-          | inl old ↦
-              ((h.arrive e m old says).0,
-              λ lm at_from.
-              let b : Before e.from lm = before e.from lm at_from in
-              let some : 1 ≤ count_by (arrive_from e.from) (pending world) + kept_of old_manager e.from =
-              is_sent program nodes options world h.exclusive.timely.stand e m old says in
-              (h.arrive e m old says).1 b.old b.was ∙ sym (b.episode (gate_waits e.from b.old b.was (omega (arith, some)))))
+          | inl old ↦ (
+            (h.arrive e m old says).0,
+            λ lm at_from.
+                let b : Before e.from lm = before e.from lm at_from in
+                let some : 1 ≤ count_by (arrive_from e.from) (pending world) + kept_of old_manager e.from =
+                is_sent program nodes options world h.exclusive.timely.stand e m old says in
+                (h.arrive e m old says).1 b.old b.was ∙ sym (b.episode (gate_waits e.from b.old b.was (omega (arith, some)))),
+          )
           | inr new ↦
               let k : _ = arrive_letter (site_of l.node) moves.came after.node.mail.wait after.node.barrier moves.letters moves.bars (letter_in e) m (sent_letter e new) says in
               (k.0, λ lm at_from. k.1 ∙ ap (λ (x : Logged). x.node.barrier.episode) (own_node e new lm at_from).1)
@@ -261,14 +267,15 @@ module _ (program : Program) (nodes : ℕ) (options : OptionsRecord) where
     clean-kept e episode there says =
         let moves : _ = mv program nodes options world flight n l after input entry at come i r r' h.exclusive in
         elim (in-now moves.o (pending world) entry.turn.out (pending next) e moves.goes there) [
-          | inl old ↦
-              ((h.clean e episode old says).0,
-              λ lm at_from.
-              let b : Before e.from lm = before e.from lm at_from in
-              let some : 1 ≤ count_by (clean_from e.from) (pending world) =
-              counted_in (clean_from e.from) (pending world) e old
-              (and_from (says_clean e.message) (e.from == e.from) (ap says_clean says) (eq-eqb e.from e.from refl)) in
-              (h.clean e episode old says).1 b.old b.was ∙ sym (b.episode (word_waits e.from b.old b.was (omega (arith, some)))))
+          | inl old ↦ (
+            (h.clean e episode old says).0,
+            λ lm at_from.
+                let b : Before e.from lm = before e.from lm at_from in
+                let some : 1 ≤ count_by (clean_from e.from) (pending world) =
+                counted_in (clean_from e.from) (pending world) e old
+                (and_from (says_clean e.message) (e.from == e.from) (ap says_clean says) (eq-eqb e.from e.from refl)) in
+                (h.clean e episode old says).1 b.old b.was ∙ sym (b.episode (word_waits e.from b.old b.was (omega (arith, some)))),
+          )
           | inr new ↦
               let k : _ = clean_letter (site_of l.node) moves.came after.node.mail.wait after.node.barrier moves.letters moves.bars (letter_in e) episode (sent_letter e new) says in
               (k.0, λ lm at_from. k.1 ∙ ap (λ (x : Logged). x.node.barrier.episode) (own_node e new lm at_from).1)
@@ -324,28 +331,29 @@ module _ (program : Program) (nodes : ℕ) (options : OptionsRecord) where
         depart_letter (arrivals_of full) 0 full.arrivals (letter_in e) m g.all
         (subst (λ ls. Contains ls (letter_in e)) (letters_is ∙ ap (map departure_of) g.told) (sent_letter e new)) says in
         let to_is : told.0 ≡ e.to = (let t : e.to ≡ 0 + told.0 = told.1 in omega (arith, t)) in
-        let x : Arrival = told.2.0 in
-        (sent_from l.node.setting.me entry.turn.out e moves.from new ∙ mine ∙ zero_node managed,
-        λ lm at_to.
-        let b : Before e.to lm = before e.to lm at_to in
-        told.2.2
-        ∙ elim (get_set old_manager.arrivals from told.0 (arrival_in a) x told.2.1) [
-          | inl here ↦
-              let c : Brought l.node.setting.me from (Arrive a) (pending world) =
-              brought l.node.setting.me from (Arrive a) moves.came moves.o (pending world) entry.turn.out (pending next) came_is moves.brings moves.goes in
-              let to_from : c.envelope.from ≡ e.to = c.from_is ∙ here.0 ∙ to_is in
-              let some : 1 ≤ count_by (arrive_from e.to) (pending world) + kept_of old_manager e.to =
-              subst (λ k. 1 ≤ count_by (arrive_from k) (pending world) + kept_of old_manager k) to_from
-              (is_sent program nodes options world h.exclusive.timely.stand c.envelope a c.among c.message_is) in
-              ap (λ (a : Arrival). a.episode) (sym here.1)
-              ∙ (h.arrive c.envelope a c.among c.message_is).1 b.old (ap (slice_get world.nodes) to_from ∙ b.was)
-              ∙ sym (b.episode (gate_waits e.to b.old b.was (omega (arith, some))))
-          | inr there ↦
-              let kept : slice_index_or old_manager.arrivals e.to None ≡ Some x = subst (λ k. slice_index_or old_manager.arrivals k None ≡ Some x) to_is there in
-              let some : 1 ≤ count_by (arrive_from e.to) (pending world) + kept_of old_manager e.to =
-              is_kept program nodes options world h.exclusive.timely.stand e.to x kept in
-              h.kept e.to x b.old kept b.was ∙ sym (b.episode (gate_waits e.to b.old b.was (omega (arith, some))))
-        ])
+        let x : Arrival = told.2.0 in (
+          sent_from l.node.setting.me entry.turn.out e moves.from new ∙ mine ∙ zero_node managed,
+          λ lm at_to.
+              let b : Before e.to lm = before e.to lm at_to in
+              told.2.2
+              ∙ elim (get_set old_manager.arrivals from told.0 (arrival_in a) x told.2.1) [
+                | inl here ↦
+                    let c : Brought l.node.setting.me from (Arrive a) (pending world) =
+                    brought l.node.setting.me from (Arrive a) moves.came moves.o (pending world) entry.turn.out (pending next) came_is moves.brings moves.goes in
+                    let to_from : c.envelope.from ≡ e.to = c.from_is ∙ here.0 ∙ to_is in
+                    let some : 1 ≤ count_by (arrive_from e.to) (pending world) + kept_of old_manager e.to =
+                    subst (λ k. 1 ≤ count_by (arrive_from k) (pending world) + kept_of old_manager k) to_from
+                    (is_sent program nodes options world h.exclusive.timely.stand c.envelope a c.among c.message_is) in
+                    ap (λ (a : Arrival). a.episode) (sym here.1)
+                    ∙ (h.arrive c.envelope a c.among c.message_is).1 b.old (ap (slice_get world.nodes) to_from ∙ b.was)
+                    ∙ sym (b.episode (gate_waits e.to b.old b.was (omega (arith, some))))
+                | inr there ↦
+                    let kept : slice_index_or old_manager.arrivals e.to None ≡ Some x = subst (λ k. slice_index_or old_manager.arrivals k None ≡ Some x) to_is there in
+                    let some : 1 ≤ count_by (arrive_from e.to) (pending world) + kept_of old_manager e.to =
+                    is_kept program nodes options world h.exclusive.timely.stand e.to x kept in
+                    h.kept e.to x b.old kept b.was ∙ sym (b.episode (gate_waits e.to b.old b.was (omega (arith, some))))
+              ],
+        )
     depart-new e m new says (notes now from episode manager_is letters_is wait_is g) =
         absurd (none_Contains (letter_in e) (subst (λ ls. Contains ls (letter_in e)) letters_is (sent_letter e new)))
     depart-new e m new says (ends now from episode over came_is manager_is letters_is g managed) =
@@ -360,12 +368,13 @@ module _ (program : Program) (nodes : ℕ) (options : OptionsRecord) where
     depart-kept e m there says =
         let moves : _ = mv program nodes options world flight n l after input entry at come i r r' h.exclusive in
         elim (in-now moves.o (pending world) entry.turn.out (pending next) e moves.goes there) [
-          | inl old ↦
-              ((h.depart e m old says).0,
-              λ lm at_to.
-              let b : Before e.to lm = before e.to lm at_to in
-              let some : 1 ≤ count_by (depart_to e.to) (pending world) = is_told program nodes options world e m old says in
-              (h.depart e m old says).1 b.old b.was ∙ sym (b.episode (gate_waits e.to b.old b.was (omega (arith, some)))))
+          | inl old ↦ (
+            (h.depart e m old says).0,
+            λ lm at_to.
+                let b : Before e.to lm = before e.to lm at_to in
+                let some : 1 ≤ count_by (depart_to e.to) (pending world) = is_told program nodes options world e m old says in
+                (h.depart e m old says).1 b.old b.was ∙ sym (b.episode (gate_waits e.to b.old b.was (omega (arith, some)))),
+          )
           | inr new ↦ depart-new e m new says (kind program nodes options world flight n l after input entry at come i r r' h.exclusive)
         ]
 
@@ -386,34 +395,36 @@ module _ (program : Program) (nodes : ℕ) (options : OptionsRecord) where
         let is_over : k ≡ over =
         word_letter (range_with_len 0 nodes) over (letter_in e) k (subst (λ ls. Contains ls (letter_in e)) letters_is (sent_letter e new)) says in
         let done_same : t.stand.manager.done ≡ old_manager.done = ap (λ (x : ManagerRecord). x.done) (manager_is ∙ g.after_is) in
-        let over_is : over ≡ old_manager.done = g.over_is in
-        (sent_from l.node.setting.me entry.turn.out e moves.from new ∙ mine ∙ zero_node managed,
-        λ lm at_to.
-        let some : 1 ≤ count_by (discard_to e.to) (pending next) =
-        counted_in (discard_to e.to) (pending next) e there
-        (and_from (says_discard e.message) (e.to == e.to) (ap says_discard says) (eq-eqb e.to e.to refl)) in
-        let arrived : lm.node.barrier.episode ≡ t.stand.manager.done + (count_by (arrive_from e.to) (pending next) + kept_of t.stand.manager e.to) =
-        (t.stand.each e.to lm at_to).arrived in
-        let departs : count_by (arrive_from e.to) (pending next) + kept_of t.stand.manager e.to + count_by (depart_to e.to) (pending next) ≡ awaits_depart lm.node.mail.wait =
-        (t.stand.each e.to lm at_to).departs in
-        let discards : count_by (clean_from e.to) (pending next) + noted_of t.stand.manager e.to + count_by (discard_to e.to) (pending next) ≡ awaits_word lm.node.mail.wait =
-        (t.stand.each e.to lm at_to).discards in
-        let most : awaits_depart lm.node.mail.wait + awaits_word lm.node.mail.wait ≤ 1 = one_of lm.node.mail.wait in
-        omega (arith, is_over, over_is, done_same, some, arrived, departs, discards, most))
+        let over_is : over ≡ old_manager.done = g.over_is in (
+          sent_from l.node.setting.me entry.turn.out e moves.from new ∙ mine ∙ zero_node managed,
+          λ lm at_to.
+              let some : 1 ≤ count_by (discard_to e.to) (pending next) =
+              counted_in (discard_to e.to) (pending next) e there
+              (and_from (says_discard e.message) (e.to == e.to) (ap says_discard says) (eq-eqb e.to e.to refl)) in
+              let arrived : lm.node.barrier.episode ≡ t.stand.manager.done + (count_by (arrive_from e.to) (pending next) + kept_of t.stand.manager e.to) =
+              (t.stand.each e.to lm at_to).arrived in
+              let departs : count_by (arrive_from e.to) (pending next) + kept_of t.stand.manager e.to + count_by (depart_to e.to) (pending next) ≡ awaits_depart lm.node.mail.wait =
+              (t.stand.each e.to lm at_to).departs in
+              let discards : count_by (clean_from e.to) (pending next) + noted_of t.stand.manager e.to + count_by (discard_to e.to) (pending next) ≡ awaits_word lm.node.mail.wait =
+              (t.stand.each e.to lm at_to).discards in
+              let most : awaits_depart lm.node.mail.wait + awaits_word lm.node.mail.wait ≤ 1 = one_of lm.node.mail.wait in
+              omega (arith, is_over, over_is, done_same, some, arrived, departs, discards, most),
+        )
 
     word-kept : (e : EnvelopeRecord) (episode : ℕ) → Contains (pending next) e → e.message ≡ Discard episode → Told e episode
     unfolding Told
     word-kept e k there says =
         let moves : _ = mv program nodes options world flight n l after input entry at come i r r' h.exclusive in
         elim (in-now moves.o (pending world) entry.turn.out (pending next) e moves.goes there) [
-          | inl old ↦
-              ((h.word e k old says).0,
-              λ lm at_to.
-              let b : Before e.to lm = before e.to lm at_to in
-              let some : 1 ≤ count_by (discard_to e.to) (pending world) =
-              counted_in (discard_to e.to) (pending world) e old
-              (and_from (says_discard e.message) (e.to == e.to) (ap says_discard says) (eq-eqb e.to e.to refl)) in
-              (h.word e k old says).1 b.old b.was ∙ sym (b.episode (word_waits e.to b.old b.was (omega (arith, some)))))
+          | inl old ↦ (
+            (h.word e k old says).0,
+            λ lm at_to.
+                let b : Before e.to lm = before e.to lm at_to in
+                let some : 1 ≤ count_by (discard_to e.to) (pending world) =
+                counted_in (discard_to e.to) (pending world) e old
+                (and_from (says_discard e.message) (e.to == e.to) (ap says_discard says) (eq-eqb e.to e.to refl)) in
+                (h.word e k old says).1 b.old b.was ∙ sym (b.episode (word_waits e.to b.old b.was (omega (arith, some)))),
+          )
           | inr new ↦ word-new e k there new says (kind program nodes options world flight n l after input entry at come i r r' h.exclusive)
         ]
 

@@ -9,7 +9,7 @@ ghost use Rattle.lrc_time.specs.Time.{joined};
 ghost use Rattle.lrc_trace.specs.declared.act.Deed.TheVariants.{Arrive as ArriveDeed, Depart as DepartDeed};
 ghost use Rattle.lrc_wire.specs.Envelope.{EnvelopeRecord};
 ghost use Rattle.lrc_wire.specs.Records.{ArriveRecord, DepartRecord};
-ghost use Rattle.lrc_wire.specs.declared.message.Message.TheVariants.{Arrive, Depart};
+ghost use Rattle.lrc_wire.specs.declared.message.Message.TheVariants.{Arrive, Depart, Clean, Discard};
 ghost use Rattle.lrc_trace.specs.Run.{Does, arrives_before, departs_before};
 ghost use Rattle.lrc_protocol.specs.declared.event.Event.{Event};
 ghost use Rattle.lrc_protocol.specs.Mail.{departure};
@@ -104,4 +104,25 @@ pub fn collections_are_exclusive()
         → run_of program nodes options events ≡ Some world
         → slice_get world.nodes 0 ≡ Some first → first.node.barrier.manager ≡ Some manager → manager.cleans ≡ Some cleans
         → Contains (pending world) e → e.message ≡ Depart m → slice_get world.nodes e.to ≡ Some l → m.collect ≡ true }
+{}
+
+/// In every run an Arrive and a Clean on their way go to node 0, with the episode of the node that sent them; and a Depart and
+/// a word to discard on their way come from node 0, with the episode of the node to which they go.
+pub fn barrier_messages_use_node_0()
+    ensures arrive { (program : Program) (nodes : ℕ) (options : OptionsRecord) (events : List Event) (world : World)
+        (e : EnvelopeRecord) (m : ArriveRecord) → run_of program nodes options events ≡ Some world
+        → Contains (pending world) e → e.message ≡ Arrive m
+        → (e.to ≡ 0) × ((l : Logged) → slice_get world.nodes e.from ≡ Some l → m.episode ≡ l.node.barrier.episode) }
+    ensures depart { (program : Program) (nodes : ℕ) (options : OptionsRecord) (events : List Event) (world : World)
+        (e : EnvelopeRecord) (m : DepartRecord) → run_of program nodes options events ≡ Some world
+        → Contains (pending world) e → e.message ≡ Depart m
+        → (e.from ≡ 0) × ((l : Logged) → slice_get world.nodes e.to ≡ Some l → m.episode ≡ l.node.barrier.episode) }
+    ensures clean { (program : Program) (nodes : ℕ) (options : OptionsRecord) (events : List Event) (world : World)
+        (e : EnvelopeRecord) (episode : ℕ) → run_of program nodes options events ≡ Some world
+        → Contains (pending world) e → e.message ≡ Clean episode
+        → (e.to ≡ 0) × ((l : Logged) → slice_get world.nodes e.from ≡ Some l → episode ≡ l.node.barrier.episode) }
+    ensures discard { (program : Program) (nodes : ℕ) (options : OptionsRecord) (events : List Event) (world : World)
+        (e : EnvelopeRecord) (episode : ℕ) → run_of program nodes options events ≡ Some world
+        → Contains (pending world) e → e.message ≡ Discard episode
+        → (e.from ≡ 0) × ((l : Logged) → slice_get world.nodes e.to ≡ Some l → episode ≡ l.node.barrier.episode) }
 {}
