@@ -50,3 +50,4 @@ pub mod Timed
 pub mod Barring
 pub mod Exclusive
 pub mod Addressed
+pub mod BarrierExpected

@@ -61,7 +61,7 @@ get_within (x ∷ xs) zero lt = (x, refl)
 get_within (x ∷ xs) (suc n) lt = get_within xs n (omega (arith, lt))
 
 -- its sender passes the test of arrivals, and its receiver that of departures
-is_arrive_from : (e : EnvelopeRecord) (m : ArriveRecord) → e.message ≡ Arrive m → arrive_from e.from e ≡ true
+pub is_arrive_from : (e : EnvelopeRecord) (m : ArriveRecord) → e.message ≡ Arrive m → arrive_from e.from e ≡ true
 is_arrive_from e m is = and_from (says_arrive e.message) (e.from == e.from) (ap says_arrive is) (eq-eqb e.from e.from refl)
 
 is_depart_to : (e : EnvelopeRecord) (m : DepartRecord) → e.message ≡ Depart m → depart_to e.to e ≡ true
