@@ -1,9 +1,9 @@
 -- In every run: messages of barriers go to node 0 or come from it, and are of the episode of the node that they concern.
-use Rattle.std.proofs.Common.{◌≡◌, ◌⊎◌, ℕ, zero, suc, ◌+◌, ◌<◌, ◌≤◌, ◌&&◌, List, [], ◌∷◌, Bool, true, false, cond, is_some, length, map, refl, sym, ap, subst, ◌∙◌, inl, inr, arith}
-use Rattle.std.specs.Prelude.{Option, Some, None, ◌==◌, Contains, unwrap_or, count_by, slice_get, slice_set, slice_index_or}
+use Rattle.std.proofs.Common.{◌≡◌, ℕ, suc, ◌+◌, ◌≤◌, List, [], ◌∷◌, Bool, true, false, is_some, map, refl, sym, ap, subst, ◌∙◌, inl, inr, arith}
+use Rattle.std.specs.Prelude.{Option, Some, None, ◌==◌, Contains, count_by, slice_get, slice_set, slice_index_or}
 use Rattle.std.specs.List.{range_with_len, enumerate_from, filter_map, list_all}
 use Rattle.std.proofs.lemmas.Bool.{cases_eq, eq-eqb, and_from}
-use Rattle.std.proofs.lemmas.Option.{same_Some, slice_get_within}
+use Rattle.std.proofs.lemmas.Option.{same_Some}
 use Rattle.lrc_lang.specs.declared.program.Program.{Program}
 use Rattle.lrc_wire.specs.Envelope.{EnvelopeRecord}
 use Rattle.lrc_wire.specs.Records.{ArriveRecord, DepartRecord}
@@ -11,27 +11,25 @@ use Rattle.lrc_wire.specs.declared.message.Message.{Message}
 use Rattle.lrc_wire.specs.declared.message.Message.TheVariants.{Arrive, Depart, Clean, Discard}
 use Rattle.lrc_store.proofs.Orders.{cases_Contains, none_Contains}
 use Rattle.lrc_barrier.specs.declared.arrival.Arrival.{Arrival}
-use Rattle.lrc_barrier.specs.declared.departure.Departure.{Departure}
 use Rattle.lrc_barrier.specs.Barrier.{ManagerRecord, with_arrival, arrivals_of, departure_to}
 use Rattle.lrc_protocol.specs.declared.event.Event.{Event}
-use Rattle.lrc_protocol.specs.Mail.{Letter, Wait, nothing, grant, departure, access, upkeep, discard}
+use Rattle.lrc_protocol.specs.Mail.{Letter, Wait, nothing}
 use Rattle.lrc_protocol.specs.Letters.{letter, departure_of, discards_to}
 use Rattle.lrc_protocol.specs.Locks.{Locks}
 use Rattle.lrc_protocol.specs.Barrier.{Barrier}
-use Rattle.lrc_protocol.specs.Node.{Node, OptionsRecord}
+use Rattle.lrc_protocol.specs.Node.{OptionsRecord}
 use Rattle.lrc_protocol.specs.Log.{Input, EntryRecord, Logged}
 use Rattle.lrc_protocol.specs.World.{World, Flying, fresh_world, with_turn, pending, run_of}
 use Rattle.lrc_protocol.proofs.Worlds.{IsEntry, get_set_same, get_set_other}
 use Rattle.lrc_protocol.proofs.Induction.{Comes}
-use Rattle.lrc_invariants.specs.Barriers.{says_arrive, says_depart, says_clean, says_discard, arrive_from, depart_to, clean_from, discard_to, kept_of, noted_of, awaits_depart, awaits_word}
-use Rattle.lrc_invariants.proofs.Sends.{Came, comes, Site, site_of, letter_in, arrival_in}
-use Rattle.lrc_invariants.proofs.Managers.{LetGo, Noted, LetDiscard, departs-only, discards-only}
+use Rattle.lrc_invariants.specs.Barriers.{says_arrive, says_clean, says_discard, arrive_from, depart_to, clean_from, discard_to, kept_of, noted_of, awaits_depart, awaits_word}
+use Rattle.lrc_invariants.proofs.Sends.{Came, Site, site_of, letter_in, arrival_in}
+use Rattle.lrc_invariants.proofs.Managers.{departs-only, discards-only}
 use Rattle.lrc_invariants.proofs.Standing.{arrive_test, depart_test, clean_test, discard_test}
 use Rattle.lrc_invariants.proofs.Moves.{in-now, Brought, brought, sent_from, among_letters, counted_in}
 use Rattle.lrc_invariants.proofs.Arrivals.{get_set, kept_before}
 use Rattle.lrc_invariants.proofs.Barring.{Barring, arrives_at, gathers_at, lets_depart_at, departs_at, collects_at, clean_once_at, cleans_at, notes_at, lets_discard_at, discards_at, other_at}
 use Rattle.lrc_invariants.proofs.Passing.{Passing, arrives_so, told_so, gathers_so, lets_depart_so, other_so}
-use Rattle.lrc_invariants.proofs.AllStand.{AllStand}
 use Rattle.lrc_invariants.proofs.Timely.{Timely, is_kept, is_sent, is_told}
 use Rattle.lrc_invariants.proofs.AllTimely.{manager_after}
 use Rattle.lrc_invariants.proofs.Exclusive.{Exclusive, all_exclusive, one_of, Kind, stays, begins, notes, ends, kind, mv, timely, me_is, is, depart_sent, fresh_wait}

@@ -1,5 +1,5 @@
 -- In every run the pending messages of barriers are expected, but for the intervals that they carry.
-use Rattle.std.proofs.Common.{◌≡◌, ℕ, ◌+◌, ◌<◌, ◌≤◌, ◌&&◌, List, [], Bool, true, false, cond, not, is_some, length, refl, sym, ap, subst, ◌∙◌, arith}
+use Rattle.std.proofs.Common.{◌≡◌, ℕ, ◌+◌, ◌≤◌, ◌&&◌, List, Bool, true, false, cond, not, is_some, length, refl, sym, ap, subst, ◌∙◌, arith}
 use Rattle.std.specs.Prelude.{Option, Some, None, ◌==◌, Contains, unwrap_or, option_map, count_by, slice_get, slice_index_or, slice_set, if◌then◌else◌}
 use Rattle.std.specs.List.{list_all}
 use Rattle.std.proofs.lemmas.Bool.{eq-eqb, and_from}
@@ -15,7 +15,7 @@ use Rattle.lrc_wire.specs.Envelope.{EnvelopeRecord}
 use Rattle.lrc_wire.specs.Records.{ArriveRecord, DepartRecord}
 use Rattle.lrc_wire.specs.declared.message.Message.TheVariants.{Arrive, Depart, Clean, Discard}
 use Rattle.lrc_barrier.specs.declared.fault.BarrierFault.TheVariants.{WrongEpisode, Twice}
-use Rattle.lrc_barrier.specs.Barrier.{ManagerRecord, ArriveStep, refuses, waits, departs, is_accepted, with_arrival, arrivals_of, departures_of, departed, is_next, has_arrived, arrived, CleanStep, refuses_clean, awaits, discards, cleaned_by, cleaned}
+use Rattle.lrc_barrier.specs.Barrier.{ManagerRecord, refuses, waits, departs, is_accepted, with_arrival, arrivals_of, departures_of, departed, is_next, has_arrived, arrived, refuses_clean, awaits, discards, cleaned_by, cleaned}
 use Rattle.lrc_protocol.specs.declared.event.Event.{Event}
 use Rattle.lrc_protocol.specs.Mail.{Wait, nothing, grant, departure, access, upkeep, discard, awaits_departure, awaits_discard}
 use Rattle.lrc_protocol.specs.Node.{OptionsRecord}
@@ -28,9 +28,7 @@ use Rattle.lrc_invariants.proofs.Moves.{counted_in}
 use Rattle.lrc_invariants.proofs.AllStand.{AllStand}
 use Rattle.lrc_invariants.proofs.Departs.{Standing_at, standing_at}
 use Rattle.lrc_invariants.proofs.Timely.{Timely, Gate, gate, is_arrive_from, is_sent, is_told, at_most_one, waits_for_departure}
-use Rattle.lrc_invariants.proofs.Exclusive.{Exclusive}
 use Rattle.lrc_invariants.proofs.Addressed.{Addressed, all_addressed}
-use Rattle.lrc_invariants.proofs.Reached.{IsReached}
 
 -- ---- at the manager
 
@@ -182,6 +180,9 @@ module _ (program : Program) (nodes : ℕ) (options : OptionsRecord) (events : L
       let had : time_at world.times i ≡ l.node.locks.time =
       t.had e.to l at waits i does (omega (arith, same, some, departs, most, arrived_so, newest)) in
       let covered : Covers (arrived_time nodes world.acts world.times k.number (length world.acts)) (time_at world.times i) =
-      join-covers nodes (arrives_at world.acts k.number) world.times i (length world.acts) lt (arrives_at-true world.acts i e.to k.number does same) in
-      ((a.depart e m there says).0, ap awaits_departure waits, (a.depart e m there says).1 l at,
-      covers-holds m.time l.node.locks.time (subst (Covers m.time) had (subst (λ u. Covers u (time_at world.times i)) (sym k.joins) covered)))
+      join-covers nodes (arrives_at world.acts k.number) world.times i (length world.acts) lt (arrives_at-true world.acts i e.to k.number does same) in (
+        (a.depart e m there says).0,
+        ap awaits_departure waits,
+        (a.depart e m there says).1 l at,
+        covers-holds m.time l.node.locks.time (subst (Covers m.time) had (subst (λ u. Covers u (time_at world.times i)) (sym k.joins) covered)),
+      )

@@ -1,9 +1,8 @@
 -- What a turn does to a collection: who is told of it, who is clean, and when it is over.
-use Rattle.std.proofs.Common.{◌≡◌, ℕ, ◌+◌, List, [], ◌∷◌, Bool, true, false, map, refl, sym, ap, subst, ◌∙◌}
-use Rattle.std.specs.Prelude.{Option, Some, None}
+use Rattle.std.proofs.Common.{◌≡◌, ℕ, List, [], ◌∷◌, Bool, true, false, map, refl, sym, ap, ◌∙◌}
+use Rattle.std.specs.Prelude.{Some}
 use Rattle.std.specs.List.{range_with_len}
 use Rattle.lrc_wire.specs.Records.{ArriveRecord, DepartRecord}
-use Rattle.lrc_wire.specs.declared.message.Message.{Message}
 use Rattle.lrc_wire.specs.declared.message.Message.TheVariants.{Arrive, Depart, Clean, Discard}
 use Rattle.lrc_barrier.specs.declared.departure.Departure.{Departure}
 use Rattle.lrc_barrier.specs.Barrier.{ManagerRecord, waits, departs as all_depart, arrived, awaits, discards, cleaned}
@@ -15,7 +14,7 @@ use Rattle.lrc_protocol.specs.Barrier.{Barrier}
 use Rattle.lrc_invariants.specs.Counts.{is_inside}
 use Rattle.lrc_invariants.specs.Barriers.{is_collecting}
 use Rattle.lrc_invariants.proofs.Sends.{Came, by_itself, comes, Site, arrival_in, Sends, plain, misses, takes, asks, releasing, arriving, manages, forwarding, grants, gathers, lets_depart, departing, collecting, clean_at_once, notes_clean, lets_discard, discarding, serves, accessing, still_misses, still_collects, cleaning}
-use Rattle.lrc_invariants.proofs.Standing.{Silent, Says, silent_none, silent_one, silent_others, silent_grants}
+use Rattle.lrc_invariants.proofs.Standing.{Silent, silent_none, silent_one, silent_others, silent_grants}
 
 pub data Barring (s : Site) : Came → Wait → Barrier → List Letter → Type 0 where
   -- the node arrives,

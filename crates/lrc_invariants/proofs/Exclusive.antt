@@ -1,6 +1,6 @@
 -- In every run a collection is exclusive: while it is under way all nodes are inside the barrier and none is told to discard;
 -- and else nobody is told to collect, or does.
-use Rattle.std.proofs.Common.{◌≡◌, ◌⊎◌, ℕ, zero, suc, ◌+◌, ◌<◌, ◌≤◌, ◌&&◌, List, [], ◌∷◌, Bool, true, false, cond, is_some, length, map, refl, sym, ap, subst, ◌∙◌, inl, inr, arith}
+use Rattle.std.proofs.Common.{◌≡◌, ◌⊎◌, ℕ, ◌+◌, ◌<◌, ◌≤◌, List, [], ◌∷◌, Bool, true, false, cond, is_some, length, map, refl, sym, ap, subst, ◌∙◌, inl, inr, arith}
 use Rattle.std.specs.Prelude.{Option, Some, None, ◌==◌, Contains, unwrap_or, count_by, slice_get, slice_set, slice_index_or, replicate, if◌then◌else◌}
 use Rattle.std.specs.List.{range_with_len, enumerate_from}
 use Rattle.std.proofs.lemmas.Bool.{cases_eq, eq-eqb, and_from}
@@ -11,17 +11,17 @@ use Rattle.lrc_wire.specs.Envelope.{EnvelopeRecord}
 use Rattle.lrc_wire.specs.Records.{ArriveRecord, DepartRecord}
 use Rattle.lrc_wire.specs.declared.message.Message.{Message}
 use Rattle.lrc_wire.specs.declared.message.Message.TheVariants.{Arrive, Depart, Clean, Discard}
-use Rattle.lrc_store.proofs.Orders.{Contains-first, Contains-later, cases_Contains, none_Contains}
+use Rattle.lrc_store.proofs.Orders.{cases_Contains, none_Contains}
 use Rattle.lrc_exec.specs.Meaning.{Setting}
 use Rattle.lrc_exec.specs.Plain.{setting_of}
 use Rattle.lrc_barrier.specs.declared.arrival.Arrival.{Arrival}
 use Rattle.lrc_barrier.specs.declared.departure.Departure.{Departure}
-use Rattle.lrc_barrier.specs.Barrier.{ManagerRecord, first_manager, with_arrival, arrivals_of, asks, departure_to, departures_of, departed}
+use Rattle.lrc_barrier.specs.Barrier.{ManagerRecord, first_manager, with_arrival, arrivals_of, asks, departure_to}
 use Rattle.lrc_protocol.specs.declared.event.Event.{Event}
 use Rattle.lrc_protocol.specs.Mail.{Letter, Wait, nothing, grant, departure, access, upkeep, discard}
-use Rattle.lrc_protocol.specs.Letters.{letter, departure_of, discards_to}
+use Rattle.lrc_protocol.specs.Letters.{departure_of, discards_to}
 use Rattle.lrc_protocol.specs.Barrier.{Barrier}
-use Rattle.lrc_protocol.specs.Node.{Node, OptionsRecord}
+use Rattle.lrc_protocol.specs.Node.{OptionsRecord}
 use Rattle.lrc_protocol.specs.Log.{Input, EntryRecord, Logged}
 use Rattle.lrc_protocol.specs.World.{World, Flying, fresh_world, with_turn, pending, run_of}
 use Rattle.lrc_protocol.proofs.Worlds.{IsEntry, get_set_same, get_set_other, fresh_at}
@@ -29,13 +29,13 @@ use Rattle.lrc_protocol.proofs.Turned.{Turned, Turns, turns}
 use Rattle.lrc_protocol.proofs.Induction.{Comes}
 use Rattle.lrc_protocol.specs.Follows.{turns_of}
 use Rattle.lrc_invariants.specs.Counts.{is_inside}
-use Rattle.lrc_invariants.specs.Barriers.{says_arrive, says_depart, says_clean, says_discard, arrive_from, depart_to, clean_from, discard_to, kept_of, noted_of, awaits_depart, awaits_word, is_collecting, StandsAt}
+use Rattle.lrc_invariants.specs.Barriers.{says_depart, says_discard, arrive_from, depart_to, clean_from, discard_to, kept_of, noted_of, awaits_depart, awaits_word, is_collecting}
 use Rattle.lrc_invariants.proofs.Shape.{NodeShape, shape_at}
-use Rattle.lrc_invariants.proofs.Sends.{Came, by_itself, comes, Site, site_of, letter_in, arrival_in}
+use Rattle.lrc_invariants.proofs.Sends.{Came, comes, site_of, letter_in, arrival_in}
 use Rattle.lrc_invariants.proofs.Flows.{IsFromNode, stepped, counts, came_count, count_of}
-use Rattle.lrc_invariants.proofs.Managers.{Gathered, gathered, LetGo, let_go, Noted, noted, LetDiscard, let_discard, Places, kept-more, kept-all, kept-departed, as_many, departs-once, departs-only, discards-once, discards-only}
-use Rattle.lrc_invariants.proofs.Standing.{same_manager, arrive_test, depart_test, clean_test, discard_test, Silent}
-use Rattle.lrc_invariants.proofs.Moves.{in-now, Brought, brought, sent_from, among_letters, counted_in, Moves, moves}
+use Rattle.lrc_invariants.proofs.Managers.{Gathered, gathered, LetGo, let_go, Noted, noted, LetDiscard, let_discard, as_many, departs-once, discards-once}
+use Rattle.lrc_invariants.proofs.Standing.{same_manager, arrive_test, depart_test, clean_test, discard_test}
+use Rattle.lrc_invariants.proofs.Moves.{in-now, Brought, brought, among_letters, counted_in, Moves, moves}
 use Rattle.lrc_invariants.proofs.Barring.{Barring, arrives_at, gathers_at, lets_depart_at, departs_at, collects_at, clean_once_at, cleans_at, notes_at, lets_discard_at, discards_at, other_at}
 use Rattle.lrc_invariants.proofs.AllStand.{AllStand, its_manager}
 use Rattle.lrc_invariants.proofs.Timely.{get_within, Timely, Gate, gate, is_told, all_in, waits_for_departure}

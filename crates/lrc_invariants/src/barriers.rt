@@ -5,14 +5,15 @@ ghost use Rattle.lrc_lang.specs.declared.program.Program.{Program};
 ghost use Rattle.lrc_barrier.specs.Barrier.{ManagerRecord};
 ghost use Rattle.lrc_barrier.specs.declared.arrival.Arrival.{Arrival};
 ghost use Rattle.lrc_clock.specs.Times.{time_at, time_before, arrived_time};
-ghost use Rattle.lrc_time.specs.Time.{joined};
+ghost use Rattle.lrc_time.specs.Time.{joined, covers};
 ghost use Rattle.lrc_trace.specs.declared.act.Deed.TheVariants.{Arrive as ArriveDeed, Depart as DepartDeed};
 ghost use Rattle.lrc_wire.specs.Envelope.{EnvelopeRecord};
 ghost use Rattle.lrc_wire.specs.Records.{ArriveRecord, DepartRecord};
 ghost use Rattle.lrc_wire.specs.declared.message.Message.TheVariants.{Arrive, Depart, Clean, Discard};
 ghost use Rattle.lrc_trace.specs.Run.{Does, arrives_before, departs_before};
 ghost use Rattle.lrc_protocol.specs.declared.event.Event.{Event};
-ghost use Rattle.lrc_protocol.specs.Mail.{departure};
+ghost use Rattle.lrc_protocol.specs.Mail.{departure, awaits_departure};
+ghost use Rattle.lrc_protocol.specs.Expected.{is_expected, is_arrival};
 ghost use Rattle.lrc_protocol.specs.Node.{OptionsRecord};
 ghost use Rattle.lrc_protocol.specs.Log.{Logged};
 ghost use Rattle.lrc_protocol.specs.World.{World, pending, run_of};
@@ -125,4 +126,27 @@ pub fn barrier_messages_use_node_0()
         (e : EnvelopeRecord) (episode : ℕ) → run_of program nodes options events ≡ Some world
         → Contains (pending world) e → e.message ≡ Discard episode
         → (e.from ≡ 0) × ((l : Logged) → slice_get world.nodes e.to ≡ Some l → episode ≡ l.node.barrier.episode) }
+{}
+
+/// In every run each pending message of barriers would be accepted by its receiver now, as far as it is not a matter of the
+/// intervals that it carries: a Clean and a word to discard, which carry none, are expected; an Arrive is accepted by the
+/// manager; and a Depart comes from node 0 to a node that awaits its departure from that episode, and covers its time.
+pub fn barrier_messages_are_accepted()
+    ensures clean { (program : Program) (nodes : ℕ) (options : OptionsRecord) (events : List Event) (world : World)
+        (first l : Logged) (e : EnvelopeRecord) (episode : ℕ) → run_of program nodes options events ≡ Some world
+        → slice_get world.nodes 0 ≡ Some first → Contains (pending world) e → e.message ≡ Clean episode
+        → slice_get world.nodes e.from ≡ Some l → is_expected first.node e.from (Clean episode) ≡ true }
+    ensures discard { (program : Program) (nodes : ℕ) (options : OptionsRecord) (events : List Event) (world : World)
+        (l : Logged) (e : EnvelopeRecord) (episode : ℕ) → run_of program nodes options events ≡ Some world
+        → Contains (pending world) e → e.message ≡ Discard episode
+        → slice_get world.nodes e.to ≡ Some l → is_expected l.node e.from (Discard episode) ≡ true }
+    ensures arrive { (program : Program) (nodes : ℕ) (options : OptionsRecord) (events : List Event) (world : World)
+        (first l : Logged) (e : EnvelopeRecord) (m : ArriveRecord) → run_of program nodes options events ≡ Some world
+        → slice_get world.nodes 0 ≡ Some first → Contains (pending world) e → e.message ≡ Arrive m
+        → slice_get world.nodes e.from ≡ Some l → is_arrival first.node e.from m ≡ true }
+    ensures depart { (program : Program) (nodes : ℕ) (options : OptionsRecord) (events : List Event) (world : World)
+        (l : Logged) (e : EnvelopeRecord) (m : DepartRecord) → run_of program nodes options events ≡ Some world
+        → Contains (pending world) e → e.message ≡ Depart m → slice_get world.nodes e.to ≡ Some l
+        → (e.from ≡ 0) × (awaits_departure l.node.mail.wait ≡ true) × (m.episode ≡ l.node.barrier.episode)
+        × (covers m.time l.node.locks.time ≡ true) }
 {}

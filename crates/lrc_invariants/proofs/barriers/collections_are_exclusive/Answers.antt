@@ -1,5 +1,5 @@
-use Rattle.std.proofs.Common.{◌≡◌, ℕ, ◌+◌, sym, subst, ap, ◌∙◌}
-use Rattle.std.specs.Prelude.{Some, count_by}
+use Rattle.std.proofs.Common.{◌≡◌, ◌+◌, sym, subst, ap, ◌∙◌}
+use Rattle.std.specs.Prelude.{count_by}
 use Rattle.std.proofs.lemmas.Option.{same_Some}
 use Rattle.lrc_barrier.specs.Barrier.{ManagerRecord}
 use Rattle.lrc_protocol.specs.World.{pending}
