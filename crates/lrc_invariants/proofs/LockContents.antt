@@ -53,7 +53,8 @@ all-without : (P : EnvelopeRecord → Type 0) (xs ys : List EnvelopeRecord) (e :
 all-without P [] ys e h = h.1
 all-without P (x ∷ xs) ys e h = (h.0, all-without P xs ys e h.1)
 
-pub all-goes : (P : EnvelopeRecord → Type 0) (o : Option EnvelopeRecord) (was out now : List EnvelopeRecord) → Goes o was out now → AllOf P was → AllOf P out → AllOf P now
+pub all-goes : (P : EnvelopeRecord → Type 0) (o : Option EnvelopeRecord) (was out now : List EnvelopeRecord) → Goes o was out now → AllOf P was
+    → AllOf P out → AllOf P now
 all-goes P None was out now g h k = subst (AllOf P) (sym g) (all-append P was out h k)
 all-goes P (Some e) was out now g h k =
     subst (AllOf P) (sym g.after) (all-append P (g.front ++ g.back) out (all-without P g.front g.back e (subst (AllOf P) g.before h)) k)
@@ -64,7 +65,8 @@ all-at P (x ∷ es) zero e h at = subst P (same_Some x e at) h.0
 all-at P (x ∷ es) (suc place) e h at = all-at P es place e h.1 at
 
 -- what stands there is counted
-pub counted-at : (p : EnvelopeRecord → Bool) (es : List EnvelopeRecord) (place : ℕ) (e : EnvelopeRecord) → slice_get es place ≡ Some e → p e ≡ true → 0 < count_by p es
+pub counted-at : (p : EnvelopeRecord → Bool) (es : List EnvelopeRecord) (place : ℕ) (e : EnvelopeRecord) → slice_get es place ≡ Some e → p e ≡ true
+    → 0 < count_by p es
 counted-at p [] place e at is = cc
 counted-at p (x ∷ es) zero e at is =
     let first : count_by p (x ∷ es) ≡ cond (p x) 1 0 + count_by p es = count-cons p x es in
@@ -82,7 +84,8 @@ counted-in p front back e is =
     let one : cond {A = ℕ} (p e) 1 0 ≡ 1 = ap (λ b. cond b 1 0) is in
     omega (arith, all, here, one)
 
-sound_in : (nodes locks me : ℕ) (out : List EnvelopeRecord) → AllFrom me out → SoundLetters nodes locks me (map letter_in out) → AllOf (SoundMessage nodes locks) out
+sound_in : (nodes locks me : ℕ) (out : List EnvelopeRecord) → AllFrom me out → SoundLetters nodes locks me (map letter_in out) → AllOf
+    (SoundMessage nodes locks) out
 sound_in nodes locks me [] f h = tt
 sound_in nodes locks me (e ∷ out) f h =
     (subst (λ from. IsSound nodes locks from e.to e.message) (sym f.0) h.0, sound_in nodes locks me out f.1 h.1)
@@ -130,7 +133,8 @@ released_lock lock now (Free kept) p e = cc
 released_lock lock now (Held None) p e = cc
 released_lock lock now (Held (Some w)) p e = ap (λ (p : Pass). p.lock) (sym (same_Some (pass_to lock w now) p e))
 
-forwarded_lock : (lock : ℕ) (w : Waiter) (x : LockState) (b : Bool) (p : Pass) → pass_of (if b then refuses NotMine else forwarded_at lock w x) ≡ Some p → p.lock ≡ lock
+forwarded_lock : (lock : ℕ) (w : Waiter) (x : LockState) (b : Bool) (p : Pass) → pass_of (if b then refuses NotMine else forwarded_at lock w x) ≡ Some p
+    → p.lock ≡ lock
 forwarded_lock lock w x true p e = cc
 forwarded_lock lock w Away false p e = cc
 forwarded_lock lock w (Awaited None) false p e = cc
@@ -168,7 +172,8 @@ sends_sound s below held_below counted _ _ _ _ _ letters f k (forwarding from m 
     (sym (forwarded_lock m.lock (record { node = m.asker; time = m.time }) (lock_at s.locks.held m.lock) (m.asker == s.locks.held.me) p e)) lt) g
 sends_sound s below held_below counted _ _ _ _ _ _ f k (grants from m lt w l) = tt
 sends_sound s below held_below counted _ _ _ _ _ _ f k (gathers from a before manager at long is) = tt
-sends_sound s below held_below counted _ _ _ _ _ _ f k (lets_depart from a before manager departures at long is) = departures_sound s.nodes s.tokens s.me departures
+sends_sound s below held_below counted _ _ _ _ _ _ f k
+    (lets_depart from a before manager departures at long is) = departures_sound s.nodes s.tokens s.me departures
 sends_sound s below held_below counted _ _ _ _ _ _ f k (departing from d l c) = tt
 sends_sound s below held_below counted _ _ _ _ _ letters f k (collecting from d l c t o) = others_sound s.nodes s.tokens s.me letters o
 sends_sound s below held_below counted _ _ _ _ _ _ f k (clean_at_once from d l c t) = (tt, tt)

@@ -66,13 +66,15 @@ module _ (program : Program) (nodes : ℕ) (options : OptionsRecord) where
         let within : k < program.locks = subst (λ j. k < j) locks_are lt in
         let manages : manager_of nodes k ≡ a = subst (λ (s : Setting). manager_of s.nodes k ≡ s.me) setting mine in
         let all : AllBalanced nodes k (pending world) world.nodes =
-        (all_balanced program nodes options reached.events world reached.runs).each k within (some_node program nodes options reached.events world a l reached.runs at) in
+        (all_balanced program nodes options reached.events world reached.runs).each k within
+        (some_node program nodes options reached.events world a l reached.runs at) in
         let test : EnvelopeRecord → Bool = λ e. asks from e.from e.to (saying k e.message) in
         let is : test e ≡ true =
         ap (λ message. asks from e.from e.to (saying k message)) b.2 ∙ ap (asks from e.from e.to) (said k k request refl) ∙ eq-eqb e.from from b.1 in
         let some : 0 < saying_so k (asks from) (pending world) = subst (λ es. 0 < count_by test es) (sym g.before) (counted-in test g.front g.back e is) in
         let other : is_node (last_asker nodes k world.nodes) from ≡ 0 =
-        asker_is_another from (last_asker nodes k world.nodes) (numbers_of k from (pending world) world.nodes) (state_in k (slice_get world.nodes from)) (all from) some in
+        asker_is_another from (last_asker nodes k world.nodes) (numbers_of k from (pending world) world.nodes) (state_in k (slice_get world.nodes from))
+        (all from) some in
         let recent : last_asker nodes k world.nodes ≡ recent_in l.node.locks k =
         ap (λ m. recent_at k (slice_get world.nodes m)) manages ∙ ap (recent_at k) at in
         let one : is_node (last_asker nodes k world.nodes) from ≡ 1 = ap (λ b. cond b 1 0) (eq-eqb (last_asker nodes k world.nodes) from (recent ∙ sym last)) in
@@ -88,7 +90,8 @@ module _ (program : Program) (nodes : ℕ) (options : OptionsRecord) where
     anew_by (Some e) out now from (PageRequest page) b g = tt
     anew_by (Some e) out now from (PageReply m) b g = tt
 
-    anew : (came : Came) (o : Option EnvelopeRecord) (out now : List EnvelopeRecord) → Brings l.node.setting.me came o → Goes o (pending world) out now → AsksAnew (site_of l.node) came
+    anew : (came : Came) (o : Option EnvelopeRecord) (out now : List EnvelopeRecord) → Brings l.node.setting.me came o → Goes o (pending world) out now
+        → AsksAnew (site_of l.node) came
     anew by_itself o out now b g = tt
     anew (comes from message) o out now b g = anew_by o out now from message b g
 
@@ -104,7 +107,8 @@ module _ (program : Program) (nodes : ℕ) (options : OptionsRecord) where
         (sound-sent l.node.setting.nodes l.node.setting.locks l.node.setting.me turn.out sent.letters from sent.out
         (sends_sound (site_of l.node)
         (λ lock next. subst (λ (s : Setting). lock < s.locks) (sym setting) (acquired_below (setting_of program nodes a) l.node.course known.text lock next))
-        (λ lock t next. subst (λ k. lock < k) shape.tokens (held_within l.node.locks.held.locks lock (let_go l.node.course l.node.locks.held lock t known.holding next)))
+        (λ lock t next. subst (λ k. lock < k) shape.tokens (held_within l.node.locks.held.locks lock
+        (let_go l.node.course l.node.locks.held lock t known.holding next)))
         shape.times came sent.acts after.mail.wait after.locks after.barrier sent.letters (from_node came within) (anew came o turn.out now b g) sent.sent))
 
     by_step : (now : List EnvelopeRecord) (turn : TurnRecord) (after : Node) → Stepped l.node (pending world) now turn after → after.setting ≡ l.node.setting
@@ -118,7 +122,8 @@ module _ (program : Program) (nodes : ℕ) (options : OptionsRecord) where
   sound-kept world flight n l after input entry at come i reached reached' h =
       let own : l.node.setting ≡ setting_of program nodes n = (shape_at program nodes options reached.events world n l reached.runs at).setting in
       let own' : after.node.setting ≡ setting_of program nodes n =
-      (shape_at program nodes options reached'.events (with_turn world flight n entry after) n after reached'.runs (get_set_same world.nodes n l after at)).setting in
+      (shape_at program nodes options reached'.events (with_turn world flight n entry after) n after reached'.runs
+      (get_set_same world.nodes n l after at)).setting in
       by_step world n l at reached (pending (with_turn world flight n entry after)) entry.turn after.node
       (stepped program nodes options world flight n l after input entry at come i reached) (own' ∙ sym own) h
 
@@ -143,8 +148,9 @@ awaited_by Away e = absurd (omega (arith, e))
 awaited_by (Free kept) e = absurd (omega (arith, e))
 awaited_by (Held next) e = absurd (omega (arith, e))
 
-module _ (program : Program) (nodes : ℕ) (options : OptionsRecord) (events : List Event) (world : World) (runs : run_of program nodes options events ≡ Some world)
-  (place : ℕ) (e : EnvelopeRecord) (is : slice_get (pending world) place ≡ Some e) (l : Logged) (at : slice_get world.nodes e.to ≡ Some l) where
+module _ (program : Program) (nodes : ℕ) (options : OptionsRecord) (events : List Event) (world : World)
+    (runs : run_of program nodes options events ≡ Some world)
+    (place : ℕ) (e : EnvelopeRecord) (is : slice_get (pending world) place ≡ Some e) (l : Logged) (at : slice_get world.nodes e.to ≡ Some l) where
   sound : SoundMessage nodes program.locks e
   sound = all-at (SoundMessage nodes program.locks) (pending world) place e (all_sound program nodes options events world runs) is
 
@@ -154,7 +160,8 @@ module _ (program : Program) (nodes : ℕ) (options : OptionsRecord) (events : L
   own_setting : l.node.setting ≡ setting_of program nodes e.to
   own_setting = own.shape.setting
 
-  balance : (k : ℕ) → k < program.locks → Balanced e.to (last_asker nodes k world.nodes) (numbers_of k e.to (pending world) world.nodes) (lock_at l.node.locks.held k)
+  balance : (k : ℕ) → k < program.locks → Balanced e.to (last_asker nodes k world.nodes) (numbers_of k e.to (pending world) world.nodes)
+      (lock_at l.node.locks.held k)
   balance k lt =
       subst (λ o. Balanced e.to (last_asker nodes k world.nodes) (numbers_of k e.to (pending world) world.nodes) (state_in k o)) at
       ((all_balanced program nodes options events world runs).each k lt (some_node program nodes options events world e.to l runs at) e.to)
@@ -171,28 +178,34 @@ module _ (program : Program) (nodes : ℕ) (options : OptionsRecord) (events : L
       let s : IsSound nodes program.locks e.from e.to (LockForward m) = subst (IsSound nodes program.locks e.from e.to) says sound in
       let test : EnvelopeRecord → Bool = λ x. onto e.to x.from x.to (saying m.lock x.message) in
       let counted : test e ≡ true =
-      ap (λ message. onto e.to e.from e.to (saying m.lock message)) says ∙ ap (onto e.to e.from e.to) (said m.lock m.lock (forward m.asker) refl) ∙ eq-eqb e.to e.to refl in
+      ap (λ message. onto e.to e.from e.to (saying m.lock message)) says ∙ ap (onto e.to e.from e.to) (said m.lock m.lock (forward m.asker) refl)
+      ∙ eq-eqb e.to e.to refl in
       let some : 0 < saying_so m.lock (onto e.to) (pending world) = counted-at test (pending world) place e is counted in
       let takes : is_taken (forwarded_at m.lock (record { node = m.asker; time = m.time }) (lock_at l.node.locks.held m.lock)) ≡ true =
       taken_at m.lock m.asker m.time (lock_at l.node.locks.held m.lock)
-      (takes_on e.to (last_asker nodes m.lock world.nodes) (numbers_of m.lock e.to (pending world) world.nodes) (lock_at l.node.locks.held m.lock) (balance m.lock s.0) some) in
+      (takes_on e.to (last_asker nodes m.lock world.nodes) (numbers_of m.lock e.to (pending world) world.nodes) (lock_at l.node.locks.held m.lock)
+      (balance m.lock s.0) some) in
       let mine : l.node.locks.held.me ≡ e.to = own.shape.shape.holder in
       let another : (m.asker == l.node.locks.held.me) ≡ false = ne_eqb m.asker l.node.locks.held.me (λ same. s.4 (same ∙ mine)) in
       ap (is_expected l.node e.from) says
       ∙ and_from _ _
-      (subst (λ (x : Setting). (nat_lt m.lock x.locks && nat_lt m.asker x.nodes && (length m.time == x.nodes) && (manager_of x.nodes m.lock == e.from)) ≡ true) (sym own_setting)
+      (subst (λ (x : Setting). (nat_lt m.lock x.locks && nat_lt m.asker x.nodes && (length m.time == x.nodes) &&
+      (manager_of x.nodes m.lock == e.from)) ≡ true) (sym own_setting)
       (and_from _ _ (and_from _ _ (and_from _ _ (lt-ltb m.lock program.locks s.0) (lt-ltb m.asker nodes s.1)) (eq-eqb (length m.time) nodes s.2))
       (eq-eqb (manager_of nodes m.lock) e.from s.3)))
-      (own_or_not (m.asker == l.node.locks.held.me) (forwarded_at m.lock (record { node = m.asker; time = m.time }) (lock_at l.node.locks.held m.lock)) another takes)
+      (own_or_not (m.asker == l.node.locks.held.me) (forwarded_at m.lock (record { node = m.asker; time = m.time })
+      (lock_at l.node.locks.held m.lock)) another takes)
 
   pub grant_awaited : (m : LockGrantRecord) → e.message ≡ LockGrant m → (m.lock < program.locks) × (awaits_grant m.lock l.node.mail.wait ≡ true)
   grant_awaited m says =
       let lt : m.lock < program.locks = subst (IsSound nodes program.locks e.from e.to) says sound in
       let test : EnvelopeRecord → Bool = λ x. granted_to e.to x.from x.to (saying m.lock x.message) in
       let counted : test e ≡ true =
-      ap (λ message. granted_to e.to e.from e.to (saying m.lock message)) says ∙ ap (granted_to e.to e.from e.to) (said m.lock m.lock grant refl) ∙ eq-eqb e.to e.to refl in
+      ap (λ message. granted_to e.to e.from e.to (saying m.lock message)) says ∙ ap (granted_to e.to e.from e.to) (said m.lock m.lock grant refl)
+      ∙ eq-eqb e.to e.to refl in
       let some : 0 < saying_so m.lock (granted_to e.to) (pending world) = counted-at test (pending world) place e is counted in
       let awaited : is_awaited (lock_at l.node.locks.held m.lock) ≡ true =
       awaited_by (lock_at l.node.locks.held m.lock)
-      (granted_awaits e.to (last_asker nodes m.lock world.nodes) (numbers_of m.lock e.to (pending world) world.nodes) (lock_at l.node.locks.held m.lock) (balance m.lock lt) some) in
+      (granted_awaits e.to (last_asker nodes m.lock world.nodes) (numbers_of m.lock e.to (pending world) world.nodes) (lock_at l.node.locks.held m.lock)
+      (balance m.lock lt) some) in
       (lt, sym (own.waits m.lock) ∙ awaited)

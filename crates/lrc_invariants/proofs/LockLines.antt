@@ -29,7 +29,8 @@ lines-first nodes = record {
   learns = λ j node l d. absurd (none_done d);
 }
 
-module _ (nodes : ℕ) (acts : List Act) (times : List (List ℕ)) (timed : length times ≡ length acts) (n : ℕ) (time : List ℕ) (k : KeepsLocks nodes acts times) where
+module _ (nodes : ℕ) (acts : List Act) (times : List (List ℕ)) (timed : length times ≡ length acts) (n : ℕ) (time : List ℕ)
+    (k : KeepsLocks nodes acts times) where
   -- what an acquire learns, at each position before
   learned-prefix : (more : List Act) (later : List (List ℕ)) (node l j : ℕ) → j ≤ length acts
       → joined (stamp_at nodes (acts ++ more) (times ++ later) node j) (released_time nodes (acts ++ more) (times ++ later) l j)
@@ -40,7 +41,7 @@ module _ (nodes : ℕ) (acts : List Act) (times : List (List ℕ)) (timed : leng
 
   module _ (d : Deed) (takes : (l : ℕ) → d ≡ Acquire l → NobodyHolds acts l
       × (time ≡ joined (stamp_at nodes acts times n (length acts)) (released_time nodes acts times l (length acts))))
-    (lets : (l : ℕ) → d ≡ Release l → HeldNow acts n l) where
+      (lets : (l : ℕ) → d ≡ Release l → HeldNow acts n l) where
     abbrev more : List Act
     more = act_of n d ∷ []
 

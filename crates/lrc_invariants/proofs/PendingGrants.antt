@@ -88,11 +88,12 @@ module _ (l : ℕ) where
   grants-lose _ _ was out now none g from m x is lock sole = absurd (alone_comes from (LockGrant m) is)
   grants-lose _ _ was out now (one e) g from m x is lock sole =
       let it : (e ≡ x) × (grants g.front ++ grants g.back ≡ []) =
-      single (grants g.front) (grants g.back) e x (sym (there e was out now g (is_it e from m is lock)) ∙ sole) in
-      (ap (λ (e : EnvelopeRecord). e.message) (sym it.0) ∙ message_is e.from from e.message (LockGrant m) is,
-      ap grants g.after
-      ∙ grants-append (g.front ++ g.back) out
-      ∙ ap (λ es. es ++ grants out) (grants-append g.front g.back ∙ it.1))
+      single (grants g.front) (grants g.back) e x (sym (there e was out now g (is_it e from m is lock)) ∙ sole) in (
+        ap (λ (e : EnvelopeRecord). e.message) (sym it.0) ∙ message_is e.from from e.message (LockGrant m) is,
+        ap grants g.after
+            ∙ grants-append (g.front ++ g.back) out
+            ∙ ap (λ es. es ++ grants out) (grants-append g.front g.back ∙ it.1),
+      )
 
   -- ---- what is sent
 

@@ -103,8 +103,12 @@ module _ (k : ℕ) where
 
     -- who holds the lock has the token, and it is held
     pub holder_has_it : AToken → (h : ℕ) (l : Logged) → slice_get all h ≡ Some l → HeldNow acts h k ↔ (is_held (lock_at l.node.locks.held k) ≡ true)
-    holder_has_it token h l at = (by_acts token, λ e.
-      (at_held k nodes (status_in k all) (times_in all) pending acts times h (ap (λ o. status_of (state_in k o)) at ∙ held_by (state l) e) token).holds.holds)
+    holder_has_it token h l at = (
+      by_acts token,
+      λ e.
+          (at_held k nodes (status_in k all) (times_in all) pending acts times h (ap (λ o. status_of (state_in k o)) at ∙ held_by
+          (state l) e) token).holds.holds,
+    )
       where
         by_acts : AToken → HeldNow acts h k → is_held (state l) ≡ true
         by_acts (held_at g here others none a) held =

@@ -34,7 +34,8 @@ pub data Token (l nodes : ℕ) (st : ℕ → Status) (T : ℕ → List ℕ) (pen
 
 -- ---- by where a node stands
 
-pub record AtFree (l nodes : ℕ) (st : ℕ → Status) (T : ℕ → List ℕ) (pending : List EnvelopeRecord) (acts : List Act) (times : List (List ℕ)) (n : ℕ) (kept : List ℕ) : Type 0 where
+pub record AtFree (l nodes : ℕ) (st : ℕ → Status) (T : ℕ → List ℕ) (pending : List EnvelopeRecord) (acts : List Act) (times : List (List ℕ)) (n : ℕ)
+    (kept : List ℕ) : Type 0 where
   pub alone : (m : ℕ) → (m ≡ n → ⊥) → st m ≡ absent
   pub none : pending ≡ []
   pub nobody : NobodyHolds acts l
@@ -110,23 +111,24 @@ module _ (l nodes : ℕ) (st : ℕ → Status) (T : ℕ → List ℕ) (pending :
 
 -- what a move gives: where the token is then; that who acquires finds the lock free, and learns the last release's time; and
 -- that who releases holds it
-pub record Stepped (l nodes n : ℕ) (st : ℕ → Status) (T : ℕ → List ℕ) (now : List EnvelopeRecord) (acts : List Act) (times : List (List ℕ)) (deed : Option Deed) (time : List ℕ) : Type 0 where
+pub record Stepped (l nodes n : ℕ) (st : ℕ → Status) (T : ℕ → List ℕ) (now : List EnvelopeRecord) (acts : List Act) (times : List (List ℕ))
+    (deed : Option Deed) (time : List ℕ) : Type 0 where
   pub token : Token l nodes st T now (acts ++ more_acts n deed) (times ++ more_times n time deed)
   pub acquires : deed ≡ Some (Acquire l)
       → NobodyHolds acts l × (time ≡ joined (raised (time_before nodes acts times n (length acts)) n) (released_time nodes acts times l (length acts)))
   pub releases : deed ≡ Some (Release l) → HeldNow acts n l
 
 module _ (l nodes n : ℕ) (st st' : ℕ → Status) (T T' : ℕ → List ℕ) (elsewhere : (m : ℕ) → (m ≡ n → ⊥) → st' m ≡ st m)
-  (times_elsewhere : (m : ℕ) → (m ≡ n → ⊥) → T' m ≡ T m) (s : Site) (me : s.me ≡ n) (time_was : s.locks.time ≡ T n) (time : List ℕ) (time_is : T' n ≡ time)
-  (counted : length time ≡ nodes) (was now out : List EnvelopeRecord) (acts : List Act) (times : List (List ℕ)) (timed : length times ≡ length acts)
-  (deed : Option Deed) (came : Came) (letters : List Letter) (stays : brings l came ≡ false → now ≡ was ++ out)
-  (some : (from : ℕ) (m : LockGrantRecord) → came ≡ comes from (LockGrant m) → m.lock ≡ l → was ≡ [] → ⊥)
-  (loses : (from : ℕ) (m : LockGrantRecord) (e : EnvelopeRecord) → came ≡ comes from (LockGrant m) → m.lock ≡ l → was ≡ e ∷ []
-      → (e.message ≡ LockGrant m) × (now ≡ out))
-  (none_out : NoGrants l letters → out ≡ [])
-  (one_out : (time : List ℕ) (g : OneGrant l time letters) → (e : EnvelopeRecord) × ((out ≡ e ∷ []) × (e.message ≡ LockGrant g.m)))
-  (idle : s.wait ≡ nothing → T n ≡ time_before nodes acts times n (length acts))
-  (waiting : s.wait ≡ grant l → T n ≡ raised (time_before nodes acts times n (length acts)) n) where
+    (times_elsewhere : (m : ℕ) → (m ≡ n → ⊥) → T' m ≡ T m) (s : Site) (me : s.me ≡ n) (time_was : s.locks.time ≡ T n) (time : List ℕ) (time_is : T' n ≡ time)
+    (counted : length time ≡ nodes) (was now out : List EnvelopeRecord) (acts : List Act) (times : List (List ℕ)) (timed : length times ≡ length acts)
+    (deed : Option Deed) (came : Came) (letters : List Letter) (stays : brings l came ≡ false → now ≡ was ++ out)
+    (some : (from : ℕ) (m : LockGrantRecord) → came ≡ comes from (LockGrant m) → m.lock ≡ l → was ≡ [] → ⊥)
+    (loses : (from : ℕ) (m : LockGrantRecord) (e : EnvelopeRecord) → came ≡ comes from (LockGrant m) → m.lock ≡ l → was ≡ e ∷ []
+    → (e.message ≡ LockGrant m) × (now ≡ out))
+    (none_out : NoGrants l letters → out ≡ [])
+    (one_out : (time : List ℕ) (g : OneGrant l time letters) → (e : EnvelopeRecord) × ((out ≡ e ∷ []) × (e.message ≡ LockGrant g.m)))
+    (idle : s.wait ≡ nothing → T n ≡ time_before nodes acts times n (length acts))
+    (waiting : s.wait ≡ grant l → T n ≡ raised (time_before nodes acts times n (length acts)) n) where
   abbrev last : List ℕ
   last = time_before nodes acts times n (length acts)
 
@@ -152,7 +154,8 @@ module _ (l nodes n : ℕ) (st st' : ℕ → Status) (T T' : ℕ → List ℕ) (
       append_nil [] = refl
       append_nil (x ∷ xs) = ap (λ ys. x ∷ ys) (append_nil xs)
 
-  released_same : (deed ≡ Some (Release l) → ⊥) → released_time nodes (acts ++ more_acts n deed) (times ++ more_times n time deed) l (length (acts ++ more_acts n deed)) ≡ released
+  released_same : (deed ≡ Some (Release l) → ⊥) → released_time nodes (acts ++ more_acts n deed) (times ++ more_times n time deed) l (length
+      (acts ++ more_acts n deed)) ≡ released
   released_same ne = released-still nodes acts times timed n time l deed ne
 
   nobody_same : (deed ≡ Some (Acquire l) → ⊥) → NobodyHolds acts l → NobodyHolds (acts ++ more_acts n deed) l
@@ -186,11 +189,14 @@ module _ (l nodes n : ℕ) (st st' : ℕ → Status) (T T' : ℕ → List ℕ) (
       let t' : time ≡ raised (T n) n = t ∙ ap (λ k. next_time k s.locks.time) me ∙ ap (next_time n) time_was in
       let covering : Covers time kept = covers-trans time (T n) kept (subst (λ x. Covers x (T n)) (sym t') (covers-next n (T n))) at.below in
       record {
-        token = held_at n eb (λ m ne. elsewhere m ne ∙ at.alone m ne) (nothing_new bf g ∙ at.none) (alone-taken nodes acts times timed n time l deed d at.nobody);
-        acquires = λ e. (at.nobody,
-        sym (joined-covers time kept (counted ∙ sym at.counted) covering)
-        ∙ ap (λ x. joined x kept) (t' ∙ ap (λ x. raised x n) (idle w))
-        ∙ ap (joined (raised last n)) at.last);
+        token = held_at n eb (λ m ne. elsewhere m ne ∙ at.alone m ne) (nothing_new bf g ∙ at.none)
+            (alone-taken nodes acts times timed n time l deed d at.nobody);
+        acquires = λ e. (
+          at.nobody,
+          sym (joined-covers time kept (counted ∙ sym at.counted) covering)
+              ∙ ap (λ x. joined x kept) (t' ∙ ap (λ x. raised x n) (idle w))
+              ∙ ap (joined (raised last n)) at.last,
+        );
         releases = λ e. absurd (release_no_acquire e d);
       }
   stepped _ _ (keeps bf d g t) ea eb token =
@@ -229,8 +235,10 @@ module _ (l nodes n : ℕ) (st st' : ℕ → Status) (T T' : ℕ → List ℕ) (
       let same : at.m.time ≡ m.time = grant_time at.m m (sym at.is ∙ lost.0) in
       record {
         token = held_at n eb (λ q ne. elsewhere q ne ∙ at.nowhere q) (lost.1 ∙ none_out g) (alone-taken nodes acts times timed n time l deed d at.nobody);
-        acquires = λ e. (at.nobody,
-        t ∙ ap (λ x. joined x m.time) (time_was ∙ waiting w) ∙ ap (joined (raised last n)) (sym same ∙ at.last));
+        acquires = λ e. (
+          at.nobody,
+          t ∙ ap (λ x. joined x m.time) (time_was ∙ waiting w) ∙ ap (joined (raised last n)) (sym same ∙ at.last),
+        );
         releases = λ e. absurd (release_no_acquire e d);
       }
     where

@@ -25,8 +25,8 @@ pub record Moving (l : ℕ) (node : Node) (input : Input) (turn : TurnRecord) (a
   pub out : map letter_in turn.out ≡ letters
 
 module _ (l : ℕ) (node : Node) (fits : FixesNext node.mail.wait (next_in node.course)) (waits : AwaitsOne node.mail.wait node.locks.held)
-  (holding : HoldsTokens node.course node.locks.held) (counted : length node.locks.held.locks ≡ node.setting.locks)
-  (below : (lock : ℕ) → acquiring (next_in node.course) ≡ Some lock → lock < node.setting.locks) where
+    (holding : HoldsTokens node.course node.locks.held) (counted : length node.locks.held.locks ≡ node.setting.locks)
+    (below : (lock : ℕ) → acquiring (next_in node.course) ≡ Some lock → lock < node.setting.locks) where
   pub moving : (input : Input) (turn : TurnRecord) (after : Node) → Sending node input turn after → Moving l node input turn after
   moving _ turn after (alone k) = record {
     came = by_itself;
