@@ -1,0 +1,6 @@
+pub mod Tests
+pub mod Change
+pub mod Words
+pub mod Inversion
+pub mod Reach
+pub mod Leads
