@@ -4,3 +4,4 @@ pub mod Words
 pub mod Inversion
 pub mod Reach
 pub mod Leads
+pub mod Tokened

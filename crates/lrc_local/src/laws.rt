@@ -28,3 +28,27 @@ pub fn setting_and_options_stay()
     ensures { (program : Program) (nodes : ℕ) (options : OptionsRecord) (me : ℕ) (l : Local) → LeadsTo program nodes options me l
         → (l.node.setting ≡ setting_of program nodes me) × (l.node.options ≡ options) }
 {}
+ghost use Rattle.std.specs.Prelude.{length, true, false};
+ghost use Rattle.lrc_exec.specs.Meaning.{Thread, releases};
+ghost use Rattle.lrc_lock.specs.Held.{lock_at, is_free, is_held};
+ghost use Rattle.lrc_lock.specs.declared.state.LockState.TheVariants.{Away};
+ghost use Rattle.lrc_protocol.specs.Mail.{nothing, grant};
+ghost use Rattle.lrc_invariants.specs.Shape.{HasShape};
+ghost use Rattle.lrc_invariants.specs.Tokens.{is_awaited};
+ghost use Rattle.lrc_invariants.specs.Waiting.{next_in, acquiring, FixesNext};
+
+/// At a node that is reached each call on a token is in turn: a lock that the text acquires next has a token with a place here
+/// that is not held, and where it isn't free it is neither here nor awaited; one that the text releases next is held; and one
+/// whose grant is awaited is awaited.
+pub fn tokens_are_called_in_turn()
+    ensures shape { (node : Node) → IsReached node → HasShape node.setting node.locks }
+    ensures acquire { (node : Node) (lock : ℕ) → IsReached node → acquiring (next_in node.course) ≡ Some lock
+        → (lock < length node.locks.held.locks) × (is_held (lock_at node.locks.held lock) ≡ false) }
+    ensures ask { (node : Node) (lock : ℕ) → IsReached node → node.mail.wait ≡ nothing → acquiring (next_in node.course) ≡ Some lock
+        → is_free (lock_at node.locks.held lock) ≡ false → lock_at node.locks.held lock ≡ Away }
+    ensures release { (node : Node) (lock : ℕ) (after : Thread) → IsReached node → next_in node.course ≡ Some (releases lock after)
+        → (lock < length node.locks.held.locks) × (is_held (lock_at node.locks.held lock) ≡ true) }
+    ensures grant { (node : Node) (lock : ℕ) → IsReached node → node.mail.wait ≡ grant lock
+        → (lock < length node.locks.held.locks) × (is_awaited (lock_at node.locks.held lock) ≡ true) }
+    ensures waits { (node : Node) → IsReached node → FixesNext node.mail.wait (next_in node.course) }
+{}
