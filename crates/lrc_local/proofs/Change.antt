@@ -1,7 +1,7 @@
 -- What turns do to a node's memory, its time and what it waits for: a second inversion of the machine, with one constructor
 -- for each kind of change. A turn is some changes one after another.
 use Rattle.std.proofs.Common.{◌≡◌, ℕ, ◌+◌, ◌-◌, ◌<◌, ◌≤◌, List, [], ◌∷◌, Bool, true, false, length, refl, sym, ap, subst, ◌∙◌}
-use Rattle.std.specs.Prelude.{Option, Some, None, All, if◌then◌else◌, fold, map, filter, not, nat_lt, slice_set, slice_index_or}
+use Rattle.std.specs.Prelude.{Option, Some, None, All, if◌then◌else◌, fold, map, filter, not, nat_lt, slice_set}
 use Rattle.std.specs.List.{list_all, list_any, range_with_len}
 use Rattle.std.proofs.lemmas.Bool.{and_parts, eqb-true, leb-true, ltb-true}
 use Rattle.lrc_time.specs.Time.{entry, Covers, covers, joined}
@@ -105,7 +105,7 @@ needs_in v =
 
 pub data Change (v : View) : View → Type 0 where
   -- a message comes, and the manager of barriers takes what it says
-  receives : (from number : ℕ) → Change v (record v { taken = slice_set v.taken from (number ∷ slice_index_or v.taken from []) })
+  receives : (from : ℕ) (numbers : List ℕ) → Change v (record v { taken = slice_set v.taken from numbers })
   manages : (before manager : ManagerRecord) → v.manager ≡ Some before → length manager.last ≡ length before.last
       → Change v (record v { manager = Some manager })
   -- the text goes on

@@ -174,7 +174,7 @@ discards-exact me time memory h = record {
 -- ---- every change
 
 pub exact-kept : (v after : View) → Change v after → Ranged v → StoresExactly v.time v.memory → StoresExactly after.time after.memory
-exact-kept v _ (receives from number) r h = h
+exact-kept v _ (receives from numbers) r h = h
 exact-kept v _ (manages before manager e many) r h = h
 exact-kept v _ (moves course n) r h = h
 exact-kept v _ (puts word value w) r h = exact-rest v.time v.memory _ (copy-same v.memory _ _) h

@@ -286,7 +286,7 @@ module _ (start : View) where
       expected_or_not (is_addressed node envelope) _
       (λ a. repeated_or_not node (is_repeat node envelope) (take_anew node envelope) at
       (expected_or_not (is_expected node envelope.from envelope.message) (turn_of (take_effect (taking node envelope) envelope.from envelope.message))
-      (λ e. effect-at (take_effect (taking node envelope) envelope.from envelope.message) (take-at node envelope envelope.from envelope.message e (goes at (receives envelope.from envelope.number))))))
+      (λ e. effect-at (take_effect (taking node envelope) envelope.from envelope.message) (take-at node envelope envelope.from envelope.message e (goes at (receives envelope.from _))))))
 
   -- each input leads on by changes, or is no turn
   pub turn-at : (node : Node) (input : Input) → TextIs node.setting node.course → At node → AtEnd (outcome_of node input)

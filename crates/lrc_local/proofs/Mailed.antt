@@ -21,7 +21,7 @@ manages-so : (me nodes : ℕ) (before manager : ManagerRecord) → length manage
 manages-so me nodes before manager many h = (h.0, many ∙ h.1)
 
 pub mailed-kept : (v after : View) → Change v after → Mailed v → Mailed after
-mailed-kept v _ (receives from number) h = record { taken = length-set v.taken from _ ∙ h.taken; manager = h.manager }
+mailed-kept v _ (receives from numbers) h = record { taken = length-set v.taken from _ ∙ h.taken; manager = h.manager }
 mailed-kept v _ (manages before manager e many) h = record {
   taken = h.taken;
   manager = manages-so v.setting.me v.setting.nodes before manager many (subst (HasManager v.setting.me v.setting.nodes) e h.manager);

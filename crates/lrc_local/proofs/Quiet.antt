@@ -76,7 +76,7 @@ still-quiet change (discard collection) a b e h = subst (All Unwritten) (sym e) 
 
 
 pub quiet-kept : (v after : View) → Change v after → IsQuiet v.wait v.memory → IsQuiet after.wait after.memory
-quiet-kept v _ (receives from number) h = h
+quiet-kept v _ (receives from numbers) h = h
 quiet-kept v _ (manages before manager e many) h = h
 quiet-kept v _ (moves course n) h = h
 quiet-kept v _ (puts word value w) h = subst (λ w. IsQuiet w (with_word v.size word value v.memory)) (sym w) tt

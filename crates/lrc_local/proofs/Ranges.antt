@@ -218,7 +218,7 @@ at_wait : (time : List ℕ) (w x : Wait) → w ≡ x → CollectsAt time w → C
 at_wait time w x e h = subst (CollectsAt time) e h
 
 pub ranged-kept : (v after : View) → Change v after → Ranged v → Ranged after
-ranged-kept v _ (receives from number) h = record { me = h.me; time = h.time; present = h.present; memory = h.memory }
+ranged-kept v _ (receives from numbers) h = record { me = h.me; time = h.time; present = h.present; memory = h.memory }
 ranged-kept v _ (manages before manager e many) h = record { me = h.me; time = h.time; present = h.present; memory = h.memory }
 ranged-kept v _ (moves course n) h = record { me = h.me; time = h.time; present = h.present; memory = h.memory }
 ranged-kept v _ (puts word value w) h = record {
