@@ -57,7 +57,7 @@ noticed_by page changes None = refl
 noticed_by page changes (Some notice) = refl
 
 -- the notice that is found is of the page
-notice_page : (page : ℕ) (found : Option StoredRecord) (notice : NoticeRecord) → option_and_then (notice_of page) found ≡ Some notice → notice.page ≡ page
+pub notice_page : (page : ℕ) (found : Option StoredRecord) (notice : NoticeRecord) → option_and_then (notice_of page) found ≡ Some notice → notice.page ≡ page
 notice_page page None notice e = cc
 notice_page page (Some stored) notice e = eqb-true notice.page page (passes-find (λ (notice : NoticeRecord). notice.page == page) stored.notices notice e)
 

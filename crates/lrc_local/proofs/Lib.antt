@@ -18,4 +18,6 @@ pub mod Asking
 pub mod Needs
 pub mod Replies
 pub mod Needed
+pub mod Reaches
+pub mod Awaited
 pub mod Always

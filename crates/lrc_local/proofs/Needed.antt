@@ -36,14 +36,14 @@ idle v s = record {
   kept = settled-kept v.setting.me v.memory v.wait s;
 }
 
-changed_page : (page from : ℕ) (need : Need) → (with_changes page from need).page ≡ need.page
+pub changed_page : (page from : ℕ) (need : Need) → (with_changes page from need).page ≡ need.page
 changed_page page from need = by_test (need.page == page)
   where
     by_test : (b : Bool) → (if b then record need { asked = filter (λ asked. not (asked.maker == from)) need.asked } else need).page ≡ need.page
     by_test true = refl
     by_test false = refl
 
-sent_page : (page : ℕ) (values : List ℕ) (need : Need) → (with_page page values need).page ≡ need.page
+pub sent_page : (page : ℕ) (values : List ℕ) (need : Need) → (with_page page values need).page ≡ need.page
 sent_page page values need = by_test (need.page == page)
   where
     by_test : (b : Bool) → (if b then record need { base = come values } else need).page ≡ need.page
