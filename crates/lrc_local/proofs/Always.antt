@@ -45,6 +45,10 @@ use Rattle.lrc_local.proofs.Needed.{Needed, needed-kept}
 use Rattle.lrc_local.proofs.Reaches.{reaches-kept}
 use Rattle.lrc_local.proofs.Replies.{asked-exactly}
 use Rattle.lrc_local.proofs.Awaited.{All-unmap, asked-unread}
+use Rattle.lrc_page.specs.declared.size.Size.{Size}
+use Rattle.lrc_protocol.specs.Copy.{valid}
+use Rattle.lrc_local.specs.Ranges.{IsWhole, IsWholeBase}
+use Rattle.lrc_local.proofs.Whole.{Whole, whole-kept}
 use Rattle.lrc_local.proofs.Quiet.{quiet-kept}
 use Rattle.lrc_local.proofs.Mailed.{Mailed, mailed-kept, first-manager}
 use Rattle.lrc_local.proofs.Exact.{exact-kept, is_store, own-entry, next-indices}
@@ -108,6 +112,17 @@ module _ (program : Program) (nodes : ℕ) (options : OptionsRecord) (me : ℕ) 
   pub reaching : (v : View) → From v → ReachesFor v.size (next_in v.course) v.wait
   reaching _ stands = tt
   reaching _ (goes {v = v} {after = after} w c) = reaches-kept v after c (reaching v w)
+
+  whole-first : (size : Size) (pages : ℕ) → Whole nodes (words_of size) (fresh_memory nodes pages size)
+  unfolding zero_page
+  whole-first size pages = record {
+    copies = All-replicate (IsWhole nodes (words_of size)) pages (valid (zero_page size)) (length-replicate (words_of size) 0);
+    bases = All-replicate (IsWholeBase (words_of size)) pages None tt;
+  }
+
+  pub whole : (v : View) → From v → Whole v.setting.nodes (words_of v.size) v.memory
+  whole _ stands = whole-first options.size (pages_of program.words options.size)
+  whole _ (goes {v = v} {after = after} w c) = whole-kept v after c (ranged v w) (needed v w) (whole v w)
 
 -- of a node that is reached
 pub ranged_at : (node : Node) → IsReached node → Ranged (view_of node)
@@ -226,3 +241,6 @@ awaited_at node r from m e =
     All-unmap P (λ (part : IndexedChangesRecord). part.index) m.parts
     (subst (All P) (sym just) (asked-unread node.memory m.page from (is_store_at node r))) in
     λ k d within. (unread_all k d within, it.changes k d within)
+
+pub whole_at : (node : Node) → IsReached node → Whole node.setting.nodes (words_of node.options.size) node.memory
+whole_at node r = whole r.program r.nodes r.options r.me r.leads.among (view_of node) (come_to node r).walked

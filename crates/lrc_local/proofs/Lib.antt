@@ -20,4 +20,5 @@ pub mod Replies
 pub mod Needed
 pub mod Reaches
 pub mod Awaited
+pub mod Whole
 pub mod Always

@@ -200,7 +200,7 @@ now-readable (need ∷ needs) memory page lt there =
     (λ later. now-readable needs (mended memory need) page within later)
     (cases_Contains need.page (map (λ (need : Need). need.page) needs) page there)
 
-bases-copies : (kept : List ℕ) (memory : Memory) → (fold with_base memory kept).copies ≡ memory.copies
+pub bases-copies : (kept : List ℕ) (memory : Memory) → (fold with_base memory kept).copies ≡ memory.copies
 bases-copies [] memory = refl
 bases-copies (page ∷ kept) memory = bases-copies kept (with_base memory page)
 

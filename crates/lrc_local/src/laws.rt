@@ -145,3 +145,10 @@ pub fn replies_are_of_unread_notices()
         (notice_at node.memory.store (record { node = from; index = part.index; page = m.page }) ≡ Some (unread m.page))
         × All (λ (change : Change). change.offset < words_of node.options.size) part.changes) m.parts }
 {}
+ghost use Rattle.lrc_local.specs.Ranges.{IsWhole, IsWholeBase};
+
+/// At a node that is reached each copy, twin and base copy is a page long, and each remembered time has an entry for each node.
+pub fn copies_are_whole()
+    ensures copies { (node : Node) → IsReached node → All (IsWhole node.setting.nodes (words_of node.options.size)) node.memory.copies }
+    ensures bases { (node : Node) → IsReached node → All (IsWholeBase (words_of node.options.size)) node.memory.bases }
+{}
