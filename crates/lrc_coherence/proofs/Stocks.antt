@@ -21,30 +21,35 @@ use Rattle.lrc_barrier.specs.Barrier.{ArriveStep, refuses as refuses_arrival, wa
 use Rattle.lrc_protocol.specs.Copy.{is_readable}
 use Rattle.lrc_protocol.specs.Memory.{Memory, copy_at, with_interval, kept_pages, with_keepers, with_base, base_at, changes_or_none}
 use Rattle.lrc_protocol.specs.Fetch.{Base, unneeded, due, come, Asked, Need, need_of, is_met, mended, with_changes, with_page}
-use Rattle.lrc_protocol.specs.Mail.{Letter, Wait, nothing, grant, departure, access, upkeep, discard, Collection, collection_of, is_idle, MOST_NUMBER}
+use Rattle.lrc_protocol.specs.Mail.{Letter, Wait, nothing, grant, departure, access, upkeep, discard, Collection, collection_of, is_idle, numbered, MOST_NUMBER}
 use Rattle.lrc_protocol.specs.Course.{Course, going, trapped, ended}
 use Rattle.lrc_protocol.specs.Locks.{next_time}
 use Rattle.lrc_protocol.specs.Barrier.{arrive_step, clean_step}
-use Rattle.lrc_protocol.specs.Node.{Node, Effect, sends, acts, acts_by, memory_after, with_memory, waiting}
+use Rattle.lrc_protocol.specs.Expected.{is_expected}
+use Rattle.lrc_protocol.specs.Node.{Node, Effect, begins, sends, acts, acts_by, memory_after, with_memory, waiting}
 use Rattle.lrc_protocol.specs.Letters.{letter, requests_of, page_request_of, changes_request_of, grants_of, departure_of, discards_to}
 use Rattle.lrc_protocol.specs.Waits.{waits_or_goes_on, with_needs, clean_memory}
-use Rattle.lrc_protocol.specs.Run.{own_index, closes, reaches, acquire_at, release_at, arrive_at, run_effect}
+use Rattle.lrc_protocol.specs.Run.{charged, own_index, closes, reaches, acquire_at, release_at, arrive_at, run_effect}
 use Rattle.lrc_protocol.specs.Take.{take_departure, request_by, learns, arrive_by, clean_by, discard_by, page_reply_by, take_effect, needs_to_keep, with_part, take_changes}
-use Rattle.lrc_protocol.specs.Turn.{taking}
-use Rattle.lrc_invariants.proofs.Sends.{Came, by_itself, comes}
+use Rattle.lrc_protocol.specs.Turn.{TurnRecord, Outcome, done, not_ready, unexpected, worn, turn_with, turn_of, turn_if, turn_by, take_anew, take_turn, taking, is_addressed, is_repeat, empty_turn}
+use Rattle.lrc_protocol.specs.Log.{Input, run, taken, outcome_of}
+use Rattle.lrc_invariants.proofs.Sends.{Came, by_itself, comes, letter_in, LettersIf, numbered-letters}
 
 -- ---- words
 
 -- what becomes of the store: nothing; the open interval is closed and stored; intervals that came are added; changes that came
 -- are attached; or what a time covers is dropped
-pub data StoreChange (node : Node) : Came → StoreRecord → Type 0 where
-  same : {came : Came} → StoreChange node came node.memory.store
-  closed : StoreChange node by_itself (with_interval node.setting.me (next_time node.setting.me node.locks.time) node.memory).store
-  granted : (from : ℕ) (m : LockGrantRecord) → StoreChange node (comes from (LockGrant m)) (fold added node.memory.store m.intervals)
-  departing : (from : ℕ) (m : DepartRecord) → StoreChange node (comes from (Depart m)) (fold added node.memory.store m.intervals)
+pub data StoreChange (me : ℕ) (time : List ℕ) (memory : Memory) : Came → StoreRecord → Type 0 where
+  same : {came : Came} → StoreChange me time memory came memory.store
+  closed : StoreChange me time memory by_itself (with_interval me (next_time me time) memory).store
+  granted : (from : ℕ) (m : LockGrantRecord) → StoreChange me time memory (comes from (LockGrant m)) (fold added memory.store m.intervals)
+  departing : (from : ℕ) (m : DepartRecord) → StoreChange me time memory (comes from (Depart m)) (fold added memory.store m.intervals)
   replied : (from : ℕ) (m : ChangesReplyRecord)
-      → StoreChange node (comes from (ChangesReply m)) (fold (with_part from m.page) node.memory.store m.parts)
-  dropped : (from episode : ℕ) (time : List ℕ) → StoreChange node (comes from (Discard episode)) (discarded node.memory.store time)
+      → StoreChange me time memory (comes from (ChangesReply m)) (fold (with_part from m.page) memory.store m.parts)
+  dropped : (from episode : ℕ) (upto : List ℕ) → StoreChange me time memory (comes from (Discard episode)) (discarded memory.store upto)
+
+abbrev pub ChangesStore : Node → Came → StoreRecord → Type 0
+ChangesStore node came store = StoreChange node.setting.me node.locks.time node.memory came store
 
 -- what a node's own interval of this index changed in a page, as it stores it
 abbrev pub own_part_in : StoreRecord → ℕ → ℕ → ℕ → IndexedChangesRecord
@@ -65,7 +70,7 @@ AllTell store me (x ∷ letters) = Tells store me x.message × AllTell store me 
 
 -- of an effect
 pub record Stocks (node : Node) (came : Came) (e : Effect) : Type 0 where
-  pub change : StoreChange node came e.node.memory.store
+  pub change : ChangesStore node came e.node.memory.store
   pub told : AllTell e.node.memory.store node.setting.me e.letters
 
 abbrev pub StocksIf : Node → Came → Option Effect → Type 0
@@ -146,14 +151,14 @@ clean-store needs kept memory = bases-store kept (fold mended memory needs) ∙ 
 
 -- ---- effects
 
-rested : (node : Node) (came : Came) (letters : List Letter) (x : Node) → StoreChange node came x.memory.store
+rested : (node : Node) (came : Came) (letters : List Letter) (x : Node) → ChangesStore node came x.memory.store
     → AllTell x.memory.store node.setting.me letters → Stocks node came (sends letters x)
 rested node came letters x c t = record { change = c; told = t }
 
-acted : (node : Node) (came : Came) (letters : List Letter) (x : Node) → StoreChange node came x.memory.store
+acted : (node : Node) (came : Came) (letters : List Letter) (x : Node) → ChangesStore node came x.memory.store
     → AllTell x.memory.store node.setting.me letters → Stocks node came (acts letters x)
 acted node came letters x c t = record {
-  change = subst (StoreChange node came) (sym (acts_by-store letters x x.course)) c;
+  change = subst (ChangesStore node came) (sym (acts_by-store letters x x.course)) c;
   told =
       subst (λ store. AllTell store node.setting.me (acts letters x).letters) (sym (acts_by-store letters x x.course))
       (subst (AllTell x.memory.store node.setting.me) (sym (acts_by-letters letters x x.course)) t);
@@ -166,3 +171,215 @@ either node came false x y k l = l
 optional : (node : Node) (came : Came) (b : Bool) (x : Effect) → Stocks node came x → StocksIf node came (if b then Some x else None)
 optional node came true x k = k
 optional node came false x k = tt
+
+-- ---- what a node does by itself
+
+plain-stocks : (node : Node) → Stocks node by_itself (acts [] node)
+plain-stocks node = acted node by_itself [] node same tt
+
+reaches-stocks : (node : Node) (page : ℕ) → Stocks node by_itself (reaches node page)
+reaches-stocks node page =
+    let need : Need = need_of node.setting.nodes node.memory page in
+    either node by_itself (is_readable (copy_at node.memory page)) _ _ (plain-stocks node)
+    (either node by_itself (is_met need) _ _
+    (acted node by_itself (requests_of need) (waiting nothing (with_memory node (mended node.memory need))) same (requests-tell node.memory.store node.setting.me need))
+    (rested node by_itself (requests_of need) (waiting (access need) node) same (requests-tell node.memory.store node.setting.me need)))
+
+acquire-stocks : (node : Node) (lock : ℕ) → Stocks node by_itself (acquire_at lock (closes node))
+acquire-stocks node lock =
+    either node by_itself (is_free (lock_at node.locks.held lock)) _ _
+    (acted node by_itself [] _ closed tt)
+    (rested node by_itself _ _ closed (tt, tt))
+
+run-stocks : (node : Node) (next : Next) → StocksIf node by_itself (run_effect node next)
+run-stocks node (quiet after) = plain-stocks node
+run-stocks node (prints value after) = plain-stocks node
+run-stocks node (reads word after) = reaches-stocks node (page_of word node.options.size)
+run-stocks node (writes word value after) = reaches-stocks node (page_of word node.options.size)
+run-stocks node (acquires lock after) =
+    optional node by_itself (nat_lt (own_index node) MOST_NUMBER) (acquire_at lock (closes node)) (acquire-stocks node lock)
+run-stocks node (releases lock after) =
+    optional node by_itself (nat_lt (own_index node) MOST_NUMBER) (release_at lock (closes node))
+    (acted node by_itself _ _ closed (grants-tell (closes node) node.setting.me _))
+run-stocks node (arrives after) =
+    optional node by_itself (nat_lt (own_index node) MOST_NUMBER) (arrive_at (closes node))
+    (acted node by_itself _ _ closed ((_, _, refl), tt))
+run-stocks node (departs after) = plain-stocks node
+run-stocks node (traps cause) = plain-stocks node
+run-stocks node ends = plain-stocks node
+
+-- ---- what a node does with a message
+
+resting : (node : Node) (came : Came) (letters : List Letter) → AllTell node.memory.store node.setting.me letters → Stocks node came (sends letters node)
+resting node came letters t = rested node came letters node same t
+
+request-stocks : (node : Node) (came : Came) (from lock : ℕ) (time : List ℕ) (r : Requested) → Stocks node came (request_by node from lock time r)
+request-stocks node came from lock time (refuses_request fault) = resting node came [] tt
+request-stocks node came from lock time (forwards to managed) = rested node came _ _ same (tt, tt)
+
+arrive-stocks : (node : Node) (came : Came) (step : Option ArriveStep) → Stocks node came (arrive_by node step)
+arrive-stocks node came None = resting node came [] tt
+arrive-stocks node came (Some (refuses_arrival fault)) = resting node came [] tt
+arrive-stocks node came (Some (waits manager)) = rested node came [] _ same tt
+arrive-stocks node came (Some (all_depart departures manager)) =
+    rested node came _ _ same (departures-tell node.memory.store node.setting.me departures)
+
+clean-stocks : (node : Node) (came : Came) (step : Option CleanStep) → Stocks node came (clean_by node step)
+clean-stocks node came None = resting node came [] tt
+clean-stocks node came (Some (refuses_clean fault)) = resting node came [] tt
+clean-stocks node came (Some (awaits manager)) = rested node came [] _ same tt
+clean-stocks node came (Some (discards episode manager)) =
+    rested node came _ _ same (discards-tell node.memory.store node.setting.me (range_with_len 0 node.setting.nodes) episode)
+
+discard-stocks : (node : Node) (from episode : ℕ) (c : Option Collection) → Stocks node (comes from (Discard episode)) (discard_by node c)
+discard-stocks node from episode None = resting node (comes from (Discard episode)) [] tt
+discard-stocks node from episode (Some collection) =
+    acted node (comes from (Discard episode)) [] _ (dropped from episode collection.time) tt
+
+page-stocks : (node : Node) (came : Came) (from page : ℕ) (base : Option (List ℕ)) → Stocks node came (page_reply_by node from page base)
+page-stocks node came from page None = resting node came [] tt
+page-stocks node came from page (Some values) = resting node came _ (tt, tt)
+
+-- the node waits on, or all has come
+waits-stocks : (node : Node) (came : Came) (letters : List Letter) (x : Node) (w : Wait) → ChangesStore node came x.memory.store
+    → AllTell x.memory.store node.setting.me letters → Stocks node came (waits_or_goes_on letters x w)
+waits-stocks node came letters x (access need) c t =
+    either node came (is_met need) _ _
+    (acted node came letters (waiting nothing (with_memory x (mended x.memory need))) c t)
+    (rested node came letters (waiting (access need) x) c t)
+waits-stocks node came letters x (upkeep collection needs) c t =
+    let left : (clean_memory needs collection.kept x.memory).store ≡ x.memory.store = clean-store needs collection.kept x.memory in
+    either node came (list_all is_met needs) _ _
+    (rested node came (letter 0 (Clean x.barrier.episode) ∷ [])
+    (waiting (discard collection) (with_memory x (clean_memory needs collection.kept x.memory)))
+    (subst (ChangesStore node came) (sym left) c) (tt, tt))
+    (rested node came letters (waiting (upkeep collection needs) x) c t)
+waits-stocks node came letters x nothing c t = rested node came letters (waiting nothing x) c t
+waits-stocks node came letters x (grant lock) c t = rested node came letters (waiting (grant lock) x) c t
+waits-stocks node came letters x departure c t = rested node came letters (waiting departure x) c t
+waits-stocks node came letters x (discard collection) c t = rested node came letters (waiting (discard collection) x) c t
+
+depart-stocks : (node : Node) (from : ℕ) (m : DepartRecord) → Stocks node (comes from (Depart m)) (take_departure node m.collect m.time m.intervals)
+depart-stocks node from m =
+    let knowing : Node = learns m.time m.intervals node in
+    let keeping : Node = with_memory knowing (with_keepers knowing.memory) in
+    let kept : List ℕ = kept_pages node.setting.me keeping.memory in
+    let needs : List Need = needs_to_keep keeping kept in
+    either node (comes from (Depart m)) m.collect _ _
+    (waits-stocks node (comes from (Depart m)) (flat_map requests_of needs) keeping (upkeep (record { time = m.time; kept = kept }) needs)
+    (departing from m) (all_requests-tell keeping.memory.store node.setting.me needs))
+    (acted node (comes from (Depart m)) [] (waiting nothing knowing) (departing from m) tt)
+
+take-stocks : (node : Node) (from : ℕ) (message : Message) → Stocks node (comes from message) (take_effect node from message)
+take-stocks node from (LockRequest m) = request-stocks node (comes from (LockRequest m)) from m.lock m.time (requested node.locks.managed m.lock from)
+take-stocks node from (LockForward m) = rested node (comes from (LockForward m)) _ _ same (grants-tell node node.setting.me _)
+take-stocks node from (LockGrant m) = acted node (comes from (LockGrant m)) [] _ (granted from m) tt
+take-stocks node from (Arrive m) = arrive-stocks node (comes from (Arrive m)) _
+take-stocks node from (Depart m) = depart-stocks node from m
+take-stocks node from (Clean episode) = clean-stocks node (comes from (Clean episode)) _
+take-stocks node from (Discard episode) = discard-stocks node from episode (collection_of node.mail.wait)
+take-stocks node from (ChangesRequest m) = resting node (comes from (ChangesRequest m)) _ ((m.indices, refl), tt)
+take-stocks node from (ChangesReply m) =
+    waits-stocks node (comes from (ChangesReply m)) []
+    (with_memory node (record node.memory { store = fold (with_part from m.page) node.memory.store m.parts }))
+    (with_needs (with_changes m.page from) node.mail.wait) (replied from m) tt
+take-stocks node from (PageRequest page) = page-stocks node (comes from (PageRequest page)) from page (base_at node.memory page)
+take-stocks node from (PageReply m) =
+    waits-stocks node (comes from (PageReply m)) [] node (with_needs (with_page m.page m.values) node.mail.wait) same tt
+
+-- ---- turns
+
+-- a turn that is no repeat
+pub record Stocked (node : Node) (came : Came) (turn : TurnRecord) (after : Node) : Type 0 where
+  pub letters : List Letter
+  pub change : ChangesStore node came after.memory.store
+  pub told : AllTell after.memory.store node.setting.me letters
+  pub out : map letter_in turn.out ≡ letters
+
+pub data Stocking (node : Node) : Input → TurnRecord → Node → Type 0 where
+  alone : {turn : TurnRecord} {after : Node} → Stocked node by_itself turn after → Stocking node run turn after
+  again : (envelope : EnvelopeRecord) → is_repeat node envelope ≡ true → Stocking node (taken envelope) empty_turn node
+  anew : (envelope : EnvelopeRecord) {turn : TurnRecord} {after : Node} → is_repeat node envelope ≡ false
+      → Stocked node (comes envelope.from envelope.message) turn after → Stocking node (taken envelope) turn after
+
+abbrev StockedIf : Node → Came → Outcome → Type 0
+StockedIf node came (done turn after) = Stocked node came turn after
+StockedIf node came not_ready = Unit {0}
+StockedIf node came unexpected = Unit {0}
+StockedIf node came worn = Unit {0}
+
+abbrev pub StockingIf : Node → Input → Outcome → Type 0
+StockingIf node input (done turn after) = Stocking node input turn after
+StockingIf node input not_ready = Unit {0}
+StockingIf node input unexpected = Unit {0}
+StockingIf node input worn = Unit {0}
+
+numbered-stocked : (node : Node) (came : Came) (e : Effect) → Stocks node came e → (n : Option (List EnvelopeRecord × List ℕ)) → LettersIf e.letters n
+    → StockedIf node came (turn_with e n)
+numbered-stocked node came e k None l = tt
+numbered-stocked node came e k (Some (out, sent)) l = record { letters = e.letters; change = k.change; told = k.told; out = l }
+
+effect-stocked : (node : Node) (came : Came) (e : Effect) → Stocks node came e → StockedIf node came (turn_of e)
+effect-stocked node came e k =
+    numbered-stocked node came e k (numbered e.node.setting.me e.node.options.first e.node.mail.sent e.letters)
+    (numbered-letters e.node.setting.me e.node.options.first e.node.mail.sent e.letters)
+
+effect_if-stocked : (node : Node) (came : Came) (o : Option Effect) → StocksIf node came o → StockedIf node came (turn_if o)
+effect_if-stocked node came None k = tt
+effect_if-stocked node came (Some e) k = effect-stocked node came e k
+
+-- the steps that are left are no matter
+uncharged : (node : Node) (next : Next) (o : Outcome) → StockedIf (charged node next) by_itself o → StockedIf node by_itself o
+uncharged node next (done turn after) k = record { letters = k.letters; change = k.change; told = k.told; out = k.out }
+uncharged node next not_ready k = tt
+uncharged node next unexpected k = tt
+uncharged node next worn k = tt
+
+-- nor is the number that is taken
+untaken : (node : Node) (e : EnvelopeRecord) (came : Came) (o : Outcome) → StockedIf (taking node e) came o → StockedIf node came o
+untaken node e came (done turn after) k = record { letters = k.letters; change = k.change; told = k.told; out = k.out }
+untaken node e came not_ready k = tt
+untaken node e came unexpected k = tt
+untaken node e came worn k = tt
+
+begun-stocked : (node : Node) (o : Option Next) → StockedIf node by_itself (turn_by node o)
+begun-stocked node None = tt
+begun-stocked node (Some next) =
+    uncharged node next (turn_if (run_effect (charged node next) next))
+    (effect_if-stocked (charged node next) by_itself (run_effect (charged node next) next) (run-stocks (charged node next) next))
+
+alone-if : (node : Node) (o : Outcome) → StockedIf node by_itself o → StockingIf node run o
+alone-if node (done turn after) k = alone k
+alone-if node not_ready k = tt
+alone-if node unexpected k = tt
+alone-if node worn k = tt
+
+anew-if : (node : Node) (e : EnvelopeRecord) (o : Outcome) → is_repeat node e ≡ false → StockedIf node (comes e.from e.message) o → StockingIf node (taken e) o
+anew-if node e (done turn after) new k = anew e new k
+anew-if node e not_ready new k = tt
+anew-if node e unexpected new k = tt
+anew-if node e worn new k = tt
+
+or_unexpected : (node : Node) (came : Came) (b : Bool) (o : Outcome) → StockedIf node came o → StockedIf node came (if b then o else unexpected)
+or_unexpected node came true o k = k
+or_unexpected node came false o k = tt
+
+or_refused : (node : Node) (input : Input) (b : Bool) (o : Outcome) → StockingIf node input o → StockingIf node input (if b then o else unexpected)
+or_refused node input true o k = k
+or_refused node input false o k = tt
+
+or_repeat : (node : Node) (e : EnvelopeRecord) (b : Bool) (o : Outcome) → is_repeat node e ≡ b → (is_repeat node e ≡ false → StockingIf node (taken e) o)
+    → StockingIf node (taken e) (if b then done empty_turn node else o)
+or_repeat node e true o is k = again e is
+or_repeat node e false o is k = k is
+
+-- each input does so, or is no turn
+pub stockings : (node : Node) (input : Input) → StockingIf node input (outcome_of node input)
+stockings node run = alone-if node (turn_by node (begins node)) (begun-stocked node (begins node))
+stockings node (taken e) =
+    or_refused node (taken e) (is_addressed node e) _
+    (or_repeat node e (is_repeat node e) (take_anew node e) refl
+    (λ new. anew-if node e (take_anew node e) new
+    (or_unexpected node (comes e.from e.message) (is_expected node e.from e.message) (turn_of (take_effect (taking node e) e.from e.message))
+    (untaken node e (comes e.from e.message) (turn_of (take_effect (taking node e) e.from e.message))
+    (effect-stocked (taking node e) (comes e.from e.message) (take_effect (taking node e) e.from e.message) (take-stocks (taking node e) e.from e.message))))))
