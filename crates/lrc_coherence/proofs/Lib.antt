@@ -1,1 +1,2 @@
 pub mod Stocks
+pub mod Told

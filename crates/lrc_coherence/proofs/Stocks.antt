@@ -4,6 +4,7 @@ use Rattle.std.specs.Prelude.{Option, Some, None, fold, map, flat_map, option_ma
 use Rattle.std.specs.List.{list_all, range_with_len}
 use Rattle.std.specs.Option.{option_to_list}
 use Rattle.std.proofs.lemmas.Bool.{and_parts}
+use Rattle.lrc_time.specs.Time.{joined}
 use Rattle.lrc_page.specs.Place.{page_of}
 use Rattle.lrc_page.specs.declared.changes.Change.{Change}
 use Rattle.lrc_exec.specs.Meaning.{Thread, Next, quiet, prints, reads, writes, acquires, releases, arrives, departs, traps, ends, next_of}
@@ -38,18 +39,20 @@ use Rattle.lrc_invariants.proofs.Sends.{Came, by_itself, comes, letter_in, Lette
 -- ---- words
 
 -- what becomes of the store: nothing; the open interval is closed and stored; intervals that came are added; changes that came
--- are attached; or what a time covers is dropped
-pub data StoreChange (me : ℕ) (time : List ℕ) (memory : Memory) : Came → StoreRecord → Type 0 where
-  same : {came : Came} → StoreChange me time memory came memory.store
-  closed : StoreChange me time memory by_itself (with_interval me (next_time me time) memory).store
-  granted : (from : ℕ) (m : LockGrantRecord) → StoreChange me time memory (comes from (LockGrant m)) (fold added memory.store m.intervals)
-  departing : (from : ℕ) (m : DepartRecord) → StoreChange me time memory (comes from (Depart m)) (fold added memory.store m.intervals)
+-- are attached; or what a time covers is dropped. And the node's time then.
+pub data StoreChange (me : ℕ) (time : List ℕ) (memory : Memory) : Came → StoreRecord → List ℕ → Type 0 where
+  same : {came : Came} → StoreChange me time memory came memory.store time
+  closed : StoreChange me time memory by_itself (with_interval me (next_time me time) memory).store (next_time me time)
+  granted : (from : ℕ) (m : LockGrantRecord)
+      → StoreChange me time memory (comes from (LockGrant m)) (fold added memory.store m.intervals) (joined time m.time)
+  departing : (from : ℕ) (m : DepartRecord)
+      → StoreChange me time memory (comes from (Depart m)) (fold added memory.store m.intervals) (joined time m.time)
   replied : (from : ℕ) (m : ChangesReplyRecord)
-      → StoreChange me time memory (comes from (ChangesReply m)) (fold (with_part from m.page) memory.store m.parts)
-  dropped : (from episode : ℕ) (upto : List ℕ) → StoreChange me time memory (comes from (Discard episode)) (discarded memory.store upto)
+      → StoreChange me time memory (comes from (ChangesReply m)) (fold (with_part from m.page) memory.store m.parts) time
+  dropped : (from episode : ℕ) (upto : List ℕ) → StoreChange me time memory (comes from (Discard episode)) (discarded memory.store upto) time
 
-abbrev pub ChangesStore : Node → Came → StoreRecord → Type 0
-ChangesStore node came store = StoreChange node.setting.me node.locks.time node.memory came store
+abbrev pub ChangesStore : Node → Came → StoreRecord → List ℕ → Type 0
+ChangesStore node came store time = StoreChange node.setting.me node.locks.time node.memory came store time
 
 -- what a node's own interval of this index changed in a page, as it stores it
 abbrev pub own_part_in : StoreRecord → ℕ → ℕ → ℕ → IndexedChangesRecord
@@ -70,7 +73,7 @@ AllTell store me (x ∷ letters) = Tells store me x.message × AllTell store me 
 
 -- of an effect
 pub record Stocks (node : Node) (came : Came) (e : Effect) : Type 0 where
-  pub change : ChangesStore node came e.node.memory.store
+  pub change : ChangesStore node came e.node.memory.store e.node.locks.time
   pub told : AllTell e.node.memory.store node.setting.me e.letters
 
 abbrev pub StocksIf : Node → Came → Option Effect → Type 0
@@ -133,6 +136,11 @@ acts_by-store letters node (going t) = memory_after-store node (next_of t)
 acts_by-store letters node (trapped cause) = refl
 acts_by-store letters node ended = refl
 
+acts_by-time : (letters : List Letter) (node : Node) (c : Course) → (acts_by letters node c).node.locks.time ≡ node.locks.time
+acts_by-time letters node (going t) = refl
+acts_by-time letters node (trapped cause) = refl
+acts_by-time letters node ended = refl
+
 acts_by-letters : (letters : List Letter) (node : Node) (c : Course) → (acts_by letters node c).letters ≡ letters
 acts_by-letters letters node (going t) = refl
 acts_by-letters letters node (trapped cause) = refl
@@ -151,14 +159,16 @@ clean-store needs kept memory = bases-store kept (fold mended memory needs) ∙ 
 
 -- ---- effects
 
-rested : (node : Node) (came : Came) (letters : List Letter) (x : Node) → ChangesStore node came x.memory.store
+rested : (node : Node) (came : Came) (letters : List Letter) (x : Node) → ChangesStore node came x.memory.store x.locks.time
     → AllTell x.memory.store node.setting.me letters → Stocks node came (sends letters x)
 rested node came letters x c t = record { change = c; told = t }
 
-acted : (node : Node) (came : Came) (letters : List Letter) (x : Node) → ChangesStore node came x.memory.store
+acted : (node : Node) (came : Came) (letters : List Letter) (x : Node) → ChangesStore node came x.memory.store x.locks.time
     → AllTell x.memory.store node.setting.me letters → Stocks node came (acts letters x)
 acted node came letters x c t = record {
-  change = subst (ChangesStore node came) (sym (acts_by-store letters x x.course)) c;
+  change =
+      subst (λ time. ChangesStore node came (acts letters x).node.memory.store time) (sym (acts_by-time letters x x.course))
+      (subst (λ store. ChangesStore node came store x.locks.time) (sym (acts_by-store letters x x.course)) c);
   told =
       subst (λ store. AllTell store node.setting.me (acts letters x).letters) (sym (acts_by-store letters x x.course))
       (subst (AllTell x.memory.store node.setting.me) (sym (acts_by-letters letters x x.course)) t);
@@ -241,7 +251,7 @@ page-stocks node came from page None = resting node came [] tt
 page-stocks node came from page (Some values) = resting node came _ (tt, tt)
 
 -- the node waits on, or all has come
-waits-stocks : (node : Node) (came : Came) (letters : List Letter) (x : Node) (w : Wait) → ChangesStore node came x.memory.store
+waits-stocks : (node : Node) (came : Came) (letters : List Letter) (x : Node) (w : Wait) → ChangesStore node came x.memory.store x.locks.time
     → AllTell x.memory.store node.setting.me letters → Stocks node came (waits_or_goes_on letters x w)
 waits-stocks node came letters x (access need) c t =
     either node came (is_met need) _ _
@@ -252,7 +262,7 @@ waits-stocks node came letters x (upkeep collection needs) c t =
     either node came (list_all is_met needs) _ _
     (rested node came (letter 0 (Clean x.barrier.episode) ∷ [])
     (waiting (discard collection) (with_memory x (clean_memory needs collection.kept x.memory)))
-    (subst (ChangesStore node came) (sym left) c) (tt, tt))
+    (subst (λ store. ChangesStore node came store x.locks.time) (sym left) c) (tt, tt))
     (rested node came letters (waiting (upkeep collection needs) x) c t)
 waits-stocks node came letters x nothing c t = rested node came letters (waiting nothing x) c t
 waits-stocks node came letters x (grant lock) c t = rested node came letters (waiting (grant lock) x) c t
@@ -292,7 +302,7 @@ take-stocks node from (PageReply m) =
 -- a turn that is no repeat
 pub record Stocked (node : Node) (came : Came) (turn : TurnRecord) (after : Node) : Type 0 where
   pub letters : List Letter
-  pub change : ChangesStore node came after.memory.store
+  pub change : ChangesStore node came after.memory.store after.locks.time
   pub told : AllTell after.memory.store node.setting.me letters
   pub out : map letter_in turn.out ≡ letters
 
