@@ -1,2 +1,3 @@
 pub mod Stocks
 pub mod Told
+pub mod MadeSteps
