@@ -1,3 +1,4 @@
 pub mod Stocks
 pub mod Told
 pub mod MadeSteps
+pub mod MadeManagers
