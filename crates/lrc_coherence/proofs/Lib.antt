@@ -2,3 +2,4 @@ pub mod Stocks
 pub mod Told
 pub mod MadeSteps
 pub mod MadeManagers
+pub mod MadeWorlds

@@ -1,10 +1,10 @@
 -- What the manager keeps of arrivals, and what departures tell, is of intervals that were made.
-use Rattle.std.proofs.Common.{◌≡◌, ℕ, zero, suc, ◌≤◌, List, [], ◌∷◌, Bool, true, false, length, map, refl, sym, ap, subst, ◌∙◌}
-use Rattle.std.specs.Prelude.{Option, Some, None, is_some, replicate, slice_index_or, slice_set, filter, flat_map, if◌then◌else◌}
+use Rattle.std.proofs.Common.{◌≡◌, ℕ, zero, suc, ◌≤◌, List, [], ◌∷◌, Bool, true, false, length, map, refl, sym, subst}
+use Rattle.std.specs.Prelude.{Option, Some, None, is_some, replicate, slice_index_or, slice_set, if◌then◌else◌}
 use Rattle.std.specs.List.{list_all, enumerate_from, range_with_len}
 use Rattle.lrc_time.specs.Time.{entry}
 use Rattle.lrc_store.specs.Interval.{IntervalRecord}
-use Rattle.lrc_wire.specs.Records.{LockGrantRecord, ArriveRecord, DepartRecord}
+use Rattle.lrc_wire.specs.Records.{DepartRecord}
 use Rattle.lrc_wire.specs.declared.message.Message.{Message}
 use Rattle.lrc_wire.specs.declared.message.Message.TheVariants.{LockRequest, LockForward, LockGrant, Arrive, Depart, Clean, Discard, ChangesRequest, ChangesReply, PageRequest, PageReply}
 use Rattle.lrc_lock.specs.declared.state.Pass.{Pass}
@@ -15,11 +15,11 @@ use Rattle.lrc_barrier.specs.Barrier.{ManagerRecord, ArriveStep, refuses, waits,
 use Rattle.lrc_protocol.specs.Mail.{Letter, Wait}
 use Rattle.lrc_protocol.specs.Locks.{Locks}
 use Rattle.lrc_protocol.specs.Barrier.{Barrier}
-use Rattle.lrc_protocol.specs.Letters.{letter, departure_of, discards_to}
+use Rattle.lrc_protocol.specs.Letters.{departure_of, discards_to}
 use Rattle.lrc_invariants.proofs.Sends.{is_other, AreOthers, Grants, Came, by_itself, comes, arrival_in, Site, Sends, plain, misses, takes, asks, releasing, arriving, manages, forwarding, grants, gathers, lets_depart, departing, collecting, clean_at_once, notes_clean, lets_discard, discarding, serves, accessing, still_misses, still_collects, cleaning}
-use Rattle.lrc_coherence.specs.Made.{AllMade, AllKept, ManagerKeeps, intervals_in}
+use Rattle.lrc_coherence.specs.Made.{AllMade, AllKept, ManagerKeeps}
 use Rattle.lrc_coherence.proofs.Told.{made-filter, kept-set, kept-all}
-use Rattle.lrc_coherence.proofs.MadeSteps.{CameSo, DepartsSo}
+use Rattle.lrc_coherence.proofs.MadeSteps.{DepartsSo}
 
 module _ (made : List IntervalRecord) where
   abbrev AllDepart : List Departure → Type 0
@@ -45,7 +45,11 @@ module _ (made : List IntervalRecord) where
   accepted_so manager h = by_test (list_all is_some manager.arrivals)
     where
       by_test : (b : Bool) → StepSo (if b then departs (departures_of (arrivals_of manager)) (departed manager) else waits manager)
-      by_test true = (told_to (arrivals_of manager) (kept-all made manager.arrivals h) (enumerate_from 0 (arrivals_of manager)), none_kept (length manager.last))
+      by_test true = (
+        told_to (arrivals_of manager) (kept-all made manager.arrivals h) (enumerate_from 0 (arrivals_of manager)),
+        none_kept
+            (length manager.last),
+      )
       by_test false = h
 
   arrived_so : (manager : ManagerRecord) (from : ℕ) (a : Arrival) → AllKept made manager.arrivals → AllMade made a.intervals → StepSo (arrived manager from a)
@@ -133,7 +137,8 @@ module _ (made : List IntervalRecord) where
   keeps_of : (o : Option ManagerRecord) (manager : ManagerRecord) → o ≡ Some manager → ManagerKeeps made o → AllKept made manager.arrivals
   keeps_of o manager e h = subst (ManagerKeeps made) e h
 
-  pub managed_so : (s : Site) → ManagerKeeps made s.barrier.manager → (came : Came) (acts : Bool) (wait : Wait) (locks : Locks) (barrier : Barrier) (letters : List Letter)
+  pub managed_so : (s : Site) → ManagerKeeps made s.barrier.manager → (came : Came) (acts : Bool) (wait : Wait) (locks : Locks) (barrier : Barrier)
+      (letters : List Letter)
       → ArrivesSo came → Sends s came acts wait locks barrier letters → ManagedSo barrier letters
   managed_so s h _ _ _ _ _ letters k (plain next w n is o) = record { keeps = h; departs = others_so letters o }
   managed_so s h _ _ _ _ _ letters k (misses w n o) = record { keeps = h; departs = others_so letters o }

@@ -1,12 +1,12 @@
 -- What one turn adds to the intervals that were made, and what it stores and tells of them.
-use Rattle.std.proofs.Common.{◌≡◌, ℕ, zero, suc, ◌+◌, ◌<◌, ◌≤◌, List, [], ◌∷◌, ◌++◌, Bool, true, false, cond, length, map, refl, sym, ap, subst, ◌∙◌, arith, append-nil}
-use Rattle.std.specs.Prelude.{Option, Some, None, Contains, max, fold, replicate, slice_set, if◌then◌else◌}
-use Rattle.std.specs.List.{range_with_len, enumerate_from, list_all}
+use Rattle.std.proofs.Common.{◌≡◌, ℕ, ◌+◌, ◌<◌, ◌≤◌, List, [], ◌∷◌, ◌++◌, length, map, refl, sym, ap, subst, ◌∙◌, arith, append-nil}
+use Rattle.std.specs.Prelude.{max, fold}
+use Rattle.std.specs.List.{range_with_len}
 use Rattle.std.proofs.lemmas.List.Elements.{Contains-push}
 use Rattle.lrc_time.specs.Time.{entry, joined}
 use Rattle.lrc_time.proofs.Times.{entry-set_same, entry-joined}
-use Rattle.lrc_store.specs.Interval.{IntervalRecord, index_of}
-use Rattle.lrc_store.specs.Store.{StoreRecord, intervals_of, added, newer_of, discarded}
+use Rattle.lrc_store.specs.Interval.{IntervalRecord}
+use Rattle.lrc_store.specs.Store.{StoreRecord, intervals_of, added, discarded}
 use Rattle.lrc_wire.specs.Envelope.{EnvelopeRecord}
 use Rattle.lrc_wire.specs.Records.{LockGrantRecord, DepartRecord}
 use Rattle.lrc_wire.specs.declared.message.Message.{Message}
@@ -16,7 +16,7 @@ use Rattle.lrc_protocol.specs.Locks.{next_time}
 use Rattle.lrc_protocol.specs.Mail.{Letter}
 use Rattle.lrc_protocol.specs.Memory.{Memory, closed_interval, all_changes, with_own}
 use Rattle.lrc_protocol.specs.Take.{with_part}
-use Rattle.lrc_invariants.proofs.Sends.{Came, by_itself, comes, letter_in}
+use Rattle.lrc_invariants.proofs.Sends.{Came, comes, letter_in}
 use Rattle.lrc_local.proofs.Stores.{SameIntervals, own-same, parts-same, Longer, learned-longer}
 use Rattle.lrc_local.proofs.Indices.{range-join, indices-append, indices-here, indices-there}
 use Rattle.lrc_coherence.specs.Made.{AllMade, AllTold, intervals_in}
@@ -36,7 +36,7 @@ pub record MadeThen (made : List IntervalRecord) (me : ℕ) (store : StoreRecord
   pub stored : AllMade (made ++ new) (intervals_of store)
 
 module _ (made : List IntervalRecord) (me : ℕ) (time : List ℕ) (memory : Memory) (within : me < length time)
-  (exact : indices_by made me ≡ range_with_len 1 (entry time me)) (stored : AllMade made (intervals_of memory.store)) where
+    (exact : indices_by made me ≡ range_with_len 1 (entry time me)) (stored : AllMade made (intervals_of memory.store)) where
   -- none is made
   none_made : (store : StoreRecord) (time' : List ℕ) → entry time' me ≡ entry time me → AllMade made (intervals_of store) → MadeThen made me store time'
   none_made store time' e h =
@@ -101,8 +101,10 @@ module _ (made : List IntervalRecord) (me : ℕ) (time : List ℕ) (memory : Mem
       own-same me (entry stamp me) (all_changes memory) (added memory.store interval) in
       let longer : Longer memory.store (interval ∷ []) (added memory.store interval) = learned-longer (interval ∷ []) memory.store in
       one_made (fold (with_own me (entry stamp me)) (added memory.store interval) (all_changes memory)) (all.intervals ∙ longer.intervals)
-  made_then _ _ _ (granted from m) so = let it : AllMade made m.intervals × (entry m.time me ≤ entry time me) = so.grant from m refl in learned_made m.intervals m.time it.0 it.1
-  made_then _ _ _ (departing from m) so = let it : AllMade made m.intervals × (entry m.time me ≤ entry time me) = so.depart from m refl in learned_made m.intervals m.time it.0 it.1
+  made_then _ _ _ (granted from m) so = let it : AllMade made m.intervals ×
+      (entry m.time me ≤ entry time me) = so.grant from m refl in learned_made m.intervals m.time it.0 it.1
+  made_then _ _ _ (departing from m) so = let it : AllMade made m.intervals ×
+      (entry m.time me ≤ entry time me) = so.depart from m refl in learned_made m.intervals m.time it.0 it.1
   made_then _ _ _ (replied from m) so =
       let all : SameIntervals memory.store (fold (with_part from m.page) memory.store m.parts) = parts-same from m.page m.parts memory.store in
       none_made (fold (with_part from m.page) memory.store m.parts) time refl (subst (AllMade made) (sym all.intervals) stored)

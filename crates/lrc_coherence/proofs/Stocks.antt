@@ -1,14 +1,10 @@
 -- What a turn does to the intervals that a node stores, and what its letters tell of them: by what came.
-use Rattle.std.proofs.Common.{◌≡◌, ℕ, ◌+◌, List, [], ◌∷◌, ◌++◌, Bool, true, false, refl, sym, ap, subst, ◌∙◌}
-use Rattle.std.specs.Prelude.{Option, Some, None, fold, map, flat_map, option_map, nat_lt, nat_le, if◌then◌else◌}
+use Rattle.std.proofs.Common.{◌≡◌, ℕ, List, [], ◌∷◌, ◌++◌, Bool, true, false, refl, sym, subst, ◌∙◌}
+use Rattle.std.specs.Prelude.{Option, Some, None, fold, map, flat_map, nat_lt, if◌then◌else◌}
 use Rattle.std.specs.List.{list_all, range_with_len}
-use Rattle.std.specs.Option.{option_to_list}
-use Rattle.std.proofs.lemmas.Bool.{and_parts}
 use Rattle.lrc_time.specs.Time.{joined}
 use Rattle.lrc_page.specs.Place.{page_of}
-use Rattle.lrc_page.specs.declared.changes.Change.{Change}
-use Rattle.lrc_exec.specs.Meaning.{Thread, Next, quiet, prints, reads, writes, acquires, releases, arrives, departs, traps, ends, next_of}
-use Rattle.lrc_store.specs.Interval.{IntervalRecord}
+use Rattle.lrc_exec.specs.Meaning.{Next, quiet, prints, reads, writes, acquires, releases, arrives, departs, traps, ends, next_of}
 use Rattle.lrc_store.specs.Store.{StoreRecord, added, newer_of, discarded}
 use Rattle.lrc_wire.specs.Envelope.{EnvelopeRecord}
 use Rattle.lrc_wire.specs.Records.{IndexedChangesRecord, LockGrantRecord, DepartRecord, ChangesReplyRecord}
@@ -16,23 +12,22 @@ use Rattle.lrc_wire.specs.declared.message.Message.{Message}
 use Rattle.lrc_wire.specs.declared.message.Message.TheVariants.{LockRequest, LockForward, LockGrant, Arrive, Depart, Clean, Discard, ChangesRequest, ChangesReply, PageRequest, PageReply}
 use Rattle.lrc_lock.specs.declared.state.Pass.{Pass}
 use Rattle.lrc_lock.specs.Managed.{Requested, refuses as refuses_request, forwards, requested}
-use Rattle.lrc_lock.specs.Held.{lock_at, is_free, pass_of, forwarded}
+use Rattle.lrc_lock.specs.Held.{lock_at, is_free}
 use Rattle.lrc_barrier.specs.declared.departure.Departure.{Departure}
 use Rattle.lrc_barrier.specs.Barrier.{ArriveStep, refuses as refuses_arrival, waits, departs as all_depart, CleanStep, refuses_clean, awaits, discards}
 use Rattle.lrc_protocol.specs.Copy.{is_readable}
 use Rattle.lrc_protocol.specs.Memory.{Memory, copy_at, with_interval, kept_pages, with_keepers, with_base, base_at, changes_or_none}
 use Rattle.lrc_protocol.specs.Fetch.{Base, unneeded, due, come, Asked, Need, need_of, is_met, mended, with_changes, with_page}
-use Rattle.lrc_protocol.specs.Mail.{Letter, Wait, nothing, grant, departure, access, upkeep, discard, Collection, collection_of, is_idle, numbered, MOST_NUMBER}
+use Rattle.lrc_protocol.specs.Mail.{Letter, Wait, nothing, grant, departure, access, upkeep, discard, Collection, collection_of, numbered, MOST_NUMBER}
 use Rattle.lrc_protocol.specs.Course.{Course, going, trapped, ended}
 use Rattle.lrc_protocol.specs.Locks.{next_time}
-use Rattle.lrc_protocol.specs.Barrier.{arrive_step, clean_step}
 use Rattle.lrc_protocol.specs.Expected.{is_expected}
 use Rattle.lrc_protocol.specs.Node.{Node, Effect, begins, sends, acts, acts_by, memory_after, with_memory, waiting}
 use Rattle.lrc_protocol.specs.Letters.{letter, requests_of, page_request_of, changes_request_of, grants_of, departure_of, discards_to}
 use Rattle.lrc_protocol.specs.Waits.{waits_or_goes_on, with_needs, clean_memory}
 use Rattle.lrc_protocol.specs.Run.{charged, own_index, closes, reaches, acquire_at, release_at, arrive_at, run_effect}
-use Rattle.lrc_protocol.specs.Take.{take_departure, request_by, learns, arrive_by, clean_by, discard_by, page_reply_by, take_effect, needs_to_keep, with_part, take_changes}
-use Rattle.lrc_protocol.specs.Turn.{TurnRecord, Outcome, done, not_ready, unexpected, worn, turn_with, turn_of, turn_if, turn_by, take_anew, take_turn, taking, is_addressed, is_repeat, empty_turn}
+use Rattle.lrc_protocol.specs.Take.{take_departure, request_by, learns, arrive_by, clean_by, discard_by, page_reply_by, take_effect, needs_to_keep, with_part}
+use Rattle.lrc_protocol.specs.Turn.{TurnRecord, Outcome, done, not_ready, unexpected, worn, turn_with, turn_of, turn_if, turn_by, take_anew, taking, is_addressed, is_repeat, empty_turn}
 use Rattle.lrc_protocol.specs.Log.{Input, run, taken, outcome_of}
 use Rattle.lrc_invariants.proofs.Sends.{Came, by_itself, comes, letter_in, LettersIf, numbered-letters}
 
@@ -192,7 +187,8 @@ reaches-stocks node page =
     let need : Need = need_of node.setting.nodes node.memory page in
     either node by_itself (is_readable (copy_at node.memory page)) _ _ (plain-stocks node)
     (either node by_itself (is_met need) _ _
-    (acted node by_itself (requests_of need) (waiting nothing (with_memory node (mended node.memory need))) same (requests-tell node.memory.store node.setting.me need))
+    (acted node by_itself (requests_of need) (waiting nothing (with_memory node (mended node.memory need))) same
+    (requests-tell node.memory.store node.setting.me need))
     (rested node by_itself (requests_of need) (waiting (access need) node) same (requests-tell node.memory.store node.setting.me need)))
 
 acquire-stocks : (node : Node) (lock : ℕ) → Stocks node by_itself (acquire_at lock (closes node))

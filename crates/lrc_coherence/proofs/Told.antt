@@ -1,19 +1,19 @@
 -- Lists of intervals that were made: what is taken out of them, added to them, or found in a store.
-use Rattle.std.proofs.Common.{◌≡◌, ◌⊎◌, ℕ, zero, suc, ◌+◌, ◌<◌, List, [], ◌∷◌, ◌++◌, Bool, true, false, cond, map, refl, sym, ap, subst, ◌∙◌, inl, inr, arith}
-use Rattle.std.specs.Prelude.{Option, Some, None, not, Contains, filter, filter_map, flat_map, fold, slice_set, if◌then◌else◌}
-use Rattle.std.specs.List.{enumerate_from}
-use Rattle.std.proofs.lemmas.List.Elements.{Contains-append_left, Contains-push}
+use Rattle.std.proofs.Common.{ℕ, zero, suc, List, [], ◌∷◌, ◌++◌, Bool, true, false, cond, map}
+use Rattle.std.specs.Prelude.{Option, Some, None, not, Contains, filter, filter_map, slice_set, if◌then◌else◌}
+use Rattle.std.proofs.lemmas.List.Elements.{Contains-append_left}
 use Rattle.lrc_store.specs.Interval.{IntervalRecord, by_node}
 use Rattle.lrc_store.specs.Order.{placed, ascending_part}
-use Rattle.lrc_store.specs.Store.{StoreRecord, StoredRecord, interval_of, intervals_of, is_covered, is_newer, added, discarded, newer_of}
+use Rattle.lrc_store.specs.Store.{StoreRecord, StoredRecord, interval_of, intervals_of, is_covered, is_newer, discarded, newer_of}
 use Rattle.lrc_wire.specs.Envelope.{EnvelopeRecord}
 use Rattle.lrc_barrier.specs.declared.arrival.Arrival.{Arrival}
-use Rattle.lrc_barrier.specs.Barrier.{intervals_of as intervals_told, is_news, arrivals_of}
+use Rattle.lrc_barrier.specs.Barrier.{intervals_of as intervals_told}
 use Rattle.lrc_coherence.specs.Made.{AllMade, AllTold, AllKept, intervals_in}
 
 -- ---- of all that were made, and one more
 
-pub made-more : (made : List IntervalRecord) (new : List IntervalRecord) (intervals : List IntervalRecord) → AllMade made intervals → AllMade (made ++ new) intervals
+pub made-more : (made : List IntervalRecord) (new : List IntervalRecord) (intervals : List IntervalRecord) → AllMade made intervals → AllMade
+    (made ++ new) intervals
 made-more made new [] h = tt
 made-more made new (i ∷ intervals) h = (Contains-append_left made new i h.0, made-more made new intervals h.1)
 
@@ -65,7 +65,8 @@ module _ (made : List IntervalRecord) where
 
   -- ---- in a store that drops some
 
-  dropped_by : (p : StoredRecord → Bool) (entries : List StoredRecord) → AllMade made (map interval_of entries) → AllMade made (map interval_of (filter p entries))
+  dropped_by : (p : StoredRecord → Bool) (entries : List StoredRecord) → AllMade made (map interval_of entries) → AllMade made (map interval_of
+      (filter p entries))
   dropped_by p [] h = tt
   dropped_by p (s ∷ entries) h = here (dropped_by p entries h.1) (p s)
     where
