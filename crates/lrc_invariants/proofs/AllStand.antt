@@ -81,7 +81,7 @@ module _ (program : Program) (nodes : ℕ) (options : OptionsRecord) where
     pub each : (n : ℕ) (l : Logged) → slice_get world.nodes n ≡ Some l → StandsAt (pending world) manager n l.node.mail.wait l.node.barrier.episode
 
   -- the manager of a node is the one that all speak of
-  its_manager : (world : World) (h : AllStand world) (n : ℕ) (l : Logged) → slice_get world.nodes n ≡ Some l
+  pub its_manager : (world : World) (h : AllStand world) (n : ℕ) (l : Logged) → slice_get world.nodes n ≡ Some l
       → (before : ManagerRecord) → l.node.barrier.manager ≡ Some before → before ≡ h.manager
   its_manager world h n l at before is = elim (cases_eq n 0) [
     | inl e ↦ same_Some before h.manager (sym is ∙ h.here l (subst (λ n. slice_get world.nodes n ≡ Some l) e at))

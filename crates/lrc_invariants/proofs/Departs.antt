@@ -143,6 +143,23 @@ module _ (program : Program) (nodes : ℕ) (options : OptionsRecord) where
       let his_arrived : arrives_before world'.acts other (length world'.acts) ≡ lo.node.barrier.episode = its.arrived in
       omega (arith, one, mine, his, was, now, most, outside, gate, episode, his_episode, arrived, his_arrived)
 
+  -- a node that departs was inside the barrier
+  pub departs_inside : (world world' : World) (n : ℕ) (l after : Logged) → IsReached program nodes options world → IsReached program nodes options world'
+      → slice_get world.nodes n ≡ Some l → slice_get world'.nodes n ≡ Some after → world'.acts ≡ world.acts ++ act_of n Depart ∷ []
+      → is_inside l.node.mail.wait ≡ 1
+  unfolding longer
+  departs_inside world world' n l after r r' at at' acts_are =
+      let before : Standing_at world n l = standing_at world r n l at in
+      let own : Standing_at world' n after = standing_at world' r' n after at' in
+      let mine : arrives_before world'.acts n (length world'.acts) ≡ arrives_before world.acts n (length world.acts) =
+      ap (λ acts. arrives_before acts n (length acts)) acts_are ∙ no_arrive world.acts n n in
+      let one : departs_before world'.acts n (length world'.acts) ≡ departs_before world.acts n (length world.acts) + 1 =
+      ap (λ acts. departs_before acts n (length acts)) acts_are ∙ one_depart world.acts n in
+      let was : arrives_before world.acts n (length world.acts) ≡ departs_before world.acts n (length world.acts) + is_inside l.node.mail.wait = before.departed in
+      let now : arrives_before world'.acts n (length world'.acts) ≡ departs_before world'.acts n (length world'.acts) + is_inside after.node.mail.wait = own.departed in
+      let most : is_inside l.node.mail.wait ≤ 1 = at_most_one l.node.mail.wait in
+      omega (arith, one, mine, was, now, most)
+
   -- one more act keeps what is so of the others
   all-more : (acts : List Act) (n : ℕ) (deed : Deed) → AllArrived nodes acts
       → (deed ≡ Depart → (other : ℕ) → other < nodes → departs_before acts n (length acts) < arrives_before acts other (length acts))

@@ -41,3 +41,13 @@ pub mod Managers
 pub mod Standing
 pub mod AllStand
 pub mod Departs
+pub mod Joins
+pub mod Passing
+pub mod Moves
+pub mod Arrivals
+pub mod Timely
+pub mod AllTimely
+pub mod DepartLine
+pub mod Timed
+pub mod Barring
+pub mod Exclusive

@@ -70,11 +70,11 @@ nothing_counted me m came letters c s = record {
   sent_discard = s.discards;
 }
 
-record Says (message : Message) : Type 0 where
-  no_arrive : says_arrive message ≡ false
-  no_depart : says_depart message ≡ false
-  no_clean : says_clean message ≡ false
-  no_discard : says_discard message ≡ false
+pub record Says (message : Message) : Type 0 where
+  pub no_arrive : says_arrive message ≡ false
+  pub no_depart : says_depart message ≡ false
+  pub no_clean : says_clean message ≡ false
+  pub no_discard : says_discard message ≡ false
 
 others_say : (message : Message) → is_other message ≡ true → Says message
 others_say (ChangesRequest m) e = record { no_arrive = refl; no_depart = refl; no_clean = refl; no_discard = refl }
@@ -93,10 +93,10 @@ one_more test l letters one rest =
     let both : count_by test (l ∷ letters) ≡ cond (test l) 1 0 + count_by test letters = count-cons test l letters in
     omega (arith, both, one, rest)
 
-silent_none : (me m : ℕ) → Silent me m []
+pub silent_none : (me m : ℕ) → Silent me m []
 silent_none me m = record { arrives = refl; departs = refl; cleans = refl; discards = refl }
 
-silent_one : (me m : ℕ) (l : Letter) (letters : List Letter) → Says l.message → Silent me m letters → Silent me m (l ∷ letters)
+pub silent_one : (me m : ℕ) (l : Letter) (letters : List Letter) → Says l.message → Silent me m letters → Silent me m (l ∷ letters)
 silent_one me m l letters says s = record {
   arrives = one_more (arrive_test m me) l letters (neither _ _ says.no_arrive) s.arrives;
   departs = one_more (depart_test m me) l letters (neither _ _ says.no_depart) s.departs;
@@ -104,14 +104,14 @@ silent_one me m l letters says s = record {
   discards = one_more (discard_test m me) l letters (neither _ _ says.no_discard) s.discards;
 }
 
-silent_others : (me m : ℕ) (letters : List Letter) → AreOthers letters → Silent me m letters
+pub silent_others : (me m : ℕ) (letters : List Letter) → AreOthers letters → Silent me m letters
 silent_others me m [] h = silent_none me m
 silent_others me m (l ∷ letters) h = silent_one me m l letters (others_say l.message h.0) (silent_others me m letters h.1)
 
 lock_says : (x : LockGrantRecord) → Says (LockGrant x)
 lock_says x = record { no_arrive = refl; no_depart = refl; no_clean = refl; no_discard = refl }
 
-silent_grants : (me m : ℕ) (pass : Option Pass) (letters : List Letter) → Grants pass letters → Silent me m letters
+pub silent_grants : (me m : ℕ) (pass : Option Pass) (letters : List Letter) → Grants pass letters → Silent me m letters
 silent_grants me m None letters e = subst (Silent me m) (sym e) (silent_none me m)
 silent_grants me m (Some pass) letters (intervals, e) = subst (Silent me m) (sym e) (silent_one me m _ [] (lock_says _) (silent_none me m))
 

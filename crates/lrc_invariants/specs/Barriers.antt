@@ -1,10 +1,12 @@
 -- Where a node stands at the barrier, counted over the pending messages and what the manager keeps.
-use Rattle.std.specs.Prelude.{◌≡◌, ℕ, ◌+◌, ◌==◌, ◌&&◌, Bool, true, false, cond, unwrap_or, option_map, List, count_by, slice_index_or}
+use Rattle.std.specs.Prelude.{◌≡◌, ℕ, ◌+◌, ◌==◌, ◌&&◌, Bool, true, false, cond, unwrap_or, option_map, Option, Some, None, List, length, count_by, slice_index_or}
 use Rattle.lrc_wire.specs.Envelope.{EnvelopeRecord}
 use Rattle.lrc_wire.specs.declared.message.Message.{Message}
 use Rattle.lrc_wire.specs.declared.message.Message.TheVariants.{Arrive, Depart, Clean, Discard}
 use Rattle.lrc_barrier.specs.Barrier.{ManagerRecord, has_arrived}
-use Rattle.lrc_protocol.specs.Mail.{Wait, departure, discard}
+use Rattle.lrc_trace.specs.declared.act.Act.{Act}
+use Rattle.lrc_clock.specs.Times.{arrived_time}
+use Rattle.lrc_protocol.specs.Mail.{Wait, nothing, grant, departure, access, upkeep, discard}
 
 -- ---- messages of barriers
 
@@ -58,6 +60,11 @@ abbrev pub awaits_word : Wait → ℕ
 awaits_word (discard collection) = 1
 awaits_word _ = 0
 
+-- 1 for who fetches what the pages need that it keeps, in a collection
+abbrev pub is_collecting : Wait → ℕ
+is_collecting (upkeep collection needs) = 1
+is_collecting _ = 0
+
 -- A node has arrived as often as episodes are over, and once more where its arrival is on its way or kept. While it waits to
 -- depart, and never else, just one of these is so: its arrival is on its way, or kept, or its departure is on its way. And
 -- while it waits for the word to discard, and never else, just one of these: its word that its copies are clean is on its
@@ -66,3 +73,20 @@ pub record StandsAt (pending : List EnvelopeRecord) (manager : ManagerRecord) (n
   pub arrived : episode ≡ manager.done + (count_by (arrive_from n) pending + kept_of manager n)
   pub departs : count_by (arrive_from n) pending + kept_of manager n + count_by (depart_to n) pending ≡ awaits_depart wait
   pub discards : count_by (clean_from n) pending + noted_of manager n + count_by (discard_to n) pending ≡ awaits_word wait
+
+-- ---- times
+
+-- the time of the collection that a node is in
+abbrev pub time_in : Wait → Option (List ℕ)
+time_in nothing = None
+time_in (grant lock) = None
+time_in departure = None
+time_in (access need) = None
+time_in (upkeep collection needs) = Some collection.time
+time_in (discard collection) = Some collection.time
+
+-- with so many episodes over, the time is that of the newest: the join of the times at every node's arrive at it
+pub record IsNewestTime (nodes : ℕ) (acts : List Act) (times : List (List ℕ)) (over : ℕ) (time : List ℕ) : Type 0 where
+  pub number : ℕ
+  pub newest : over ≡ number + 1
+  pub joins : time ≡ arrived_time nodes acts times number (length acts)

@@ -2,6 +2,7 @@
 #![tactic(auto)]
 
 pub mod barriers;
+pub mod cover;
 pub mod laws;
 pub mod locks;
 pub mod synchronization;

@@ -4,6 +4,7 @@
 ghost use Rattle.std.specs.Prelude.{◌≡◌, ℕ, List, Some};
 ghost use Rattle.lrc_lang.specs.declared.program.Program.{Program};
 ghost use Rattle.lrc_trace.specs.Synchronization.{IsWellSynchronized};
+ghost use Rattle.lrc_clock.specs.Keeping.{KeepsTime};
 ghost use Rattle.lrc_protocol.specs.declared.event.Event.{Event};
 ghost use Rattle.lrc_protocol.specs.Node.{OptionsRecord};
 ghost use Rattle.lrc_protocol.specs.World.{World, run_of};
@@ -13,4 +14,13 @@ ghost use Rattle.lrc_protocol.specs.World.{World, run_of};
 pub fn acts_are_well_synchronized()
     ensures { (program : Program) (nodes : ℕ) (options : OptionsRecord) (events : List Event) (world : World)
         → run_of program nodes options events ≡ Some world → IsWellSynchronized nodes world.acts }
+{}
+
+/// In every run the times keep the rule of vector times: an act that synchronizes nothing leaves its node's time as it is; a
+/// release, an arrive and an acquire raise the node's own entry; an acquire learns what the lock's last release knew; and a
+/// depart learns what every node knew at its arrive with the number of this depart. So each time is exactly what happens
+/// before the act.
+pub fn every_run_keeps_time()
+    ensures { (program : Program) (nodes : ℕ) (options : OptionsRecord) (events : List Event) (world : World)
+        → run_of program nodes options events ≡ Some world → KeepsTime nodes world.acts world.times }
 {}
