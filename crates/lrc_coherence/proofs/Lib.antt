@@ -3,3 +3,4 @@ pub mod Told
 pub mod MadeSteps
 pub mod MadeManagers
 pub mod MadeWorlds
+pub mod Stored

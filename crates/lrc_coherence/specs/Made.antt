@@ -1,8 +1,8 @@
 -- The intervals that were ever closed, and who tells of them.
-use Rattle.std.specs.Prelude.{◌≡◌, ℕ, Option, Some, None, List, [], ◌∷◌, Contains, slice_get}
+use Rattle.std.specs.Prelude.{◌≡◌, ◌↔◌, ℕ, ◌<◌, ◌≤◌, Option, Some, None, List, [], ◌∷◌, Contains, slice_get}
 use Rattle.std.specs.List.{range_with_len}
 use Rattle.lrc_time.specs.Time.{entry}
-use Rattle.lrc_store.specs.Interval.{IntervalRecord}
+use Rattle.lrc_store.specs.Interval.{IntervalRecord, index_of}
 use Rattle.lrc_store.specs.Store.{intervals_of}
 use Rattle.lrc_wire.specs.Envelope.{EnvelopeRecord}
 use Rattle.lrc_wire.specs.declared.message.Message.{Message}
@@ -10,6 +10,7 @@ use Rattle.lrc_wire.specs.declared.message.Message.TheVariants.{LockGrant, Arriv
 use Rattle.lrc_barrier.specs.declared.arrival.Arrival.{Arrival}
 use Rattle.lrc_barrier.specs.Barrier.{ManagerRecord}
 use Rattle.lrc_protocol.specs.Expected.{indices_by}
+use Rattle.lrc_protocol.specs.Node.{Node}
 use Rattle.lrc_protocol.specs.Log.{Logged}
 use Rattle.lrc_protocol.specs.World.{World, pending}
 
@@ -50,3 +51,10 @@ pub record AreMade (made : List IntervalRecord) (world : World) : Type 0 where
   pub stored : (q : ℕ) (l : Logged) → slice_get world.nodes q ≡ Some l → AllMade made (intervals_of l.node.memory.store)
   pub told : AllTold made (pending world)
   pub kept : (q : ℕ) (l : Logged) → slice_get world.nodes q ≡ Some l → ManagerKeeps made l.node.barrier.manager
+
+-- a node stores just those of them that its time covers and its collected time does not
+abbrev pub StoresJust : List IntervalRecord → Node → Type 0
+StoresJust made node = (interval : IntervalRecord)
+    → Contains (intervals_of node.memory.store) interval
+    ↔ (Contains made interval × (entry node.memory.collected interval.node < index_of interval)
+    × (index_of interval ≤ entry node.locks.time interval.node))
