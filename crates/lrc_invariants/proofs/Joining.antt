@@ -60,7 +60,8 @@ keeping nodes acts times timed within rules locks departs = record {
 pub synchronizing : (nodes : ℕ) (acts : List Act) (times : List (List ℕ)) → KeepsLocks nodes acts times → DepartsLast nodes acts → IsWellSynchronized nodes acts
 synchronizing nodes acts times locks departs = record { acquires = locks.acquires; releases = locks.releases; departs = departs }
 
-module _ (program : Program) (nodes : ℕ) (options : OptionsRecord) (events : List Event) (world : World) (e : run_of program nodes options events ≡ Some world) where
+module _ (program : Program) (nodes : ℕ) (options : OptionsRecord) (events : List Event) (world : World)
+    (e : run_of program nodes options events ≡ Some world) where
   act_within : (acts : List Act) → All (λ (a : Act). a.node < nodes) acts → (j node : ℕ) (deed : Deed) → Does acts j node deed → node < nodes
   act_within acts all j node deed does =
       let act : Act = act_of node deed in

@@ -32,6 +32,8 @@ pub mod LockMessages
 pub mod LockPasses
 pub mod LockBalance
 pub mod LockStands
+pub mod LockContents
+pub mod LockExpected
 pub mod Sends
 pub mod Reached
 pub mod Flows

@@ -139,7 +139,8 @@ pub balanced-own : (me recent : ℕ) (k k' : Numbers) (from : ℕ) (brings : Say
 balanced-own me recent k k' from brings to sends recent' s s' p c b =
     own me recent k k' (ap (λ b. cond b 1 0) (eq-eqb me me refl)) from brings to sends recent' s s' p c b
 
-pub balanced-other : (me n recent : ℕ) (k k' : Numbers) (there : LockState) (from : ℕ) (brings : Saying) (to : ℕ) (sends : Saying) (recent' : ℕ) (s s' : LockState)
+pub balanced-other : (me n recent : ℕ) (k k' : Numbers) (there : LockState) (from : ℕ) (brings : Saying) (to : ℕ) (sends : Saying) (recent' : ℕ)
+    (s s' : LockState)
     → (me ≡ n → ⊥) → Passing me recent from brings to sends recent' s s' → Changes me n from brings to sends s s' k k'
     → Balanced n recent k there → Balanced n recent' k' there
 balanced-other me n recent k k' there from brings to sends recent' s s' ne p c b =

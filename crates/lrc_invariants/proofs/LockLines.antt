@@ -29,7 +29,8 @@ lines-first nodes = record {
   learns = λ j node l d. absurd (none_done d);
 }
 
-module _ (nodes : ℕ) (acts : List Act) (times : List (List ℕ)) (timed : length times ≡ length acts) (n : ℕ) (time : List ℕ) (k : KeepsLocks nodes acts times) where
+module _ (nodes : ℕ) (acts : List Act) (times : List (List ℕ)) (timed : length times ≡ length acts) (n : ℕ) (time : List ℕ)
+    (k : KeepsLocks nodes acts times) where
   -- what an acquire learns, at each position before
   learned-prefix : (more : List Act) (later : List (List ℕ)) (node l j : ℕ) → j ≤ length acts
       → joined (stamp_at nodes (acts ++ more) (times ++ later) node j) (released_time nodes (acts ++ more) (times ++ later) l j)

@@ -269,7 +269,8 @@ module _ (l : ℕ) (s : Site) (fits : FixesNext s.wait (next_in s.course)) (wait
   -- a held lock is released
   release_at : (deed : Option Deed) (letters : List Letter) (state : LockState) → is_held state ≡ true → deed ≡ Some (Release l)
       → Grants (pass_of (released_at l (next_time s.me s.locks.time) state)) letters
-      → Move l s by_itself deed (next_time s.me s.locks.time) letters (status_of state) (status_of (state_after state (released_at l (next_time s.me s.locks.time) state)))
+      → Move l s by_itself deed (next_time s.me s.locks.time) letters (status_of state) (status_of (state_after state (released_at l
+      (next_time s.me s.locks.time) state)))
   release_at deed letters (Held None) h d g = keeps refl d (subst (NoGrants l) (sym g) tt) refl
   release_at deed letters (Held (Some waiter)) h d g =
       passes refl d
@@ -363,7 +364,8 @@ module _ (l : ℕ) (s : Site) (fits : FixesNext s.wait (next_in s.course)) (wait
         | inr ne ↦
             stays_so (comes from (LockForward m)) deed s.locks.time letters (held_after s.locks.held m.lock (step m.lock)) refl (no_deed l deed d)
             (pass-none l (pass_of (step m.lock)) letters
-            (λ p is e. ne (sym (forward_lock m.lock (record { node = m.asker; time = m.time }) (lock_at s.locks.held m.lock) (m.asker == s.locks.held.me) p is) ∙ e)) g)
+            (λ p is e. ne (sym (forward_lock m.lock (record { node = m.asker; time = m.time }) (lock_at s.locks.held m.lock)
+            (m.asker == s.locks.held.me) p is) ∙ e)) g)
             same_time (ap status_of (other_after s.locks.held m.lock l (step m.lock) ne))
       ]
 
@@ -403,10 +405,12 @@ module _ (l : ℕ) (s : Site) (fits : FixesNext s.wait (next_in s.course)) (wait
   no_grant : (message : Message) → is_other message ≡ true → (from : ℕ) → brings l (comes from message) ≡ false
   no_grant message o from = no_page_grant l message o
 
-  plainly : (deed : Option Deed) (after : Course) (next : Next) → Acted s.course deed after → next_in s.course ≡ Some next → is_plain next ≡ true → IsNeither l deed
+  plainly : (deed : Option Deed) (after : Course) (next : Next) → Acted s.course deed after → next_in s.course ≡ Some next → is_plain next ≡ true
+      → IsNeither l deed
   plainly deed after next m n is = neither deed after next m n (λ v. plain_deed l v next is)
 
-  leaves : (deed : Option Deed) (after : Course) (w : Wait) → s.wait ≡ w → ((x : Thread) × (next_in s.course ≡ Some (departs x))) → Acted s.course deed after → IsNeither l deed
+  leaves : (deed : Option Deed) (after : Course) (w : Wait) → s.wait ≡ w → ((x : Thread) × (next_in s.course ≡ Some (departs x)))
+      → Acted s.course deed after → IsNeither l deed
   leaves deed after w is next m = neither deed after (departs next.0) m next.1 (λ v. departs_deed l v next.0)
 
   -- every turn makes one of the six moves at each lock

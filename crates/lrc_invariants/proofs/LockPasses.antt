@@ -70,7 +70,8 @@ module _ (l : ℕ) (s : Site) (waits : AwaitsOne s.wait s.locks.held) (holding :
   state = lock_at s.locks.held l
 
   -- with the same note of who asked last
-  so : (came : Came) (letters : List Letter) (locks : Locks) (from : ℕ) (brings : Saying) (to : ℕ) (sends : Saying) → (brings ≡ request → ⊥) → ComesSaying l came from brings
+  so : (came : Came) (letters : List Letter) (locks : Locks) (from : ℕ) (brings : Saying) (to : ℕ) (sends : Saying) → (brings ≡ request → ⊥)
+      → ComesSaying l came from brings
       → Says l letters to sends → recent_in locks l ≡ recent_in s.locks l → (a b : LockState) → state ≡ a → lock_at locks.held l ≡ b
       → Passing s.me (recent_in s.locks l) from brings to sends (recent_in s.locks l) a b → Passed l s came letters locks
   so came letters locks from brings to sends other c k r a b ea eb p = record {
@@ -110,7 +111,8 @@ module _ (l : ℕ) (s : Site) (waits : AwaitsOne s.wait s.locks.held) (holding :
       elim (cases_eq lock l) [
         | inl e ↦
             taking_at locks r state refl (subst (λ k. is_free (lock_at s.locks.held k) ≡ true) e f)
-            (ap (λ held. lock_at held l) now ∙ ap (λ k. lock_at (with_lock s.locks.held k (Held None)) l) e ∙ own_state s.locks.held l (Held None) (within_lock lock e (below lock n)))
+            (ap (λ held. lock_at held l) now ∙ ap (λ k. lock_at (with_lock s.locks.held k (Held None)) l) e ∙ own_state s.locks.held l (Held None)
+            (within_lock lock e (below lock n)))
         | inr ne ↦ quiet_so by_itself [] locks 0 refl tt r (ap (λ held. lock_at held l) now ∙ other_state s.locks.held lock l (Held None) ne)
       ]
 
@@ -133,7 +135,8 @@ module _ (l : ℕ) (s : Site) (waits : AwaitsOne s.wait s.locks.held) (holding :
         | inl e ↦
             so by_itself (x ∷ []) locks 0 no to request no_request refl (says x (said lock l request e)) r Away (Awaited None)
             (subst (λ k. lock_at s.locks.held k ≡ Away) e (away_is (lock_at s.locks.held lock) f unheld unawaited))
-            (ap (λ held. lock_at held l) h ∙ ap (λ k. lock_at (asked s.locks.held k) l) e ∙ own_state s.locks.held l (Awaited None) (within_lock lock e (below lock n)))
+            (ap (λ held. lock_at held l) h ∙ ap (λ k. lock_at (asked s.locks.held k) l) e ∙ own_state s.locks.held l (Awaited None) (within_lock lock e
+            (below lock n)))
             requests
         | inr ne ↦
             quiet_so by_itself (x ∷ []) locks 0 refl (unsaid lock l request ne, tt) r
@@ -141,13 +144,15 @@ module _ (l : ℕ) (s : Site) (waits : AwaitsOne s.wait s.locks.held) (holding :
       ]
 
   -- a grant that is sent, or none
-  grant_letter : (lock to : ℕ) (m : LockGrantRecord) (letters : List Letter) → m.lock ≡ lock → letters ≡ record { to = to; message = LockGrant m } ∷ [] → lock ≡ l
+  grant_letter : (lock to : ℕ) (m : LockGrantRecord) (letters : List Letter) → m.lock ≡ lock → letters ≡ record { to = to; message = LockGrant m } ∷ []
+      → lock ≡ l
       → Says l letters to grant
   grant_letter lock to m letters is e it =
       subst (λ letters. Says l letters to grant) (sym e) (says (record { to = to; message = LockGrant m }) (said m.lock l grant (is ∙ it)))
 
   -- a held lock is released
-  releasing_at : (now : List ℕ) (letters : List Letter) (locks : Locks) → recent_in locks l ≡ recent_in s.locks l → (x : LockState) → state ≡ x → is_held x ≡ true
+  releasing_at : (now : List ℕ) (letters : List Letter) (locks : Locks) → recent_in locks l ≡ recent_in s.locks l → (x : LockState) → state ≡ x
+      → is_held x ≡ true
       → Grants (pass_of (released_at l now x)) letters → lock_at locks.held l ≡ state_after x (released_at l now x)
       → Passed l s by_itself letters locks
   releasing_at now letters locks r (Held None) e h g eb =
@@ -158,7 +163,8 @@ module _ (l : ℕ) (s : Site) (waits : AwaitsOne s.wait s.locks.held) (holding :
   releasing_at now letters locks r (Awaited successor) e h g eb = cc
   releasing_at now letters locks r (Free kept) e h g eb = cc
 
-  released_silent : (lock : ℕ) (now : List ℕ) (letters : List Letter) (x : LockState) → (lock ≡ l → ⊥) → Grants (pass_of (released_at lock now x)) letters → AllSilent l letters
+  released_silent : (lock : ℕ) (now : List ℕ) (letters : List Letter) (x : LockState) → (lock ≡ l → ⊥) → Grants (pass_of (released_at lock now x)) letters
+      → AllSilent l letters
   released_silent lock now letters Away ne g = subst (AllSilent l) (sym g) tt
   released_silent lock now letters (Awaited successor) ne g = subst (AllSilent l) (sym g) tt
   released_silent lock now letters (Free kept) ne g = subst (AllSilent l) (sym g) tt
@@ -192,7 +198,8 @@ module _ (l : ℕ) (s : Site) (waits : AwaitsOne s.wait s.locks.held) (holding :
     | inl it ↦
         let within : l < length s.locks.managed.recent = subst (λ k. k < length s.locks.managed.recent) it (subst (λ k. m.lock < k) (sym askers) lt) in
         let now : recent_in locks l ≡ from =
-        ap (λ xs. slice_index xs l) is ∙ ap (λ k. slice_index (slice_set s.locks.managed.recent k from) l) it ∙ get_or-set_same s.locks.managed.recent l from 0 within in
+        ap (λ xs. slice_index xs l) is ∙ ap (λ k. slice_index (slice_set s.locks.managed.recent k from) l) it
+        ∙ get_or-set_same s.locks.managed.recent l from 0 within in
         record {
           from = from;
           brings = request;
@@ -201,11 +208,16 @@ module _ (l : ℕ) (s : Site) (waits : AwaitsOne s.wait s.locks.held) (holding :
           comes_so = (refl, said m.lock l request it);
           sends_so =
               subst (λ letters. Says l letters (recent_in s.locks l) (forward from)) (sym e)
-              (subst (λ to. Says l (record { to = recent_in s.locks m.lock; message = LockForward (record { lock = m.lock; asker = from; time = m.time }) } ∷ []) to (forward from))
+              (subst (λ to. Says l (record {
+                to = recent_in s.locks m.lock;
+                message = LockForward
+                    (record { lock = m.lock; asker = from; time = m.time });
+              } ∷ []) to (forward from))
               (ap (recent_in s.locks) it) (says _ (said m.lock l (forward from) it)));
           passing =
               subst (λ r. Passing s.me (recent_in s.locks l) from request (recent_in s.locks l) (forward from) r state (lock_at locks.held l)) (sym now)
-              (subst (Passing s.me (recent_in s.locks l) from request (recent_in s.locks l) (forward from) from state) (ap (λ held. lock_at held l) (sym h)) (manages from));
+              (subst (Passing s.me (recent_in s.locks l) from request (recent_in s.locks l) (forward from) from state) (ap (λ held. lock_at held l)
+              (sym h)) (manages from));
           manager = λ is. ap (manager_of s.nodes) (sym it) ∙ mine;
         }
     | inr ne ↦
@@ -225,7 +237,8 @@ module _ (l : ℕ) (s : Site) (waits : AwaitsOne s.wait s.locks.held) (holding :
   forwarding_at from m letters locks it r Away e false t g eb = cc
   forwarding_at from m letters locks it r (Awaited None) e false t g eb =
       let w : Waiter = record { node = m.asker; time = m.time } in
-      so (comes from (LockForward m)) letters locks from (forward m.asker) 0 no (forward_request m.asker) (refl, said m.lock l (forward m.asker) it) (silent (subst (AllSilent l) (sym g) tt)) r
+      so (comes from (LockForward m)) letters locks from (forward m.asker) 0 no (forward_request m.asker) (refl, said m.lock l (forward m.asker) it)
+      (silent (subst (AllSilent l) (sym g) tt)) r
       (Awaited None) (Awaited (Some w)) e eb (notes_awaited w)
   forwarding_at from m letters locks it r (Awaited (Some first)) e false t g eb = cc
   forwarding_at from m letters locks it r (Free kept) e false t g eb =
@@ -233,7 +246,8 @@ module _ (l : ℕ) (s : Site) (waits : AwaitsOne s.wait s.locks.held) (holding :
       (grant_letter l m.asker _ letters refl g.1 refl) r (Free kept) Away e eb (gives m.asker kept)
   forwarding_at from m letters locks it r (Held None) e false t g eb =
       let w : Waiter = record { node = m.asker; time = m.time } in
-      so (comes from (LockForward m)) letters locks from (forward m.asker) 0 no (forward_request m.asker) (refl, said m.lock l (forward m.asker) it) (silent (subst (AllSilent l) (sym g) tt)) r
+      so (comes from (LockForward m)) letters locks from (forward m.asker) 0 no (forward_request m.asker) (refl, said m.lock l (forward m.asker) it)
+      (silent (subst (AllSilent l) (sym g) tt)) r
       (Held None) (Held (Some w)) e eb (notes_held w)
   forwarding_at from m letters locks it r (Held (Some first)) e false t g eb = cc
 
@@ -271,7 +285,8 @@ module _ (l : ℕ) (s : Site) (waits : AwaitsOne s.wait s.locks.held) (holding :
   granting_at : (from : ℕ) (m : LockGrantRecord) (locks : Locks) → m.lock ≡ l → recent_in locks l ≡ recent_in s.locks l → (x : LockState) → state ≡ x
       → is_awaited x ≡ true → lock_at locks.held l ≡ state_after x (granted_at x) → Passed l s (comes from (LockGrant m)) [] locks
   granting_at from m locks it r (Awaited next) e a eb =
-      so (comes from (LockGrant m)) [] locks from grant 0 no grant_request (refl, said m.lock l grant it) (silent tt) r (Awaited next) (Held next) e eb (gets next)
+      so (comes from (LockGrant m)) [] locks from grant 0 no grant_request (refl, said m.lock l grant it) (silent tt) r (Awaited next) (Held next) e eb
+      (gets next)
   granting_at from m locks it r Away e a eb = cc
   granting_at from m locks it r (Free kept) e a eb = cc
   granting_at from m locks it r (Held next) e a eb = cc

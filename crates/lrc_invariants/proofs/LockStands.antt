@@ -88,7 +88,8 @@ pub record Passage (nodes k a : ℕ) (l after : Logged) (was now : List Envelope
   pub brings : Saying
   pub to : ℕ
   pub sends : Saying
-  pub passing : Passing a (recent_in l.node.locks k) from brings to sends (recent_in after.node.locks k) (lock_at l.node.locks.held k) (lock_at after.node.locks.held k)
+  pub passing : Passing a (recent_in l.node.locks k) from brings to sends (recent_in after.node.locks k) (lock_at l.node.locks.held k)
+      (lock_at after.node.locks.held k)
   pub manager : brings ≡ request → manager_of nodes k ≡ a
   pub tests : (t : Test) → IsTest t → saying_so k t now + cond (t from a brings) 1 0 ≡ saying_so k t was + cond (t a to sends) 1 0
 
@@ -111,7 +112,8 @@ passage_again nodes k a l after was now same_messages same_node = record {
       ∙ ap (λ b. saying_so k t was + cond b 1 0) (is 0 a ∙ sym (is a 0));
 }
 
-module _ (nodes k a : ℕ) (all : List Logged) (l after : Logged) (at : slice_get all a ≡ Some l) (was now : List EnvelopeRecord) (p : Passage nodes k a l after was now) where
+module _ (nodes k a : ℕ) (all : List Logged) (l after : Logged) (at : slice_get all a ≡ Some l) (was now : List EnvelopeRecord)
+    (p : Passage nodes k a l after was now) where
   abbrev then_all : List Logged
   then_all = slice_set all a after
 
@@ -129,13 +131,16 @@ module _ (nodes k a : ℕ) (all : List Logged) (l after : Logged) (at : slice_ge
   }
 
   -- with who asked last by the manager's note
-  passing : Passing a (last_asker nodes k all) p.from p.brings p.to p.sends (last_asker nodes k then_all) (lock_at l.node.locks.held k) (lock_at after.node.locks.held k)
+  passing : Passing a (last_asker nodes k all) p.from p.brings p.to p.sends (last_asker nodes k then_all) (lock_at l.node.locks.held k)
+      (lock_at after.node.locks.held k)
   passing = elim (cases_eq a (manager_of nodes k)) [
     | inl e ↦
         let old : last_asker nodes k all ≡ recent_in l.node.locks k = ap (λ m. recent_at k (slice_get all m)) (sym e) ∙ ap (recent_at k) at in
         let new : last_asker nodes k then_all ≡ recent_in after.node.locks k = ap (λ m. recent_at k (slice_get then_all m)) (sym e) ∙ ap (recent_at k) there in
-        subst (λ r. Passing a r p.from p.brings p.to p.sends (last_asker nodes k then_all) (lock_at l.node.locks.held k) (lock_at after.node.locks.held k)) (sym old)
-        (subst (λ r. Passing a (recent_in l.node.locks k) p.from p.brings p.to p.sends r (lock_at l.node.locks.held k) (lock_at after.node.locks.held k)) (sym new) p.passing)
+        subst (λ r. Passing a r p.from p.brings p.to p.sends (last_asker nodes k then_all) (lock_at l.node.locks.held k) (lock_at after.node.locks.held k))
+        (sym old)
+        (subst (λ r. Passing a (recent_in l.node.locks k) p.from p.brings p.to p.sends r (lock_at l.node.locks.held k) (lock_at after.node.locks.held k))
+        (sym new) p.passing)
     | inr ne ↦
         let new : last_asker nodes k then_all ≡ last_asker nodes k all = ap (recent_at k) (get_set_other all a (manager_of nodes k) after ne) in
         subst (λ r. Passing a (last_asker nodes k all) p.from p.brings p.to p.sends r (lock_at l.node.locks.held k) (lock_at after.node.locks.held k)) (sym new)
@@ -148,7 +153,8 @@ module _ (nodes k a : ℕ) (all : List Logged) (l after : Logged) (at : slice_ge
     | inl e ↦
         subst (λ n. Balanced n (last_asker nodes k then_all) (numbers_of k n now then_all) (state_in k (slice_get then_all n))) e
         (subst (λ o. Balanced a (last_asker nodes k then_all) (numbers_of k a now then_all) (state_in k o)) (sym there)
-        (balanced-own a (last_asker nodes k all) (numbers_of k a was all) (numbers_of k a now then_all) p.from p.brings p.to p.sends (last_asker nodes k then_all)
+        (balanced-own a (last_asker nodes k all) (numbers_of k a was all) (numbers_of k a now then_all) p.from p.brings p.to p.sends
+        (last_asker nodes k then_all)
         (lock_at l.node.locks.held k) (lock_at after.node.locks.held k) passing (changes a)
         (subst (λ o. Balanced a (last_asker nodes k all) (numbers_of k a was all) (state_in k o)) at (h a))))
     | inr ne ↦
@@ -211,7 +217,8 @@ module _ (program : Program) (nodes : ℕ) (options : OptionsRecord) where
     each = λ k lt some.
         let setting : l.node.setting ≡ setting_of program nodes n = (shape_at program nodes options reached.events world n l reached.runs at).setting in
         let setting' : after.node.setting ≡ setting_of program nodes n =
-        (shape_at program nodes options reached'.events (with_turn world flight n entry after) n after reached'.runs (get_set_same world.nodes n l after at)).setting in
+        (shape_at program nodes options reached'.events (with_turn world flight n entry after) n after reached'.runs
+        (get_set_same world.nodes n l after at)).setting in
         balanced nodes k n world.nodes l after at (pending world) (pending (with_turn world flight n entry after))
         (by_step world n l after at reached k (pending (with_turn world flight n entry after)) entry.turn after.node
         (stepped program nodes options world flight n l after input entry at comes i reached) refl (setting' ∙ sym setting))
@@ -257,7 +264,8 @@ module _ (program : Program) (nodes : ℕ) (options : OptionsRecord) where
   abbrev quiet : Numbers
   quiet = record { asked = 0; passed = 0; taking = 0; granted = 0; pointed = 0 }
 
-  first_balance : (k n : ℕ) (b : Bool) → is_node (manager_of nodes k) n ≡ cond b 1 0 → Balanced n (manager_of nodes k) quiet (if b then Free (zeros nodes) else Away)
+  first_balance : (k n : ℕ) (b : Bool) → is_node (manager_of nodes k) n ≡ cond b 1 0 → Balanced n (manager_of nodes k) quiet (if b then Free
+      (zeros nodes) else Away)
   first_balance k n true e = record { stands = refl; points = omega (arith, e) }
   first_balance k n false e = record { stands = refl; points = omega (arith, e) }
 
@@ -269,8 +277,10 @@ module _ (program : Program) (nodes : ℕ) (options : OptionsRecord) where
       no_such : manager_of nodes k ≡ n → ⊥
       no_such e =
           let within : n < length (fresh_world program nodes options).nodes =
-          subst (λ j. n < j) (sym (run-whole program nodes options [] (fresh_world program nodes options) refl).count) (subst (λ j. j < nodes) e (mod_below k nodes some)) in
-          let x : (x : Logged) × (slice_get (fresh_world program nodes options).nodes n ≡ Some x) = get_within (fresh_world program nodes options).nodes n within in
+          subst (λ j. n < j) (sym (run-whole program nodes options [] (fresh_world program nodes options) refl).count) (subst (λ j. j < nodes) e
+          (mod_below k nodes some)) in
+          let x : (x : Logged) × (slice_get (fresh_world program nodes options).nodes n ≡ Some x) = get_within
+          (fresh_world program nodes options).nodes n within in
           none_some (sym is ∙ x.1)
         where
           none_some : {x : Logged} → None ≡ Some x → ⊥
@@ -285,7 +295,8 @@ module _ (program : Program) (nodes : ℕ) (options : OptionsRecord) where
   balance-fresh : AllInBalance (fresh_world program nodes options)
   balance-fresh = record {
     each = λ k lt some n.
-        subst (λ r. Balanced n r (numbers_of k n [] (fresh_world program nodes options).nodes) (state_in k (slice_get (fresh_world program nodes options).nodes n)))
+        subst (λ r. Balanced n r (numbers_of k n [] (fresh_world program nodes options).nodes) (state_in k (slice_get
+        (fresh_world program nodes options).nodes n)))
         (sym (first_asker k lt some))
         (subst (λ p. Balanced n (manager_of nodes k) (record { asked = 0; passed = 0; taking = 0; granted = 0; pointed = p })
         (state_in k (slice_get (fresh_world program nodes options).nodes n)))

@@ -49,11 +49,13 @@ addressed : (b : Bool) (o : Outcome) (turn : TurnRecord) (after : Node) → (if 
 addressed true o turn after e = (refl, e)
 addressed false o turn after e = cc
 
-taken_anew : (b : Bool) (o : Outcome) (same : Outcome) (turn : TurnRecord) (after : Node) → b ≡ false → (if b then same else o) ≡ done turn after → o ≡ done turn after
+taken_anew : (b : Bool) (o : Outcome) (same : Outcome) (turn : TurnRecord) (after : Node) → b ≡ false → (if b then same else o) ≡ done turn after
+    → o ≡ done turn after
 taken_anew true o same turn after is e = cc
 taken_anew false o same turn after is e = e
 
-pub took : (node : Node) (e : EnvelopeRecord) (turn : TurnRecord) (after : Node) → is_repeat node e ≡ false → take_turn node e ≡ done turn after → Took node e turn after
+pub took : (node : Node) (e : EnvelopeRecord) (turn : TurnRecord) (after : Node) → is_repeat node e ≡ false → take_turn node e ≡ done turn after
+    → Took node e turn after
 took node e turn after new is =
     let outer : _ = addressed (is_addressed node e) (if is_repeat node e then done empty_turn node else take_anew node e) turn after is in
     let inner : _ = addressed (is_expected node e.from e.message) (turn_of (take_effect (taking node e) e.from e.message)) turn after
@@ -80,7 +82,8 @@ first_least : (c : Bool) (least bound x : ℕ) (rest : List ℕ) → c ≡ true 
 first_least true least bound x rest e r = r.0
 first_least false least bound x rest e r = cc
 
-then_rises : (c : Bool) (least bound x : ℕ) (rest : List ℕ) → Rises least bound (cond c (x ∷ rest) rest) → (lower : ℕ) × (Rises lower bound rest) × (least ≤ lower)
+then_rises : (c : Bool) (least bound x : ℕ) (rest : List ℕ) → Rises least bound (cond c (x ∷ rest) rest) → (lower : ℕ) × (Rises lower bound rest) ×
+    (least ≤ lower)
 then_rises true least bound x rest r = let at_least : least ≤ x = r.0 in (x + 1, r.2, omega (arith, at_least))
 then_rises false least bound x rest r = (least, r, omega arith)
 
@@ -94,7 +97,8 @@ sent_number (y ∷ out) zero x least bound at r =
     (subst (Rises least bound) (map_cond (y.to == x.to) y (filter (λ y. y.to == x.to) out)) r))
 sent_number (y ∷ out) (suc k) x least bound at r =
     let rest : (lower : ℕ) × (Rises lower bound (numbers_to x.to out)) × (least ≤ lower) =
-    then_rises (y.to == x.to) least bound y.number (numbers_to x.to out) (subst (Rises least bound) (map_cond (y.to == x.to) y (filter (λ y. y.to == x.to) out)) r) in
+    then_rises (y.to == x.to) least bound y.number (numbers_to x.to out) (subst (Rises least bound) (map_cond (y.to == x.to) y (filter
+    (λ y. y.to == x.to) out)) r) in
     let le : rest.0 ≤ x.number = sent_number out k x rest.0 bound at rest.1 in
     let more : least ≤ rest.0 = rest.2 in
     omega (arith, le, more)
@@ -140,8 +144,10 @@ module _ (program : Program) (nodes : ℕ) (options : OptionsRecord) where
           let bound : ℕ = options.first + slice_index l.node.mail.sent x.to in
           let first : l.node.options.first ≡ options.first = ap (λ (o : OptionsRecord). o.first) own.options in
           let le : l.node.options.first + slice_index l.node.mail.sent x.to ≤ x.number =
-          sent_number entry.turn.out k x (l.node.options.first + slice_index l.node.mail.sent x.to) (l.node.options.first + slice_index l.node.mail.sent x.to + g.more) is
-          (subst (Rises (l.node.options.first + slice_index l.node.mail.sent x.to) (l.node.options.first + slice_index l.node.mail.sent x.to + g.more)) (sym g.numbers)
+          sent_number entry.turn.out k x (l.node.options.first + slice_index l.node.mail.sent x.to)
+          (l.node.options.first + slice_index l.node.mail.sent x.to + g.more) is
+          (subst (Rises (l.node.options.first + slice_index l.node.mail.sent x.to) (l.node.options.first + slice_index l.node.mail.sent x.to + g.more))
+          (sym g.numbers)
           (rises-range (l.node.options.first + slice_index l.node.mail.sent x.to) g.more _ refl)) in
           let least : bound ≤ x.number = omega (arith, first, le) in
           let taken_less : Below bound (slice_index_or lb.node.mail.taken n []) =
@@ -156,7 +162,8 @@ module _ (program : Program) (nodes : ℕ) (options : OptionsRecord) where
     pending-sent =
         let all : List Logged = slice_set world.nodes n after in
         pending-is (with_turn world flight n entry after)
-        ∙ ap (still all) (map-append (λ (f : Flying). f.envelope) flight (sent_by entry) ∙ ap (λ es. envelopes_in flight ++ es) (sent-envelopes entry.stamp entry.turn.out))
+        ∙ ap (still all) (map-append (λ (f : Flying). f.envelope) flight (sent_by entry) ∙ ap (λ es. envelopes_in flight ++ es)
+        (sent-envelopes entry.stamp entry.turn.out))
         ∙ filter-append (λ e. not (is_taken_by all e)) (envelopes_in flight) entry.turn.out
         ∙ ap (λ es. still all (envelopes_in flight) ++ es) (filter-all (λ e. not (is_taken_by all e)) entry.turn.out (λ k x is. ap not (untaken k x is)))
 
@@ -203,7 +210,8 @@ get_within (x ∷ xs) zero lt = (x, refl)
 get_within (x ∷ xs) (suc n) lt = get_within xs n (omega (arith, lt))
 
 -- a message that is taken already is not pending, so that nothing is lost without it
-without-taken : (all : List Logged) (e : EnvelopeRecord) (es without : List EnvelopeRecord) → Split es without e → is_taken_by all e ≡ true → still all without ≡ still all es
+without-taken : (all : List Logged) (e : EnvelopeRecord) (es without : List EnvelopeRecord) → Split es without e → is_taken_by all e ≡ true
+    → still all without ≡ still all es
 without-taken all e es without s is =
     let p : EnvelopeRecord → Bool = λ e. not (is_taken_by all e) in
     ap (still all) s.without_is
@@ -229,7 +237,8 @@ module _ (program : Program) (nodes : ℕ) (options : OptionsRecord) where
 
     alone : (without : List EnvelopeRecord) (s : Split (envelopes_in world.flight) without e) → Others e s.front × Others e s.back
     alone without s =
-        let sender : (x : Logged) × (slice_get world.nodes e.from ≡ Some x) = get_within world.nodes e.from (subst (λ k. e.from < k) (sym h.taken.count) from_node) in
+        let sender : (x : Logged) × (slice_get world.nodes e.from ≡ Some x) = get_within world.nodes e.from (subst (λ k. e.from < k)
+        (sym h.taken.count) from_node) in
         let lt : e.to < nodes = subst (λ k. e.to < k) h.taken.count (subst (λ k. k < length world.nodes) to (slice_get_within world.nodes n l at)) in
         others e (envelopes_in world.flight) without options.first (options.first + slice_index sender.0.node.mail.sent e.to) s
         ((h.taken.sends.each e.from sender.0 sender.1).numbers e.to lt)
@@ -312,7 +321,8 @@ module _ (program : Program) (nodes : ℕ) (options : OptionsRecord) where
       → Comes world n input flight → IsEntry l input entry after → AllPending program nodes options world
       → Goes (new_of l.node input) (pending world) entry.turn.out (pending (with_turn world flight n entry after))
   pending-goes world _ n l after _ entry at named i h =
-      let same : after.node.mail.taken ≡ l.node.mail.taken = takes_fact l.node run after.node.mail.taken (subst (TakesIf l.node run) i.turn_is (takes l.node run)) in
+      let same : after.node.mail.taken ≡ l.node.mail.taken = takes_fact l.node run after.node.mail.taken (subst (TakesIf l.node run) i.turn_is
+      (takes l.node run)) in
       pending-sent program nodes options world world.flight n l after run entry at named i h
       ∙ ap (λ es. es ++ entry.turn.out)
       (still-same program nodes options world world.flight n l after run entry at named i h same (envelopes_in world.flight) ∙ sym (pending-is world))

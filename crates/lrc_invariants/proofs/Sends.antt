@@ -496,7 +496,7 @@ SentIf node came not_ready = Unit {0}
 SentIf node came unexpected = Unit {0}
 SentIf node came worn = Unit {0}
 
-abbrev LettersIf : List Letter → Option (List EnvelopeRecord × List ℕ) → Type 0
+abbrev pub LettersIf : List Letter → Option (List EnvelopeRecord × List ℕ) → Type 0
 LettersIf letters None = Unit {0}
 LettersIf letters (Some (out, sent)) = map letter_in out ≡ letters
 
@@ -509,7 +509,7 @@ letters-room : (letters : List Letter) (b : Bool) (o : Option (List EnvelopeReco
 letters-room letters true o h = h
 letters-room letters false o h = tt
 
-numbered-letters : (me first : ℕ) (sent : List ℕ) (letters : List Letter) → LettersIf letters (numbered me first sent letters)
+pub numbered-letters : (me first : ℕ) (sent : List ℕ) (letters : List Letter) → LettersIf letters (numbered me first sent letters)
 numbered-letters me first sent [] = refl
 numbered-letters me first sent (l ∷ letters) =
     let before : ℕ = slice_index sent l.to in

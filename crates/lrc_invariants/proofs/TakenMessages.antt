@@ -27,7 +27,8 @@ abbrev pub still : List Logged → List EnvelopeRecord → List EnvelopeRecord
 still nodes es = filter (λ e. not (is_taken_by nodes e)) es
 
 map_flying : (c : Bool) (f : Flying) (rest : List Flying)
-    → map (λ (f : Flying). f.envelope) (cond c (f ∷ rest) rest) ≡ cond c (f.envelope ∷ map (λ (f : Flying). f.envelope) rest) (map (λ (f : Flying). f.envelope) rest)
+    → map (λ (f : Flying). f.envelope) (cond c (f ∷ rest) rest) ≡ cond c (f.envelope ∷ map (λ (f : Flying). f.envelope) rest) (map (λ
+    (f : Flying). f.envelope) rest)
 map_flying true f rest = refl
 map_flying false f rest = refl
 
@@ -43,7 +44,8 @@ pending-is world = pending_in world world.flight
 
 -- ---- filters
 
-pub filter-all : (p : EnvelopeRecord → Bool) (xs : List EnvelopeRecord) → ((k : ℕ) (x : EnvelopeRecord) → slice_get xs k ≡ Some x → p x ≡ true) → filter p xs ≡ xs
+pub filter-all : (p : EnvelopeRecord → Bool) (xs : List EnvelopeRecord) → ((k : ℕ) (x : EnvelopeRecord) → slice_get xs k ≡ Some x → p x ≡ true)
+    → filter p xs ≡ xs
 filter-all p [] h = refl
 filter-all p (x ∷ xs) h =
     ap (λ c. cond c (x ∷ filter p xs) (filter p xs)) (h zero x refl)
@@ -172,7 +174,8 @@ module _ (e : EnvelopeRecord) where
       others_after xs ys rest.0 bound rest.1
 
   -- of the messages in flight no other is the same as the one at its place
-  pub others : (es without : List EnvelopeRecord) (least bound : ℕ) (s : Split es without e) → Rises least bound (numbers es) → Others e s.front × Others e s.back
+  pub others : (es without : List EnvelopeRecord) (least bound : ℕ) (s : Split es without e) → Rises least bound (numbers es)
+      → Others e s.front × Others e s.back
   others es without least bound s r =
       let r' : Rises least bound (numbers (s.front ++ e ∷ s.back)) = subst (λ es. Rises least bound (numbers es)) s.is r in
       (others_before s.front s.back least bound r', others_after s.front s.back least bound r')
@@ -224,10 +227,12 @@ not-below bound number (x ∷ xs) le b =
 
 -- ---- by nodes
 
-pub own-taken : (nodes : List Logged) (n : ℕ) (l : Logged) (e : EnvelopeRecord) → slice_get nodes n ≡ Some l → n ≡ e.to → is_taken_by nodes e ≡ is_repeat l.node e
+pub own-taken : (nodes : List Logged) (n : ℕ) (l : Logged) (e : EnvelopeRecord) → slice_get nodes n ≡ Some l → n ≡ e.to
+    → is_taken_by nodes e ≡ is_repeat l.node e
 own-taken nodes n l e at is = ap (taken_by e) (ap (slice_get nodes) (sym is) ∙ at)
 
-pub other-taken : (nodes : List Logged) (n : ℕ) (after : Logged) (e : EnvelopeRecord) → (n ≡ e.to → ⊥) → is_taken_by (slice_set nodes n after) e ≡ is_taken_by nodes e
+pub other-taken : (nodes : List Logged) (n : ℕ) (after : Logged) (e : EnvelopeRecord) → (n ≡ e.to → ⊥) → is_taken_by
+    (slice_set nodes n after) e ≡ is_taken_by nodes e
 other-taken nodes n after e ne = ap (taken_by e) (get_set_other nodes n e.to after ne)
 
 pub nowhere-taken : (nodes : List Logged) (e : EnvelopeRecord) → slice_get nodes e.to ≡ None → is_taken_by nodes e ≡ false
@@ -236,13 +241,15 @@ nowhere-taken nodes e at = ap (taken_by e) at
 pub repeat-same : (a b : Node) (e : EnvelopeRecord) → a.mail.taken ≡ b.mail.taken → is_repeat a e ≡ is_repeat b e
 repeat-same a b e is = ap (λ t. has e.number (slice_index_or t e.from [])) is
 
-pub repeat-other : (a b : Node) (e x : EnvelopeRecord) → a.mail.taken ≡ slice_set b.mail.taken e.from (placed nat_lt e.number (slice_index_or b.mail.taken e.from []))
+pub repeat-other : (a b : Node) (e x : EnvelopeRecord) → a.mail.taken ≡ slice_set b.mail.taken e.from (placed nat_lt e.number
+    (slice_index_or b.mail.taken e.from []))
     → x.to ≡ e.to → (Same x e → ⊥) → is_repeat a x ≡ is_repeat b x
 repeat-other a b e x is to ne =
     ap (λ t. has x.number (slice_index_or t x.from [])) is
     ∙ taken-other b.mail.taken e.from e.number x.from x.number (λ from number. ne (record { from = sym from; to = to; number = sym number }))
 
-pub repeat-itself : (a b : Node) (e : EnvelopeRecord) → a.mail.taken ≡ slice_set b.mail.taken e.from (placed nat_lt e.number (slice_index_or b.mail.taken e.from []))
+pub repeat-itself : (a b : Node) (e : EnvelopeRecord) → a.mail.taken ≡ slice_set b.mail.taken e.from (placed nat_lt e.number
+    (slice_index_or b.mail.taken e.from []))
     → e.from < length b.mail.taken → is_repeat a e ≡ true
 repeat-itself a b e is lt = ap (λ t. has e.number (slice_index_or t e.from [])) is ∙ taken-itself b.mail.taken e.from e.number lt
 

@@ -106,7 +106,8 @@ module _ (k : ℕ) where
     holder_has_it token h l at = (
       by_acts token,
       λ e.
-          (at_held k nodes (status_in k all) (times_in all) pending acts times h (ap (λ o. status_of (state_in k o)) at ∙ held_by (state l) e) token).holds.holds,
+          (at_held k nodes (status_in k all) (times_in all) pending acts times h (ap (λ o. status_of (state_in k o)) at ∙ held_by
+          (state l) e) token).holds.holds,
     )
       where
         by_acts : AToken → HeldNow acts h k → is_held (state l) ≡ true

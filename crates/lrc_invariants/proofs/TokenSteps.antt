@@ -34,7 +34,8 @@ pub data Token (l nodes : ℕ) (st : ℕ → Status) (T : ℕ → List ℕ) (pen
 
 -- ---- by where a node stands
 
-pub record AtFree (l nodes : ℕ) (st : ℕ → Status) (T : ℕ → List ℕ) (pending : List EnvelopeRecord) (acts : List Act) (times : List (List ℕ)) (n : ℕ) (kept : List ℕ) : Type 0 where
+pub record AtFree (l nodes : ℕ) (st : ℕ → Status) (T : ℕ → List ℕ) (pending : List EnvelopeRecord) (acts : List Act) (times : List (List ℕ)) (n : ℕ)
+    (kept : List ℕ) : Type 0 where
   pub alone : (m : ℕ) → (m ≡ n → ⊥) → st m ≡ absent
   pub none : pending ≡ []
   pub nobody : NobodyHolds acts l
@@ -110,7 +111,8 @@ module _ (l nodes : ℕ) (st : ℕ → Status) (T : ℕ → List ℕ) (pending :
 
 -- what a move gives: where the token is then; that who acquires finds the lock free, and learns the last release's time; and
 -- that who releases holds it
-pub record Stepped (l nodes n : ℕ) (st : ℕ → Status) (T : ℕ → List ℕ) (now : List EnvelopeRecord) (acts : List Act) (times : List (List ℕ)) (deed : Option Deed) (time : List ℕ) : Type 0 where
+pub record Stepped (l nodes n : ℕ) (st : ℕ → Status) (T : ℕ → List ℕ) (now : List EnvelopeRecord) (acts : List Act) (times : List (List ℕ))
+    (deed : Option Deed) (time : List ℕ) : Type 0 where
   pub token : Token l nodes st T now (acts ++ more_acts n deed) (times ++ more_times n time deed)
   pub acquires : deed ≡ Some (Acquire l)
       → NobodyHolds acts l × (time ≡ joined (raised (time_before nodes acts times n (length acts)) n) (released_time nodes acts times l (length acts)))
@@ -152,7 +154,8 @@ module _ (l nodes n : ℕ) (st st' : ℕ → Status) (T T' : ℕ → List ℕ) (
       append_nil [] = refl
       append_nil (x ∷ xs) = ap (λ ys. x ∷ ys) (append_nil xs)
 
-  released_same : (deed ≡ Some (Release l) → ⊥) → released_time nodes (acts ++ more_acts n deed) (times ++ more_times n time deed) l (length (acts ++ more_acts n deed)) ≡ released
+  released_same : (deed ≡ Some (Release l) → ⊥) → released_time nodes (acts ++ more_acts n deed) (times ++ more_times n time deed) l (length
+      (acts ++ more_acts n deed)) ≡ released
   released_same ne = released-still nodes acts times timed n time l deed ne
 
   nobody_same : (deed ≡ Some (Acquire l) → ⊥) → NobodyHolds acts l → NobodyHolds (acts ++ more_acts n deed) l
@@ -186,7 +189,8 @@ module _ (l nodes n : ℕ) (st st' : ℕ → Status) (T T' : ℕ → List ℕ) (
       let t' : time ≡ raised (T n) n = t ∙ ap (λ k. next_time k s.locks.time) me ∙ ap (next_time n) time_was in
       let covering : Covers time kept = covers-trans time (T n) kept (subst (λ x. Covers x (T n)) (sym t') (covers-next n (T n))) at.below in
       record {
-        token = held_at n eb (λ m ne. elsewhere m ne ∙ at.alone m ne) (nothing_new bf g ∙ at.none) (alone-taken nodes acts times timed n time l deed d at.nobody);
+        token = held_at n eb (λ m ne. elsewhere m ne ∙ at.alone m ne) (nothing_new bf g ∙ at.none)
+            (alone-taken nodes acts times timed n time l deed d at.nobody);
         acquires = λ e. (
           at.nobody,
           sym (joined-covers time kept (counted ∙ sym at.counted) covering)

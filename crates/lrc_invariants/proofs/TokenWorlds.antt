@@ -155,9 +155,12 @@ module _ (program : Program) (nodes : ℕ) (options : OptionsRecord) where
           (site_of l.node) (ap (λ (s : Setting). s.me) setting) (sym (ap time_in at)) time (ap time_in there) counted
           (grants (pending world)) (grants (pending (with_turn world flight n entry after))) (grants entry.turn.out)
           world.acts world.times present.timed deed move.came move.letters
-          (grants-stay k (new_of l.node input) move.came (pending world) entry.turn.out (pending (with_turn world flight n entry after)) move.brought pending_goes)
-          (grants-some k (new_of l.node input) move.came (pending world) entry.turn.out (pending (with_turn world flight n entry after)) move.brought pending_goes)
-          (grants-lose k (new_of l.node input) move.came (pending world) entry.turn.out (pending (with_turn world flight n entry after)) move.brought pending_goes)
+          (grants-stay k (new_of l.node input) move.came (pending world) entry.turn.out (pending
+          (with_turn world flight n entry after)) move.brought pending_goes)
+          (grants-some k (new_of l.node input) move.came (pending world) entry.turn.out (pending
+          (with_turn world flight n entry after)) move.brought pending_goes)
+          (grants-lose k (new_of l.node input) move.came (pending world) entry.turn.out (pending
+          (with_turn world flight n entry after)) move.brought pending_goes)
           (none-sent k entry.turn.out move.letters move.out)
           (one-sent k entry.turn.out move.letters move.out)
           (λ w. ap time_in at ∙ subst (λ w. IsPresent n w last l.node.locks.time) w now)
@@ -219,7 +222,8 @@ module _ (program : Program) (nodes : ℕ) (options : OptionsRecord) where
       let m : ℕ = manager_of nodes k in
       ap (λ (x : Logged). status_of (lock_at x.node.locks.held k)) (fresh_at program nodes options 0 nodes m x is)
       ∙ ap status_of (first_at (0 + m) nodes 0 program.locks k lt)
-      ∙ ap (λ b. status_of (if b then Free (zeros nodes) else Away)) (eq-eqb (manager_of nodes (0 + k)) (0 + m) (ap (manager_of nodes) (zero-add k) ∙ sym (zero-add m)))
+      ∙ ap (λ b. status_of (if b then Free (zeros nodes) else Away)) (eq-eqb (manager_of nodes (0 + k)) (0 + m) (ap (manager_of nodes) (zero-add k) ∙ sym
+      (zero-add m)))
 
   first_away : (k q : ℕ) (o : Option Logged) → slice_get (fresh_world program nodes options).nodes q ≡ o → (q ≡ manager_of nodes k → ⊥) → k < program.locks
       → status_of (state_in k o) ≡ absent
@@ -236,7 +240,8 @@ module _ (program : Program) (nodes : ℕ) (options : OptionsRecord) where
         let m : ℕ = manager_of nodes k in
         let within : m < length (fresh_world program nodes options).nodes =
         subst (λ j. m < j) (sym (run-whole program nodes options [] (fresh_world program nodes options) refl).count) (mod_below k nodes some) in
-        let x : (x : Logged) × (slice_get (fresh_world program nodes options).nodes m ≡ Some x) = get_within (fresh_world program nodes options).nodes m within in
+        let x : (x : Logged) × (slice_get (fresh_world program nodes options).nodes m ≡ Some x) = get_within
+        (fresh_world program nodes options).nodes m within in
         free_at m (zeros nodes) (ap (λ o. status_of (state_in k o)) x.1 ∙ first_free k some x.0 x.1 lt)
         (λ q ne. first_away k q (slice_get (fresh_world program nodes options).nodes q) refl ne lt)
         refl (nobody-first k) refl (length-zeros nodes) (covers-zeros (times_in (fresh_world program nodes options).nodes m) nodes);

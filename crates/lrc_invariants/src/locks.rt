@@ -6,12 +6,14 @@ ghost use Rattle.lrc_lang.specs.declared.program.Program.{Program};
 ghost use Rattle.lrc_trace.specs.Synchronization.{Holds};
 ghost use Rattle.lrc_clock.specs.Times.{released_time};
 ghost use Rattle.lrc_wire.specs.Envelope.{EnvelopeRecord};
-ghost use Rattle.lrc_wire.specs.Records.{LockGrantRecord};
-ghost use Rattle.lrc_wire.specs.declared.message.Message.TheVariants.{LockGrant};
+ghost use Rattle.lrc_wire.specs.Records.{LockRequestRecord, LockForwardRecord, LockGrantRecord};
+ghost use Rattle.lrc_wire.specs.declared.message.Message.TheVariants.{LockRequest, LockForward, LockGrant};
 ghost use Rattle.lrc_lock.specs.declared.state.LockState.TheVariants.{Free};
 ghost use Rattle.lrc_lock.specs.Held.{lock_at, is_held};
 ghost use Rattle.lrc_protocol.specs.declared.event.Event.{Event};
+ghost use Rattle.lrc_protocol.specs.Mail.{awaits_grant};
 ghost use Rattle.lrc_protocol.specs.Node.{OptionsRecord};
+ghost use Rattle.lrc_protocol.specs.Expected.{is_expected};
 ghost use Rattle.lrc_protocol.specs.Log.{Logged};
 ghost use Rattle.lrc_protocol.specs.World.{World, pending, run_of};
 ghost use Rattle.lrc_invariants.specs.Tokens.{grants_of_lock, tokens_at_nodes};
@@ -53,4 +55,21 @@ pub fn tokens_come_with_the_last_release()
         → 0 < nodes → lock < program.locks → slice_get (grants_of_lock lock (pending world)) place ≡ Some envelope
         → envelope.message ≡ LockGrant m
         → m.time ≡ released_time nodes world.acts world.times lock (length world.acts) }
+{}
+
+/// In every run each pending message of locks would be accepted by its receiver now: a request and a forward as they are; and
+/// of a grant, that its receiver awaits just that lock, whatever may be said of the intervals that it carries.
+pub fn pending_lock_messages_are_expected()
+    ensures requests { (program : Program) (nodes : ℕ) (options : OptionsRecord) (events : List Event) (world : World)
+        (place : ℕ) (envelope : EnvelopeRecord) (m : LockRequestRecord) (l : Logged) → run_of program nodes options events ≡ Some world
+        → slice_get (pending world) place ≡ Some envelope → envelope.message ≡ LockRequest m → slice_get world.nodes envelope.to ≡ Some l
+        → is_expected l.node envelope.from envelope.message ≡ true }
+    ensures forwards { (program : Program) (nodes : ℕ) (options : OptionsRecord) (events : List Event) (world : World)
+        (place : ℕ) (envelope : EnvelopeRecord) (m : LockForwardRecord) (l : Logged) → run_of program nodes options events ≡ Some world
+        → slice_get (pending world) place ≡ Some envelope → envelope.message ≡ LockForward m → slice_get world.nodes envelope.to ≡ Some l
+        → is_expected l.node envelope.from envelope.message ≡ true }
+    ensures grants { (program : Program) (nodes : ℕ) (options : OptionsRecord) (events : List Event) (world : World)
+        (place : ℕ) (envelope : EnvelopeRecord) (m : LockGrantRecord) (l : Logged) → run_of program nodes options events ≡ Some world
+        → slice_get (pending world) place ≡ Some envelope → envelope.message ≡ LockGrant m → slice_get world.nodes envelope.to ≡ Some l
+        → (m.lock < program.locks) × (awaits_grant m.lock l.node.mail.wait ≡ true) }
 {}
