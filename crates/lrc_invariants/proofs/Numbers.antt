@@ -43,7 +43,7 @@ between-append a b xs ys =
     ap (map (λ (e : EnvelopeRecord). e.number)) (filter-append (are_between a b) xs ys)
     ∙ map-append (λ (e : EnvelopeRecord). e.number) (filter (are_between a b) xs) (filter (are_between a b) ys)
 
-sent-envelopes : (stamp : ℕ) (out : List EnvelopeRecord)
+pub sent-envelopes : (stamp : ℕ) (out : List EnvelopeRecord)
     → envelopes_in (map (λ envelope. record { envelope = envelope; stamp = stamp; delivered = false }) out) ≡ out
 sent-envelopes stamp [] = refl
 sent-envelopes stamp (envelope ∷ out) = ap (λ es. envelope ∷ es) (sent-envelopes stamp out)
@@ -60,7 +60,7 @@ mark_by : (b : Bool) (f : Flying) → (if b then marked f else f).envelope ≡ f
 mark_by true f = refl
 mark_by false f = refl
 
-marks : (k place : ℕ) (flight : List Flying) → envelopes_in (map (λ at. if at.0 == place then marked at.1 else at.1) (enumerate_from k flight)) ≡ envelopes_in flight
+pub marks : (k place : ℕ) (flight : List Flying) → envelopes_in (map (λ at. if at.0 == place then marked at.1 else at.1) (enumerate_from k flight)) ≡ envelopes_in flight
 marks k place [] = refl
 marks k place (f ∷ flight) =
     ap (λ e. e ∷ envelopes_in (map (λ at. if at.0 == place then marked at.1 else at.1) (enumerate_from (k + 1) flight))) (mark_by (k == place) f)

@@ -284,7 +284,7 @@ comes-shifts p node change departure e c l b = same_wait p node departure e c l 
 comes-shifts p node change (discard collection) e c l b = same_wait p node (discard collection) e c l b
 
 -- what a node can learn has an entry for each node, and no more of this node than the node itself
-learnable : (node : Node) (time : List ℕ) (intervals : List IntervalRecord) → is_learnable node time intervals ≡ true → Learnable (part_of node) time
+pub learnable : (node : Node) (time : List ℕ) (intervals : List IntervalRecord) → is_learnable node time intervals ≡ true → Learnable (part_of node) time
 learnable node time intervals e =
     let outer : _ = and_parts _ _ e in
     let news : _ = and_parts _ _ outer.0 in
@@ -292,7 +292,7 @@ learnable node time intervals e =
     record { counted = eqb-true _ _ time_is.0; own = leb-true _ _ outer.1 }
 
 -- the wait that a test of it shows
-awaits_lock : (lock : ℕ) (w : Wait) → awaits_grant lock w ≡ true → w ≡ grant lock
+pub awaits_lock : (lock : ℕ) (w : Wait) → awaits_grant lock w ≡ true → w ≡ grant lock
 awaits_lock lock (grant awaited) e = ap grant (eqb-true awaited lock e)
 awaits_lock lock nothing e = cc
 awaits_lock lock departure e = cc
@@ -300,7 +300,7 @@ awaits_lock lock (access need) e = cc
 awaits_lock lock (upkeep collection needs) e = cc
 awaits_lock lock (discard collection) e = cc
 
-awaits_leave : (w : Wait) → awaits_departure w ≡ true → w ≡ departure
+pub awaits_leave : (w : Wait) → awaits_departure w ≡ true → w ≡ departure
 awaits_leave departure e = refl
 awaits_leave nothing e = cc
 awaits_leave (grant lock) e = cc
@@ -358,7 +358,7 @@ abbrev pub AllFrom : ℕ → List EnvelopeRecord → Type 0
 AllFrom me [] = Unit {0}
 AllFrom me (envelope ∷ more) = (envelope.from ≡ me) × AllFrom me more
 
-abbrev FromIf : ℕ → Option (List EnvelopeRecord × List ℕ) → Type 0
+abbrev pub FromIf : ℕ → Option (List EnvelopeRecord × List ℕ) → Type 0
 FromIf me None = Unit {0}
 FromIf me (Some (out, sent)) = AllFrom me out
 
@@ -371,7 +371,7 @@ from-room : (me : ℕ) (b : Bool) (o : Option (List EnvelopeRecord × List ℕ))
 from-room me true o h = h
 from-room me false o h = tt
 
-numbered-from : (me first : ℕ) (sent : List ℕ) (letters : List Letter) → FromIf me (numbered me first sent letters)
+pub numbered-from : (me first : ℕ) (sent : List ℕ) (letters : List Letter) → FromIf me (numbered me first sent letters)
 numbered-from me first sent [] = tt
 numbered-from me first sent (letter ∷ letters) =
     let before : ℕ = slice_index sent letter.to in
@@ -392,7 +392,7 @@ ShiftedIf node not_ready = Unit {0}
 ShiftedIf node unexpected = Unit {0}
 ShiftedIf node worn = Unit {0}
 
-deed_back : (me : ℕ) (deed : Option Deed) → option_map (λ (act : Act). act.deed) (option_map (act_of me) deed) ≡ deed
+pub deed_back : (me : ℕ) (deed : Option Deed) → option_map (λ (act : Act). act.deed) (option_map (act_of me) deed) ≡ deed
 deed_back me None = refl
 deed_back me (Some d) = refl
 

@@ -1,10 +1,11 @@
 -- In every run the numbers that a node has taken from another are among those that were sent to it.
 use Rattle.std.proofs.Common.{◌≡◌, ℕ, zero, suc, ◌+◌, ◌<◌, ◌≤◌, List, [], ◌∷◌, Bool, true, false, length, refl, sym, ap, subst, ◌∙◌, inl, inr, arith}
-use Rattle.std.specs.Prelude.{Some, ◌==◌, cond, replicate, filter, slice_get, slice_set, slice_index, slice_index_or}
+use Rattle.std.specs.Prelude.{Some, ◌==◌, nat_lt, cond, replicate, filter, slice_get, slice_set, slice_index, slice_index_or}
 use Rattle.std.proofs.lemmas.Bool.{cases_eq, eq-eqb, and_from}
 use Rattle.std.proofs.lemmas.List.{length-set}
 use Rattle.std.proofs.lemmas.Option.{same_Some, slice_get_within}
 use Rattle.lrc_lang.specs.declared.program.Program.{Program}
+use Rattle.lrc_store.specs.Order.{placed}
 use Rattle.lrc_protocol.specs.declared.event.Event.{Event}
 use Rattle.lrc_protocol.specs.Node.{Node, OptionsRecord}
 use Rattle.lrc_protocol.specs.Log.{Input, run, taken, EntryRecord, Logged}
@@ -22,10 +23,18 @@ below-more : (b c : ℕ) (xs : List ℕ) → b ≤ c → Below b xs → Below c 
 below-more b c [] le h = tt
 below-more b c (x ∷ xs) le h = let lt : x < b = h.0 in (omega (arith, lt, le), below-more b c xs le h.1)
 
+below-placed : (x bound : ℕ) (xs : List ℕ) → x < bound → Below bound xs → Below bound (placed nat_lt x xs)
+below-placed x bound [] lt h = (lt, tt)
+below-placed x bound (y ∷ xs) lt h = by_test (below-placed x bound xs lt h.1) (nat_lt x y)
+  where
+    by_test : Below bound (placed nat_lt x xs) → (b : Bool) → Below bound (cond b (x ∷ y ∷ xs) (y ∷ placed nat_lt x xs))
+    by_test rest true = (lt, h)
+    by_test rest false = (h.0, rest)
+
 below-set : (t : List (List ℕ)) (k a x bound : ℕ) → (k ≡ a → x < bound) → Below bound (slice_index_or t a [])
-    → Below bound (slice_index_or (slice_set t k (x ∷ slice_index_or t k [])) a [])
+    → Below bound (slice_index_or (slice_set t k (placed nat_lt x (slice_index_or t k []))) a [])
 below-set [] k a x bound h r = r
-below-set (y ∷ t) zero zero x bound h r = (h refl, r)
+below-set (y ∷ t) zero zero x bound h r = below-placed x bound y (h refl) r
 below-set (y ∷ t) zero (suc a) x bound h r = r
 below-set (y ∷ t) (suc k) zero x bound h r = r
 below-set (y ∷ t) (suc k) (suc a) x bound h r = below-set t k a x bound (λ e. h (ap suc e)) r
@@ -70,7 +79,7 @@ came world _ _ _ (repeated place {flying = f} at) = λ least bound r. in_flight 
 taken-below : (world : World) (n : ℕ) (node : Node) (input : Input) (t : List (List ℕ)) (a least bound : ℕ) → Takes node input t → Came world n input
     → Rises least bound (numbers_between a n (envelopes_in world.flight)) → Below bound (slice_index_or node.mail.taken a []) → Below bound (slice_index_or t a [])
 taken-below world n node _ _ a least bound by_itself c r h = h
-taken-below world n node _ _ a least bound (repeats envelope) c r h = h
+taken-below world n node _ _ a least bound (repeats envelope again) c r h = h
 taken-below world n node _ _ a least bound (anew envelope new) c r h =
     below-set node.mail.taken envelope.from a envelope.number bound
     (λ e. c least bound (subst (λ a. Rises least bound (numbers_between a n (envelopes_in world.flight))) (sym e) r)) h
@@ -78,11 +87,11 @@ taken-below world n node _ _ a least bound (anew envelope new) c r h =
 -- ---- every run
 
 -- a node before another's turn, or its own
-record Before (nodes : ℕ) (world : World) (m : ℕ) (lm : Logged) : Type 0 where
-  old : Logged
-  at : slice_get world.nodes m ≡ Some old
-  grows : (to : ℕ) → to < nodes → slice_index old.node.mail.sent to ≤ slice_index lm.node.mail.sent to
-  takes_more : (a least bound : ℕ) → Rises least bound (numbers_between a m (envelopes_in world.flight)) → Below bound (slice_index_or old.node.mail.taken a [])
+pub record Before (nodes : ℕ) (world : World) (m : ℕ) (lm : Logged) : Type 0 where
+  pub old : Logged
+  pub at : slice_get world.nodes m ≡ Some old
+  pub grows : (to : ℕ) → to < nodes → slice_index old.node.mail.sent to ≤ slice_index lm.node.mail.sent to
+  pub takes_more : (a least bound : ℕ) → Rises least bound (numbers_between a m (envelopes_in world.flight)) → Below bound (slice_index_or old.node.mail.taken a [])
       → Below bound (slice_index_or lm.node.mail.taken a [])
 
 module _ (program : Program) (nodes : ℕ) (options : OptionsRecord) where
@@ -108,7 +117,7 @@ module _ (program : Program) (nodes : ℕ) (options : OptionsRecord) where
         takes_more = λ a least bound r b. taken-below world n l.node input after.node.mail.taken a least bound k (came world n input flight comes) r b;
       }
 
-  before : (world : World) (flight : List Flying) (n : ℕ) (l after : Logged) (input : Input) (entry : EntryRecord)
+  pub before : (world : World) (flight : List Flying) (n : ℕ) (l after : Logged) (input : Input) (entry : EntryRecord)
       → slice_get world.nodes n ≡ Some l → Comes world n input flight → IsEntry l input entry after → AllTaken world
       → (m : ℕ) (lm : Logged) → slice_get (slice_set world.nodes n after) m ≡ Some lm → Before nodes world m lm
   before world flight n l after input entry at comes i h m lm is = elim (cases_eq n m) [
@@ -123,7 +132,7 @@ module _ (program : Program) (nodes : ℕ) (options : OptionsRecord) where
     }
   ]
 
-  taken-kept : KeptByTurns AllTaken
+  pub taken-kept : KeptByTurns AllTaken
   taken-kept world flight n l after input entry at comes i h = record {
     count = length-set world.nodes n after ∙ h.count;
     sends = all-kept program nodes options world flight n l after input entry at comes i h.sends;
@@ -143,7 +152,7 @@ module _ (program : Program) (nodes : ℕ) (options : OptionsRecord) where
   none_taken (suc k) zero bound = tt
   none_taken (suc k) (suc a) bound = none_taken k a bound
 
-  taken-fresh : AllTaken (fresh_world program nodes options)
+  pub taken-fresh : AllTaken (fresh_world program nodes options)
   taken-fresh = record {
     count = (run-whole program nodes options [] (fresh_world program nodes options) refl).count;
     sends = all-fresh program nodes options;

@@ -131,7 +131,7 @@ take-taken node from (PageReply m) = waits-taken [] node (with_needs (with_page 
 -- the numbers taken after an input: a message's number is added where it wasn't taken before
 pub data Takes (node : Node) : Input → List (List ℕ) → Type 0 where
   by_itself : Takes node run node.mail.taken
-  repeats : (envelope : EnvelopeRecord) → Takes node (taken envelope) node.mail.taken
+  repeats : (envelope : EnvelopeRecord) → is_repeat node envelope ≡ true → Takes node (taken envelope) node.mail.taken
   anew : (envelope : EnvelopeRecord) → is_repeat node envelope ≡ false → Takes node (taken envelope) (taking node envelope).mail.taken
 
 abbrev pub TakesIf : Node → Input → Outcome → Type 0
@@ -160,16 +160,16 @@ expected_or_not : (node : Node) (input : Input) (b : Bool) (o : Outcome) → Tak
 expected_or_not node input true o h = h
 expected_or_not node input false o h = tt
 
-repeated_or_not : (node : Node) (envelope : EnvelopeRecord) (b : Bool) (o : Outcome) → (b ≡ false → TakesIf node (taken envelope) o)
+repeated_or_not : (node : Node) (envelope : EnvelopeRecord) (b : Bool) (o : Outcome) → is_repeat node envelope ≡ b → (b ≡ false → TakesIf node (taken envelope) o)
     → TakesIf node (taken envelope) (if b then done empty_turn node else o)
-repeated_or_not node envelope true o h = repeats envelope
-repeated_or_not node envelope false o h = h refl
+repeated_or_not node envelope true o e h = repeats envelope e
+repeated_or_not node envelope false o e h = h refl
 
 message-takes : (node : Node) (envelope : EnvelopeRecord) → TakesIf node (taken envelope) (take_turn node envelope)
 message-takes node envelope =
     let e : Effect = take_effect (taking node envelope) envelope.from envelope.message in
     expected_or_not node (taken envelope) (is_addressed node envelope) _
-    (repeated_or_not node envelope (is_repeat node envelope) (take_anew node envelope)
+    (repeated_or_not node envelope (is_repeat node envelope) (take_anew node envelope) refl
     (λ new. expected_or_not node (taken envelope) (is_expected node envelope.from envelope.message) (turn_of e)
     (effect-takes node (taken envelope) e
     (subst (Takes node (taken envelope)) (sym (take-taken (taking node envelope) envelope.from envelope.message)) (anew envelope new)))))

@@ -1,23 +1,10 @@
 -- Counts of what a node has done: intervals closed, arrivals and departures.
-use Rattle.std.specs.Prelude.{ℕ, Bool, true, false, List, length, filter}
+use Rattle.std.specs.Prelude.{ℕ, Bool, List, length, filter}
 use Rattle.lrc_trace.specs.declared.act.Deed.{Deed}
-use Rattle.lrc_trace.specs.declared.act.Deed.TheVariants.{Acquire, Release, Arrive, Depart}
 use Rattle.lrc_protocol.specs.Mail.{Wait, grant, departure, upkeep, discard}
-
 -- whether a deed closes an interval, arrives at a barrier, or departs from it
-abbrev pub closes : Deed → Bool
-closes (Acquire lock) = true
-closes (Release lock) = true
-closes Arrive = true
-closes _ = false
-
-abbrev pub is_arrive : Deed → Bool
-is_arrive Arrive = true
-is_arrive _ = false
-
-abbrev pub is_depart : Deed → Bool
-is_depart Depart = true
-is_depart _ = false
+pub use Rattle.lrc_trace.specs.Interval.{closes}
+pub use Rattle.lrc_trace.specs.Run.{is_arrive, is_depart}
 
 -- how many of these deeds are so
 abbrev pub count : (Deed → Bool) → List Deed → ℕ

@@ -5,3 +5,5 @@ pub mod Tokens
 pub mod Present
 pub mod Numbers
 pub mod Rules
+pub mod LockLines
+pub mod Barriers

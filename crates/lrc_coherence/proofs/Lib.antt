@@ -1,0 +1,6 @@
+pub mod Stocks
+pub mod Told
+pub mod MadeSteps
+pub mod MadeManagers
+pub mod MadeWorlds
+pub mod Stored
