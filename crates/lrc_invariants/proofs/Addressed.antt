@@ -256,7 +256,8 @@ module _ (program : Program) (nodes : ℕ) (options : OptionsRecord) where
                 (h.arrive e m old says).1 b.old b.was ∙ sym (b.episode (gate_waits e.from b.old b.was (omega (arith, some)))),
           )
           | inr new ↦
-              let k : _ = arrive_letter (site_of l.node) moves.came after.node.mail.wait after.node.barrier moves.letters moves.bars (letter_in e) m (sent_letter e new) says in
+              let k : _ =
+              arrive_letter (site_of l.node) moves.came after.node.mail.wait after.node.barrier moves.letters moves.bars (letter_in e) m (sent_letter e new) says in
               (k.0, λ lm at_from. k.1 ∙ ap (λ (x : Logged). x.node.barrier.episode) (own_node e new lm at_from).1)
         ]
 
@@ -275,7 +276,8 @@ module _ (program : Program) (nodes : ℕ) (options : OptionsRecord) where
                 (h.clean e episode old says).1 b.old b.was ∙ sym (b.episode (word_waits e.from b.old b.was (omega (arith, some)))),
           )
           | inr new ↦
-              let k : _ = clean_letter (site_of l.node) moves.came after.node.mail.wait after.node.barrier moves.letters moves.bars (letter_in e) episode (sent_letter e new) says in
+              let k : _ =
+              clean_letter (site_of l.node) moves.came after.node.mail.wait after.node.barrier moves.letters moves.bars (letter_in e) episode (sent_letter e new) says in
               (k.0, λ lm at_from. k.1 ∙ ap (λ (x : Logged). x.node.barrier.episode) (own_node e new lm at_from).1)
         ]
 
@@ -346,7 +348,8 @@ module _ (program : Program) (nodes : ℕ) (options : OptionsRecord) where
                     ∙ (h.arrive c.envelope a c.among c.message_is).1 b.old (ap (slice_get world.nodes) to_from ∙ b.was)
                     ∙ sym (b.episode (gate_waits e.to b.old b.was (omega (arith, some))))
                 | inr there ↦
-                    let kept : slice_index_or old_manager.arrivals e.to None ≡ Some x = subst (λ k. slice_index_or old_manager.arrivals k None ≡ Some x) to_is there in
+                    let kept : slice_index_or old_manager.arrivals e.to None ≡ Some x =
+                    subst (λ k. slice_index_or old_manager.arrivals k None ≡ Some x) to_is there in
                     let some : 1 ≤ count_by (arrive_from e.to) (pending world) + kept_of old_manager e.to =
                     is_kept program nodes options world h.exclusive.timely.stand e.to x kept in
                     h.kept e.to x b.old kept b.was ∙ sym (b.episode (gate_waits e.to b.old b.was (omega (arith, some))))
@@ -442,7 +445,8 @@ module _ (program : Program) (nodes : ℕ) (options : OptionsRecord) where
 
   addressed-fresh : Addressed (fresh_world program nodes options)
   addressed-fresh =
-      let exclusive : Exclusive program nodes options (fresh_world program nodes options) = all_exclusive program nodes options [] (fresh_world program nodes options) refl in
+      let exclusive : Exclusive program nodes options (fresh_world program nodes options) =
+      all_exclusive program nodes options [] (fresh_world program nodes options) refl in
       record {
         exclusive = exclusive;
         arrive = λ e m there. absurd (none_Contains e there);

@@ -110,7 +110,8 @@ module _ (program : Program) (nodes : ℕ) (options : OptionsRecord) where
         places = so.new.places;
         here = λ lm is. elim (cases_eq n 0) [
           | inl e ↦
-              let same : after ≡ lm = same_Some after lm (sym (get_set_same world.nodes n l after at) ∙ ap (slice_get (slice_set world.nodes n after)) e ∙ is) in
+              let same : after ≡ lm =
+              same_Some after lm (sym (get_set_same world.nodes n l after at) ∙ ap (slice_get (slice_set world.nodes n after)) e ∙ is) in
               let some : is_some after.node.barrier.manager ≡ true =
               so.stays ∙ ap is_some (h.here l (subst (λ n. slice_get world.nodes n ≡ Some l) e at)) in
               subst (λ (x : Logged). x.node.barrier.manager ≡ Some new) same (stays_some after.node.barrier.manager h.manager some)
@@ -120,14 +121,16 @@ module _ (program : Program) (nodes : ℕ) (options : OptionsRecord) where
         ];
         nowhere = λ m lm is other. elim (cases_eq n m) [
           | inl e ↦
-              let same : after ≡ lm = same_Some after lm (sym (get_set_same world.nodes n l after at) ∙ ap (slice_get (slice_set world.nodes n after)) e ∙ is) in
+              let same : after ≡ lm =
+              same_Some after lm (sym (get_set_same world.nodes n l after at) ∙ ap (slice_get (slice_set world.nodes n after)) e ∙ is) in
               subst (λ (x : Logged). x.node.barrier.manager ≡ None) same
               (stays_none after.node.barrier.manager (so.stays ∙ ap is_some (h.nowhere n l at (λ zero_is. other (sym e ∙ zero_is)))))
           | inr ne ↦ h.nowhere m lm (sym (get_set_other world.nodes n m after ne) ∙ is) other
         ];
         each = λ m lm is. elim (cases_eq n m) [
           | inl e ↦
-              let same : after ≡ lm = same_Some after lm (sym (get_set_same world.nodes n l after at) ∙ ap (slice_get (slice_set world.nodes n after)) e ∙ is) in
+              let same : after ≡ lm =
+              same_Some after lm (sym (get_set_same world.nodes n l after at) ∙ ap (slice_get (slice_set world.nodes n after)) e ∙ is) in
               subst (λ k. StandsAt now new k lm.node.mail.wait lm.node.barrier.episode) e
               (subst (λ (x : Logged). StandsAt now new n x.node.mail.wait x.node.barrier.episode) same
               (subst (λ k. StandsAt now new k after.node.mail.wait after.node.barrier.episode) me_is
@@ -150,7 +153,8 @@ module _ (program : Program) (nodes : ℕ) (options : OptionsRecord) where
       at_first (suc k) zero = refl
       at_first (suc k) (suc m) = at_first k m
 
-  fresh-stands : (n : ℕ) → StandsAt [] (first_manager nodes) n (fresh_node program nodes options n).mail.wait (fresh_node program nodes options n).barrier.episode
+  fresh-stands : (n : ℕ)
+      → StandsAt [] (first_manager nodes) n (fresh_node program nodes options n).mail.wait (fresh_node program nodes options n).barrier.episode
   fresh-stands n =
       let none : kept_of (first_manager nodes) n ≡ 0 = none_there nodes n in
       record { arrived = omega (arith, none); departs = omega (arith, none); discards = refl }

@@ -210,7 +210,8 @@ module _ (program : Program) (nodes : ℕ) (options : OptionsRecord) where
         let over : stand.manager.done ≡ h.stand.manager.done = ap (λ (x : ManagerRecord). x.done) (sym rel) ∙ g.over in
         let newest : h.stand.manager.done ≡ k.number + 1 = k.newest in
         let arrived : arrives_before world.acts n (length world.acts) ≡ l.node.barrier.episode = (standing_at program nodes options world r n l at).arrived in
-        let episode : l.node.barrier.episode ≡ h.stand.manager.done + (count_by (arrive_from n) (pending world) + kept_of h.stand.manager n) = (h.stand.each n l at).arrived in
+        let episode : l.node.barrier.episode ≡ h.stand.manager.done + (count_by (arrive_from n) (pending world) + kept_of h.stand.manager n) =
+        (h.stand.each n l at).arrived in
         record {
           number = k.number;
           newest = over ∙ newest;
@@ -327,7 +328,8 @@ module _ (program : Program) (nodes : ℕ) (options : OptionsRecord) where
               subst (λ b. Moved b l.node.course (deed_made entry.turn) after.node.course) a.acts_is mv.moved in
               let deed_is : made.deed ≡ Some Arrives =
               sym made.deed_is ∙ moved.deed_is ∙ deed_next moved.value l.node.course (arrives a.after) a.next in
-              let arrived : arrives_before world.acts n (length world.acts) ≡ l.node.barrier.episode = (standing_at program nodes options world r n l at).arrived in
+              let arrived : arrives_before world.acts n (length world.acts) ≡ l.node.barrier.episode =
+              (standing_at program nodes options world r n l at).arrived in
               had-next n after.node.barrier.episode after.node.locks.time (Some Arrives) deed_is
               (subst (λ k. HadTime (world.acts ++ act_of n Arrives ∷ []) (world.times ++ after.node.locks.time ∷ []) n k after.node.locks.time) (sym a.episode)
               (had-new world.acts world.times timed n after.node.locks.time l.node.barrier.episode arrived))
@@ -370,12 +372,14 @@ module _ (program : Program) (nodes : ℕ) (options : OptionsRecord) where
 
   timely-fresh : Timely program nodes options (fresh_world program nodes options)
   timely-fresh =
-      let stand : AllStand program nodes options (fresh_world program nodes options) = all_stand program nodes options [] (fresh_world program nodes options) refl in
+      let stand : AllStand program nodes options (fresh_world program nodes options) =
+      all_stand program nodes options [] (fresh_world program nodes options) refl in
       record {
         stand = stand;
         sent = λ e m l there. absurd (none_Contains e there);
         kept = λ n a l there at.
-            let some : 1 ≤ count_by (arrive_from n) [] + kept_of stand.manager n = is_kept program nodes options (fresh_world program nodes options) stand n a there in
+            let some : 1 ≤ count_by (arrive_from n) [] + kept_of stand.manager n =
+            is_kept program nodes options (fresh_world program nodes options) stand n a there in
             let g : Gate program nodes options (fresh_world program nodes options) stand n l =
             gate program nodes options (fresh_world program nodes options) stand n l at some in
             absurd (not_waiting n l at g.waits);
@@ -396,7 +400,8 @@ module _ (program : Program) (nodes : ℕ) (options : OptionsRecord) where
       none_some : (t : List ℕ) → None ≡ Some t → ⊥
       none_some t e = cc
 
-      not_collecting : (n : ℕ) (l : Logged) (t : List ℕ) → slice_get (fresh_world program nodes options).nodes n ≡ Some l → time_in l.node.mail.wait ≡ Some t → ⊥
+      not_collecting : (n : ℕ) (l : Logged) (t : List ℕ) → slice_get (fresh_world program nodes options).nodes n ≡ Some l
+          → time_in l.node.mail.wait ≡ Some t → ⊥
       not_collecting n l t at e = none_some t (sym (ap time_in (fresh_wait n l at)) ∙ e)
 
   pub all_timely : (events : List Event) (world : World) → run_of program nodes options events ≡ Some world → Timely program nodes options world

@@ -54,7 +54,8 @@ module _ (s : Site) (manager : ManagerRecord) (is : (x : ManagerRecord) → s.ba
   kept_before _ _ _ _ barrier _ (told_so from r w ne times quiet) m a e =
       inl (ap (λ xs. slice_index_or xs m None) (sym (by_keeps s.barrier.manager barrier.manager manager refl is).arrivals) ∙ e)
   kept_before _ _ _ _ barrier _ (gathers_so from r before after at step manager_is episode) m a e =
-      let g : Gathered manager from (arrival_in r) after = subst (λ b. Gathered b from (arrival_in r) after) (is before at) (gathered before from (arrival_in r) after step) in
+      let g : Gathered manager from (arrival_in r) after =
+      subst (λ b. Gathered b from (arrival_in r) after) (is before at) (gathered before from (arrival_in r) after step) in
       let now : slice_index_or (slice_set manager.arrivals from (Some (arrival_in r))) m None ≡ Some a =
       ap (λ (x : ManagerRecord). slice_index_or x.arrivals m None) (sym (ap (λ o. unwrap_or o manager) manager_is ∙ g.after_is)) ∙ e in
       elim (get_set manager.arrivals from m (arrival_in r) a now) [
@@ -100,7 +101,8 @@ module _ (s : Site) (manager : ManagerRecord) (is : (x : ManagerRecord) → s.ba
   lets_or_not _ _ _ _ barrier letters (told_so from r w ne times quiet) =
       inr (record { over = (by_keeps s.barrier.manager barrier.manager manager refl is).done; no_departs = λ l there. (quiet_in letters l quiet there).1 })
   lets_or_not _ _ _ _ barrier _ (gathers_so from r before after at step manager_is episode) =
-      let g : Gathered manager from (arrival_in r) after = subst (λ b. Gathered b from (arrival_in r) after) (is before at) (gathered before from (arrival_in r) after step) in
+      let g : Gathered manager from (arrival_in r) after =
+      subst (λ b. Gathered b from (arrival_in r) after) (is before at) (gathered before from (arrival_in r) after step) in
       inr (record {
         over = ap (λ (x : ManagerRecord). x.done) (ap (λ o. unwrap_or o manager) manager_is ∙ g.after_is);
         no_departs = λ l there. absurd (none_Contains l there);

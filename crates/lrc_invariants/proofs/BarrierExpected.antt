@@ -102,7 +102,8 @@ module _ (program : Program) (nodes : ℕ) (options : OptionsRecord) (events : L
       let zero : count_by (clean_from e.from) (pending world) ≡ 0 = (a.exclusive.free none e.from l at).0 in
       absurd (omega (arith, some, zero))) in
       let is_of : episode ≡ l.node.barrier.episode = (a.clean e episode there says).1 l at in
-      let arrived : l.node.barrier.episode ≡ stand.manager.done + (count_by (arrive_from e.from) (pending world) + kept_of stand.manager e.from) = (stand.each e.from l at).arrived in
+      let arrived : l.node.barrier.episode ≡ stand.manager.done + (count_by (arrive_from e.from) (pending world) + kept_of stand.manager e.from) =
+      (stand.each e.from l at).arrived in
       let none : count_by (arrive_from e.from) (pending world) + kept_of stand.manager e.from ≡ 0 = (a.exclusive.busy under_way.0 under_way.1 e.from l at).1 in
       let discards : count_by (clean_from e.from) (pending world) + noted_of stand.manager e.from + count_by (discard_to e.from) (pending world) ≡ awaits_word l.node.mail.wait =
       (stand.each e.from l at).discards in
@@ -145,7 +146,8 @@ module _ (program : Program) (nodes : ℕ) (options : OptionsRecord) (events : L
       gate program nodes options world stand e.from l at (is_sent program nodes options world stand e m there says) in
       let one : count_by (arrive_from e.from) (pending world) + kept_of stand.manager e.from ≡ 1 = g.one in
       let unkept : kept_of stand.manager e.from ≡ 0 = omega (arith, some, one) in
-      let arrived_so : l.node.barrier.episode ≡ stand.manager.done + (count_by (arrive_from e.from) (pending world) + kept_of stand.manager e.from) = (stand.each e.from l at).arrived in
+      let arrived_so : l.node.barrier.episode ≡ stand.manager.done + (count_by (arrive_from e.from) (pending world) + kept_of stand.manager e.from) =
+      (stand.each e.from l at).arrived in
       let is_of : m.episode ≡ l.node.barrier.episode = (a.arrive e m there says).1 l at in
       let free : stand.manager.cleans ≡ None = is_none stand.manager.cleans
       (λ cleans some_is.
@@ -169,7 +171,8 @@ module _ (program : Program) (nodes : ℕ) (options : OptionsRecord) (events : L
       let departs : count_by (arrive_from e.to) (pending world) + kept_of stand.manager e.to + count_by (depart_to e.to) (pending world) ≡ awaits_depart l.node.mail.wait =
       (stand.each e.to l at).departs in
       let most : awaits_depart l.node.mail.wait ≤ 1 = at_most_one l.node.mail.wait in
-      let arrived_so : l.node.barrier.episode ≡ stand.manager.done + (count_by (arrive_from e.to) (pending world) + kept_of stand.manager e.to) = (stand.each e.to l at).arrived in
+      let arrived_so : l.node.barrier.episode ≡ stand.manager.done + (count_by (arrive_from e.to) (pending world) + kept_of stand.manager e.to) =
+      (stand.each e.to l at).arrived in
       let k : IsNewestTime nodes world.acts world.times t.stand.manager.done m.time = t.told e m l there says at in
       let newest : t.stand.manager.done ≡ k.number + 1 = k.newest in
       let s : Standing_at program nodes options world e.to l = standing_at program nodes options world (record { events = events; runs = run }) e.to l at in

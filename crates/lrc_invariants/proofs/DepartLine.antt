@@ -159,9 +159,11 @@ module _ (program : Program) (nodes : ℕ) (options : OptionsRecord) where
   own_newest world r h n l t at inside none k =
       let s : Standing_at program nodes options world n l = standing_at program nodes options world r n l at in
       let newest : h.stand.manager.done ≡ k.number + 1 = k.newest in
-      let episode : l.node.barrier.episode ≡ h.stand.manager.done + (count_by (arrive_from n) (pending world) + kept_of h.stand.manager n) = (h.stand.each n l at).arrived in
+      let episode : l.node.barrier.episode ≡ h.stand.manager.done + (count_by (arrive_from n) (pending world) + kept_of h.stand.manager n) =
+      (h.stand.each n l at).arrived in
       let arrived : arrives_before world.acts n (length world.acts) ≡ l.node.barrier.episode = s.arrived in
-      let departed : arrives_before world.acts n (length world.acts) ≡ departs_before world.acts n (length world.acts) + is_inside l.node.mail.wait = s.departed in
+      let departed : arrives_before world.acts n (length world.acts) ≡ departs_before world.acts n (length world.acts) + is_inside l.node.mail.wait =
+      s.departed in
       let same : k.number ≡ departs_before world.acts n (length world.acts) = omega (arith, newest, episode, arrived, departed, inside, none) in
       k.joins ∙ ap (λ number. arrived_time nodes world.acts world.times number (length world.acts)) same
 

@@ -33,7 +33,8 @@ one_counted : (kind : Deed → Bool) (b : Bool) (a : Act) (rest : List Act) (k :
     → count kind (map (λ (a : Act). a.deed) (cond b (a ∷ rest) rest)) ≡ cond (b && kind a.deed) 1 0 + k
 one_counted kind true a rest k e = of_kind (kind a.deed)
   where
-    of_kind : (c : Bool) → length (cond c (a.deed ∷ filter kind (map (λ (a : Act). a.deed) rest)) (filter kind (map (λ (a : Act). a.deed) rest))) ≡ cond c 1 0 + k
+    of_kind : (c : Bool)
+        → length (cond c (a.deed ∷ filter kind (map (λ (a : Act). a.deed) rest)) (filter kind (map (λ (a : Act). a.deed) rest))) ≡ cond c 1 0 + k
     of_kind true = omega (arith, e)
     of_kind false = omega (arith, e)
 one_counted kind false a rest k e = omega (arith, e)
@@ -132,13 +133,16 @@ module _ (program : Program) (nodes : ℕ) (options : OptionsRecord) where
       ap (λ acts. departs_before acts n (length acts)) acts_are ∙ one_depart world.acts n in
       let mine : arrives_before world'.acts n (length world'.acts) ≡ arrives_before world.acts n (length world.acts) = counted n in
       let his : arrives_before world'.acts other (length world'.acts) ≡ arrives_before world.acts other (length world.acts) = counted other in
-      let was : arrives_before world.acts n (length world.acts) ≡ departs_before world.acts n (length world.acts) + is_inside l.node.mail.wait = before.departed in
-      let now : arrives_before world'.acts n (length world'.acts) ≡ departs_before world'.acts n (length world'.acts) + is_inside after.node.mail.wait = own.departed in
+      let was : arrives_before world.acts n (length world.acts) ≡ departs_before world.acts n (length world.acts) + is_inside l.node.mail.wait =
+      before.departed in
+      let now : arrives_before world'.acts n (length world'.acts) ≡ departs_before world'.acts n (length world'.acts) + is_inside after.node.mail.wait =
+      own.departed in
       let most : is_inside l.node.mail.wait ≤ 1 = at_most_one l.node.mail.wait in
       let outside : awaits_depart after.node.mail.wait ≤ is_inside after.node.mail.wait = waits_inside after.node.mail.wait in
       let gate : count_by (arrive_from n) (pending world') + kept_of h.manager n + count_by (depart_to n) (pending world') ≡ awaits_depart after.node.mail.wait = so.departs in
       let episode : after.node.barrier.episode ≡ h.manager.done + (count_by (arrive_from n) (pending world') + kept_of h.manager n) = so.arrived in
-      let his_episode : lo.node.barrier.episode ≡ h.manager.done + (count_by (arrive_from other) (pending world') + kept_of h.manager other) = other_so.arrived in
+      let his_episode : lo.node.barrier.episode ≡ h.manager.done + (count_by (arrive_from other) (pending world') + kept_of h.manager other) =
+      other_so.arrived in
       let arrived : arrives_before world'.acts n (length world'.acts) ≡ after.node.barrier.episode = own.arrived in
       let his_arrived : arrives_before world'.acts other (length world'.acts) ≡ lo.node.barrier.episode = its.arrived in
       omega (arith, one, mine, his, was, now, most, outside, gate, episode, his_episode, arrived, his_arrived)
@@ -155,8 +159,10 @@ module _ (program : Program) (nodes : ℕ) (options : OptionsRecord) where
       ap (λ acts. arrives_before acts n (length acts)) acts_are ∙ no_arrive world.acts n n in
       let one : departs_before world'.acts n (length world'.acts) ≡ departs_before world.acts n (length world.acts) + 1 =
       ap (λ acts. departs_before acts n (length acts)) acts_are ∙ one_depart world.acts n in
-      let was : arrives_before world.acts n (length world.acts) ≡ departs_before world.acts n (length world.acts) + is_inside l.node.mail.wait = before.departed in
-      let now : arrives_before world'.acts n (length world'.acts) ≡ departs_before world'.acts n (length world'.acts) + is_inside after.node.mail.wait = own.departed in
+      let was : arrives_before world.acts n (length world.acts) ≡ departs_before world.acts n (length world.acts) + is_inside l.node.mail.wait =
+      before.departed in
+      let now : arrives_before world'.acts n (length world'.acts) ≡ departs_before world'.acts n (length world'.acts) + is_inside after.node.mail.wait =
+      own.departed in
       let most : is_inside l.node.mail.wait ≤ 1 = at_most_one l.node.mail.wait in
       omega (arith, one, mine, was, now, most)
 
@@ -169,13 +175,17 @@ module _ (program : Program) (nodes : ℕ) (options : OptionsRecord) where
       elim (Does-cases d) [
         | inl (lt_j, d') ↦
             let before : departs_before acts node j < arrives_before acts other j = all j node d' other lt in
-            let departs_same : departs_before (acts ++ more) node j ≡ departs_before acts node j = departs_before-prefix acts more node j (omega (arith, lt_j)) in
-            let arrives_same : arrives_before (acts ++ more) other j ≡ arrives_before acts other j = arrives_before-prefix acts more other j (omega (arith, lt_j)) in
+            let departs_same : departs_before (acts ++ more) node j ≡ departs_before acts node j =
+            departs_before-prefix acts more node j (omega (arith, lt_j)) in
+            let arrives_same : arrives_before (acts ++ more) other j ≡ arrives_before acts other j =
+            arrives_before-prefix acts more other j (omega (arith, lt_j)) in
             omega (arith, before, departs_same, arrives_same)
         | inr (here, own, is) ↦
             let before : departs_before acts n (length acts) < arrives_before acts other (length acts) = one is other lt in
-            let departs_same : departs_before (acts ++ more) n (length acts) ≡ departs_before acts n (length acts) = departs_before-prefix acts more n (length acts) (omega arith) in
-            let arrives_same : arrives_before (acts ++ more) other (length acts) ≡ arrives_before acts other (length acts) = arrives_before-prefix acts more other (length acts) (omega arith) in
+            let departs_same : departs_before (acts ++ more) n (length acts) ≡ departs_before acts n (length acts) =
+            departs_before-prefix acts more n (length acts) (omega arith) in
+            let arrives_same : arrives_before (acts ++ more) other (length acts) ≡ arrives_before acts other (length acts) =
+            arrives_before-prefix acts more other (length acts) (omega arith) in
             subst (λ j. departs_before (acts ++ more) node j < arrives_before (acts ++ more) other j) (sym here)
             (subst (λ node. departs_before (acts ++ more) node (length acts) < arrives_before (acts ++ more) other (length acts)) own
             (omega (arith, before, departs_same, arrives_same)))

@@ -162,7 +162,8 @@ module _ (program : Program) (nodes : ℕ) (options : OptionsRecord) where
           → LetGo old_manager from (arrival_in m) now departures → is_some l.node.barrier.manager ≡ true → Kind
       notes : (now : ManagerRecord) (from episode : ℕ) → new_manager ≡ now → mv.letters ≡ [] → after.node.mail.wait ≡ l.node.mail.wait
           → Noted old_manager from episode now → Kind
-      ends : (now : ManagerRecord) (from episode over : ℕ) → mv.came ≡ comes from (Clean episode) → new_manager ≡ now → mv.letters ≡ discards_to (range_with_len 0 nodes) over
+      ends : (now : ManagerRecord) (from episode over : ℕ) → mv.came ≡ comes from (Clean episode) → new_manager ≡ now
+          → mv.letters ≡ discards_to (range_with_len 0 nodes) over
           → LetDiscard old_manager from episode now over → is_some l.node.barrier.manager ≡ true → Kind
 
     same_as : (barrier : Barrier) → after.node.barrier ≡ barrier → barrier.manager ≡ l.node.barrier.manager → new_manager ≡ old_manager
@@ -350,7 +351,8 @@ module _ (program : Program) (nodes : ℕ) (options : OptionsRecord) where
           }
 
       -- who was told to depart before is none
-      not_told : (e : EnvelopeRecord) (d : DepartRecord) (lm : Logged) → Contains (pending world) e → e.message ≡ Depart d → slice_get next.nodes e.to ≡ Some lm → ⊥
+      not_told : (e : EnvelopeRecord) (d : DepartRecord) (lm : Logged) → Contains (pending world) e → e.message ≡ Depart d
+          → slice_get next.nodes e.to ≡ Some lm → ⊥
       not_told e d lm there says at_to =
           let b : Before e.to lm = before e.to lm at_to in
           let some : 1 ≤ count_by (depart_to e.to) (pending world) = is_told program nodes options world e d there says in
@@ -563,12 +565,14 @@ module _ (program : Program) (nodes : ℕ) (options : OptionsRecord) where
       let within : n < length (fresh_world program nodes options).nodes = slice_get_within (fresh_world program nodes options).nodes n l at in
       let first : (x : Logged) × (slice_get (fresh_world program nodes options).nodes 0 ≡ Some x) =
       get_within (fresh_world program nodes options).nodes 0 (omega (arith, within)) in
-      let its : first.0.node.barrier.manager ≡ Some (first_manager nodes) = ap (λ (x : Logged). x.node.barrier.manager) (fresh_at program nodes options 0 nodes 0 first.0 first.1) in
+      let its : first.0.node.barrier.manager ≡ Some (first_manager nodes) =
+      ap (λ (x : Logged). x.node.barrier.manager) (fresh_at program nodes options 0 nodes 0 first.0 first.1) in
       ap (λ (x : ManagerRecord). x.cleans) (same_Some s.manager (first_manager nodes) (sym (s.here first.0 first.1) ∙ its))
 
   exclusive-fresh : Exclusive (fresh_world program nodes options)
   exclusive-fresh =
-      let timely : Timely program nodes options (fresh_world program nodes options) = all_timely program nodes options [] (fresh_world program nodes options) refl in
+      let timely : Timely program nodes options (fresh_world program nodes options) =
+      all_timely program nodes options [] (fresh_world program nodes options) refl in
       record {
         timely = timely;
         free = λ none n l at. (refl, ap is_collecting (fresh_wait n l at));

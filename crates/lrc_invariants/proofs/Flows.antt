@@ -48,7 +48,8 @@ repeated : (node : Node) (e : EnvelopeRecord) (was now : List EnvelopeRecord) (b
 repeated node e was now true is g = g ∙ append-nil was
 repeated node e was now false is g = cc
 
-fresh : (e : EnvelopeRecord) (was out now : List EnvelopeRecord) (b : Bool) → b ≡ false → Goes (if b then None else Some e) was out now → Goes (Some e) was out now
+fresh : (e : EnvelopeRecord) (was out now : List EnvelopeRecord) (b : Bool) → b ≡ false → Goes (if b then None else Some e) was out now
+    → Goes (Some e) was out now
 fresh e was out now true is g = cc
 fresh e was out now false is g = g
 

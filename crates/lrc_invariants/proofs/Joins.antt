@@ -163,9 +163,11 @@ module _ (acts : List Act) (times : List (List ℕ)) (timed : length times ≡ l
       → HadTime (acts ++ act_of n Arrive ∷ []) (times ++ time ∷ []) n (episode + 1) time
   had-new episode all = λ k does count. elim (Does-cases does) [
     | inl (lt, does') ↦
-        let before : arrives_before (acts ++ act_of n Arrive ∷ []) n k ≡ arrives_before acts n k = arrives_before-prefix acts (act_of n Arrive ∷ []) n k (omega (arith, lt)) in
+        let before : arrives_before (acts ++ act_of n Arrive ∷ []) n k ≡ arrives_before acts n k =
+        arrives_before-prefix acts (act_of n Arrive ∷ []) n k (omega (arith, lt)) in
         let more : arrives_before acts n (k + 1) ≡ arrives_before acts n k + 1 = count_of-more is_arrive acts n k Arrive does' refl in
-        let rises : arrives_before acts n (k + 1) ≤ arrives_before acts n (length acts) = count_of-rises is_arrive acts n (k + 1) (length acts) (omega (arith, lt)) in
+        let rises : arrives_before acts n (k + 1) ≤ arrives_before acts n (length acts) =
+        count_of-rises is_arrive acts n (k + 1) (length acts) (omega (arith, lt)) in
         absurd (omega (arith, before, more, rises, all, count))
     | inr (here, own, is) ↦ ap (time_at (times ++ time ∷ [])) here ∙ get_or_push times time [] (length acts) timed
   ]

@@ -187,7 +187,8 @@ pub record Places (nodes : ℕ) (manager : ManagerRecord) : Type 0 where
   pub arrivals : length manager.arrivals ≡ nodes
   pub cleans : (cleans : List Bool) → manager.cleans ≡ Some cleans → length cleans ≡ nodes
 
-pub places-arrival : (nodes : ℕ) (manager : ManagerRecord) (from : ℕ) (arrival : Arrival) → Places nodes manager → Places nodes (with_arrival manager from arrival)
+pub places-arrival : (nodes : ℕ) (manager : ManagerRecord) (from : ℕ) (arrival : Arrival) → Places nodes manager
+    → Places nodes (with_arrival manager from arrival)
 places-arrival nodes manager from arrival p = record {
   last = length-set manager.last from _ ∙ p.last;
   arrivals = length-set manager.arrivals from (Some arrival) ∙ p.arrivals;

@@ -106,7 +106,8 @@ pub record Moves (node : Node) (was now : List EnvelopeRecord) (nodes : ℕ) (tu
   pub out : map letter_in turn.out ≡ letters
   pub from : AllFrom node.setting.me turn.out
 
-pub moves : (node : Node) (was now : List EnvelopeRecord) (nodes : ℕ) (turn : TurnRecord) (after : Node) → node.setting.nodes ≡ nodes → after.setting ≡ node.setting
+pub moves : (node : Node) (was now : List EnvelopeRecord) (nodes : ℕ) (turn : TurnRecord) (after : Node) → node.setting.nodes ≡ nodes
+    → after.setting ≡ node.setting
     → Stepped node was now turn after → Moves node was now nodes turn after
 moves node was now nodes _ _ nodes_is same (again e) = record {
   came = by_itself;

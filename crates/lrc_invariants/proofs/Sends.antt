@@ -356,7 +356,8 @@ discard-sends node from episode (access need) at f k e = cc
 discard-sends node from episode (upkeep collection needs) at f k e = cc
 
 -- the base copy is here: the request of a page was expected
-page-sends : (node : Node) (from page : ℕ) (base : Option (List ℕ)) → EffectSends (site_of node) (comes from (PageRequest page)) (page_reply_by node from page base)
+page-sends : (node : Node) (from page : ℕ) (base : Option (List ℕ))
+    → EffectSends (site_of node) (comes from (PageRequest page)) (page_reply_by node from page base)
 page-sends node from page None = rested (site_of node) (comes from (PageRequest page)) [] node refl (serves from (PageRequest page) refl tt)
 page-sends node from page (Some values) = rested (site_of node) (comes from (PageRequest page)) _ node refl (serves from (PageRequest page) refl (refl, tt))
 

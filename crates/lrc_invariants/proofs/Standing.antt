@@ -157,7 +157,8 @@ stands me m came letters ca sa cd sd ck sk cx sx was now old new w wait e episod
 
 -- ---- every turn
 
-pub same_manager : (o : Option ManagerRecord) (manager : ManagerRecord) → ((before : ManagerRecord) → o ≡ Some before → before ≡ manager) → manager ≡ unwrap_or o manager
+pub same_manager : (o : Option ManagerRecord) (manager : ManagerRecord) → ((before : ManagerRecord) → o ≡ Some before → before ≡ manager)
+    → manager ≡ unwrap_or o manager
 same_manager None manager is = refl
 same_manager (Some before) manager is = sym (is before refl)
 

@@ -109,7 +109,8 @@ module _ (program : Program) (nodes : ℕ) (options : OptionsRecord) where
       let one : kept_of s.manager n ≡ 1 = ap (λ (o : Option Arrival). cond {A = ℕ} (is_some o) 1 0) e in
       omega (arith, one)
 
-  pub is_sent : (world : World) (s : AllStand program nodes options world) (e : EnvelopeRecord) (m : ArriveRecord) → Contains (pending world) e → e.message ≡ Arrive m
+  pub is_sent : (world : World) (s : AllStand program nodes options world) (e : EnvelopeRecord) (m : ArriveRecord) → Contains (pending world) e
+      → e.message ≡ Arrive m
       → 1 ≤ count_by (arrive_from e.from) (pending world) + kept_of s.manager e.from
   is_sent world s e m there is =
       let one : 1 ≤ count_by (arrive_from e.from) (pending world) = counted_in (arrive_from e.from) (pending world) e there (is_arrive_from e m is) in
@@ -167,7 +168,8 @@ module _ (program : Program) (nodes : ℕ) (options : OptionsRecord) where
 
     episode_at : (k : ℕ) (l : Logged) → slice_get world.nodes k ≡ Some l → k < nodes → l.node.barrier.episode ≡ h.stand.manager.done + 1
     episode_at k l at lt_k =
-        let so : l.node.barrier.episode ≡ h.stand.manager.done + (count_by (arrive_from k) (pending world) + kept_of h.stand.manager k) = (h.stand.each k l at).arrived in
+        let so : l.node.barrier.episode ≡ h.stand.manager.done + (count_by (arrive_from k) (pending world) + kept_of h.stand.manager k) =
+        (h.stand.each k l at).arrived in
         let one : count_by (arrive_from k) (pending world) + kept_of h.stand.manager k ≡ 1 = (gate_at k l at lt_k).one in
         omega (arith, so, one)
 
