@@ -1,10 +1,10 @@
 -- What holds of a fresh node and is kept by every change holds of each node that is reached.
 use Rattle.std.proofs.Common.{◌≡◌, ℕ, zero, suc, ◌+◌, ◌-◌, ◌<◌, ◌≤◌, List, [], ◌∷◌, Bool, true, false, length, refl, sym, ap, subst, ◌∙◌, arith}
-use Rattle.std.specs.Prelude.{All, map, replicate}
+use Rattle.std.specs.Prelude.{All, map, is_none, replicate}
 use Rattle.std.specs.List.{range_with_len}
 use Rattle.std.proofs.lemmas.List.{length-replicate, length-set}
 use Rattle.std.proofs.lemmas.List.FromFn.{length-range_with_len}
-use Rattle.std.proofs.lemmas.List.Elements.{All-nil, All-replicate}
+use Rattle.std.proofs.lemmas.List.Elements.{All-nil, All-replicate, All-weaker, All-filter}
 use Rattle.lrc_lang.specs.declared.program.Program.{Program}
 use Rattle.lrc_time.specs.Time.{entry, zeros}
 use Rattle.lrc_time.proofs.Times.{length-zeros, covers-refl}
@@ -49,6 +49,14 @@ use Rattle.lrc_page.specs.declared.size.Size.{Size}
 use Rattle.lrc_protocol.specs.Copy.{valid}
 use Rattle.lrc_local.specs.Ranges.{IsWhole, IsWholeBase}
 use Rattle.lrc_local.proofs.Whole.{Whole, whole-kept}
+use Rattle.lrc_store.specs.declared.key.Key.{Key}
+use Rattle.lrc_store.specs.Store.{StoredRecord, changes_at}
+use Rattle.lrc_protocol.specs.Fetch.{Asked, Need}
+use Rattle.lrc_protocol.specs.Memory.{copy_at}
+use Rattle.lrc_local.specs.Own.{IsAttached, OwnAttached, OwnCopied}
+use Rattle.lrc_local.proofs.Own.{attached-kept}
+use Rattle.lrc_local.proofs.OwnCopies.{own-kept, lacking-other}
+use Rattle.lrc_local.proofs.OwnAsked.{makers-other}
 use Rattle.lrc_local.proofs.Quiet.{quiet-kept}
 use Rattle.lrc_local.proofs.Mailed.{Mailed, mailed-kept, first-manager}
 use Rattle.lrc_local.proofs.Exact.{exact-kept, is_store, own-entry, next-indices}
@@ -123,6 +131,14 @@ module _ (program : Program) (nodes : ℕ) (options : OptionsRecord) (me : ℕ) 
   pub whole : (v : View) → From v → Whole v.setting.nodes (words_of v.size) v.memory
   whole _ stands = whole-first options.size (pages_of program.words options.size)
   whole _ (goes {v = v} {after = after} w c) = whole-kept v after c (ranged v w) (needed v w) (whole v w)
+
+  pub attached_own : (v : View) → From v → OwnAttached v.setting.me v.memory
+  attached_own _ stands = All-nil (λ (stored : StoredRecord). stored.node ≡ me → IsAttached stored)
+  attached_own _ (goes {v = v} {after = after} w c) = attached-kept v after c (ranged v w) (attached_own v w)
+
+  pub copied_own : (v : View) → From v → OwnCopied v.setting.me v.memory
+  copied_own _ stands = λ k d within. absurd (omega (arith, within))
+  copied_own _ (goes {v = v} {after = after} w c) = own-kept v after c (ranged v w) (exact v w) (copied_own v w)
 
 -- of a node that is reached
 pub ranged_at : (node : Node) → IsReached node → Ranged (view_of node)
@@ -244,3 +260,26 @@ awaited_at node r from m e =
 
 pub whole_at : (node : Node) → IsReached node → Whole node.setting.nodes (words_of node.options.size) node.memory
 whole_at node r = whole r.program r.nodes r.options r.me r.leads.among (view_of node) (come_to node r).walked
+
+-- ---- own intervals
+
+pub attached_at : (node : Node) → IsReached node → OwnAttached node.setting.me node.memory
+attached_at node r = attached_own r.program r.nodes r.options r.me r.leads.among (view_of node) (come_to node r).walked
+
+pub copied_at : (node : Node) → IsReached node → OwnCopied node.setting.me node.memory
+copied_at node r = copied_own r.program r.nodes r.options r.me r.leads.among (view_of node) (come_to node r).walked
+
+pub others_lack : (node : Node) → IsReached node → (page : ℕ) → All (λ (key : Key). key.node ≡ node.setting.me → ⊥) (lacking node.memory page)
+others_lack node r page = lacking-other node.setting.me page node.memory (copy_at node.memory page) refl (copied_at node r)
+
+pub others_asked : (node : Node) → IsReached node
+    → All (λ (need : Need). All (λ (asked : Asked). (asked.maker < node.setting.nodes) × (asked.maker ≡ node.setting.me → ⊥)) need.asked) (needs_of node.mail.wait)
+others_asked node r =
+    All-weaker (FitsNeed node.setting.nodes (pages_in (view_of node)) (words_of node.options.size) node.memory)
+    (λ (need : Need). All (λ (asked : Asked). (asked.maker < node.setting.nodes) × (asked.maker ≡ node.setting.me → ⊥)) need.asked)
+    (λ need fits.
+    subst (All (λ (asked : Asked). (asked.maker < node.setting.nodes) × (asked.maker ≡ node.setting.me → ⊥))) (sym fits.asked)
+    (makers-other node.setting.nodes node.setting.me (unknown_of node.memory.store need.missing)
+    (All-filter (λ (key : Key). is_none (changes_at node.memory.store key)) (λ (key : Key). key.node ≡ node.setting.me → ⊥) need.missing
+    (subst (All (λ (key : Key). key.node ≡ node.setting.me → ⊥)) (sym fits.missing) (others_lack node r need.page)))))
+    (needs_of node.mail.wait) (needed_at node r).each

@@ -21,4 +21,7 @@ pub mod Needed
 pub mod Reaches
 pub mod Awaited
 pub mod Whole
+pub mod Own
+pub mod OwnCopies
+pub mod OwnAsked
 pub mod Always

@@ -3,3 +3,4 @@ pub mod Ranges
 pub mod Stored
 pub mod Waits
 pub mod Needs
+pub mod Own

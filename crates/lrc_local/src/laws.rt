@@ -152,3 +152,24 @@ pub fn copies_are_whole()
     ensures copies { (node : Node) → IsReached node → All (IsWhole node.setting.nodes (words_of node.options.size)) node.memory.copies }
     ensures bases { (node : Node) → IsReached node → All (IsWholeBase (words_of node.options.size)) node.memory.bases }
 {}
+ghost use Rattle.std.specs.Prelude.{is_some};
+ghost use Rattle.lrc_store.specs.declared.key.Key.{Key};
+ghost use Rattle.lrc_store.specs.Store.{changes_at};
+ghost use Rattle.lrc_protocol.specs.Fetch.{Asked};
+ghost use Rattle.lrc_protocol.specs.Memory.{lacking};
+ghost use Rattle.lrc_local.specs.Own.{OwnAttached, OwnCopied};
+
+/// A node that is reached stores each of its own intervals with the changes of all its pages, and its copies have what they
+/// wrote: so it has all that a request can ask of it, its copies lack no interval of its own, and it asks nothing of itself.
+pub fn own_changes_are_attached()
+    ensures attached { (node : Node) → IsReached node → OwnAttached node.setting.me node.memory }
+    ensures copied { (node : Node) → IsReached node → OwnCopied node.setting.me node.memory }
+    ensures known { (node : Node) (index page : ℕ) → IsReached node
+        → is_some (notice_at node.memory.store (record { node = node.setting.me; index = index; page = page })) ≡ true
+        → is_some (changes_at node.memory.store (record { node = node.setting.me; index = index; page = page })) ≡ true }
+    ensures lacking { (node : Node) (page : ℕ) → IsReached node
+        → All (λ (key : Key). key.node ≡ node.setting.me → ⊥) (lacking node.memory page) }
+    ensures asked { (node : Node) → IsReached node
+        → All (λ (need : Need). All (λ (asked : Asked). (asked.maker < node.setting.nodes) × (asked.maker ≡ node.setting.me → ⊥)) need.asked)
+        (needs_of node.mail.wait) }
+{}
