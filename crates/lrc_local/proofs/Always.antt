@@ -1,6 +1,6 @@
 -- What holds of a fresh node and is kept by every change holds of each node that is reached.
-use Rattle.std.proofs.Common.{◌≡◌, ℕ, zero, suc, ◌+◌, ◌-◌, ◌<◌, ◌≤◌, List, [], ◌∷◌, Bool, true, false, length, refl, sym, ap, subst, ◌∙◌, arith}
-use Rattle.std.specs.Prelude.{All, map, is_none, replicate}
+use Rattle.std.proofs.Common.{◌≡◌, ℕ, zero, suc, ◌+◌, ◌-◌, ◌<◌, ◌≤◌, List, [], ◌∷◌, Bool, true, false, length, refl, sym, ap, subst, ◌∙◌, ◌⊎◌, inl, inr, ⊎_elim, arith}
+use Rattle.std.specs.Prelude.{All, map, is_none, slice_index_or, replicate}
 use Rattle.std.specs.List.{range_with_len}
 use Rattle.std.proofs.lemmas.List.{length-replicate, length-set}
 use Rattle.std.proofs.lemmas.List.FromFn.{length-range_with_len}
@@ -46,7 +46,7 @@ use Rattle.lrc_local.proofs.Reaches.{reaches-kept}
 use Rattle.lrc_local.proofs.Replies.{asked-exactly}
 use Rattle.lrc_local.proofs.Awaited.{All-unmap, asked-unread}
 use Rattle.lrc_page.specs.declared.size.Size.{Size}
-use Rattle.lrc_protocol.specs.Copy.{valid}
+use Rattle.lrc_protocol.specs.Copy.{Copy, valid, absent}
 use Rattle.lrc_local.specs.Ranges.{IsWhole, IsWholeBase}
 use Rattle.lrc_local.proofs.Whole.{Whole, whole-kept}
 use Rattle.lrc_store.specs.declared.key.Key.{Key}
@@ -57,9 +57,25 @@ use Rattle.lrc_local.specs.Own.{IsAttached, OwnAttached, OwnCopied}
 use Rattle.lrc_local.proofs.Own.{attached-kept}
 use Rattle.lrc_local.proofs.OwnCopies.{own-kept, lacking-other}
 use Rattle.lrc_local.proofs.OwnAsked.{makers-other}
+use Rattle.lrc_protocol.specs.Fetch.{is_met}
+use Rattle.lrc_protocol.specs.Memory.{Memory}
+use Rattle.lrc_local.specs.Remembered.{IsBetween}
+use Rattle.lrc_local.proofs.Remembered.{Between, between-kept}
+use Rattle.lrc_local.proofs.MetNeeds.{met-known}
 use Rattle.lrc_local.proofs.Quiet.{quiet-kept}
 use Rattle.lrc_local.proofs.Mailed.{Mailed, mailed-kept, first-manager}
 use Rattle.lrc_local.proofs.Exact.{exact-kept, is_store, own-entry, next-indices}
+
+-- copies that are all valid
+slice_index_or-replicate : (n : ℕ) (copy : Copy) (page : ℕ) → (slice_index_or (replicate n copy) page absent ≡ copy) ⊎ (slice_index_or (replicate n copy) page absent ≡ absent)
+slice_index_or-replicate zero copy page = inr refl
+slice_index_or-replicate (suc n) copy zero = inl refl
+slice_index_or-replicate (suc n) copy (suc page) = slice_index_or-replicate n copy page
+
+fresh-between : (time : List ℕ) (memory : Memory) (page : ℕ) (values : List ℕ) → (copy_at memory page ≡ valid values) ⊎ (copy_at memory page ≡ absent)
+    → IsBetween time memory page (copy_at memory page)
+fresh-between time memory page values e =
+    ⊎_elim (λ v. subst (IsBetween time memory page) (sym v) tt) (λ a. subst (IsBetween time memory page) (sym a) tt) e
 
 module _ (program : Program) (nodes : ℕ) (options : OptionsRecord) (me : ℕ) (among : me < nodes) where
   abbrev From : View → Type 0
@@ -139,6 +155,12 @@ module _ (program : Program) (nodes : ℕ) (options : OptionsRecord) (me : ℕ) 
   pub copied_own : (v : View) → From v → OwnCopied v.setting.me v.memory
   copied_own _ stands = λ k d within. absurd (omega (arith, within))
   copied_own _ (goes {v = v} {after = after} w c) = own-kept v after c (ranged v w) (exact v w) (copied_own v w)
+
+  pub between : (v : View) → From v → Between v
+  between _ stands = λ page.
+      fresh-between (zeros nodes) (fresh_memory nodes (pages_of program.words options.size) options.size) page _
+      (slice_index_or-replicate (pages_of program.words options.size) (valid (zero_page options.size)) page)
+  between _ (goes {v = v} {after = after} w c) = between-kept v after c (ranged v w) (exact v w) (between v w)
 
 -- of a node that is reached
 pub ranged_at : (node : Node) → IsReached node → Ranged (view_of node)
@@ -283,3 +305,13 @@ others_asked node r =
     (All-filter (λ (key : Key). is_none (changes_at node.memory.store key)) (λ (key : Key). key.node ≡ node.setting.me → ⊥) need.missing
     (subst (All (λ (key : Key). key.node ≡ node.setting.me → ⊥)) (sym fits.missing) (others_lack node r need.page)))))
     (needs_of node.mail.wait) (needed_at node r).each
+
+-- ---- what is remembered, and what is known
+
+pub between_at : (node : Node) → IsReached node → Between (view_of node)
+between_at node r = between r.program r.nodes r.options r.me r.leads.among (view_of node) (come_to node r).walked
+
+pub met_at : (node : Node) → IsReached node → (need : Need)
+    → FitsNeed node.setting.nodes (pages_of node.setting.words node.options.size) (words_of node.options.size) node.memory need
+    → is_met need ≡ true → All (λ (key : Key). is_none (changes_at node.memory.store key) ≡ false) need.missing
+met_at node r need f met = met-known node.setting.nodes (pages_in (view_of node)) (words_of node.options.size) node.memory need (ranged_at node r).memory f met

@@ -24,4 +24,6 @@ pub mod Whole
 pub mod Own
 pub mod OwnCopies
 pub mod OwnAsked
+pub mod Remembered
+pub mod MetNeeds
 pub mod Always

@@ -36,7 +36,7 @@ use Rattle.lrc_local.proofs.Own.{none-own}
 -- ---- copies at a place
 
 -- one copy changes
-set-copy : (R : Copy → Type 0) (copies : List Copy) (at page : ℕ) (copy : Copy) → (R (slice_index_or copies at absent) → R copy)
+pub set-copy : (R : Copy → Type 0) (copies : List Copy) (at page : ℕ) (copy : Copy) → (R (slice_index_or copies at absent) → R copy)
     → R (slice_index_or copies page absent) → R (slice_index_or (slice_set copies at copy) page absent)
 set-copy R copies at page copy k h =
     ⊎_elim

@@ -4,3 +4,4 @@ pub mod Stored
 pub mod Waits
 pub mod Needs
 pub mod Own
+pub mod Remembered

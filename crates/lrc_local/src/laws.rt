@@ -173,3 +173,18 @@ pub fn own_changes_are_attached()
         → All (λ (need : Need). All (λ (asked : Asked). (asked.maker < node.setting.nodes) × (asked.maker ≡ node.setting.me → ⊥)) need.asked)
         (needs_of node.mail.wait) }
 {}
+ghost use Rattle.std.specs.Prelude.{is_none};
+ghost use Rattle.lrc_protocol.specs.Fetch.{is_met};
+ghost use Rattle.lrc_protocol.specs.Memory.{copy_at};
+ghost use Rattle.lrc_local.specs.Remembered.{IsBetween};
+
+/// At a node that is reached the time that is remembered of an invalid copy covers what was collected and is covered by the
+/// node's time, and the copy lacks an interval that is stored. Where all has come that a page needs, all changes that its copy
+/// lacks are known.
+pub fn remembered_times_are_between()
+    ensures remembered { (node : Node) (page : ℕ) → IsReached node
+        → IsBetween node.locks.time node.memory page (copy_at node.memory page) }
+    ensures met { (node : Node) (need : Need) → IsReached node
+        → FitsNeed node.setting.nodes (pages_of node.setting.words node.options.size) (words_of node.options.size) node.memory need
+        → is_met need ≡ true → All (λ (key : Key). is_none (changes_at node.memory.store key) ≡ false) need.missing }
+{}
