@@ -1,5 +1,5 @@
 -- What holds of a fresh node and is kept by every change holds of each node that is reached.
-use Rattle.std.proofs.Common.{◌≡◌, ℕ, zero, suc, ◌+◌, ◌-◌, ◌<◌, ◌≤◌, List, [], ◌∷◌, Bool, true, false, length, refl, sym, ap, subst, ◌∙◌, ◌⊎◌, inl, inr, ⊎_elim, arith}
+use Rattle.std.proofs.Common.{◌≡◌, ℕ, zero, suc, ◌+◌, ◌-◌, ◌<◌, ◌≤◌, List, [], Bool, true, false, length, refl, sym, ap, subst, ◌∙◌, ◌⊎◌, inl, inr, ⊎_elim, arith}
 use Rattle.std.specs.Prelude.{All, map, is_none, slice_index_or, replicate}
 use Rattle.std.specs.List.{range_with_len}
 use Rattle.std.proofs.lemmas.List.{length-replicate, length-set}
@@ -16,11 +16,11 @@ use Rattle.lrc_protocol.specs.Expected.{indices_by, is_learnable}
 use Rattle.lrc_protocol.specs.Locks.{next_time}
 use Rattle.lrc_protocol.specs.Memory.{fresh_memory}
 use Rattle.lrc_protocol.specs.Node.{Node, OptionsRecord}
-use Rattle.lrc_local.specs.Ranges.{InRange, HasRanges}
+use Rattle.lrc_local.specs.Ranges.{InRange}
 use Rattle.lrc_local.specs.Reached.{IsReached}
 use Rattle.lrc_local.specs.Stored.{StoresExactly}
 use Rattle.lrc_local.proofs.Change.{View, News, news, Reply, reply, view_of, pages_in, Walk, stands, goes}
-use Rattle.lrc_local.proofs.Reach.{Come, come, first_view}
+use Rattle.lrc_local.proofs.Reach.{first_view}
 use Rattle.lrc_local.proofs.Tokened.{come_to, is_set}
 use Rattle.lrc_exec.specs.Meaning.{Setting, Thread, Next, quiet, prints, reads, writes, acquires, releases, arrives, departs, traps, ends}
 use Rattle.lrc_exec.specs.Plain.{setting_of}
@@ -177,10 +177,11 @@ pub own_next : (node : Node) → IsReached node
     × (entry (next_time node.setting.me node.locks.time) node.setting.me ≡ entry node.memory.store.last node.setting.me + 1)
 own_next node r =
     let v : Ranged (view_of node) = ranged_at node r in
-    let e : StoresExactly node.locks.time node.memory = exact_at node r in
-    (length-set node.locks.time node.setting.me _ ∙ ap length (sym e.last),
-    own-entry node.setting.nodes (pages_in (view_of node)) node.setting.me node.locks.time node.memory v.me v.time e
-    ∙ ap (λ l. entry l node.setting.me + 1) (sym e.last))
+    let e : StoresExactly node.locks.time node.memory = exact_at node r in (
+      length-set node.locks.time node.setting.me _ ∙ ap length (sym e.last),
+      own-entry node.setting.nodes (pages_in (view_of node)) node.setting.me node.locks.time node.memory v.me v.time e
+          ∙ ap (λ l. entry l node.setting.me + 1) (sym e.last),
+    )
 
 pub can_be_added : (node : Node) (time : List ℕ) (intervals : List IntervalRecord) → IsReached node → is_learnable node time intervals ≡ true
     → All (InRange node.setting.nodes (pages_of node.setting.words node.options.size)) intervals
@@ -188,13 +189,15 @@ pub can_be_added : (node : Node) (time : List ℕ) (intervals : List IntervalRec
 can_be_added node time intervals r e =
     let v : Ranged (view_of node) = ranged_at node r in
     let s : StoresExactly node.locks.time node.memory = exact_at node r in
-    let n : News (view_of node) time intervals = news node time intervals e in
-    (n.each, λ q.
-    let next : indices_by intervals q ≡ range_with_len (entry node.locks.time q + 1) (entry time q - entry node.locks.time q) =
-    next-indices (view_of node) time intervals n v s q in
-    next
-    ∙ ap (range_with_len (entry node.locks.time q + 1)) (sym (length-range_with_len (entry node.locks.time q + 1) _) ∙ ap length (sym next))
-    ∙ ap (λ l. range_with_len (entry l q + 1) (length (indices_by intervals q))) (sym s.last))
+    let n : News (view_of node) time intervals = news node time intervals e in (
+      n.each,
+      λ q.
+          let next : indices_by intervals q ≡ range_with_len (entry node.locks.time q + 1) (entry time q - entry node.locks.time q) =
+          next-indices (view_of node) time intervals n v s q in
+          next
+          ∙ ap (range_with_len (entry node.locks.time q + 1)) (sym (length-range_with_len (entry node.locks.time q + 1) _) ∙ ap length (sym next))
+          ∙ ap (λ l. range_with_len (entry l q + 1) (length (indices_by intervals q))) (sym s.last),
+    )
 
 pub quiet_at : (node : Node) → IsReached node → IsQuiet node.mail.wait node.memory
 quiet_at node r = all_quiet r.program r.nodes r.options r.me r.leads.among (view_of node) (come_to node r).walked

@@ -1,10 +1,9 @@
 -- What is asked of makers, and what is left of it once one of them has replied.
-use Rattle.std.proofs.Common.{◌≡◌, ◌≢◌, ℕ, zero, suc, ◌+◌, ◌<◌, List, [], ◌∷◌, ◌++◌, Bool, true, false, cond, length, refl, sym, ap, subst, ◌∙◌, ◌⊎◌, inl, inr, ⊎_elim, arith}
-use Rattle.std.specs.Prelude.{Option, Some, None, is_some, is_none, All, Contains, not, ◌==◌, ◌&&◌, fold, map, filter, filter_map, nat_lt, slice_index_or, if◌then◌else◌}
-use Rattle.std.specs.List.{list_any, range_with_len, cons_option}
+use Rattle.std.proofs.Common.{◌≡◌, ℕ, List, [], ◌∷◌, Bool, true, false, cond, refl, sym, ap, subst, ◌∙◌, inl, inr, ⊎_elim}
+use Rattle.std.specs.Prelude.{None, is_none, All, Contains, not, ◌==◌, ◌&&◌, fold, map, filter, filter_map, nat_lt, slice_index_or, if◌then◌else◌}
+use Rattle.std.specs.List.{range_with_len, cons_option}
 use Rattle.std.proofs.lemmas.Bool.{cond_both, and_right, false≢true, cases_eq, cases_Bool, eqb-true, eq-eqb, ne_eqb}
-use Rattle.std.proofs.lemmas.Option.{same_Some}
-use Rattle.std.proofs.lemmas.List.Elements.{All-nil, All-cons, All-head, All-tail, All-weaker, Contains-get_or}
+use Rattle.std.proofs.lemmas.List.Elements.{All-head, All-tail, All-weaker, Contains-get_or}
 use Rattle.lrc_store.specs.declared.key.Key.{Key}
 use Rattle.lrc_store.specs.Order.{placed, ascending_part}
 use Rattle.lrc_store.specs.Store.{StoreRecord, changes_at}
@@ -12,7 +11,7 @@ use Rattle.lrc_store.proofs.Orders.{Contains-first, Contains-later, cases_Contai
 use Rattle.lrc_wire.specs.Records.{IndexedChangesRecord}
 use Rattle.lrc_protocol.specs.Fetch.{Asked, indices_of, some_asked, asked_of, unknown_of}
 use Rattle.lrc_protocol.specs.Take.{with_part}
-use Rattle.lrc_local.proofs.Keys.{IsKnown, IsNoticed, parts-still, parts-here, parts-other}
+use Rattle.lrc_local.proofs.Keys.{IsNoticed, parts-still, parts-here, parts-other}
 
 -- ---- filters
 

@@ -1,15 +1,15 @@
 -- Where all has come that a page needs, all changes that its copy lacks are known.
-use Rattle.std.proofs.Common.{◌≡◌, ℕ, zero, suc, ◌+◌, ◌<◌, ◌≤◌, List, [], ◌∷◌, Bool, true, false, length, refl, sym, ap, subst, ◌∙◌, ◌⊎◌, inl, inr, ⊎_elim, arith}
-use Rattle.std.specs.Prelude.{Option, Some, None, is_none, All, Contains, not, ◌&&◌, map, filter, filter_map, slice_index_or}
+use Rattle.std.proofs.Common.{◌≡◌, ℕ, zero, suc, ◌+◌, ◌<◌, ◌≤◌, List, [], ◌∷◌, true, refl, sym, subst, ◌∙◌, inl, inr, arith}
+use Rattle.std.specs.Prelude.{Option, Some, None, is_none, All, Contains, not, filter_map, slice_index_or}
 use Rattle.std.specs.List.{range_with_len, cons_option}
 use Rattle.std.proofs.lemmas.Bool.{and_parts, cases_Bool, cases_eq}
-use Rattle.std.proofs.lemmas.List.Elements.{All-nil, All-weaker, All-map, All-contains_itself}
+use Rattle.std.proofs.lemmas.List.Elements.{All-nil, All-map, All-contains_itself}
 use Rattle.lrc_store.specs.declared.key.Key.{Key}
-use Rattle.lrc_store.specs.Interval.{IntervalRecord, index_of, by_weight}
+use Rattle.lrc_store.specs.Interval.{IntervalRecord, by_weight}
 use Rattle.lrc_store.specs.Store.{StoreRecord, intervals_of, changes_at, is_missing, key_of, missing_of}
 use Rattle.lrc_store.proofs.Orders.{none_Contains, filter-Contains}
 use Rattle.lrc_protocol.specs.Copy.{Copy, valid, written, invalid, absent}
-use Rattle.lrc_protocol.specs.Memory.{Memory, copy_at, lacking, lacking_in}
+use Rattle.lrc_protocol.specs.Memory.{Memory, copy_at, lacking_in}
 use Rattle.lrc_protocol.specs.Fetch.{Asked, Need, indices_of, some_asked, asked_of, unknown_of, is_due, is_nothing, is_met}
 use Rattle.lrc_local.specs.Ranges.{InRange, HasRanges}
 use Rattle.lrc_local.specs.Needs.{FitsNeed}

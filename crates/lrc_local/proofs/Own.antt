@@ -1,31 +1,27 @@
 -- A node's own stored intervals have their changes, and its copies have what they wrote; every change keeps it so.
-use Rattle.std.proofs.Common.{◌≡◌, ◌≢◌, ℕ, zero, suc, ◌+◌, ◌-◌, ◌<◌, ◌≤◌, List, [], ◌∷◌, ◌++◌, Bool, true, false, length, refl, sym, ap, subst, ◌∙◌, ◌⊎◌, inl, inr, ⊎_elim, arith}
-use Rattle.std.specs.Prelude.{Option, Some, None, is_some, All, Contains, not, ◌==◌, ◌&&◌, fold, map, filter, filter_map, option_map, slice_index_or, slice_set, if◌then◌else◌}
-use Rattle.std.specs.List.{enumerate_from, range_with_len, cons_option}
-use Rattle.std.proofs.lemmas.Bool.{cond_both, and_from, cases_eq, cases_Bool, cases_lt, eqb-true, eq-eqb, false≢true}
-use Rattle.std.proofs.lemmas.Option.{same_Some}
-use Rattle.std.proofs.lemmas.List.{get_or-set_same, get_or-set_other, get_or_past, get_or-map, length-map, length-set}
-use Rattle.std.proofs.lemmas.List.FromFn.{get_or-enumerate_from, length-enumerate_from}
-use Rattle.std.proofs.lemmas.List.Elements.{All-nil, All-cons, All-head, All-tail, All-append, All-map, All-filter, All-weaker, All-contains, All-contains_itself}
+use Rattle.std.proofs.Common.{◌≡◌, ℕ, ◌+◌, ◌-◌, ◌<◌, List, [], ◌∷◌, Bool, true, false, refl, sym, ap, subst, ◌∙◌, ◌⊎◌, inl, inr, ⊎_elim, arith}
+use Rattle.std.specs.Prelude.{Some, is_some, All, Contains, not, ◌==◌, ◌&&◌, fold, map, slice_index_or, if◌then◌else◌}
+use Rattle.std.specs.List.{range_with_len}
+use Rattle.std.proofs.lemmas.Bool.{cond_both, and_from, eq-eqb, false≢true}
+use Rattle.std.proofs.lemmas.List.Elements.{All-nil, All-cons, All-head, All-tail, All-append, All-map, All-filter, All-weaker, All-contains_itself}
 use Rattle.lrc_time.specs.Time.{entry}
 use Rattle.lrc_page.specs.declared.changes.Change.{Change as PageChange}
 use Rattle.lrc_store.specs.declared.key.Key.{Key}
 use Rattle.lrc_store.specs.Interval.{IntervalRecord, index_of}
-use Rattle.lrc_store.specs.Store.{NoticeRecord, StoredRecord, StoreRecord, interval_of, intervals_of, is_at, is_covered, unread, without_changes, added, attached, discarded, stored_with, notice_with}
-use Rattle.lrc_store.proofs.Stores.{intervals_of-added, interval_of-stored_with, kept_page}
+use Rattle.lrc_store.specs.Store.{NoticeRecord, StoredRecord, StoreRecord, interval_of, is_at, is_covered, unread, without_changes, added, stored_with, notice_with}
+use Rattle.lrc_store.proofs.Stores.{interval_of-stored_with, kept_page}
 use Rattle.lrc_store.proofs.Records.{interval_of-without_changes}
-use Rattle.lrc_store.proofs.Orders.{Contains-later, cases_Contains, none_Contains}
+use Rattle.lrc_store.proofs.Orders.{cases_Contains, none_Contains}
 use Rattle.lrc_wire.specs.Records.{IndexedChangesRecord}
-use Rattle.lrc_protocol.specs.Copy.{Copy, valid, written, invalid, absent, changes_of, after_write, closed, invalidated}
-use Rattle.lrc_protocol.specs.Memory.{Memory, copy_at, all_changes, closed_interval, with_own, with_interval, is_named, learned}
+use Rattle.lrc_protocol.specs.Memory.{Memory, all_changes, closed_interval, with_own, with_interval}
 use Rattle.lrc_protocol.specs.Take.{with_part}
 use Rattle.lrc_protocol.specs.Waits.{clean_memory}
 use Rattle.lrc_protocol.specs.Locks.{next_time}
 use Rattle.lrc_protocol.specs.Expected.{indices_by}
-use Rattle.lrc_local.specs.Own.{IsAttached, OwnAttached, HasOwn, OwnCopied}
+use Rattle.lrc_local.specs.Own.{IsAttached, OwnAttached}
 use Rattle.lrc_local.proofs.Indices.{of_node}
-use Rattle.lrc_local.proofs.Change.{View, pages_in, News, Change, receives, manages, moves, puts, closes, learns, resumes, begins, cleans, discards, misses, mends, gets_changes, gets_page}
-use Rattle.lrc_local.proofs.Ranges.{Ranged, SameRest, clean-same}
+use Rattle.lrc_local.proofs.Change.{View, News, Change, receives, manages, moves, puts, closes, learns, resumes, begins, cleans, discards, misses, mends, gets_changes, gets_page}
+use Rattle.lrc_local.proofs.Ranges.{Ranged, clean-same}
 
 -- ---- one interval gets changes
 
@@ -88,8 +84,10 @@ comes-here me index page pages stored notice at c =
     let known : Bool → Type 0 = λ b. is_some (if b then record { page = page.0; changes = Some page.1 } else notice).changes ≡ true in
     inl (subst known (sym (eq-eqb notice.page page.0 (sym here))) refl))
     (λ later.
-    inr (is_at-kept key page.1 me index stored ∙ at,
-    subst (Contains (map (λ (page : ℕ × List PageChange). page.0) pages)) (sym (kept_page page.0 page.1 notice)) later))
+    inr (
+      is_at-kept key page.1 me index stored ∙ at,
+      subst (Contains (map (λ (page : ℕ × List PageChange). page.0) pages)) (sym (kept_page page.0 page.1 notice)) later,
+    ))
     (cases_Contains page.0 (map (λ (page : ℕ × List PageChange). page.0) pages) notice.page coming.1))
     c
 

@@ -1,15 +1,15 @@
 -- A node asks nothing of itself, and knows all changes of its own.
-use Rattle.std.proofs.Common.{◌≡◌, ℕ, zero, suc, ◌+◌, ◌<◌, ◌≤◌, List, [], ◌∷◌, Bool, true, false, length, refl, sym, ap, subst, ◌∙◌, inl, inr, ⊎_elim, arith}
-use Rattle.std.specs.Prelude.{Option, Some, None, is_some, All, Contains, ◌==◌, ◌&&◌, map, filter, find, filter_map, option_and_then, nat_lt, if◌then◌else◌}
+use Rattle.std.proofs.Common.{◌≡◌, ℕ, ◌<◌, List, [], ◌∷◌, Bool, true, false, refl, sym, ap, subst, ◌∙◌, inl, inr, arith}
+use Rattle.std.specs.Prelude.{Option, Some, None, is_some, All, ◌==◌, map, filter, find, option_and_then, nat_lt, if◌then◌else◌}
 use Rattle.std.specs.List.{range_with_len}
 use Rattle.std.proofs.lemmas.Bool.{and_parts, cases_Bool, eqb-true, ne_eqb}
 use Rattle.std.proofs.lemmas.Option.{same_Some}
-use Rattle.std.proofs.lemmas.List.Elements.{All-nil, All-cons, All-head, All-tail, All-weaker}
+use Rattle.std.proofs.lemmas.List.Elements.{All-head, All-tail, All-weaker}
 use Rattle.lrc_store.specs.declared.key.Key.{Key}
 use Rattle.lrc_store.specs.Order.{ascending_part}
-use Rattle.lrc_store.specs.Store.{NoticeRecord, StoredRecord, StoreRecord, is_at, stored_at, notice_of, notice_at, changes_at}
+use Rattle.lrc_store.specs.Store.{NoticeRecord, StoredRecord, is_at, stored_at, notice_of, notice_at, changes_at}
 use Rattle.lrc_store.proofs.Lookups.{passes-find}
-use Rattle.lrc_protocol.specs.Fetch.{Asked, indices_of, some_asked, asked_of, unknown_of}
+use Rattle.lrc_protocol.specs.Fetch.{Asked, indices_of, some_asked, asked_of}
 use Rattle.lrc_protocol.specs.Memory.{Memory}
 use Rattle.lrc_local.specs.Own.{IsAttached, OwnAttached}
 use Rattle.lrc_local.proofs.Lists.{All-chosen}
@@ -55,9 +55,10 @@ pub makers-other : (nodes me : ℕ) (keys : List Key) → All (λ (key : Key). k
     → All (λ (asked : Asked). (asked.maker < nodes) × (asked.maker ≡ me → ⊥)) (asked_of nodes keys)
 makers-other nodes me keys h =
     All-chosen (λ maker. maker < nodes) (λ (asked : Asked). (asked.maker < nodes) × (asked.maker ≡ me → ⊥)) (λ maker. some_asked maker (indices_of keys maker))
-    (λ maker asked lt s.
-    (subst (λ k. k < nodes) (some-maker maker (indices_of keys maker) asked s) lt,
-    asked-apart keys me maker (indices_of keys maker) asked refl (none-asked keys me h) s))
+    (λ maker asked lt s. (
+      subst (λ k. k < nodes) (some-maker maker (indices_of keys maker) asked s) lt,
+      asked-apart keys me maker (indices_of keys maker) asked refl (none-asked keys me h) s,
+    ))
     (range_with_len 0 nodes) (range-within 0 nodes nodes (omega arith))
 
 -- ---- own changes

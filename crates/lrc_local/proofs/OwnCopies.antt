@@ -1,23 +1,22 @@
 -- A node's copies have what its own stored intervals wrote, and every change keeps it so.
-use Rattle.std.proofs.Common.{◌≡◌, ◌≢◌, ℕ, zero, suc, ◌+◌, ◌<◌, ◌≤◌, List, [], ◌∷◌, ◌++◌, Bool, true, false, length, get_or, refl, sym, ap, subst, ◌∙◌, ◌⊎◌, inl, inr, ⊎_elim, arith}
-use Rattle.std.specs.Prelude.{Option, Some, None, is_some, All, Contains, not, ◌==◌, fold, map, filter, filter_map, option_map, slice_index_or, slice_set, if◌then◌else◌}
+use Rattle.std.proofs.Common.{◌≡◌, ℕ, ◌+◌, ◌<◌, ◌≤◌, List, [], ◌∷◌, true, length, refl, sym, ap, subst, ◌∙◌, ⊎_elim, arith}
+use Rattle.std.specs.Prelude.{Option, Some, None, is_some, All, ◌==◌, fold, map, option_map, slice_index_or, slice_set, if◌then◌else◌}
 use Rattle.std.specs.List.{enumerate_from, list_any}
-use Rattle.std.proofs.lemmas.Bool.{cond_both, and_parts, cases_eq, cases_lt, false≢true, not-true, leb-false, eqb-true}
+use Rattle.std.proofs.lemmas.Bool.{cond_both, and_parts, cases_eq, cases_lt, not-true, leb-false, eqb-true}
 use Rattle.std.proofs.lemmas.Option.{same_Some}
 use Rattle.std.proofs.lemmas.List.{get_or-set_same, get_or-set_other, get_or_past, get_or_default, get_or-map, length-map, length-set}
 use Rattle.std.proofs.lemmas.List.FromFn.{get_or-enumerate_from, length-enumerate_from}
-use Rattle.std.proofs.lemmas.List.Elements.{All-nil, All-cons, All-head, All-append, All-map, All-weaker, All-contains, All-contains_itself}
+use Rattle.std.proofs.lemmas.List.Elements.{All-nil, All-cons, All-append, All-map, All-weaker}
 use Rattle.lrc_time.specs.Time.{entry, knows}
 use Rattle.lrc_page.specs.declared.changes.Change.{Change as PageChange}
 use Rattle.lrc_store.specs.declared.key.Key.{Key}
 use Rattle.lrc_store.specs.Interval.{IntervalRecord, index_of, by_weight}
-use Rattle.lrc_store.specs.Store.{StoreRecord, intervals_of, added, is_missing, key_of, missing_of, discarded}
+use Rattle.lrc_store.specs.Store.{intervals_of, added, is_missing, key_of, missing_of, discarded}
 use Rattle.lrc_store.proofs.Stores.{intervals_of-added}
 use Rattle.lrc_page.specs.Place.{page_of, offset_of}
 use Rattle.lrc_protocol.specs.Copy.{Copy, valid, written, invalid, absent, changes_of, after_write, closed, invalidated}
-use Rattle.lrc_protocol.specs.Memory.{Memory, copy_at, with_copy, with_word, all_changes, closed_interval, with_interval, is_named, learned, with_base, repaired, lacking, lacking_in, collected_at}
-use Rattle.lrc_protocol.specs.Fetch.{Need, first_values, mended}
-use Rattle.lrc_protocol.specs.Mail.{discard}
+use Rattle.lrc_protocol.specs.Memory.{Memory, copy_at, with_word, all_changes, closed_interval, with_interval, is_named, learned, lacking_in, collected_at}
+use Rattle.lrc_protocol.specs.Fetch.{Need, mended}
 use Rattle.lrc_protocol.specs.Locks.{next_time}
 use Rattle.lrc_protocol.specs.Waits.{clean_memory}
 use Rattle.lrc_local.specs.Ranges.{CollectsAt}
@@ -26,8 +25,8 @@ use Rattle.lrc_local.specs.Own.{HasOwn, OwnCopied}
 use Rattle.lrc_local.proofs.Lists.{All-chosen}
 use Rattle.lrc_local.proofs.Stores.{SameIntervals, own-same, parts-same, Longer, learned-longer}
 use Rattle.lrc_local.proofs.Keys.{All-part}
-use Rattle.lrc_local.proofs.Change.{View, pages_in, News, Change, receives, manages, moves, puts, closes, learns, resumes, begins, cleans, discards, misses, mends, gets_changes, gets_page}
-use Rattle.lrc_local.proofs.Ranges.{Ranged, SameRest, copy-same, clean-same}
+use Rattle.lrc_local.proofs.Change.{View, News, Change, receives, manages, moves, puts, closes, learns, resumes, begins, cleans, discards, misses, mends, gets_changes, gets_page}
+use Rattle.lrc_local.proofs.Ranges.{Ranged, clean-same}
 use Rattle.lrc_local.proofs.Exact.{stored-within, nothing-left}
 use Rattle.lrc_local.proofs.Replies.{bases-copies}
 use Rattle.lrc_local.proofs.Needs.{any_fits}

@@ -1,14 +1,12 @@
 -- Who waits for another node's synchronization has no written page, and every change keeps it so.
-use Rattle.std.proofs.Common.{◌≡◌, ℕ, ◌+◌, List, [], ◌∷◌, Bool, true, false, refl, sym, ap, subst, ◌∙◌}
-use Rattle.std.specs.Prelude.{Option, Some, None, All, fold, map, if◌then◌else◌, slice_set}
-use Rattle.std.specs.List.{enumerate_from}
-use Rattle.std.proofs.lemmas.List.Elements.{All-map, All-set, All-weaker}
-use Rattle.lrc_page.specs.declared.changes.Change.{Change as PageChange}
+use Rattle.std.proofs.Common.{◌≡◌, ℕ, List, [], ◌∷◌, Bool, true, false, refl, sym, subst}
+use Rattle.std.specs.Prelude.{None, All, fold, map, if◌then◌else◌}
+use Rattle.std.proofs.lemmas.List.Elements.{All-map, All-set}
 use Rattle.lrc_protocol.specs.Copy.{Copy, valid, written, invalid, absent, changes_of, closed, invalidated}
 use Rattle.lrc_protocol.specs.Memory.{Memory, copy_at, is_named, learned, with_base, with_word, repaired}
 use Rattle.lrc_protocol.specs.Fetch.{Need, mended, first_values}
 use Rattle.lrc_protocol.specs.Mail.{Wait, nothing, grant, departure, access, upkeep, discard}
-use Rattle.lrc_protocol.specs.Waits.{clean_memory, with_needs}
+use Rattle.lrc_protocol.specs.Waits.{with_needs}
 use Rattle.lrc_store.specs.Interval.{IntervalRecord}
 use Rattle.lrc_local.specs.Waits.{NoneWritten, IsQuiet}
 use Rattle.lrc_local.proofs.Lists.{All-placed}
@@ -73,7 +71,6 @@ still-quiet change departure a b e h = subst (All Unwritten) (sym e) h
 still-quiet change (access need) a b e h = tt
 still-quiet change (upkeep collection needs) a b e h = subst (All Unwritten) (sym e) h
 still-quiet change (discard collection) a b e h = subst (All Unwritten) (sym e) h
-
 
 pub quiet-kept : (v after : View) → Change v after → IsQuiet v.wait v.memory → IsQuiet after.wait after.memory
 quiet-kept v _ (receives from numbers) h = h

@@ -1,6 +1,6 @@
 -- Remembered times are between the collected time and the node's, and every change keeps them so.
-use Rattle.std.proofs.Common.{◌≡◌, ℕ, zero, suc, ◌+◌, ◌-◌, ◌<◌, ◌≤◌, List, [], ◌∷◌, ◌++◌, Bool, true, false, length, refl, sym, ap, subst, ◌∙◌, ◌⊎◌, inl, inr, ⊎_elim, arith}
-use Rattle.std.specs.Prelude.{Option, Some, None, All, not, ◌==◌, ◌&&◌, ◌||◌, fold, map, slice_index_or, slice_set, if◌then◌else◌}
+use Rattle.std.proofs.Common.{◌≡◌, ℕ, ◌+◌, ◌-◌, ◌<◌, ◌≤◌, List, [], ◌∷◌, ◌++◌, true, length, refl, sym, ap, subst, ◌∙◌, ⊎_elim, arith}
+use Rattle.std.specs.Prelude.{All, not, ◌==◌, fold, slice_index_or, if◌then◌else◌}
 use Rattle.std.specs.List.{list_any, range_with_len}
 use Rattle.std.proofs.lemmas.Bool.{cond_both, and_from, cases_lt, or_cases, or_left, or_right, lt-leb}
 use Rattle.std.proofs.lemmas.List.{get_or_past}
@@ -9,7 +9,7 @@ use Rattle.std.proofs.lemmas.List.Elements.{All-head, All-tail, All-weaker}
 use Rattle.lrc_time.specs.Time.{entry, Covers, joined, knows}
 use Rattle.lrc_time.proofs.Times.{covers-refl, covers-trans, covers-raised, covers-joined_first}
 use Rattle.lrc_store.specs.Interval.{IntervalRecord, index_of}
-use Rattle.lrc_store.specs.Store.{StoreRecord, intervals_of, added, is_missing}
+use Rattle.lrc_store.specs.Store.{intervals_of, added, is_missing}
 use Rattle.lrc_store.proofs.Stores.{intervals_of-added}
 use Rattle.lrc_page.specs.Place.{page_of, offset_of}
 use Rattle.lrc_protocol.specs.Copy.{Copy, valid, written, invalid, absent, after_write, closed, invalidated, dropped}
@@ -19,10 +19,9 @@ use Rattle.lrc_protocol.specs.Locks.{next_time}
 use Rattle.lrc_protocol.specs.Waits.{clean_memory}
 use Rattle.lrc_protocol.specs.Take.{with_part}
 use Rattle.lrc_local.specs.Stored.{StoresExactly}
-use Rattle.lrc_local.specs.Waits.{IsQuiet}
 use Rattle.lrc_local.specs.Remembered.{IsBetween}
 use Rattle.lrc_local.proofs.Lists.{length-placed}
-use Rattle.lrc_local.proofs.Stores.{SameIntervals, own-same, parts-same, Longer, learned-longer}
+use Rattle.lrc_local.proofs.Stores.{own-same, parts-same, learned-longer}
 use Rattle.lrc_local.proofs.Indices.{range-above, by_indices}
 use Rattle.lrc_local.proofs.Change.{View, News, Change, receives, manages, moves, puts, closes, learns, resumes, begins, cleans, discards, misses, mends, gets_changes, gets_page}
 use Rattle.lrc_local.proofs.Ranges.{Ranged, SameRest, clean-same}

@@ -1,5 +1,5 @@
 -- A node's own intervals in its store.
-use Rattle.std.specs.Prelude.{◌≡◌, ℕ, ◌≤◌, Bool, true, is_some, All}
+use Rattle.std.specs.Prelude.{◌≡◌, ℕ, ◌≤◌, true, is_some, All}
 use Rattle.lrc_time.specs.Time.{entry}
 use Rattle.lrc_store.specs.Interval.{IntervalRecord, index_of}
 use Rattle.lrc_store.specs.Store.{StoredRecord, NoticeRecord, intervals_of}
