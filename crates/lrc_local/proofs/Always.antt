@@ -67,7 +67,8 @@ use Rattle.lrc_local.proofs.Mailed.{Mailed, mailed-kept, first-manager}
 use Rattle.lrc_local.proofs.Exact.{exact-kept, is_store, own-entry, next-indices}
 
 -- copies that are all valid
-slice_index_or-replicate : (n : ℕ) (copy : Copy) (page : ℕ) → (slice_index_or (replicate n copy) page absent ≡ copy) ⊎ (slice_index_or (replicate n copy) page absent ≡ absent)
+slice_index_or-replicate : (n : ℕ) (copy : Copy) (page : ℕ) → (slice_index_or (replicate n copy) page absent ≡ copy) ⊎
+    (slice_index_or (replicate n copy) page absent ≡ absent)
 slice_index_or-replicate zero copy page = inr refl
 slice_index_or-replicate (suc n) copy zero = inl refl
 slice_index_or-replicate (suc n) copy (suc page) = slice_index_or-replicate n copy page
@@ -127,7 +128,8 @@ module _ (program : Program) (nodes : ℕ) (options : OptionsRecord) (me : ℕ) 
 
   pub needed : (v : View) → From v → Needed v
   needed _ stands = record {
-    each = All-nil (FitsNeed nodes (pages_of program.words options.size) (words_of options.size) (fresh_memory nodes (pages_of program.words options.size) options.size));
+    each = All-nil (FitsNeed nodes (pages_of program.words options.size) (words_of options.size)
+        (fresh_memory nodes (pages_of program.words options.size) options.size));
     apart = tt;
     kept = tt;
   }
@@ -298,7 +300,8 @@ pub others_lack : (node : Node) → IsReached node → (page : ℕ) → All (λ 
 others_lack node r page = lacking-other node.setting.me page node.memory (copy_at node.memory page) refl (copied_at node r)
 
 pub others_asked : (node : Node) → IsReached node
-    → All (λ (need : Need). All (λ (asked : Asked). (asked.maker < node.setting.nodes) × (asked.maker ≡ node.setting.me → ⊥)) need.asked) (needs_of node.mail.wait)
+    → All (λ (need : Need). All (λ (asked : Asked). (asked.maker < node.setting.nodes) × (asked.maker ≡ node.setting.me → ⊥)) need.asked)
+    (needs_of node.mail.wait)
 others_asked node r =
     All-weaker (FitsNeed node.setting.nodes (pages_in (view_of node)) (words_of node.options.size) node.memory)
     (λ (need : Need). All (λ (asked : Asked). (asked.maker < node.setting.nodes) × (asked.maker ≡ node.setting.me → ⊥)) need.asked)

@@ -105,12 +105,14 @@ neither_of from key = sym (not_both (key.node == from))
 indices-other : (keys : List Key) (from maker : ℕ) → (maker ≡ from → ⊥) → indices_of (filter (not_of from) keys) maker ≡ indices_of keys maker
 indices-other keys from maker ne =
     ap (λ l. ascending_part nat_lt (λ index. true) (map (λ (key : Key). key.index) l))
-    (sym (filter_twice (λ (key : Key). key.node == maker) (not_of from) (λ (key : Key). key.node == maker) keys (λ k d within. both_of from maker ne (slice_index_or keys k d))))
+    (sym (filter_twice (λ (key : Key). key.node == maker) (not_of from) (λ (key : Key). key.node == maker) keys
+    (λ k d within. both_of from maker ne (slice_index_or keys k d))))
 
 indices-gone : (keys : List Key) (from : ℕ) → indices_of (filter (not_of from) keys) from ≡ []
 indices-gone keys from =
     ap (λ l. ascending_part nat_lt (λ index. true) (map (λ (key : Key). key.index) l))
-    (sym (filter_twice (λ (key : Key). false) (not_of from) (λ (key : Key). key.node == from) keys (λ k d within. neither_of from (slice_index_or keys k d))) ∙ filter_none keys)
+    (sym (filter_twice (λ (key : Key). false) (not_of from) (λ (key : Key). key.node == from) keys
+    (λ k d within. neither_of from (slice_index_or keys k d))) ∙ filter_none keys)
 
 -- what is asked of a maker is of it
 some_by : (from maker : ℕ) (b : Bool) (indices : List ℕ) (rest : List Asked) → (maker == from) ≡ b
@@ -160,7 +162,8 @@ pub unknown-other : (from page : ℕ) (parts : List IndexedChangesRecord) (store
     → All (λ (key : Key). key.page ≡ page → ⊥) keys → unknown_of (fold (with_part from page) store parts) keys ≡ unknown_of store keys
 unknown-other from page parts store keys h =
     filter_same _ _ keys
-    (All-weaker (λ (key : Key). key.page ≡ page → ⊥) (λ (key : Key). is_none (changes_at (fold (with_part from page) store parts) key) ≡ is_none (changes_at store key))
+    (All-weaker (λ (key : Key). key.page ≡ page → ⊥) (λ (key : Key). is_none (changes_at (fold (with_part from page) store parts) key) ≡ is_none
+    (changes_at store key))
     (λ key ne. ap is_none (parts-other from page parts store key (λ n p. ne p))) keys h)
 
 -- of the page, those of other makers

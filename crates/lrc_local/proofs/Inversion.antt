@@ -107,7 +107,8 @@ module _ (start : View) where
 
   -- ---- by itself
 
-  reaches-at : (node : Node) (page : ℕ) → node.mail.wait ≡ nothing → page < pages_in (view_of node) → page_next node.options.size (next_in node.course) ≡ Some page → At node
+  reaches-at : (node : Node) (page : ℕ) → node.mail.wait ≡ nothing → page < pages_in (view_of node)
+      → page_next node.options.size (next_in node.course) ≡ Some page → At node
       → At (reaches node page).node
   reaches-at node page w lt n at =
       let need : Need = need_of node.setting.nodes node.memory page in
@@ -287,7 +288,8 @@ module _ (start : View) where
       expected_or_not (is_addressed node envelope) _
       (λ a. repeated_or_not node (is_repeat node envelope) (take_anew node envelope) at
       (expected_or_not (is_expected node envelope.from envelope.message) (turn_of (take_effect (taking node envelope) envelope.from envelope.message))
-      (λ e. effect-at (take_effect (taking node envelope) envelope.from envelope.message) (take-at node envelope envelope.from envelope.message e (goes at (receives envelope.from _))))))
+      (λ e. effect-at (take_effect (taking node envelope) envelope.from envelope.message)
+      (take-at node envelope envelope.from envelope.message e (goes at (receives envelope.from _))))))
 
   -- each input leads on by changes, or is no turn
   pub turn-at : (node : Node) (input : Input) → TextIs node.setting node.course → At node → AtEnd (outcome_of node input)

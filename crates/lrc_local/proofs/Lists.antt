@@ -16,7 +16,8 @@ pub All-placed : {X Y : Type 0} (P : X → Type 0) (Q : Y → Type 0) (f : ℕ �
     → All P xs → All Q (map f (enumerate_from start xs))
 All-placed P Q f says start [] h = All-nil Q
 All-placed P Q f says start (x ∷ xs) h =
-    All-cons Q (f (start, x)) (map f (enumerate_from (start + 1) xs)) (says start x (All-head P x xs h)) (All-placed P Q f says (start + 1) xs (All-tail P x xs h))
+    All-cons Q (f (start, x)) (map f (enumerate_from (start + 1) xs)) (says start x (All-head P x xs h))
+    (All-placed P Q f says (start + 1) xs (All-tail P x xs h))
 
 All-cons_option : {X : Type 0} (P : X → Type 0) (o : Option X) (xs : List X) → ((x : X) → o ≡ Some x → P x) → All P xs → All P (cons_option o xs)
 All-cons_option P None xs says h = h

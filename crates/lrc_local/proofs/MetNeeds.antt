@@ -41,7 +41,8 @@ asked-none maker (index ∷ indices) e = cc
 no-keys : (nodes : ℕ) (keys : List Key) → asked_of nodes keys ≡ [] → (key : Key) → key.node < nodes → Contains keys key → ⊥
 no-keys nodes keys e key lt there =
     let none : indices_of keys key.node ≡ [] =
-    asked-none key.node (indices_of keys key.node) (range-none (λ maker. some_asked maker (indices_of keys maker)) 0 nodes e key.node (omega arith) (omega (arith, lt))) in
+    asked-none key.node (indices_of keys key.node) (range-none (λ maker. some_asked maker (indices_of keys maker)) 0 nodes e key.node (omega arith)
+    (omega (arith, lt))) in
     none_Contains key.index (subst (λ l. Contains l key.index) none (index-contained keys key.node key there refl))
 
 -- keys are of nodes that there are
@@ -62,10 +63,12 @@ nothing-asked : (asked : List Asked) → is_nothing asked ≡ true → asked ≡
 nothing-asked [] e = refl
 nothing-asked (a ∷ asked) e = cc
 
-pub met-known : (nodes pages words : ℕ) (memory : Memory) (need : Need) → HasRanges nodes pages memory → FitsNeed nodes pages words memory need → is_met need ≡ true
+pub met-known : (nodes pages words : ℕ) (memory : Memory) (need : Need) → HasRanges nodes pages memory → FitsNeed nodes pages words memory need
+    → is_met need ≡ true
     → All (λ (key : Key). IsKnown memory.store key) need.missing
 met-known nodes pages words memory need r f met =
-    let none : asked_of nodes (unknown_of memory.store need.missing) ≡ [] = sym f.asked ∙ nothing-asked need.asked (and_parts (not (is_due need.base)) _ met).1 in
+    let none : asked_of nodes (unknown_of memory.store need.missing) ≡ [] =
+    sym f.asked ∙ nothing-asked need.asked (and_parts (not (is_due need.base)) _ met).1 in
     let below : All (λ (key : Key). key.node < nodes) need.missing =
     subst (All (λ (key : Key). key.node < nodes)) (sym f.missing) (lacking-below nodes pages need.page memory (copy_at memory need.page) r.intervals) in
     λ k d within.

@@ -30,7 +30,8 @@ pub record Needed (v : View) : Type 0 where
 -- who waits so needs nothing
 idle : (v : View) → is_settled v.wait ≡ true → Needed v
 idle v s = record {
-  each = subst (All (FitsNeed v.setting.nodes (pages_in v) (words_of v.size) v.memory)) (sym (settled-needs v.wait s)) (All-nil (FitsNeed v.setting.nodes (pages_in v) (words_of v.size) v.memory));
+  each = subst (All (FitsNeed v.setting.nodes (pages_in v) (words_of v.size) v.memory)) (sym (settled-needs v.wait s))
+      (All-nil (FitsNeed v.setting.nodes (pages_in v) (words_of v.size) v.memory));
   apart = subst (λ needs. Ascends (map (λ (need : Need). need.page) needs)) (sym (settled-needs v.wait s)) tt;
   kept = settled-kept v.setting.me v.memory v.wait s;
 }
@@ -88,7 +89,8 @@ needed-kept v _ (cleans collection needs w met) r s h =
       apart = tt;
       kept = (
         kept.0 ∙ sym (kept-by v.setting.me v.memory (clean_memory needs collection.kept v.memory) (ap intervals_of same.store) same.keepers),
-        All-weaker (λ page. (page < pages_in v) × Contains collection.kept page) (λ page. is_readable (copy_at (clean_memory needs collection.kept v.memory) page) ≡ true)
+        All-weaker (λ page. (page < pages_in v) × Contains collection.kept page)
+            (λ page. is_readable (copy_at (clean_memory needs collection.kept v.memory) page) ≡ true)
             (λ page is. clean-readable v.memory needs collection.kept page (omega (arith, is.0, r.memory.copies)) is.1 kept.1)
             collection.kept
             (λ k d within. (

@@ -25,15 +25,18 @@ use Rattle.lrc_local.proofs.Ranges.{Ranged, clean-same}
 
 -- ---- one interval gets changes
 
-notice-known : (page : ℕ) (changes : List PageChange) (notice : NoticeRecord) → is_some notice.changes ≡ true → is_some (notice_with page changes notice).changes ≡ true
+notice-known : (page : ℕ) (changes : List PageChange) (notice : NoticeRecord) → is_some notice.changes ≡ true
+    → is_some (notice_with page changes notice).changes ≡ true
 notice-known page changes notice h =
-    cond_both (notice.page == page) (record { page = page; changes = Some changes }) notice (λ (n : NoticeRecord). is_some n.changes ≡ true) (λ e. refl) (λ e. h)
+    cond_both (notice.page == page) (record { page = page; changes = Some changes }) notice (λ (n : NoticeRecord). is_some n.changes ≡ true) (λ e. refl)
+    (λ e. h)
 
 stored-attached : (key : Key) (changes : List PageChange) (stored : StoredRecord) → IsAttached stored → IsAttached (stored_with key changes stored)
 stored-attached key changes stored h =
     cond_both (is_at key.node key.index stored) (record stored { notices = map (notice_with key.page changes) stored.notices }) stored IsAttached
     (λ e. All-map (λ (notice : NoticeRecord). is_some notice.changes ≡ true) (notice_with key.page changes) stored.notices
-    (All-weaker (λ (notice : NoticeRecord). is_some notice.changes ≡ true) (λ (notice : NoticeRecord). is_some (notice_with key.page changes notice).changes ≡ true)
+    (All-weaker (λ (notice : NoticeRecord). is_some notice.changes ≡ true)
+    (λ (notice : NoticeRecord). is_some (notice_with key.page changes notice).changes ≡ true)
     (λ notice n. notice-known key.page changes notice n) stored.notices h))
     (λ e. h)
 
@@ -41,7 +44,8 @@ stored-node : (key : Key) (changes : List PageChange) (stored : StoredRecord) �
 stored-node key changes stored = ap (λ (i : IntervalRecord). i.node) (interval_of-stored_with key changes stored)
 
 -- what holds of each entry, whatever it gets
-attached-entries : (me : ℕ) (key : Key) (changes : List PageChange) (entries : List StoredRecord) → All (λ (stored : StoredRecord). stored.node ≡ me → IsAttached stored) entries
+attached-entries : (me : ℕ) (key : Key) (changes : List PageChange) (entries : List StoredRecord)
+    → All (λ (stored : StoredRecord). stored.node ≡ me → IsAttached stored) entries
     → All (λ (stored : StoredRecord). stored.node ≡ me → IsAttached stored) (map (stored_with key changes) entries)
 attached-entries me key changes entries h =
     let P : StoredRecord → Type 0 = λ stored. stored.node ≡ me → IsAttached stored in
@@ -135,9 +139,11 @@ closes-attached me stamp memory h =
     own-entries me index (all_changes memory) (added memory.store i)
     (All-append (AllComing me index (all_changes memory)) memory.store.entries (without_changes i ∷ [])
     (All-weaker (λ (stored : StoredRecord). stored.node ≡ me → IsAttached stored) (AllComing me index (all_changes memory))
-    (λ stored p e. All-weaker (λ (notice : NoticeRecord). is_some notice.changes ≡ true) (Coming me index (all_changes memory) stored) (λ notice k. inl k) stored.notices (p e))
+    (λ stored p e. All-weaker (λ (notice : NoticeRecord). is_some notice.changes ≡ true) (Coming me index (all_changes memory) stored)
+    (λ notice k. inl k) stored.notices (p e))
     memory.store.entries h)
-    (All-cons (AllComing me index (all_changes memory)) (without_changes i) [] (new-coming me index (all_changes memory) i at refl) (All-nil (AllComing me index (all_changes memory)))))
+    (All-cons (AllComing me index (all_changes memory)) (without_changes i) [] (new-coming me index (all_changes memory) i at refl)
+    (All-nil (AllComing me index (all_changes memory)))))
 
 -- ---- news are of other nodes
 
@@ -174,9 +180,11 @@ attached-kept v _ (closes wait w s) r h = closes-attached v.setting.me (next_tim
 attached-kept v _ (learns time intervals o news) r h = added-attached v.setting.me intervals v.memory.store (none-own v time intervals news r.me) h
 attached-kept v _ (resumes o) r h = h
 attached-kept v _ (begins before time w t c long) r h = h
-attached-kept v _ (cleans collection needs w met) r h = same-attached v.setting.me v.memory (clean_memory needs collection.kept v.memory) (clean-same needs collection.kept v.memory).store h
+attached-kept v _ (cleans collection needs w met) r h =
+    same-attached v.setting.me v.memory (clean_memory needs collection.kept v.memory) (clean-same needs collection.kept v.memory).store h
 attached-kept v _ (discards collection w) r h =
-    All-filter (λ (stored : StoredRecord). not (is_covered collection.time (interval_of stored))) (λ (stored : StoredRecord). stored.node ≡ v.setting.me → IsAttached stored)
+    All-filter (λ (stored : StoredRecord). not (is_covered collection.time (interval_of stored)))
+    (λ (stored : StoredRecord). stored.node ≡ v.setting.me → IsAttached stored)
     v.memory.store.entries h
 attached-kept v _ (misses page w lt b n) r h = h
 attached-kept v _ (mends need w met) r h = h

@@ -74,12 +74,14 @@ known-notice : (page : ℕ) (stored : StoredRecord) → IsAttached stored → is
     → is_some (option_and_then (λ (notice : NoticeRecord). notice.changes) (notice_of page stored)) ≡ true
 known-notice page stored h n = by_found (notice_of page stored) refl n
   where
-    by_found : (o : Option NoticeRecord) → notice_of page stored ≡ o → is_some o ≡ true → is_some (option_and_then (λ (notice : NoticeRecord). notice.changes) o) ≡ true
+    by_found : (o : Option NoticeRecord) → notice_of page stored ≡ o → is_some o ≡ true
+        → is_some (option_and_then (λ (notice : NoticeRecord). notice.changes) o) ≡ true
     by_found None e n = cc
     by_found (Some notice) e n =
         find-All (λ (notice : NoticeRecord). is_some notice.changes ≡ true) (λ (notice : NoticeRecord). notice.page == page) stored.notices notice h e
 
-pub own-known : (me index page : ℕ) (memory : Memory) → OwnAttached me memory → is_some (notice_at memory.store (record { node = me; index = index; page = page })) ≡ true
+pub own-known : (me index page : ℕ) (memory : Memory) → OwnAttached me memory
+    → is_some (notice_at memory.store (record { node = me; index = index; page = page })) ≡ true
     → is_some (changes_at memory.store (record { node = me; index = index; page = page })) ≡ true
 own-known me index page memory h n = by_found (stored_at memory.store.entries me index) refl n
   where
@@ -89,4 +91,5 @@ own-known me index page memory h n = by_found (stored_at memory.store.entries me
     by_found (Some stored) e n =
         let at : _ = and_parts (stored.node == me) _ (passes-find (is_at me index) memory.store.entries stored e) in
         known-notice page stored
-        (find-All (λ (stored : StoredRecord). stored.node ≡ me → IsAttached stored) (is_at me index) memory.store.entries stored h e (eqb-true stored.node me at.0)) n
+        (find-All (λ (stored : StoredRecord). stored.node ≡ me → IsAttached stored) (is_at me index) memory.store.entries stored h e
+        (eqb-true stored.node me at.0)) n

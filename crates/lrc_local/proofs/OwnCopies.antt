@@ -51,7 +51,8 @@ set-copy R copies at page copy k h =
     (cases_eq at page)
 
 -- all copies change
-pub map-copy : (f : Copy → Copy) → f absent ≡ absent → (copies : List Copy) (page : ℕ) → slice_index_or (map f copies) page absent ≡ f (slice_index_or copies page absent)
+pub map-copy : (f : Copy → Copy) → f absent ≡ absent → (copies : List Copy) (page : ℕ)
+    → slice_index_or (map f copies) page absent ≡ f (slice_index_or copies page absent)
 map-copy f none copies page =
     ⊎_elim
     (λ (lt : page < length copies). get_or-map f copies page absent absent lt)
@@ -111,7 +112,8 @@ own-copies me time a b same s keeps h =
     All-weaker (λ page. HasOwn me (index_of i) (copy_at a page)) (λ page. HasOwn me (index_of i) (copy_at b page))
     (λ page x. keeps (index_of i) page below x) i.pages (h k d within e))
 
-mends-own : (me index : ℕ) (needs : List Need) (memory : Memory) (page : ℕ) → HasOwn me index (copy_at memory page) → HasOwn me index (copy_at (fold mended memory needs) page)
+mends-own : (me index : ℕ) (needs : List Need) (memory : Memory) (page : ℕ) → HasOwn me index (copy_at memory page)
+    → HasOwn me index (copy_at (fold mended memory needs) page)
 mends-own me index [] memory page h = h
 mends-own me index (need ∷ needs) memory page h =
     mends-own me index needs (mended memory need) page (set-copy (HasOwn me index) memory.copies need.page page _ (λ x. tt) h)
@@ -126,14 +128,16 @@ place-copy memory k d within =
     subst (λ (place : ℕ × Copy). place.1 ≡ copy_at memory place.0) (sym (get_or-enumerate_from 0 memory.copies k d lt))
     (get_or_default memory.copies k d.1 absent lt ∙ ap (λ n. slice_index_or memory.copies n absent) (sym same))
 
-chosen-written : (memory : Memory) (place : ℕ × Copy) (page : ℕ × List PageChange) (o : Option (List PageChange)) → changes_of place.1 ≡ o → place.1 ≡ copy_at memory place.0
+chosen-written : (memory : Memory) (place : ℕ × Copy) (page : ℕ × List PageChange) (o : Option (List PageChange)) → changes_of place.1 ≡ o
+    → place.1 ≡ copy_at memory place.0
     → option_map (λ changes. (place.0, changes)) o ≡ Some page → is_some (changes_of (copy_at memory page.0)) ≡ true
 chosen-written memory place page None c e s = cc
 chosen-written memory place page (Some changes) c e s =
     let at : place.0 ≡ page.0 = ap (λ (p : ℕ × List PageChange). p.0) (same_Some (place.0, changes) page s) in
     ap (λ p. is_some (changes_of (copy_at memory p))) (sym at) ∙ ap (λ x. is_some (changes_of x)) (sym e) ∙ ap is_some c
 
-pub pages-written : (memory : Memory) → All (λ page. is_some (changes_of (copy_at memory page)) ≡ true) (map (λ (page : ℕ × List PageChange). page.0) (all_changes memory))
+pub pages-written : (memory : Memory) → All (λ page. is_some (changes_of (copy_at memory page)) ≡ true)
+    (map (λ (page : ℕ × List PageChange). page.0) (all_changes memory))
 pages-written memory =
     All-map (λ page. is_some (changes_of (copy_at memory page)) ≡ true) (λ (page : ℕ × List PageChange). page.0) (all_changes memory)
     (All-chosen (λ (place : ℕ × Copy). place.1 ≡ copy_at memory place.0) (λ (page : ℕ × List PageChange). is_some (changes_of (copy_at memory page.0)) ≡ true)
@@ -151,10 +155,12 @@ closes-own me stamp memory h =
     (λ k d within e.
     let j : IntervalRecord = slice_index_or (intervals_of memory.store) k d in
     All-weaker (λ page. HasOwn me (index_of j) (copy_at memory page)) (λ page. HasOwn me (index_of j) (copy_at after page))
-    (λ page x. subst (HasOwn me (index_of j)) (sym (map-copy closed refl memory.copies page)) (closed-own me (index_of j) (copy_at memory page) x)) j.pages (h k d within e))
+    (λ page x. subst (HasOwn me (index_of j)) (sym (map-copy closed refl memory.copies page)) (closed-own me (index_of j) (copy_at memory page) x)) j.pages
+    (h k d within e))
     (All-cons (Own me after) i []
     (λ e. All-weaker (λ page. is_some (changes_of (copy_at memory page)) ≡ true) (λ page. HasOwn me (index_of i) (copy_at after page))
-    (λ page x. subst (HasOwn me (index_of i)) (sym (map-copy closed refl memory.copies page)) (written-own me (index_of i) (copy_at memory page) x)) i.pages (pages-written memory))
+    (λ page x. subst (HasOwn me (index_of i)) (sym (map-copy closed refl memory.copies page))
+    (written-own me (index_of i) (copy_at memory page) x)) i.pages (pages-written memory))
     (All-nil (Own me after))))
 
 -- ---- news come
@@ -188,7 +194,8 @@ learns-own v time intervals news r s h =
 
 -- ---- every change
 
-pub own-kept : (v after : View) → Change v after → Ranged v → StoresExactly v.time v.memory → OwnCopied v.setting.me v.memory → OwnCopied after.setting.me after.memory
+pub own-kept : (v after : View) → Change v after → Ranged v → StoresExactly v.time v.memory → OwnCopied v.setting.me v.memory
+    → OwnCopied after.setting.me after.memory
 own-kept v _ (receives from numbers) r s h = h
 own-kept v _ (manages before manager e many) r s h = h
 own-kept v _ (moves course n) r s h = h
@@ -204,13 +211,15 @@ own-kept v _ (begins before time w t c long) r s h = h
 own-kept v _ (cleans collection needs w met) r s h =
     own-copies v.setting.me v.time v.memory (clean_memory needs collection.kept v.memory) (ap intervals_of (clean-same needs collection.kept v.memory).store) s
     (λ index page le x.
-    subst (λ (copies : List Copy). HasOwn v.setting.me index (slice_index_or copies page absent)) (sym (bases-copies collection.kept (fold mended v.memory needs)))
+    subst (λ (copies : List Copy). HasOwn v.setting.me index (slice_index_or copies page absent))
+    (sym (bases-copies collection.kept (fold mended v.memory needs)))
     (mends-own v.setting.me index needs v.memory page x)) h
 own-kept v _ (discards collection w) r s h =
     let same : collection.time ≡ v.time = subst (CollectsAt v.time) w r.present in
     let none : intervals_of (discarded v.memory.store collection.time) ≡ [] =
     ap (λ t. intervals_of (discarded v.memory.store t)) same ∙ nothing-left v.time v.memory s in
-    subst (All (Own v.setting.me (collected_at v.setting.me collection.time v.memory))) (sym none) (All-nil (Own v.setting.me (collected_at v.setting.me collection.time v.memory)))
+    subst (All (Own v.setting.me (collected_at v.setting.me collection.time v.memory))) (sym none)
+    (All-nil (Own v.setting.me (collected_at v.setting.me collection.time v.memory)))
 own-kept v _ (misses page w lt b n) r s h = h
 own-kept v _ (mends need w met) r s h =
     own-copies v.setting.me v.time v.memory (mended v.memory need) refl s
@@ -231,7 +240,8 @@ named-own me page memory i h e n = by_page i.pages (h n) e
         any_fits (λ page. HasOwn me (index_of i) (copy_at memory page)) (λ named. named == page) (HasOwn me (index_of i) (copy_at memory page))
         (λ named x s. subst (λ p. HasOwn me (index_of i) (copy_at memory p)) (eqb-true named page s) x) pages a e
 
-missing-other : (me page : ℕ) (memory : Memory) (since : List ℕ) → OwnCopied me memory → ((index : ℕ) → HasOwn me index (copy_at memory page) → index ≤ entry since me)
+missing-other : (me page : ℕ) (memory : Memory) (since : List ℕ) → OwnCopied me memory
+    → ((index : ℕ) → HasOwn me index (copy_at memory page) → index ≤ entry since me)
     → All (λ (key : Key). key.node ≡ me → ⊥) (missing_of memory.store page since)
 missing-other me page memory since h covers =
     All-map (λ (key : Key). key.node ≡ me → ⊥) (key_of page) _

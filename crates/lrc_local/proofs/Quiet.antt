@@ -42,7 +42,8 @@ learned-none before intervals memory h =
 mends-none : (needs : List Need) (memory : Memory) → NoneWritten memory → NoneWritten (fold mended memory needs)
 mends-none [] memory h = h
 mends-none (need ∷ needs) memory h =
-    mends-none needs (mended memory need) (All-set Unwritten memory.copies need.page (valid (repaired memory.store (first_values (copy_at memory need.page) need.base) need.missing)) refl h)
+    mends-none needs (mended memory need) (All-set Unwritten memory.copies need.page
+    (valid (repaired memory.store (first_values (copy_at memory need.page) need.base) need.missing)) refl h)
 
 bases-none : (kept : List ℕ) (memory : Memory) → NoneWritten memory → NoneWritten (fold with_base memory kept)
 bases-none [] memory h = h

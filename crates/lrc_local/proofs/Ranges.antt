@@ -102,7 +102,8 @@ change-place n place page None lt e = cc
 change-place n place page (Some changes) lt e =
     subst (λ k. k < n) (ap (λ (p : ℕ × List PageChange). p.0) (same_Some (place.0, changes) page e)) lt
 
-pub pages-closed : (memory : Memory) (pages : ℕ) → length memory.copies ≡ pages → All (λ page. page < pages) (map (λ (page : ℕ × List PageChange). page.0) (all_changes memory))
+pub pages-closed : (memory : Memory) (pages : ℕ) → length memory.copies ≡ pages
+    → All (λ page. page < pages) (map (λ (page : ℕ × List PageChange). page.0) (all_changes memory))
 pages-closed memory pages long =
     All-map (λ page. page < pages) (λ (page : ℕ × List PageChange). page.0) (all_changes memory)
     (All-chosen (λ place. place.0 < pages) (λ (page : ℕ × List PageChange). page.0 < pages)

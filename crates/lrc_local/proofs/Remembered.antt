@@ -87,7 +87,8 @@ named-missing page before (i ∷ intervals) h e =
     or_left (is_missing page before i) (list_any (is_missing page before) intervals)
     (and_from (list_any (λ named. named == page) i.pages) (not (knows before i.node (index_of i))) here
     (ap not (lt-leb (index_of i) (entry before i.node) above))))
-    (λ rest. or_right (is_missing page before i) (list_any (is_missing page before) intervals) (named-missing page before intervals (All-tail Above i intervals h) rest))
+    (λ rest. or_right (is_missing page before i) (list_any (is_missing page before) intervals)
+    (named-missing page before intervals (All-tail Above i intervals h) rest))
     (or_cases (list_any (λ named. named == page) i.pages) (is_named intervals page) e)
 
 module _ (v : View) (time : List ℕ) (intervals : List IntervalRecord) (news : News v time intervals) (r : Ranged v) (s : StoresExactly v.time v.memory) where
@@ -116,7 +117,8 @@ module _ (v : View) (time : List ℕ) (intervals : List IntervalRecord) (news : 
   now-missing page e =
       ap (list_any (is_missing page v.time)) intervals-longer
       ∙ list_any-append (is_missing page v.time) (intervals_of v.memory.store) intervals
-      ∙ or_right (list_any (is_missing page v.time) (intervals_of v.memory.store)) (list_any (is_missing page v.time) intervals) (named-missing page v.time intervals above e)
+      ∙ or_right (list_any (is_missing page v.time) (intervals_of v.memory.store)) (list_any (is_missing page v.time) intervals)
+      (named-missing page v.time intervals above e)
 
   invalid-between : (page : ℕ) (copy : Copy) → is_named intervals page ≡ true → IsBetween v.time v.memory page copy
       → IsBetween (joined v.time time) after page (invalidated v.time copy)

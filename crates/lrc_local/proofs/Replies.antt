@@ -87,7 +87,8 @@ module _ (nodes pages words : ℕ) (memory : Memory) (from page : ℕ) (parts : 
 
   still-lacking : (need : Need) → need.missing ≡ lacking memory need.page → need.missing ≡ lacking now need.page
   still-lacking need e =
-      e ∙ sym (lacking-same memory (fold (with_part from page) memory.store parts) need.page (copy_at memory need.page) (parts-same from page parts memory.store).intervals)
+      e ∙ sym (lacking-same memory (fold (with_part from page) memory.store parts) need.page (copy_at memory need.page)
+      (parts-same from page parts memory.store).intervals)
 
   noticed : (need : Need) → need.missing ≡ lacking memory need.page → All (λ (key : Key). (key.page ≡ need.page) × IsNoticed memory.store key) need.missing
   noticed need e =
@@ -183,7 +184,12 @@ still-readable : (needs : List Need) (memory : Memory) (page : ℕ) → page < l
     → is_readable (copy_at (fold mended memory needs) page) ≡ true
 still-readable [] memory page lt r = r
 still-readable (need ∷ needs) memory page lt r =
-    still-readable needs (mended memory need) page (omega (arith, lt, length-set memory.copies need.page (valid (repaired memory.store (first_values (copy_at memory need.page) need.base) need.missing))))
+    still-readable needs (mended memory need) page (omega (
+      arith,
+      lt,
+      length-set memory.copies need.page
+          (valid (repaired memory.store (first_values (copy_at memory need.page) need.base) need.missing)),
+    ))
     (⊎_elim
     (λ (here : need.page ≡ page). is-mended memory need page here lt)
     (λ other. ap is_readable (not-mended memory need page other) ∙ r)

@@ -43,7 +43,8 @@ closed-whole nodes words (written values twin) h = h.0
 closed-whole nodes words (invalid values since) h = h
 closed-whole nodes words absent h = tt
 
-invalidated-whole : (nodes words : ℕ) (before : List ℕ) (copy : Copy) → length before ≡ nodes → IsWhole nodes words copy → IsWhole nodes words (invalidated before copy)
+invalidated-whole : (nodes words : ℕ) (before : List ℕ) (copy : Copy) → length before ≡ nodes → IsWhole nodes words copy
+    → IsWhole nodes words (invalidated before copy)
 invalidated-whole nodes words before (valid values) long h = (h, long)
 invalidated-whole nodes words before (written values twin) long h = h
 invalidated-whole nodes words before (invalid values since) long h = h
@@ -205,7 +206,8 @@ whole-kept v _ (cleans collection needs w met) r n h =
     (λ k d within. met-long nodes (pages_in v) words v.memory (slice_index_or needs k d) h.copies (each k d within) (came k d within)) h.copies in
     let below : All (λ page. page < pages_in v) collection.kept =
     subst (All (λ page. page < pages_in v)) (sym kept.0) (kept-below v.setting.me (pages_in v) v.memory r.memory.keepers) in
-    let same : (clean_memory needs collection.kept v.memory).copies ≡ (fold mended v.memory needs).copies = bases-copies collection.kept (fold mended v.memory needs) in
+    let same : (clean_memory needs collection.kept v.memory).copies ≡ (fold mended v.memory needs).copies =
+    bases-copies collection.kept (fold mended v.memory needs) in
     record {
       copies = subst (All (IsWhole nodes words)) (sym same) copies;
       bases =
@@ -214,7 +216,8 @@ whole-kept v _ (cleans collection needs w met) r n h =
           let page : ℕ = slice_index_or collection.kept k d in
           readable-long nodes words (copy_at (fold mended v.memory needs) page)
           (ap (λ (copies : List Copy). is_readable (slice_index_or copies page absent)) (sym same)
-          ∙ clean-readable v.memory needs collection.kept page (omega (arith, below k d within, r.memory.copies)) (All-contains_itself collection.kept k d within) kept.1)
+          ∙ clean-readable v.memory needs collection.kept page (omega (arith, below k d within, r.memory.copies))
+          (All-contains_itself collection.kept k d within) kept.1)
           (whole-at nodes words (fold mended v.memory needs).copies page copies))
           (subst (All (IsWholeBase words)) (sym (mends-bases needs v.memory)) h.bases);
     }
