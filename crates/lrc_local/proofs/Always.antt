@@ -62,6 +62,8 @@ use Rattle.lrc_protocol.specs.Memory.{Memory}
 use Rattle.lrc_local.specs.Remembered.{IsBetween}
 use Rattle.lrc_local.proofs.Remembered.{Between, between-kept}
 use Rattle.lrc_local.proofs.MetNeeds.{met-known}
+use Rattle.lrc_local.specs.Sized.{IsSized}
+use Rattle.lrc_local.proofs.Sized.{AllSized, sized-kept}
 use Rattle.lrc_local.proofs.Quiet.{quiet-kept}
 use Rattle.lrc_local.proofs.Mailed.{Mailed, mailed-kept, first-manager}
 use Rattle.lrc_local.proofs.Exact.{exact-kept, is_store, own-entry, next-indices}
@@ -163,6 +165,10 @@ module _ (program : Program) (nodes : ℕ) (options : OptionsRecord) (me : ℕ) 
       fresh-between (zeros nodes) (fresh_memory nodes (pages_of program.words options.size) options.size) page _
       (slice_index_or-replicate (pages_of program.words options.size) (valid (zero_page options.size)) page)
   between _ (goes {v = v} {after = after} w c) = between-kept v after c (ranged v w) (exact v w) (between v w)
+
+  pub sized : (v : View) → From v → AllSized (words_of v.size) v.memory.store
+  sized _ stands = All-nil (IsSized (words_of options.size))
+  sized _ (goes {v = v} {after = after} w c) = sized-kept v after c (whole v w) (sized v w)
 
 -- of a node that is reached
 pub ranged_at : (node : Node) → IsReached node → Ranged (view_of node)
@@ -321,3 +327,6 @@ pub met_at : (node : Node) → IsReached node → (need : Need)
     → FitsNeed node.setting.nodes (pages_of node.setting.words node.options.size) (words_of node.options.size) node.memory need
     → is_met need ≡ true → All (λ (key : Key). is_none (changes_at node.memory.store key) ≡ false) need.missing
 met_at node r need f met = met-known node.setting.nodes (pages_in (view_of node)) (words_of node.options.size) node.memory need (ranged_at node r).memory f met
+
+pub sized_at : (node : Node) → IsReached node → AllSized (words_of node.options.size) node.memory.store
+sized_at node r = sized r.program r.nodes r.options r.me r.leads.among (view_of node) (come_to node r).walked

@@ -26,4 +26,5 @@ pub mod OwnCopies
 pub mod OwnAsked
 pub mod Remembered
 pub mod MetNeeds
+pub mod Sized
 pub mod Always

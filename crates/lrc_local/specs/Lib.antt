@@ -4,4 +4,5 @@ pub mod Stored
 pub mod Waits
 pub mod Needs
 pub mod Own
+pub mod Sized
 pub mod Remembered

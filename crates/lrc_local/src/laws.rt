@@ -14,6 +14,7 @@ ghost use Rattle.lrc_local.specs.Own.{OwnAttached, OwnCopied};
 ghost use Rattle.lrc_local.specs.Ranges.{InRange, HasRanges, CollectsAt, HasManager, IsWhole, IsWholeBase};
 ghost use Rattle.lrc_local.specs.Reached.{IsReached, LeadsTo};
 ghost use Rattle.lrc_local.specs.Remembered.{IsBetween};
+ghost use Rattle.lrc_local.specs.Sized.{IsSized};
 ghost use Rattle.lrc_local.specs.Stored.{StoresExactly};
 ghost use Rattle.lrc_local.specs.Waits.{IsQuiet};
 ghost use Rattle.lrc_lock.specs.Held.{lock_at, is_free, is_held};
@@ -140,10 +141,12 @@ pub fn replies_are_of_unread_notices()
         × All (λ (change : Change). change.offset < words_of node.options.size) part.changes) m.parts }
 {}
 
-/// At a node that is reached each copy, twin and base copy is a page long, and each remembered time has an entry for each node.
+/// At a node that is reached each copy, twin and base copy is a page long, each remembered time has an entry for each node, and
+/// all changes that are known are of words of a page.
 pub fn copies_are_whole()
     ensures copies { (node : Node) → IsReached node → All (IsWhole node.setting.nodes (words_of node.options.size)) node.memory.copies }
     ensures bases { (node : Node) → IsReached node → All (IsWholeBase (words_of node.options.size)) node.memory.bases }
+    ensures changes { (node : Node) → IsReached node → All (IsSized (words_of node.options.size)) node.memory.store.entries }
 {}
 
 /// A node that is reached stores each of its own intervals with the changes of all its pages, and its copies have what they
