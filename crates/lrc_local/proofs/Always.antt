@@ -30,7 +30,8 @@ use Rattle.lrc_invariants.specs.Counts.{is_inside}
 use Rattle.lrc_protocol.specs.Mail.{Wait, nothing, grant, departure, access, upkeep, discard}
 use Rattle.std.specs.Prelude.{Option, Some, None, ◌==◌}
 use Rattle.lrc_invariants.proofs.Waiting.{departs_arrived}
-use Rattle.lrc_invariants.proofs.TextHolds.{IsText}
+use Rattle.lrc_invariants.proofs.TextHolds.{IsText, TextIs}
+use Rattle.lrc_local.proofs.Acted.{Known}
 use Rattle.lrc_local.proofs.Ranges.{Ranged, ranged-kept}
 use Rattle.lrc_local.specs.Waits.{IsQuiet}
 use Rattle.lrc_page.specs.declared.changes.Change.{Change}
@@ -69,7 +70,7 @@ use Rattle.lrc_local.proofs.Mailed.{Mailed, mailed-kept, first-manager}
 use Rattle.lrc_local.proofs.Exact.{exact-kept, is_store, own-entry, next-indices}
 
 -- copies that are all valid
-slice_index_or-replicate : (n : ℕ) (copy : Copy) (page : ℕ) → (slice_index_or (replicate n copy) page absent ≡ copy) ⊎
+pub slice_index_or-replicate : (n : ℕ) (copy : Copy) (page : ℕ) → (slice_index_or (replicate n copy) page absent ≡ copy) ⊎
     (slice_index_or (replicate n copy) page absent ≡ absent)
 slice_index_or-replicate zero copy page = inr refl
 slice_index_or-replicate (suc n) copy zero = inl refl
@@ -330,3 +331,15 @@ met_at node r need f met = met-known node.setting.nodes (pages_in (view_of node)
 
 pub sized_at : (node : Node) → IsReached node → AllSized (words_of node.options.size) node.memory.store
 sized_at node r = sized r.program r.nodes r.options r.me r.leads.among (view_of node) (come_to node r).walked
+
+-- ---- before a turn
+
+pub known_at : (node : Node) → IsReached node → Known node
+known_at node r = record {
+  text = subst (λ s. TextIs s node.course) (sym (is_set node r)) (come_to node r).tokened.text;
+  fits = (come_to node r).tokened.fits;
+  quiet = quiet_at node r;
+  copies = (ranged_at node r).memory.copies;
+  needs = (needed_at node r).each;
+  reaching = reaching_at node r;
+}

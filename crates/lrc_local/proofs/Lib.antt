@@ -27,4 +27,7 @@ pub mod OwnAsked
 pub mod Remembered
 pub mod MetNeeds
 pub mod Sized
+pub mod Opened
+pub mod Acted
 pub mod Always
+pub mod Wrote

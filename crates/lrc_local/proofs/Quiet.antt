@@ -34,7 +34,7 @@ invalidated_if before false copy h = h
 closed-none : (copies : List Copy) → All Unwritten (map closed copies)
 closed-none copies = All-map Unwritten closed copies (λ k d within. closed-unwritten _)
 
-learned-none : (before : List ℕ) (intervals : List IntervalRecord) (memory : Memory) → NoneWritten memory → NoneWritten (learned before intervals memory)
+pub learned-none : (before : List ℕ) (intervals : List IntervalRecord) (memory : Memory) → NoneWritten memory → NoneWritten (learned before intervals memory)
 learned-none before intervals memory h =
     All-placed Unwritten Unwritten (λ place. if is_named intervals place.0 then invalidated before place.1 else place.1)
     (λ page copy u. invalidated_if before (is_named intervals page) copy u) 0 memory.copies h

@@ -4,5 +4,6 @@ pub mod Stored
 pub mod Waits
 pub mod Needs
 pub mod Own
+pub mod Opened
 pub mod Sized
 pub mod Remembered

@@ -10,6 +10,8 @@ ghost use Rattle.lrc_invariants.specs.Tokens.{is_awaited};
 ghost use Rattle.lrc_invariants.specs.Waiting.{next_in, acquiring, FixesNext};
 ghost use Rattle.lrc_lang.specs.declared.program.Program.{Program};
 ghost use Rattle.lrc_local.specs.Needs.{FitsNeed, FitsKept, ReachesFor};
+ghost use Rattle.lrc_local.specs.Opened.{AreMadeBy, open_in, open_writes};
+ghost use Rattle.lrc_protocol.specs.Follows.{deeds_in};
 ghost use Rattle.lrc_local.specs.Own.{OwnAttached, OwnCopied};
 ghost use Rattle.lrc_local.specs.Ranges.{InRange, HasRanges, CollectsAt, HasManager, IsWhole, IsWholeBase};
 ghost use Rattle.lrc_local.specs.Reached.{IsReached, LeadsTo};
@@ -173,4 +175,12 @@ pub fn remembered_times_are_between()
     ensures met { (node : Node) (need : Need) → IsReached node
         → FitsNeed node.setting.nodes (pages_of node.setting.words node.options.size) (words_of node.options.size) node.memory need
         → is_met need ≡ true → All (λ (key : Key). is_none (changes_at node.memory.store key) ≡ false) need.missing }
+{}
+
+/// A node's copies are what its open interval made of them: after the turns that lead to it, a page is written, with a twin,
+/// exactly where the node's own deeds since the last acquire, release or arrive write it, and its values are those of the twin
+/// after these writes, in order. Who waits for a grant has closed its interval already.
+pub fn copies_are_made_by_the_open_interval()
+    ensures { (program : Program) (nodes : ℕ) (options : OptionsRecord) (me : ℕ) (l : Local) → LeadsTo program nodes options me l
+        → AreMadeBy l.node.options.size l.node.memory (open_in l.node.mail.wait (open_writes (deeds_in l.turns))) }
 {}
