@@ -31,3 +31,4 @@ pub mod Opened
 pub mod Acted
 pub mod Always
 pub mod Wrote
+pub mod Comes

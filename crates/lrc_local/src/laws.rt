@@ -9,6 +9,9 @@ ghost use Rattle.lrc_invariants.specs.Shape.{HasShape};
 ghost use Rattle.lrc_invariants.specs.Tokens.{is_awaited};
 ghost use Rattle.lrc_invariants.specs.Waiting.{next_in, acquiring, FixesNext};
 ghost use Rattle.lrc_lang.specs.declared.program.Program.{Program};
+ghost use Rattle.lrc_local.specs.Comes.{CanBeRepaired};
+ghost use Rattle.lrc_protocol.specs.Waits.{with_needs};
+ghost use Rattle.lrc_wire.specs.declared.message.Message.TheVariants.{PageReply};
 ghost use Rattle.lrc_local.specs.Needs.{FitsNeed, FitsKept, ReachesFor};
 ghost use Rattle.lrc_local.specs.Opened.{AreMadeBy, open_in, open_writes};
 ghost use Rattle.lrc_protocol.specs.Follows.{deeds_in};
@@ -25,11 +28,11 @@ ghost use Rattle.lrc_page.specs.Page.{words_of};
 ghost use Rattle.lrc_page.specs.Place.{pages_of};
 ghost use Rattle.lrc_page.specs.declared.changes.Change.{Change};
 ghost use Rattle.lrc_protocol.specs.Course.{going};
-ghost use Rattle.lrc_protocol.specs.Expected.{indices_by, is_learnable, is_changes_reply};
-ghost use Rattle.lrc_protocol.specs.Fetch.{Need, Asked, is_met};
+ghost use Rattle.lrc_protocol.specs.Expected.{indices_by, is_learnable, is_changes_reply, is_expected};
+ghost use Rattle.lrc_protocol.specs.Fetch.{Need, Asked, is_met, with_changes, with_page};
 ghost use Rattle.lrc_protocol.specs.Locks.{next_time};
 ghost use Rattle.lrc_protocol.specs.Log.{Input, Local, outcome_of};
-ghost use Rattle.lrc_protocol.specs.Mail.{nothing, grant, needs_of};
+ghost use Rattle.lrc_protocol.specs.Mail.{nothing, grant, needs_of, access};
 ghost use Rattle.lrc_protocol.specs.Memory.{lacking, copy_at};
 ghost use Rattle.lrc_protocol.specs.Node.{Node, OptionsRecord, fresh_node};
 ghost use Rattle.lrc_protocol.specs.Turn.{TurnRecord, done, run_turn, take_turn};
@@ -38,7 +41,7 @@ ghost use Rattle.lrc_store.specs.Store.{IsStore, notice_at, unread, changes_at};
 ghost use Rattle.lrc_store.specs.declared.key.Key.{Key};
 ghost use Rattle.lrc_time.specs.Time.{entry};
 ghost use Rattle.lrc_wire.specs.Envelope.{EnvelopeRecord};
-ghost use Rattle.lrc_wire.specs.Records.{IndexedChangesRecord, ChangesReplyRecord};
+ghost use Rattle.lrc_wire.specs.Records.{IndexedChangesRecord, ChangesReplyRecord, PageReplyRecord};
 
 /// A fresh node is reached, and so is a node after each turn of one that is reached.
 pub fn turns_lead_on()
@@ -183,4 +186,15 @@ pub fn remembered_times_are_between()
 pub fn copies_are_made_by_the_open_interval()
     ensures { (program : Program) (nodes : ℕ) (options : OptionsRecord) (me : ℕ) (l : Local) → LeadsTo program nodes options me l
         → AreMadeBy l.node.options.size l.node.memory (open_in l.node.mail.wait (open_writes (deeds_in l.turns))) }
+{}
+
+/// Where what comes for pages leaves a node waiting at a miss, the page that it needs is one of its memory's, a base copy is due
+/// or has come just where the copy is absent, the keys that it lacks are of it, and the text's next access is on it.
+pub fn what_comes_can_be_repaired()
+    ensures changes { (node : Node) (from : ℕ) (m : ChangesReplyRecord) (need : Need) → IsReached node
+        → is_changes_reply node from m ≡ true → with_needs (with_changes m.page from) node.mail.wait ≡ access need
+        → CanBeRepaired node need }
+    ensures page { (node : Node) (from : ℕ) (m : PageReplyRecord) (need : Need) → IsReached node
+        → is_expected node from (PageReply m) ≡ true → with_needs (with_page m.page m.values) node.mail.wait ≡ access need
+        → CanBeRepaired node need }
 {}
