@@ -1,6 +1,6 @@
 -- What each turn writes: a node's copies are what its open interval made of them.
-use Rattle.std.proofs.Common.{◌≡◌, ◌≢◌, ℕ, ◌+◌, ◌<◌, ◌≤◌, List, [], ◌∷◌, ◌++◌, Bool, true, false, length, refl, sym, ap, subst, ◌∙◌, arith}
-use Rattle.std.specs.Prelude.{Option, Some, None, All, not, option_map, fold, map, filter, nat_lt, nat_le, if◌then◌else◌}
+use Rattle.std.proofs.Common.{◌≡◌, ℕ, ◌<◌, List, [], ◌∷◌, ◌++◌, Bool, true, false, length, refl, sym, ap, subst, ◌∙◌, arith}
+use Rattle.std.specs.Prelude.{Option, Some, None, All, option_map, fold, map, nat_lt, if◌then◌else◌}
 use Rattle.std.specs.List.{list_all}
 use Rattle.std.proofs.lemmas.Bool.{and_parts, eqb-true}
 use Rattle.std.proofs.lemmas.Option.{same_Some}
@@ -11,7 +11,7 @@ use Rattle.lrc_trace.specs.Run.{act_of}
 use Rattle.lrc_page.specs.declared.size.Size.{Size}
 use Rattle.lrc_page.specs.Page.{words_of}
 use Rattle.lrc_page.specs.Place.{page_of, pages_of}
-use Rattle.lrc_exec.specs.Meaning.{Setting, Thread, Next, quiet, prints, reads, writes, acquires, releases, arrives, departs, traps, ends, next_of}
+use Rattle.lrc_exec.specs.Meaning.{Thread, Next, quiet, prints, reads, writes, acquires, releases, arrives, departs, traps, ends, next_of}
 use Rattle.lrc_store.specs.Interval.{IntervalRecord}
 use Rattle.lrc_store.specs.Store.{StoreRecord}
 use Rattle.lrc_wire.specs.Envelope.{EnvelopeRecord}
@@ -23,17 +23,17 @@ use Rattle.lrc_barrier.specs.Barrier.{ArriveStep, refuses as refuses_arrival, wa
 use Rattle.lrc_protocol.specs.Copy.{Copy, valid, written, invalid, absent, is_readable, changes_of}
 use Rattle.lrc_protocol.specs.Memory.{Memory, copy_at, base_at, with_word, with_keepers, kept_pages, collected_at}
 use Rattle.lrc_protocol.specs.Fetch.{Base, Need, need_of, is_met, mended, with_changes, with_page}
-use Rattle.lrc_protocol.specs.Mail.{numbered, Letter, Wait, nothing, grant, departure, access, upkeep, discard, Collection, collection_of, needs_of, is_idle, awaits_grant, awaits_departure, MOST_NUMBER}
+use Rattle.lrc_protocol.specs.Mail.{numbered, Letter, Wait, nothing, grant, departure, access, upkeep, discard, collection_of, needs_of, is_idle, awaits_grant, awaits_departure, MOST_NUMBER}
 use Rattle.lrc_protocol.specs.Course.{Course, going, trapped, ended}
 use Rattle.lrc_protocol.specs.Locks.{next_time}
-use Rattle.lrc_protocol.specs.Barrier.{arrive_step, clean_step}
-use Rattle.lrc_protocol.specs.Node.{Node, Effect, sends, makes, acts, acts_by, with_memory, waiting, begins_of, may_begin}
+use Rattle.lrc_protocol.specs.Barrier.{clean_step}
+use Rattle.lrc_protocol.specs.Node.{Node, Effect, makes, acts, acts_by, with_memory, waiting, begins_of, may_begin}
 use Rattle.lrc_protocol.specs.Letters.{requests_of}
-use Rattle.lrc_protocol.specs.Waits.{clean_memory, waits_or_goes_on, with_needs}
+use Rattle.lrc_protocol.specs.Waits.{waits_or_goes_on, with_needs}
 use Rattle.lrc_protocol.specs.Expected.{is_expected}
 use Rattle.lrc_protocol.specs.Run.{own_index, closes as closes_interval, reaches, acquire_at, release_at, arrive_at, run_effect, charged}
-use Rattle.lrc_protocol.specs.Take.{collects, take_departure, request_by, learns as learns_news, arrive_by, clean_by, discard_by, page_reply_by, take_grant, take_effect, needs_to_keep, with_part}
-use Rattle.lrc_protocol.specs.Turn.{TurnRecord, Outcome, done, not_ready, unexpected, worn, turn_with, turn_of, turn_if, turn_by, take_anew, take_turn, taking, is_addressed, is_repeat, empty_turn}
+use Rattle.lrc_protocol.specs.Take.{take_departure, request_by, learns as learns_news, arrive_by, clean_by, discard_by, page_reply_by, take_grant, take_effect, needs_to_keep, with_part}
+use Rattle.lrc_protocol.specs.Turn.{TurnRecord, Outcome, done, not_ready, unexpected, worn, turn_with, turn_of, turn_if, turn_by, take_anew, taking, is_addressed, is_repeat, empty_turn}
 use Rattle.lrc_protocol.specs.Log.{Input, run, taken as taken_in, outcome_of}
 use Rattle.lrc_invariants.specs.Waiting.{next_in, is_departing, FixesNext}
 use Rattle.lrc_invariants.proofs.Counts.{lock_next, departure_next}
@@ -53,7 +53,8 @@ pub record Known (node : Node) : Type 0 where
   pub fits : FixesNext node.mail.wait (next_in node.course)
   pub quiet : IsQuiet node.mail.wait node.memory
   pub copies : length node.memory.copies ≡ pages_of node.setting.words node.options.size
-  pub needs : All (FitsNeed node.setting.nodes (pages_of node.setting.words node.options.size) (words_of node.options.size) node.memory) (needs_of node.mail.wait)
+  pub needs : All (FitsNeed node.setting.nodes (pages_of node.setting.words node.options.size) (words_of node.options.size) node.memory)
+      (needs_of node.mail.wait)
   pub reaching : ReachesFor node.options.size (next_in node.course) node.mail.wait
 
 -- what must hold before the text makes this
@@ -122,12 +123,14 @@ module _ (ws : List (ℕ × ℕ)) where
       → AreMadeBy node.options.size memory (open_in node.mail.wait x)
   as_open node memory x o m = subst (AreMadeBy node.options.size memory) (sym (o x)) m
 
-  makes-made : (letters : List Letter) (node : Node) (next : Next) → NotGrant node → Before node.options.size node.memory ws next → After (makes letters node next)
+  makes-made : (letters : List Letter) (node : Node) (next : Next) → NotGrant node → Before node.options.size node.memory ws next
+      → After (makes letters node next)
   makes-made letters node (quiet after) o b = as_open node node.memory ws o b
   makes-made letters node (prints value after) o b = as_open node node.memory ws o b
   makes-made letters node (reads word after) o b = as_open node node.memory ws o b
   makes-made letters node (writes word value after) o b =
-      as_open node (with_word node.options.size word value node.memory) (ws ++ (word, value) ∷ []) o (puts-made node.options.size node.memory ws word value b.1 b.0)
+      as_open node (with_word node.options.size word value node.memory) (ws ++ (word, value) ∷ []) o
+      (puts-made node.options.size node.memory ws word value b.1 b.0)
   makes-made letters node (acquires lock after) o b = as_open node node.memory [] o b
   makes-made letters node (releases lock after) o b = as_open node node.memory [] o b
   makes-made letters node (arrives after) o b = as_open node node.memory [] o b
@@ -179,7 +182,8 @@ module _ (ws : List (ℕ × ℕ)) where
         (page-in_range word node.setting.words node.options.size (next-in_words node.setting node.course (reads word after) known.text n)) (λ memory r m. m)
     run-made (writes word value after) n =
         reaches-made (page_of word node.options.size) (writes word value after) n
-        (page-in_range word node.setting.words node.options.size (next-in_words node.setting node.course (writes word value after) known.text n)) (λ memory r m. (m, r))
+        (page-in_range word node.setting.words node.options.size (next-in_words node.setting node.course (writes word value after) known.text n))
+        (λ memory r m. (m, r))
     run-made (acquires lock after) n =
         optional (nat_lt (own_index node) MOST_NUMBER) (acquire_at lock (closes_interval node))
         (either (is_free (lock_at node.locks.held lock)) _ _
@@ -217,7 +221,8 @@ module _ (ws : List (ℕ × ℕ)) where
   page_reply-made node from page (Some values) m = m
 
   -- the text departs
-  leaves-made : (letters : List Letter) (node : Node) (w : Wait) → FixesNext w (next_in node.course) → ((next : Option Next) → FixesNext w next → is_departing next ≡ true)
+  leaves-made : (letters : List Letter) (node : Node) (w : Wait) → FixesNext w (next_in node.course)
+      → ((next : Option Next) → FixesNext w next → is_departing next ≡ true)
       → NotGrant node → AreMadeBy node.options.size node.memory ws → After (acts letters node)
   leaves-made letters node w f says o m =
       let next : (x : Thread) × (next_in node.course ≡ Some (departs x)) = departure_next (next_in node.course) (says (next_in node.course) f) in
@@ -225,7 +230,8 @@ module _ (ws : List (ℕ × ℕ)) where
 
   discard-made : (node : Node) (w : Wait) → node.mail.wait ≡ w → FixesNext w (next_in node.course) → Made node → After (discard_by node (collection_of w))
   discard-made node (discard collection) e f m =
-      leaves-made [] (waiting nothing (with_memory node (collected_at node.setting.me collection.time node.memory))) (discard collection) f (λ next x. x) (λ x. refl)
+      leaves-made [] (waiting nothing (with_memory node (collected_at node.setting.me collection.time node.memory))) (discard collection) f (λ next x. x)
+      (λ x. refl)
       (discards-made node.options.size node.setting.me collection.time node.memory ws
       (subst (λ w. AreMadeBy node.options.size node.memory (open_in w ws)) e m))
   discard-made node nothing e f m = m
@@ -235,7 +241,8 @@ module _ (ws : List (ℕ × ℕ)) where
   discard-made node (upkeep collection needs) e f m = m
 
   -- something came for pages; the store may know more changes than before
-  comes-made : (node : Node) (store : StoreRecord) (change : Need → Need) → ((need : Need) → (change need).page ≡ need.page) → Known node → (w : Wait) → node.mail.wait ≡ w
+  comes-made : (node : Node) (store : StoreRecord) (change : Need → Need) → ((need : Need) → (change need).page ≡ need.page) → Known node → (w : Wait)
+      → node.mail.wait ≡ w
       → Made node → After (waits_or_goes_on [] (with_memory node (record node.memory { store = store })) (with_needs change w))
   comes-made node store change same known (access need) e m =
       let size : Size = node.options.size in
@@ -246,7 +253,8 @@ module _ (ws : List (ℕ × ℕ)) where
       (subst (λ w. All (FitsNeed node.setting.nodes (pages_of node.setting.words size) (words_of size) node.memory) (needs_of w)) e known.needs) in
       let next : _ = access_by size ws need.page (next_in node.course) (subst (ReachesFor size (next_in node.course)) e known.reaching) in
       let unread : changes_of (copy_at now (change need).page) ≡ None =
-      ap (λ p. changes_of (copy_at node.memory p)) (same need) ∙ fits-unwritten node.setting.nodes (words_of size) (copy_at node.memory need.page) need.base fits.base in
+      ap (λ p. changes_of (copy_at node.memory p)) (same need) ∙ fits-unwritten node.setting.nodes (words_of size)
+      (copy_at node.memory need.page) need.base fits.base in
       either (is_met (change need)) _ _
       (λ met. acts-made [] (waiting nothing (with_memory node (mended now (change need)))) next.0 next.1 (λ x. refl)
       (next.2 (mended now (change need)) (is-mended now (change need) need.page (same need) (omega (arith, fits.in_range, known.copies)))
@@ -278,7 +286,8 @@ module _ (ws : List (ℕ × ℕ)) where
       let needs : List Need = needs_to_keep keeping kept in
       either collect _ _
       (λ yes. either (list_all is_met needs) _ _ (λ met. cleans-made size needs kept keeping.memory ws none learned_so) (λ unmet. learned_so))
-      (λ no. leaves-made [] (waiting nothing knowing) departure (subst (λ w. FixesNext w (next_in node.course)) e known.fits) (λ next x. x) (λ x. refl) learned_so)
+      (λ no. leaves-made [] (waiting nothing knowing) departure (subst (λ w. FixesNext w (next_in node.course)) e known.fits) (λ next x. x)
+      (λ x. refl) learned_so)
 
   awaits_lock : (lock : ℕ) (w : Wait) → awaits_grant lock w ≡ true → w ≡ grant lock
   awaits_lock lock (grant awaited) e = ap grant (eqb-true awaited lock e)
@@ -305,7 +314,8 @@ module _ (ws : List (ℕ × ℕ)) where
       lock_next (next_in node.course) lock (subst (λ w. FixesNext w (next_in node.course)) e known.fits) in
       acts-made [] _ (acquires lock next.0) next.1 (λ x. refl) (learns-made size node.locks.time intervals node.memory [] here)
 
-  take-made : (node : Node) (envelope : EnvelopeRecord) (from : ℕ) (message : Message) → is_expected node from message ≡ true → Known (taking node envelope) → Made node
+  take-made : (node : Node) (envelope : EnvelopeRecord) (from : ℕ) (message : Message) → is_expected node from message ≡ true
+      → Known (taking node envelope) → Made node
       → After (take_effect (taking node envelope) from message)
   take-made node envelope from (LockRequest m) e k made = request-made (taking node envelope) from m.lock m.time (requested node.locks.managed m.lock from) made
   take-made node envelope from (LockForward m) e k made = made
@@ -324,7 +334,8 @@ module _ (ws : List (ℕ × ℕ)) where
   take-made node envelope from (Discard episode) e k made = discard-made (taking node envelope) node.mail.wait refl k.fits made
   take-made node envelope from (ChangesRequest m) e k made = made
   take-made node envelope from (ChangesReply m) e k made =
-      comes-made (taking node envelope) (fold (with_part from m.page) node.memory.store m.parts) (with_changes m.page from) (changed_page m.page from) k node.mail.wait refl made
+      comes-made (taking node envelope) (fold (with_part from m.page) node.memory.store m.parts) (with_changes m.page from)
+      (changed_page m.page from) k node.mail.wait refl made
   take-made node envelope from (PageRequest page) e k made = page_reply-made (taking node envelope) from page (base_at node.memory page) made
   take-made node envelope from (PageReply m) e k made =
       comes-made (taking node envelope) node.memory.store (with_page m.page m.values) (sent_page m.page m.values) k node.mail.wait refl made
@@ -388,7 +399,8 @@ expected_or_not : (ws : List (ℕ × ℕ)) (b : Bool) (o : Outcome) → (b ≡ t
 expected_or_not ws true o h = h refl
 expected_or_not ws false o h = tt
 
-repeated_or_not : (ws : List (ℕ × ℕ)) (node : Node) (b : Bool) (o : Outcome) → Made ws node → MadeAfter ws o → MadeAfter ws (if b then done empty_turn node else o)
+repeated_or_not : (ws : List (ℕ × ℕ)) (node : Node) (b : Bool) (o : Outcome) → Made ws node → MadeAfter ws o
+    → MadeAfter ws (if b then done empty_turn node else o)
 repeated_or_not ws node true o m h = m
 repeated_or_not ws node false o m h = h
 

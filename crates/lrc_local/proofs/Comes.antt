@@ -1,7 +1,6 @@
 -- What comes for a page leaves a need that can be repaired once all has come.
-use Rattle.std.proofs.Common.{◌≡◌, ℕ, ◌<◌, List, [], ◌∷◌, Bool, true, false, length, refl, sym, ap, subst, ◌∙◌, arith}
-use Rattle.std.specs.Prelude.{Option, Some, None, All, ◌==◌, ◌&&◌, nat_lt, fold, slice_index_or}
-use Rattle.std.specs.List.{list_any}
+use Rattle.std.proofs.Common.{◌≡◌, ℕ, List, [], true, length, refl, sym, ap, subst, arith}
+use Rattle.std.specs.Prelude.{Option, Some, None, All, slice_index_or}
 use Rattle.std.proofs.lemmas.Bool.{and_parts, eqb-true, ltb-true}
 use Rattle.std.proofs.lemmas.Option.{same_Some}
 use Rattle.std.proofs.lemmas.List.Elements.{All-head, All-weaker}
@@ -9,13 +8,13 @@ use Rattle.lrc_protocol.specs.Copy.{Copy, absent}
 use Rattle.lrc_exec.specs.Meaning.{Setting, Next, quiet, prints, reads, writes, acquires, releases, arrives, departs, traps, ends}
 use Rattle.lrc_page.specs.declared.size.Size.{Size}
 use Rattle.lrc_page.specs.Page.{words_of}
-use Rattle.lrc_page.specs.Place.{page_of, pages_of}
+use Rattle.lrc_page.specs.Place.{page_of}
 use Rattle.lrc_store.specs.declared.key.Key.{Key}
 use Rattle.lrc_store.specs.Store.{IsStore}
 use Rattle.lrc_wire.specs.Records.{ChangesReplyRecord, PageReplyRecord}
-use Rattle.lrc_protocol.specs.Memory.{Memory, copy_at, lacking}
+use Rattle.lrc_protocol.specs.Memory.{copy_at, lacking}
 use Rattle.lrc_protocol.specs.Fetch.{Need, with_changes, with_page}
-use Rattle.lrc_protocol.specs.Mail.{Wait, access, needs_of}
+use Rattle.lrc_protocol.specs.Mail.{access, needs_of}
 use Rattle.lrc_protocol.specs.Node.{Node}
 use Rattle.lrc_protocol.specs.Waits.{with_needs}
 use Rattle.lrc_protocol.specs.Expected.{is_changes_reply, is_expected}
@@ -24,7 +23,7 @@ use Rattle.lrc_invariants.specs.Waiting.{next_in}
 use Rattle.lrc_local.specs.Needs.{FitsBase, FitsNeed, page_next, ReachesFor}
 use Rattle.lrc_local.specs.Comes.{GoesTo, CanBeRepaired}
 use Rattle.lrc_local.specs.Reached.{IsReached}
-use Rattle.lrc_local.proofs.Change.{View, view_of, pages_in, Change, gets_changes, gets_page, Reply, reply, Sent}
+use Rattle.lrc_local.proofs.Change.{View, view_of, pages_in, Change, gets_changes, gets_page, reply}
 use Rattle.lrc_local.proofs.Ranges.{Ranged, ranged-kept}
 use Rattle.lrc_local.proofs.Exact.{exact-kept, is_store}
 use Rattle.lrc_local.proofs.Needed.{Needed, needed-kept}
@@ -32,11 +31,11 @@ use Rattle.lrc_local.proofs.Reaches.{reaches-kept}
 use Rattle.lrc_local.proofs.Keys.{IsNoticed}
 use Rattle.lrc_local.proofs.Replies.{lacking-noticed}
 use Rattle.lrc_local.proofs.Words.{InWords, next-in_words}
-use Rattle.lrc_local.proofs.Acted.{Known}
 use Rattle.lrc_local.proofs.Always.{ranged_at, exact_at, needed_at, reaching_at, known_at}
 
 -- the next access is of a word of the memory
-goes_to : (size : Size) (words page : ℕ) (o : Option Next) → ((next : Next) → o ≡ Some next → InWords words next) → page_next size o ≡ Some page → GoesTo size words page o
+goes_to : (size : Size) (words page : ℕ) (o : Option Next) → ((next : Next) → o ≡ Some next → InWords words next) → page_next size o ≡ Some page
+    → GoesTo size words page o
 goes_to size words page None k e = cc
 goes_to size words page (Some (reads word after)) k e = (k (reads word after) refl, same_Some (page_of word size) page e)
 goes_to size words page (Some (writes word value after)) k e = (k (writes word value after) refl, same_Some (page_of word size) page e)
@@ -60,7 +59,8 @@ repairs node r after c s z t k need w =
     All-head (FitsNeed after.setting.nodes (pages_in after) (words_of after.size) after.memory) need []
     (subst (λ w. All (FitsNeed after.setting.nodes (pages_in after) (words_of after.size) after.memory) (needs_of w)) w needed.each) in
     let stored : IsStore after.memory.store =
-    is_store after.setting.nodes (pages_in after) after.time after.memory ranged.memory (exact-kept (view_of node) after c (ranged_at node r) (exact_at node r)) in
+    is_store after.setting.nodes (pages_in after) after.time after.memory ranged.memory
+    (exact-kept (view_of node) after c (ranged_at node r) (exact_at node r)) in
     let page : page_next node.options.size (next_in node.course) ≡ Some need.page =
     subst (λ x. page_next node.options.size (next_in x) ≡ Some need.page) t
     (subst (λ x. page_next x (next_in after.course) ≡ Some need.page) z (subst (ReachesFor after.size (next_in after.course)) w reaching)) in

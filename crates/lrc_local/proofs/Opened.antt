@@ -1,7 +1,6 @@
 -- What changes of a memory do to what the open interval made of it.
-use Rattle.std.proofs.Common.{◌≡◌, ◌≢◌, ℕ, zero, suc, ◌+◌, ◌<◌, ◌≤◌, List, [], ◌∷◌, ◌++◌, Bool, true, false, cond, length, refl, sym, ap, subst, ◌∙◌, ◌⊎◌, inl, inr, ⊎_elim, arith}
-use Rattle.std.specs.Prelude.{None, All, ◌==◌, fold, map, filter, slice_index_or, slice_set, if◌then◌else◌}
-use Rattle.std.specs.List.{enumerate_from}
+use Rattle.std.proofs.Common.{◌≡◌, ℕ, ◌<◌, ◌≤◌, List, [], ◌∷◌, ◌++◌, true, cond, length, refl, sym, ap, subst, ◌∙◌, inl, inr, ⊎_elim, arith}
+use Rattle.std.specs.Prelude.{None, ◌==◌, fold, slice_index_or, slice_set, if◌then◌else◌}
 use Rattle.std.proofs.lemmas.Bool.{cond_both, cases_eq, cases_lt, eq-eqb, ne_eqb, false≢true}
 use Rattle.std.proofs.lemmas.List.{get_or_past, get_or-set_same, get_or-set_other}
 use Rattle.std.proofs.lemmas.List.Sums.{fold-append}
@@ -45,15 +44,19 @@ some_more (y ∷ ys) x e = cc
 written-here : (size : Size) (page word value : ℕ) (writes : List (ℕ × ℕ)) (copy : Copy) → page_of word size ≡ page → is_readable copy ≡ true
     → IsMadeBy size page writes copy → IsMadeBy size page (writes ++ (word, value) ∷ []) (after_write copy (offset_of word size) value)
 written-here size page word value writes (valid values) e r h =
-    let more : on_page size page (writes ++ (word, value) ∷ []) ≡ on_page size page writes ++ (word, value) ∷ [] = on_page-here size page writes word value e in
-    (sym (ap (fold (put size) values) (more ∙ ap (λ l. l ++ (word, value) ∷ []) h)),
-    λ none. some_more (on_page size page writes) (word, value) (sym more ∙ none))
+    let more : on_page size page (writes ++ (word, value) ∷ []) ≡ on_page size page writes ++ (word, value) ∷ [] =
+    on_page-here size page writes word value e in (
+      sym (ap (fold (put size) values) (more ∙ ap (λ l. l ++ (word, value) ∷ []) h)),
+      λ none. some_more (on_page size page writes) (word, value) (sym more ∙ none),
+    )
 written-here size page word value writes (written values twin) e r h =
-    let more : on_page size page (writes ++ (word, value) ∷ []) ≡ on_page size page writes ++ (word, value) ∷ [] = on_page-here size page writes word value e in
-    (ap (λ l. slice_set l (offset_of word size) value) h.0
-    ∙ sym (fold-append (put size) twin (on_page size page writes) ((word, value) ∷ []))
-    ∙ ap (fold (put size) twin) (sym more),
-    λ none. some_more (on_page size page writes) (word, value) (sym more ∙ none))
+    let more : on_page size page (writes ++ (word, value) ∷ []) ≡ on_page size page writes ++ (word, value) ∷ [] =
+    on_page-here size page writes word value e in (
+      ap (λ l. slice_set l (offset_of word size) value) h.0
+          ∙ sym (fold-append (put size) twin (on_page size page writes) ((word, value) ∷ []))
+          ∙ ap (fold (put size) twin) (sym more),
+      λ none. some_more (on_page size page writes) (word, value) (sym more ∙ none),
+    )
 written-here size page word value writes (invalid values since) e r h = cc
 written-here size page word value writes absent e r h = cc
 
@@ -67,7 +70,8 @@ same-made size page writes after absent e h = e ∙ h
 
 readable-within : (copies : List Copy) (page : ℕ) → is_readable (slice_index_or copies page absent) ≡ true → page < length copies
 readable-within copies page r =
-    ⊎_elim (λ lt. lt) (λ (le : length copies ≤ page). absurd (false≢true (ap is_readable (sym (get_or_past copies page absent le)) ∙ r))) (cases_lt page (length copies))
+    ⊎_elim (λ lt. lt) (λ (le : length copies ≤ page). absurd (false≢true (ap is_readable (sym (get_or_past copies page absent le)) ∙ r)))
+    (cases_lt page (length copies))
 
 pub puts-made : (size : Size) (memory : Memory) (writes : List (ℕ × ℕ)) (word value : ℕ) → is_readable (copy_at memory (page_of word size)) ≡ true
     → AreMadeBy size memory writes → AreMadeBy size (with_word size word value memory) (writes ++ (word, value) ∷ [])
@@ -123,7 +127,8 @@ learns-made size before intervals memory writes h page =
     (λ e. invalidated-made size page writes before (copy_at memory page) (h page)) (λ e. h page)))
     (λ (le : length memory.copies ≤ page).
     subst (IsMadeBy size page writes)
-    (get_or_past memory.copies page absent le ∙ sym (get_or_past (learned before intervals memory).copies page absent (omega (arith, le, length-placed f memory.copies))))
+    (get_or_past memory.copies page absent le ∙ sym (get_or_past (learned before intervals memory).copies page absent
+    (omega (arith, le, length-placed f memory.copies))))
     (h page))
     (cases_lt page (length memory.copies))
 
@@ -142,7 +147,8 @@ valid-made size page writes (written old twin) values u h = cc
 valid-made size page writes (invalid old since) values u h = h
 valid-made size page writes absent values u h = h
 
-pub mends-made : (size : Size) (memory : Memory) (need : Need) (writes : List (ℕ × ℕ)) → changes_of (copy_at memory need.page) ≡ None → AreMadeBy size memory writes
+pub mends-made : (size : Size) (memory : Memory) (need : Need) (writes : List (ℕ × ℕ)) → changes_of (copy_at memory need.page) ≡ None
+    → AreMadeBy size memory writes
     → AreMadeBy size (mended memory need) writes
 mends-made size memory need writes u h page =
     let new : Copy = valid (repaired memory.store (first_values (copy_at memory need.page) need.base) need.missing) in

@@ -172,7 +172,8 @@ page-fits nodes pages words memory needs page from values h e long =
 
 -- ---- pages are mended
 
-pub is-mended : (memory : Memory) (need : Need) (page : ℕ) → need.page ≡ page → page < length memory.copies → is_readable (copy_at (mended memory need) page) ≡ true
+pub is-mended : (memory : Memory) (need : Need) (page : ℕ) → need.page ≡ page → page < length memory.copies
+    → is_readable (copy_at (mended memory need) page) ≡ true
 is-mended memory need page e lt =
     let mend : Copy = valid (repaired memory.store (first_values (copy_at memory need.page) need.base) need.missing) in
     ap is_readable (subst (λ p. slice_index_or (slice_set memory.copies p mend) page absent ≡ mend) (sym e) (get_or-set_same memory.copies page mend absent lt))

@@ -1,5 +1,5 @@
 -- What has to be so of a need, for its page to be repaired and the access to be made.
-use Rattle.std.specs.Prelude.{◌≡◌, ℕ, ◌<◌, Option, Some, None, length, All}
+use Rattle.std.specs.Prelude.{◌≡◌, ℕ, ◌<◌, Option, Some, length, All}
 use Rattle.lrc_exec.specs.Meaning.{Next, reads, writes}
 use Rattle.lrc_page.specs.declared.size.Size.{Size}
 use Rattle.lrc_page.specs.Page.{words_of}

@@ -4,7 +4,7 @@ use Rattle.lrc_trace.specs.declared.act.Deed.{Deed}
 use Rattle.lrc_trace.specs.declared.act.Deed.TheVariants.{Write, Acquire, Release, Arrive}
 use Rattle.lrc_page.specs.declared.size.Size.{Size}
 use Rattle.lrc_page.specs.Place.{page_of, offset_of}
-use Rattle.lrc_protocol.specs.Copy.{Copy, valid, written, invalid, absent}
+use Rattle.lrc_protocol.specs.Copy.{Copy, written}
 use Rattle.lrc_protocol.specs.Memory.{Memory, copy_at}
 use Rattle.lrc_protocol.specs.Mail.{Wait, grant}
 
