@@ -1,10 +1,10 @@
 -- What holds of a fresh node and is kept by every change holds of each node that is reached.
-use Rattle.std.proofs.Common.{◌≡◌, ℕ, zero, suc, ◌+◌, ◌-◌, ◌<◌, ◌≤◌, List, [], ◌∷◌, Bool, true, false, length, refl, sym, ap, subst, ◌∙◌, arith}
-use Rattle.std.specs.Prelude.{All, map, replicate}
+use Rattle.std.proofs.Common.{◌≡◌, ℕ, zero, suc, ◌+◌, ◌-◌, ◌<◌, ◌≤◌, List, [], Bool, true, false, length, refl, sym, ap, subst, ◌∙◌, ◌⊎◌, inl, inr, ⊎_elim, arith}
+use Rattle.std.specs.Prelude.{All, map, is_none, slice_index_or, replicate}
 use Rattle.std.specs.List.{range_with_len}
 use Rattle.std.proofs.lemmas.List.{length-replicate, length-set}
 use Rattle.std.proofs.lemmas.List.FromFn.{length-range_with_len}
-use Rattle.std.proofs.lemmas.List.Elements.{All-nil, All-replicate}
+use Rattle.std.proofs.lemmas.List.Elements.{All-nil, All-replicate, All-weaker, All-filter}
 use Rattle.lrc_lang.specs.declared.program.Program.{Program}
 use Rattle.lrc_time.specs.Time.{entry, zeros}
 use Rattle.lrc_time.proofs.Times.{length-zeros, covers-refl}
@@ -16,11 +16,11 @@ use Rattle.lrc_protocol.specs.Expected.{indices_by, is_learnable}
 use Rattle.lrc_protocol.specs.Locks.{next_time}
 use Rattle.lrc_protocol.specs.Memory.{fresh_memory}
 use Rattle.lrc_protocol.specs.Node.{Node, OptionsRecord}
-use Rattle.lrc_local.specs.Ranges.{InRange, HasRanges}
+use Rattle.lrc_local.specs.Ranges.{InRange}
 use Rattle.lrc_local.specs.Reached.{IsReached}
 use Rattle.lrc_local.specs.Stored.{StoresExactly}
 use Rattle.lrc_local.proofs.Change.{View, News, news, Reply, reply, view_of, pages_in, Walk, stands, goes}
-use Rattle.lrc_local.proofs.Reach.{Come, come, first_view}
+use Rattle.lrc_local.proofs.Reach.{first_view}
 use Rattle.lrc_local.proofs.Tokened.{come_to, is_set}
 use Rattle.lrc_exec.specs.Meaning.{Setting, Thread, Next, quiet, prints, reads, writes, acquires, releases, arrives, departs, traps, ends}
 use Rattle.lrc_exec.specs.Plain.{setting_of}
@@ -30,7 +30,8 @@ use Rattle.lrc_invariants.specs.Counts.{is_inside}
 use Rattle.lrc_protocol.specs.Mail.{Wait, nothing, grant, departure, access, upkeep, discard}
 use Rattle.std.specs.Prelude.{Option, Some, None, ◌==◌}
 use Rattle.lrc_invariants.proofs.Waiting.{departs_arrived}
-use Rattle.lrc_invariants.proofs.TextHolds.{IsText}
+use Rattle.lrc_invariants.proofs.TextHolds.{IsText, TextIs}
+use Rattle.lrc_local.proofs.Acted.{Known}
 use Rattle.lrc_local.proofs.Ranges.{Ranged, ranged-kept}
 use Rattle.lrc_local.specs.Waits.{IsQuiet}
 use Rattle.lrc_page.specs.declared.changes.Change.{Change}
@@ -46,12 +47,39 @@ use Rattle.lrc_local.proofs.Reaches.{reaches-kept}
 use Rattle.lrc_local.proofs.Replies.{asked-exactly}
 use Rattle.lrc_local.proofs.Awaited.{All-unmap, asked-unread}
 use Rattle.lrc_page.specs.declared.size.Size.{Size}
-use Rattle.lrc_protocol.specs.Copy.{valid}
+use Rattle.lrc_protocol.specs.Copy.{Copy, valid, absent}
 use Rattle.lrc_local.specs.Ranges.{IsWhole, IsWholeBase}
 use Rattle.lrc_local.proofs.Whole.{Whole, whole-kept}
+use Rattle.lrc_store.specs.declared.key.Key.{Key}
+use Rattle.lrc_store.specs.Store.{StoredRecord, changes_at}
+use Rattle.lrc_protocol.specs.Fetch.{Asked, Need}
+use Rattle.lrc_protocol.specs.Memory.{copy_at}
+use Rattle.lrc_local.specs.Own.{IsAttached, OwnAttached, OwnCopied}
+use Rattle.lrc_local.proofs.Own.{attached-kept}
+use Rattle.lrc_local.proofs.OwnCopies.{own-kept, lacking-other}
+use Rattle.lrc_local.proofs.OwnAsked.{makers-other}
+use Rattle.lrc_protocol.specs.Fetch.{is_met}
+use Rattle.lrc_protocol.specs.Memory.{Memory}
+use Rattle.lrc_local.specs.Remembered.{IsBetween}
+use Rattle.lrc_local.proofs.Remembered.{Between, between-kept}
+use Rattle.lrc_local.proofs.MetNeeds.{met-known}
+use Rattle.lrc_local.specs.Sized.{IsSized}
+use Rattle.lrc_local.proofs.Sized.{AllSized, sized-kept}
 use Rattle.lrc_local.proofs.Quiet.{quiet-kept}
 use Rattle.lrc_local.proofs.Mailed.{Mailed, mailed-kept, first-manager}
 use Rattle.lrc_local.proofs.Exact.{exact-kept, is_store, own-entry, next-indices}
+
+-- copies that are all valid
+pub slice_index_or-replicate : (n : ℕ) (copy : Copy) (page : ℕ) → (slice_index_or (replicate n copy) page absent ≡ copy) ⊎
+    (slice_index_or (replicate n copy) page absent ≡ absent)
+slice_index_or-replicate zero copy page = inr refl
+slice_index_or-replicate (suc n) copy zero = inl refl
+slice_index_or-replicate (suc n) copy (suc page) = slice_index_or-replicate n copy page
+
+fresh-between : (time : List ℕ) (memory : Memory) (page : ℕ) (values : List ℕ) → (copy_at memory page ≡ valid values) ⊎ (copy_at memory page ≡ absent)
+    → IsBetween time memory page (copy_at memory page)
+fresh-between time memory page values e =
+    ⊎_elim (λ v. subst (IsBetween time memory page) (sym v) tt) (λ a. subst (IsBetween time memory page) (sym a) tt) e
 
 module _ (program : Program) (nodes : ℕ) (options : OptionsRecord) (me : ℕ) (among : me < nodes) where
   abbrev From : View → Type 0
@@ -103,7 +131,8 @@ module _ (program : Program) (nodes : ℕ) (options : OptionsRecord) (me : ℕ) 
 
   pub needed : (v : View) → From v → Needed v
   needed _ stands = record {
-    each = All-nil (FitsNeed nodes (pages_of program.words options.size) (words_of options.size) (fresh_memory nodes (pages_of program.words options.size) options.size));
+    each = All-nil (FitsNeed nodes (pages_of program.words options.size) (words_of options.size)
+        (fresh_memory nodes (pages_of program.words options.size) options.size));
     apart = tt;
     kept = tt;
   }
@@ -124,6 +153,24 @@ module _ (program : Program) (nodes : ℕ) (options : OptionsRecord) (me : ℕ) 
   whole _ stands = whole-first options.size (pages_of program.words options.size)
   whole _ (goes {v = v} {after = after} w c) = whole-kept v after c (ranged v w) (needed v w) (whole v w)
 
+  pub attached_own : (v : View) → From v → OwnAttached v.setting.me v.memory
+  attached_own _ stands = All-nil (λ (stored : StoredRecord). stored.node ≡ me → IsAttached stored)
+  attached_own _ (goes {v = v} {after = after} w c) = attached-kept v after c (ranged v w) (attached_own v w)
+
+  pub copied_own : (v : View) → From v → OwnCopied v.setting.me v.memory
+  copied_own _ stands = λ k d within. absurd (omega (arith, within))
+  copied_own _ (goes {v = v} {after = after} w c) = own-kept v after c (ranged v w) (exact v w) (copied_own v w)
+
+  pub between : (v : View) → From v → Between v
+  between _ stands = λ page.
+      fresh-between (zeros nodes) (fresh_memory nodes (pages_of program.words options.size) options.size) page _
+      (slice_index_or-replicate (pages_of program.words options.size) (valid (zero_page options.size)) page)
+  between _ (goes {v = v} {after = after} w c) = between-kept v after c (ranged v w) (exact v w) (between v w)
+
+  pub sized : (v : View) → From v → AllSized (words_of v.size) v.memory.store
+  sized _ stands = All-nil (IsSized (words_of options.size))
+  sized _ (goes {v = v} {after = after} w c) = sized-kept v after c (whole v w) (sized v w)
+
 -- of a node that is reached
 pub ranged_at : (node : Node) → IsReached node → Ranged (view_of node)
 ranged_at node r = ranged r.program r.nodes r.options r.me r.leads.among (view_of node) (come_to node r).walked
@@ -139,10 +186,11 @@ pub own_next : (node : Node) → IsReached node
     × (entry (next_time node.setting.me node.locks.time) node.setting.me ≡ entry node.memory.store.last node.setting.me + 1)
 own_next node r =
     let v : Ranged (view_of node) = ranged_at node r in
-    let e : StoresExactly node.locks.time node.memory = exact_at node r in
-    (length-set node.locks.time node.setting.me _ ∙ ap length (sym e.last),
-    own-entry node.setting.nodes (pages_in (view_of node)) node.setting.me node.locks.time node.memory v.me v.time e
-    ∙ ap (λ l. entry l node.setting.me + 1) (sym e.last))
+    let e : StoresExactly node.locks.time node.memory = exact_at node r in (
+      length-set node.locks.time node.setting.me _ ∙ ap length (sym e.last),
+      own-entry node.setting.nodes (pages_in (view_of node)) node.setting.me node.locks.time node.memory v.me v.time e
+          ∙ ap (λ l. entry l node.setting.me + 1) (sym e.last),
+    )
 
 pub can_be_added : (node : Node) (time : List ℕ) (intervals : List IntervalRecord) → IsReached node → is_learnable node time intervals ≡ true
     → All (InRange node.setting.nodes (pages_of node.setting.words node.options.size)) intervals
@@ -150,13 +198,15 @@ pub can_be_added : (node : Node) (time : List ℕ) (intervals : List IntervalRec
 can_be_added node time intervals r e =
     let v : Ranged (view_of node) = ranged_at node r in
     let s : StoresExactly node.locks.time node.memory = exact_at node r in
-    let n : News (view_of node) time intervals = news node time intervals e in
-    (n.each, λ q.
-    let next : indices_by intervals q ≡ range_with_len (entry node.locks.time q + 1) (entry time q - entry node.locks.time q) =
-    next-indices (view_of node) time intervals n v s q in
-    next
-    ∙ ap (range_with_len (entry node.locks.time q + 1)) (sym (length-range_with_len (entry node.locks.time q + 1) _) ∙ ap length (sym next))
-    ∙ ap (λ l. range_with_len (entry l q + 1) (length (indices_by intervals q))) (sym s.last))
+    let n : News (view_of node) time intervals = news node time intervals e in (
+      n.each,
+      λ q.
+          let next : indices_by intervals q ≡ range_with_len (entry node.locks.time q + 1) (entry time q - entry node.locks.time q) =
+          next-indices (view_of node) time intervals n v s q in
+          next
+          ∙ ap (range_with_len (entry node.locks.time q + 1)) (sym (length-range_with_len (entry node.locks.time q + 1) _) ∙ ap length (sym next))
+          ∙ ap (λ l. range_with_len (entry l q + 1) (length (indices_by intervals q))) (sym s.last),
+    )
 
 pub quiet_at : (node : Node) → IsReached node → IsQuiet node.mail.wait node.memory
 quiet_at node r = all_quiet r.program r.nodes r.options r.me r.leads.among (view_of node) (come_to node r).walked
@@ -244,3 +294,52 @@ awaited_at node r from m e =
 
 pub whole_at : (node : Node) → IsReached node → Whole node.setting.nodes (words_of node.options.size) node.memory
 whole_at node r = whole r.program r.nodes r.options r.me r.leads.among (view_of node) (come_to node r).walked
+
+-- ---- own intervals
+
+pub attached_at : (node : Node) → IsReached node → OwnAttached node.setting.me node.memory
+attached_at node r = attached_own r.program r.nodes r.options r.me r.leads.among (view_of node) (come_to node r).walked
+
+pub copied_at : (node : Node) → IsReached node → OwnCopied node.setting.me node.memory
+copied_at node r = copied_own r.program r.nodes r.options r.me r.leads.among (view_of node) (come_to node r).walked
+
+pub others_lack : (node : Node) → IsReached node → (page : ℕ) → All (λ (key : Key). key.node ≡ node.setting.me → ⊥) (lacking node.memory page)
+others_lack node r page = lacking-other node.setting.me page node.memory (copy_at node.memory page) refl (copied_at node r)
+
+pub others_asked : (node : Node) → IsReached node
+    → All (λ (need : Need). All (λ (asked : Asked). (asked.maker < node.setting.nodes) × (asked.maker ≡ node.setting.me → ⊥)) need.asked)
+    (needs_of node.mail.wait)
+others_asked node r =
+    All-weaker (FitsNeed node.setting.nodes (pages_in (view_of node)) (words_of node.options.size) node.memory)
+    (λ (need : Need). All (λ (asked : Asked). (asked.maker < node.setting.nodes) × (asked.maker ≡ node.setting.me → ⊥)) need.asked)
+    (λ need fits.
+    subst (All (λ (asked : Asked). (asked.maker < node.setting.nodes) × (asked.maker ≡ node.setting.me → ⊥))) (sym fits.asked)
+    (makers-other node.setting.nodes node.setting.me (unknown_of node.memory.store need.missing)
+    (All-filter (λ (key : Key). is_none (changes_at node.memory.store key)) (λ (key : Key). key.node ≡ node.setting.me → ⊥) need.missing
+    (subst (All (λ (key : Key). key.node ≡ node.setting.me → ⊥)) (sym fits.missing) (others_lack node r need.page)))))
+    (needs_of node.mail.wait) (needed_at node r).each
+
+-- ---- what is remembered, and what is known
+
+pub between_at : (node : Node) → IsReached node → Between (view_of node)
+between_at node r = between r.program r.nodes r.options r.me r.leads.among (view_of node) (come_to node r).walked
+
+pub met_at : (node : Node) → IsReached node → (need : Need)
+    → FitsNeed node.setting.nodes (pages_of node.setting.words node.options.size) (words_of node.options.size) node.memory need
+    → is_met need ≡ true → All (λ (key : Key). is_none (changes_at node.memory.store key) ≡ false) need.missing
+met_at node r need f met = met-known node.setting.nodes (pages_in (view_of node)) (words_of node.options.size) node.memory need (ranged_at node r).memory f met
+
+pub sized_at : (node : Node) → IsReached node → AllSized (words_of node.options.size) node.memory.store
+sized_at node r = sized r.program r.nodes r.options r.me r.leads.among (view_of node) (come_to node r).walked
+
+-- ---- before a turn
+
+pub known_at : (node : Node) → IsReached node → Known node
+known_at node r = record {
+  text = subst (λ s. TextIs s node.course) (sym (is_set node r)) (come_to node r).tokened.text;
+  fits = (come_to node r).tokened.fits;
+  quiet = quiet_at node r;
+  copies = (ranged_at node r).memory.copies;
+  needs = (needed_at node r).each;
+  reaching = reaching_at node r;
+}

@@ -1,10 +1,9 @@
 -- What is asked of makers, and what is left of it once one of them has replied.
-use Rattle.std.proofs.Common.{◌≡◌, ◌≢◌, ℕ, zero, suc, ◌+◌, ◌<◌, List, [], ◌∷◌, ◌++◌, Bool, true, false, cond, length, refl, sym, ap, subst, ◌∙◌, ◌⊎◌, inl, inr, ⊎_elim, arith}
-use Rattle.std.specs.Prelude.{Option, Some, None, is_some, is_none, All, Contains, not, ◌==◌, ◌&&◌, fold, map, filter, filter_map, nat_lt, slice_index_or, if◌then◌else◌}
-use Rattle.std.specs.List.{list_any, range_with_len, cons_option}
+use Rattle.std.proofs.Common.{◌≡◌, ℕ, List, [], ◌∷◌, Bool, true, false, cond, refl, sym, ap, subst, ◌∙◌, inl, inr, ⊎_elim}
+use Rattle.std.specs.Prelude.{None, is_none, All, Contains, not, ◌==◌, ◌&&◌, fold, map, filter, filter_map, nat_lt, slice_index_or, if◌then◌else◌}
+use Rattle.std.specs.List.{range_with_len, cons_option}
 use Rattle.std.proofs.lemmas.Bool.{cond_both, and_right, false≢true, cases_eq, cases_Bool, eqb-true, eq-eqb, ne_eqb}
-use Rattle.std.proofs.lemmas.Option.{same_Some}
-use Rattle.std.proofs.lemmas.List.Elements.{All-nil, All-cons, All-head, All-tail, All-weaker, Contains-get_or}
+use Rattle.std.proofs.lemmas.List.Elements.{All-head, All-tail, All-weaker, Contains-get_or}
 use Rattle.lrc_store.specs.declared.key.Key.{Key}
 use Rattle.lrc_store.specs.Order.{placed, ascending_part}
 use Rattle.lrc_store.specs.Store.{StoreRecord, changes_at}
@@ -12,7 +11,7 @@ use Rattle.lrc_store.proofs.Orders.{Contains-first, Contains-later, cases_Contai
 use Rattle.lrc_wire.specs.Records.{IndexedChangesRecord}
 use Rattle.lrc_protocol.specs.Fetch.{Asked, indices_of, some_asked, asked_of, unknown_of}
 use Rattle.lrc_protocol.specs.Take.{with_part}
-use Rattle.lrc_local.proofs.Keys.{IsKnown, IsNoticed, parts-still, parts-here, parts-other}
+use Rattle.lrc_local.proofs.Keys.{IsNoticed, parts-still, parts-here, parts-other}
 
 -- ---- filters
 
@@ -106,12 +105,14 @@ neither_of from key = sym (not_both (key.node == from))
 indices-other : (keys : List Key) (from maker : ℕ) → (maker ≡ from → ⊥) → indices_of (filter (not_of from) keys) maker ≡ indices_of keys maker
 indices-other keys from maker ne =
     ap (λ l. ascending_part nat_lt (λ index. true) (map (λ (key : Key). key.index) l))
-    (sym (filter_twice (λ (key : Key). key.node == maker) (not_of from) (λ (key : Key). key.node == maker) keys (λ k d within. both_of from maker ne (slice_index_or keys k d))))
+    (sym (filter_twice (λ (key : Key). key.node == maker) (not_of from) (λ (key : Key). key.node == maker) keys
+    (λ k d within. both_of from maker ne (slice_index_or keys k d))))
 
 indices-gone : (keys : List Key) (from : ℕ) → indices_of (filter (not_of from) keys) from ≡ []
 indices-gone keys from =
     ap (λ l. ascending_part nat_lt (λ index. true) (map (λ (key : Key). key.index) l))
-    (sym (filter_twice (λ (key : Key). false) (not_of from) (λ (key : Key). key.node == from) keys (λ k d within. neither_of from (slice_index_or keys k d))) ∙ filter_none keys)
+    (sym (filter_twice (λ (key : Key). false) (not_of from) (λ (key : Key). key.node == from) keys
+    (λ k d within. neither_of from (slice_index_or keys k d))) ∙ filter_none keys)
 
 -- what is asked of a maker is of it
 some_by : (from maker : ℕ) (b : Bool) (indices : List ℕ) (rest : List Asked) → (maker == from) ≡ b
@@ -161,7 +162,8 @@ pub unknown-other : (from page : ℕ) (parts : List IndexedChangesRecord) (store
     → All (λ (key : Key). key.page ≡ page → ⊥) keys → unknown_of (fold (with_part from page) store parts) keys ≡ unknown_of store keys
 unknown-other from page parts store keys h =
     filter_same _ _ keys
-    (All-weaker (λ (key : Key). key.page ≡ page → ⊥) (λ (key : Key). is_none (changes_at (fold (with_part from page) store parts) key) ≡ is_none (changes_at store key))
+    (All-weaker (λ (key : Key). key.page ≡ page → ⊥) (λ (key : Key). is_none (changes_at (fold (with_part from page) store parts) key) ≡ is_none
+    (changes_at store key))
     (λ key ne. ap is_none (parts-other from page parts store key (λ n p. ne p))) keys h)
 
 -- of the page, those of other makers

@@ -1,13 +1,12 @@
 -- The changes that come in a reply are of notices that are stored, and not known yet.
-use Rattle.std.proofs.Common.{◌≡◌, ℕ, zero, suc, ◌+◌, ◌<◌, ◌≤◌, List, [], ◌∷◌, Bool, true, false, length, refl, sym, ap, subst, ◌∙◌, arith}
+use Rattle.std.proofs.Common.{◌≡◌, ℕ, ◌<◌, List, [], ◌∷◌, true, refl, sym, ap, subst, ◌∙◌, arith}
 use Rattle.std.specs.Prelude.{Option, Some, None, is_none, is_some, All, AllPairs, ◌==◌, map, filter, option_and_then, nat_lt}
 use Rattle.std.proofs.lemmas.Bool.{eqb-true, false≢true}
 use Rattle.std.proofs.lemmas.List.Elements.{All-nil, All-cons, All-head, All-tail, All-map, All-weaker}
 use Rattle.std.proofs.lemmas.List.Kept.{AllPairs-cons}
 use Rattle.lrc_page.specs.declared.changes.Change.{Change}
 use Rattle.lrc_store.specs.declared.key.Key.{Key}
-use Rattle.lrc_store.specs.Store.{NoticeRecord, StoreRecord, IsStore, stored_at, notice_of, notice_at, changes_at, unread}
-use Rattle.lrc_wire.specs.Records.{IndexedChangesRecord}
+use Rattle.lrc_store.specs.Store.{NoticeRecord, StoreRecord, IsStore, stored_at, notice_at, changes_at, unread}
 use Rattle.lrc_protocol.specs.Memory.{Memory, copy_at, lacking}
 use Rattle.lrc_protocol.specs.Fetch.{indices_of, unknown_of}
 use Rattle.lrc_local.proofs.Indices.{Ascends}

@@ -1,15 +1,15 @@
 -- What turns do to a node's memory, its time and what it waits for: a second inversion of the machine, with one constructor
 -- for each kind of change. A turn is some changes one after another.
-use Rattle.std.proofs.Common.{◌≡◌, ℕ, ◌+◌, ◌-◌, ◌<◌, ◌≤◌, List, [], ◌∷◌, Bool, true, false, length, refl, sym, ap, subst, ◌∙◌}
-use Rattle.std.specs.Prelude.{Option, Some, None, All, if◌then◌else◌, fold, map, filter, not, nat_lt, slice_set}
+use Rattle.std.proofs.Common.{◌≡◌, ℕ, ◌+◌, ◌-◌, ◌<◌, ◌≤◌, List, [], Bool, true, false, length}
+use Rattle.std.specs.Prelude.{Option, Some, All, fold, map, filter, not, nat_lt, slice_set}
 use Rattle.std.specs.List.{list_all, list_any, range_with_len}
 use Rattle.std.proofs.lemmas.Bool.{and_parts, eqb-true, leb-true, ltb-true}
 use Rattle.lrc_time.specs.Time.{entry, Covers, covers, joined}
 use Rattle.lrc_time.proofs.Times.{covers-true}
 use Rattle.lrc_page.specs.declared.size.Size.{Size}
 use Rattle.lrc_page.specs.Page.{words_of}
-use Rattle.lrc_page.specs.Place.{page_of, pages_of}
-use Rattle.lrc_exec.specs.Meaning.{Setting, Thread, Next, quiet, prints, reads, writes, acquires, releases, arrives, departs, traps, ends, next_of}
+use Rattle.lrc_page.specs.Place.{pages_of}
+use Rattle.lrc_exec.specs.Meaning.{Setting}
 use Rattle.lrc_store.specs.Interval.{IntervalRecord}
 use Rattle.lrc_wire.specs.Records.{IndexedChangesRecord, ChangesReplyRecord}
 use Rattle.lrc_barrier.specs.Barrier.{ManagerRecord}
@@ -21,7 +21,7 @@ use Rattle.lrc_protocol.specs.Course.{Course}
 use Rattle.lrc_protocol.specs.Locks.{next_time}
 use Rattle.lrc_protocol.specs.Node.{Node}
 use Rattle.lrc_protocol.specs.Waits.{clean_memory, with_needs}
-use Rattle.lrc_protocol.specs.Expected.{is_page, is_interval, is_news, are_changes, indices_by, are_between, is_learnable, is_changes_reply}
+use Rattle.lrc_protocol.specs.Expected.{is_page, is_interval, are_changes, indices_by, are_between, is_learnable, is_changes_reply}
 use Rattle.lrc_protocol.specs.Take.{with_part}
 use Rattle.lrc_invariants.specs.Waiting.{next_in}
 use Rattle.lrc_local.specs.Ranges.{InRange}

@@ -1,19 +1,17 @@
 -- A node stores exactly the intervals between what it collected and its time, and every change keeps it so.
-use Rattle.std.proofs.Common.{◌≡◌, ℕ, zero, suc, ◌+◌, ◌-◌, ◌<◌, ◌≤◌, List, [], ◌∷◌, ◌++◌, Bool, true, false, length, max, refl, sym, ap, subst, ◌∙◌, inl, inr, ⊎_elim, arith}
-use Rattle.std.specs.Prelude.{Option, Some, None, All, AllPairs, not, ◌==◌, fold, map, filter, slice_set}
+use Rattle.std.proofs.Common.{◌≡◌, ℕ, ◌+◌, ◌-◌, ◌<◌, ◌≤◌, List, [], ◌∷◌, ◌++◌, length, max, refl, sym, ap, subst, ◌∙◌, ⊎_elim, arith}
+use Rattle.std.specs.Prelude.{All, fold, slice_set}
 use Rattle.std.specs.List.{range_with_len}
 use Rattle.std.proofs.lemmas.Bool.{cases_eq, cases_lt}
-use Rattle.std.proofs.lemmas.Grind.{same_number_lists}
-use Rattle.std.proofs.lemmas.List.{length-set, get_or_past}
+use Rattle.std.proofs.lemmas.List.{get_or_past}
 use Rattle.std.proofs.lemmas.List.Elements.{All-weaker}
 use Rattle.lrc_time.specs.Time.{entry, Covers, joined}
 use Rattle.lrc_time.proofs.Times.{same_times, covers-refl, covers-trans, covers-raised, covers-joined_first, entry-joined, length-joined_same, entry-set_same, entry-set_other}
 use Rattle.lrc_store.specs.Interval.{IntervalRecord, index_of}
-use Rattle.lrc_store.specs.Store.{StoreRecord, IsStore, intervals_of, added, discarded, is_covered}
+use Rattle.lrc_store.specs.Store.{StoreRecord, IsStore, intervals_of, added, discarded}
 use Rattle.lrc_store.proofs.Stores.{intervals_of-added, intervals_of-discarded}
 use Rattle.lrc_protocol.specs.Expected.{indices_by}
 use Rattle.lrc_protocol.specs.Memory.{Memory, all_changes, closed_interval, with_interval, learned, collected_at}
-use Rattle.lrc_protocol.specs.Mail.{discard}
 use Rattle.lrc_protocol.specs.Locks.{next_time}
 use Rattle.lrc_local.specs.Ranges.{InRange, HasRanges, CollectsAt}
 use Rattle.lrc_local.specs.Stored.{StoresExactly}
@@ -51,7 +49,6 @@ stored-within time memory h =
 -- ---- an interval is closed
 
 module _ (nodes pages me : ℕ) (time : List ℕ) (memory : Memory) (lt : me < nodes) (long : length time ≡ nodes) (h : StoresExactly time memory) where
-
   pub own-entry : entry (next_time me time) me ≡ entry time me + 1
   own-entry = entry-set_same time me (entry time me + 1) (omega (arith, lt, long))
 

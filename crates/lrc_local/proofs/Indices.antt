@@ -1,9 +1,9 @@
 -- The indices of each node's intervals in a list.
-use Rattle.std.proofs.Common.{◌≡◌, ℕ, zero, suc, ◌+◌, ◌-◌, ◌<◌, ◌≤◌, List, [], ◌∷◌, ◌++◌, Bool, true, false, length, max, refl, sym, ap, subst, ◌∙◌, inl, inr, arith}
-use Rattle.std.specs.Prelude.{Option, Some, None, All, AllPairs, not, ◌==◌, fold, map, filter, slice_set, if◌then◌else◌}
+use Rattle.std.proofs.Common.{◌≡◌, ℕ, zero, suc, ◌+◌, ◌-◌, ◌<◌, ◌≤◌, List, [], ◌∷◌, ◌++◌, true, length, max, refl, sym, ap, subst, ◌∙◌, inl, inr, arith}
+use Rattle.std.specs.Prelude.{All, AllPairs, not, ◌==◌, fold, map, filter, if◌then◌else◌}
 use Rattle.std.specs.List.{range_with_len}
-use Rattle.std.proofs.lemmas.Bool.{cases_eq, eqb-true, eq-eqb, ne_eqb, eqb-false, le-leb}
-use Rattle.std.proofs.lemmas.List.{length-map, length-set, map-append}
+use Rattle.std.proofs.lemmas.Bool.{cases_eq, eq-eqb, ne_eqb, le-leb}
+use Rattle.std.proofs.lemmas.List.{length-set, map-append}
 use Rattle.std.proofs.lemmas.List.Elements.{All-nil, All-cons, All-head, All-tail, All-weaker, filter-append}
 use Rattle.std.proofs.lemmas.List.Kept.{AllPairs-cons}
 use Rattle.lrc_time.specs.Time.{entry}
@@ -41,8 +41,11 @@ Ascends (x ∷ xs) = All (λ y. x < y) xs × Ascends xs
 
 pub range-ascends : (a n : ℕ) → Ascends (range_with_len a n)
 range-ascends a zero = tt
-range-ascends a (suc n) =
-    (All-weaker (λ k. a + 1 ≤ k) (λ k. a < k) (λ k h. omega arith) (range_with_len (a + 1) n) (range-above (a + 1) n (a + 1) (omega arith)), range-ascends (a + 1) n)
+range-ascends a (suc n) = (
+  All-weaker (λ k. a + 1 ≤ k) (λ k. a < k) (λ k h. omega arith) (range_with_len (a + 1) n) (range-above (a + 1) n (a + 1) (omega arith)),
+  range-ascends
+      (a + 1) n,
+)
 
 -- ---- the last of some numbers
 
@@ -64,11 +67,13 @@ indices-append xs ys q =
 
 pub indices-here : (i : IntervalRecord) (xs : List IntervalRecord) (q : ℕ) → i.node ≡ q → indices_by (i ∷ xs) q ≡ index_of i ∷ indices_by xs q
 indices-here i xs q e =
-    ap (λ b. map index_of (if b then i ∷ filter (λ (i : IntervalRecord). i.node == q) xs else filter (λ (i : IntervalRecord). i.node == q) xs)) (eq-eqb i.node q e)
+    ap (λ b. map index_of (if b then i ∷ filter (λ (i : IntervalRecord). i.node == q) xs else filter (λ (i : IntervalRecord). i.node == q) xs))
+    (eq-eqb i.node q e)
 
 pub indices-there : (i : IntervalRecord) (xs : List IntervalRecord) (q : ℕ) → (i.node ≡ q → ⊥) → indices_by (i ∷ xs) q ≡ indices_by xs q
 indices-there i xs q ne =
-    ap (λ b. map index_of (if b then i ∷ filter (λ (i : IntervalRecord). i.node == q) xs else filter (λ (i : IntervalRecord). i.node == q) xs)) (ne_eqb i.node q ne)
+    ap (λ b. map index_of (if b then i ∷ filter (λ (i : IntervalRecord). i.node == q) xs else filter (λ (i : IntervalRecord). i.node == q) xs))
+    (ne_eqb i.node q ne)
 
 -- no interval of a node that there isn't
 pub indices-none : (n : ℕ) (xs : List IntervalRecord) → All (λ (i : IntervalRecord). i.node < n) xs → (q : ℕ) → n ≤ q → indices_by xs q ≡ []
@@ -89,7 +94,8 @@ entry-last_with (i ∷ more) last n long h q =
     elim (cases_eq i.node q) [
       | inl same ↦
           rest
-          ∙ ap (λ k. newest k (indices_by more q)) (ap (entry (last_with last i)) (sym same) ∙ entry-set_same last i.node (index_of i) (omega (arith, lt, long)))
+          ∙ ap (λ k. newest k (indices_by more q)) (ap (entry (last_with last i)) (sym same)
+          ∙ entry-set_same last i.node (index_of i) (omega (arith, lt, long)))
           ∙ ap (newest (entry last q)) (sym (indices-here i more q same))
       | inr other ↦
           rest
@@ -106,7 +112,8 @@ entry-last_next more last n long h q upto e =
 
 -- ---- what holds of the indices holds of the intervals
 
-pub by_indices : (P : ℕ → ℕ → Type 0) (xs : List IntervalRecord) → ((q : ℕ) → All (P q) (indices_by xs q)) → All (λ (i : IntervalRecord). P i.node (index_of i)) xs
+pub by_indices : (P : ℕ → ℕ → Type 0) (xs : List IntervalRecord) → ((q : ℕ) → All (P q) (indices_by xs q))
+    → All (λ (i : IntervalRecord). P i.node (index_of i)) xs
 by_indices P [] h = All-nil (λ (i : IntervalRecord). P i.node (index_of i))
 by_indices P (i ∷ xs) h =
     All-cons (λ (i : IntervalRecord). P i.node (index_of i)) i xs
@@ -146,6 +153,7 @@ pub none_left : (time : List ℕ) (xs : List IntervalRecord) → All (λ (i : In
     → filter (λ i. not (is_covered time i)) xs ≡ []
 none_left time [] h = refl
 none_left time (i ∷ xs) h =
-    let covered : is_covered time i ≡ true = le-leb (index_of i) (entry time i.node) (All-head (λ (i : IntervalRecord). index_of i ≤ entry time i.node) i xs h) in
+    let covered : is_covered time i ≡ true = le-leb (index_of i) (entry time i.node)
+    (All-head (λ (i : IntervalRecord). index_of i ≤ entry time i.node) i xs h) in
     ap (λ b. if not b then i ∷ filter (λ i. not (is_covered time i)) xs else filter (λ i. not (is_covered time i)) xs) covered
     ∙ none_left time xs (All-tail (λ (i : IntervalRecord). index_of i ≤ entry time i.node) i xs h)

@@ -1,40 +1,40 @@
 -- Every turn is some changes one after another.
-use Rattle.std.proofs.Common.{◌≡◌, ℕ, ◌<◌, List, [], ◌∷◌, Bool, true, false, refl, sym, ap, subst, ◌∙◌}
-use Rattle.std.specs.Prelude.{Option, Some, None, if◌then◌else◌, fold, map, filter, not, nat_lt, nat_le}
+use Rattle.std.proofs.Common.{◌≡◌, ℕ, ◌<◌, List, [], Bool, true, false, refl, sym, ap, subst}
+use Rattle.std.specs.Prelude.{Option, Some, None, if◌then◌else◌, fold, nat_lt}
 use Rattle.std.specs.List.{list_all}
 use Rattle.std.proofs.lemmas.Bool.{and_parts, eqb-true, ltb-true}
 use Rattle.std.proofs.lemmas.Option.{same_Some}
 use Rattle.lrc_time.specs.Time.{covers}
 use Rattle.lrc_page.specs.Place.{page_of}
-use Rattle.lrc_exec.specs.Meaning.{Setting, Thread, Next, quiet, prints, reads, writes, acquires, releases, arrives, departs, traps, ends, next_of}
+use Rattle.lrc_exec.specs.Meaning.{Thread, Next, quiet, prints, reads, writes, acquires, releases, arrives, departs, traps, ends, next_of}
 use Rattle.lrc_store.specs.Interval.{IntervalRecord}
 use Rattle.lrc_wire.specs.Envelope.{EnvelopeRecord}
 use Rattle.lrc_wire.specs.declared.message.Message.{Message}
 use Rattle.lrc_wire.specs.declared.message.Message.TheVariants.{LockRequest, LockForward, LockGrant, Arrive, Depart, Clean, Discard, ChangesRequest, ChangesReply, PageRequest, PageReply}
-use Rattle.lrc_lock.specs.Held.{lock_at, is_free, granted, held_after}
+use Rattle.lrc_lock.specs.Held.{lock_at, is_free}
 use Rattle.lrc_lock.specs.Managed.{Requested, refuses as refuses_request, forwards, requested}
 use Rattle.lrc_barrier.specs.Barrier.{ArriveStep, refuses as refuses_arrival, waits, departs as all_depart, CleanStep, refuses_clean, awaits, discards as discards_all}
 use Rattle.lrc_barrier.specs.declared.arrival.Arrival.{Arrival}
 use Rattle.lrc_protocol.specs.Copy.{is_readable}
 use Rattle.lrc_protocol.specs.Memory.{copy_at, base_at, with_keepers}
-use Rattle.lrc_protocol.specs.Fetch.{Need, need_of, is_met, mended, with_changes, with_page}
-use Rattle.lrc_protocol.specs.Mail.{numbered, Letter, Wait, nothing, grant, departure, access, upkeep, discard, Collection, collection_of, needs_of, is_idle, awaits_grant, awaits_departure, MOST_NUMBER}
-use Rattle.lrc_protocol.specs.Course.{Course, going, trapped, ended, course_of}
+use Rattle.lrc_protocol.specs.Fetch.{Need, need_of, is_met, with_changes, with_page}
+use Rattle.lrc_protocol.specs.Mail.{numbered, Letter, Wait, nothing, grant, departure, access, upkeep, discard, collection_of, needs_of, is_idle, awaits_grant, awaits_departure, MOST_NUMBER}
+use Rattle.lrc_protocol.specs.Course.{Course, going, trapped, ended}
 use Rattle.lrc_protocol.specs.Barrier.{arrive_step, clean_step}
-use Rattle.lrc_protocol.specs.Node.{Node, Effect, sends, makes, acts, acts_by, value_read, memory_after, with_memory, with_tokens, waiting, begins_of, may_begin}
+use Rattle.lrc_protocol.specs.Node.{Node, Effect, makes, acts, acts_by, with_memory, waiting, begins_of, may_begin}
 use Rattle.lrc_protocol.specs.Letters.{requests_of}
 use Rattle.lrc_protocol.specs.Waits.{waits_or_goes_on, with_needs}
 use Rattle.lrc_protocol.specs.Expected.{is_expected}
 use Rattle.lrc_protocol.specs.Run.{own_index, closes as closes_interval, reaches, acquire_at, release_at, arrive_at, run_effect, charged}
 use Rattle.lrc_protocol.specs.Take.{collects, take_departure, request_by, learns as learns_news, arrive_by, clean_by, discard_by, page_reply_by, take_effect, with_part}
-use Rattle.lrc_protocol.specs.Turn.{TurnRecord, Outcome, done, not_ready, unexpected, worn, turn_with, turn_of, turn_if, turn_by, take_anew, take_turn, taking, is_addressed, is_repeat, empty_turn}
+use Rattle.lrc_protocol.specs.Turn.{Outcome, done, not_ready, unexpected, worn, turn_with, turn_of, turn_if, turn_by, take_anew, take_turn, taking, is_addressed, is_repeat, empty_turn}
 use Rattle.lrc_protocol.specs.Log.{Input, run, taken as taken_in, outcome_of}
 use Rattle.lrc_invariants.specs.Waiting.{next_in}
 use Rattle.lrc_invariants.proofs.TextHolds.{TextIs}
-use Rattle.lrc_local.proofs.Change.{View, News, view_of, pages_in, Change, Walk, stands, goes, receives, manages, moves, puts, closes, learns, resumes, begins, cleans, discards, misses, mends, gets_changes, gets_page, is_settled, is_open, news, reply}
+use Rattle.lrc_local.proofs.Change.{View, News, view_of, pages_in, Walk, goes, receives, manages, moves, puts, closes, learns, resumes, begins, cleans, discards, misses, mends, gets_changes, gets_page, is_settled, is_open, news, reply}
 use Rattle.lrc_local.specs.Needs.{page_next}
 use Rattle.lrc_local.proofs.Managers.{Manages, arrival-manages, clean-manages}
-use Rattle.lrc_local.proofs.Words.{InWords, next-in_words, page-in_range}
+use Rattle.lrc_local.proofs.Words.{next-in_words, page-in_range}
 
 module _ (start : View) where
   -- a node at which these changes have come
@@ -107,7 +107,8 @@ module _ (start : View) where
 
   -- ---- by itself
 
-  reaches-at : (node : Node) (page : ℕ) → node.mail.wait ≡ nothing → page < pages_in (view_of node) → page_next node.options.size (next_in node.course) ≡ Some page → At node
+  reaches-at : (node : Node) (page : ℕ) → node.mail.wait ≡ nothing → page < pages_in (view_of node)
+      → page_next node.options.size (next_in node.course) ≡ Some page → At node
       → At (reaches node page).node
   reaches-at node page w lt n at =
       let need : Need = need_of node.setting.nodes node.memory page in
@@ -287,7 +288,8 @@ module _ (start : View) where
       expected_or_not (is_addressed node envelope) _
       (λ a. repeated_or_not node (is_repeat node envelope) (take_anew node envelope) at
       (expected_or_not (is_expected node envelope.from envelope.message) (turn_of (take_effect (taking node envelope) envelope.from envelope.message))
-      (λ e. effect-at (take_effect (taking node envelope) envelope.from envelope.message) (take-at node envelope envelope.from envelope.message e (goes at (receives envelope.from _))))))
+      (λ e. effect-at (take_effect (taking node envelope) envelope.from envelope.message)
+      (take-at node envelope envelope.from envelope.message e (goes at (receives envelope.from _))))))
 
   -- each input leads on by changes, or is no turn
   pub turn-at : (node : Node) (input : Input) → TextIs node.setting node.course → At node → AtEnd (outcome_of node input)

@@ -1,9 +1,8 @@
 -- What is known of the changes of a key, and the keys that a copy lacks.
-use Rattle.std.proofs.Common.{◌≡◌, ◌≢◌, ℕ, zero, suc, ◌+◌, ◌<◌, List, [], ◌∷◌, ◌++◌, Bool, true, false, length, refl, sym, ap, subst, ◌∙◌, ◌⊎◌, inl, inr, ⊎_elim, arith}
-use Rattle.std.specs.Prelude.{Option, Some, None, is_some, is_none, All, AllPairs, Contains, not, ◌==◌, ◌&&◌, ◌||◌, fold, map, filter, find, filter_map, option_map, option_and_then, nat_lt, if◌then◌else◌}
-use Rattle.std.specs.List.{list_any, range_with_len, cons_option}
-use Rattle.std.proofs.lemmas.Bool.{cond_both, and_parts, and_from, cases_eq, eqb-true, eq-eqb, ne_eqb, false_from_ne_true}
-use Rattle.std.proofs.lemmas.Option.{same_Some}
+use Rattle.std.proofs.Common.{◌≡◌, ◌≢◌, ℕ, zero, suc, ◌<◌, List, [], ◌∷◌, Bool, true, false, refl, sym, ap, subst, ◌∙◌, ◌⊎◌, inl, inr, ⊎_elim, arith}
+use Rattle.std.specs.Prelude.{Option, Some, None, is_some, is_none, All, AllPairs, Contains, ◌==◌, ◌&&◌, ◌||◌, fold, map, find, option_map, option_and_then, if◌then◌else◌}
+use Rattle.std.specs.List.{list_any}
+use Rattle.std.proofs.lemmas.Bool.{cond_both, and_parts, and_from, cases_eq, eqb-true, eq-eqb, false_from_ne_true}
 use Rattle.std.proofs.lemmas.List.Elements.{All-nil, All-cons, All-head, All-tail, All-map, All-contains, All-contains_itself}
 use Rattle.lrc_page.specs.declared.changes.Change.{Change}
 use Rattle.lrc_store.specs.declared.key.Key.{Key}
@@ -11,7 +10,7 @@ use Rattle.lrc_store.specs.Interval.{IntervalRecord, index_of, by_weight}
 use Rattle.lrc_store.specs.Order.{placed, ascending_part}
 use Rattle.lrc_store.specs.Store.{NoticeRecord, StoredRecord, StoreRecord, IsStore, interval_of, intervals_of, is_at, stored_at, notice_of, notice_at, changes_at, attached, stored_with, notice_with, is_missing, key_of, missing_of}
 use Rattle.lrc_store.proofs.Lookups.{find-map, passes-find, notice_at-attached_other}
-use Rattle.lrc_store.proofs.Orders.{Contains-first, Contains-later, cases_Contains, none_Contains}
+use Rattle.lrc_store.proofs.Orders.{cases_Contains, none_Contains}
 use Rattle.lrc_store.proofs.Stores.{interval_of-stored_with, kept_page}
 use Rattle.lrc_wire.specs.Records.{IndexedChangesRecord}
 use Rattle.lrc_protocol.specs.Take.{with_part}
@@ -90,12 +89,12 @@ cases_key : (a b : Key) → (a ≡ b) ⊎ (a ≢ b)
 cases_key a b = elim (cases_eq a.node b.node) [
   | inr other ↦ inr (λ e. other (ap (λ (k : Key). k.node) e))
   | inl n ↦ elim (cases_eq a.index b.index) [
-      | inr other ↦ inr (λ e. other (ap (λ (k : Key). k.index) e))
-      | inl i ↦ elim (cases_eq a.page b.page) [
-          | inr other ↦ inr (λ e. other (ap (λ (k : Key). k.page) e))
-          | inl p ↦ inl (same_key a b n i p)
-        ]
+    | inr other ↦ inr (λ e. other (ap (λ (k : Key). k.index) e))
+    | inl i ↦ elim (cases_eq a.page b.page) [
+      | inr other ↦ inr (λ e. other (ap (λ (k : Key). k.page) e))
+      | inl p ↦ inl (same_key a b n i p)
     ]
+  ]
 ]
 
 pub changes_at-other : (store : StoreRecord) (key other : Key) (changes : List Change) → other ≢ key

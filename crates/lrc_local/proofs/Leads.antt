@@ -1,11 +1,11 @@
 -- Inputs one after another.
-use Rattle.std.proofs.Common.{◌≡◌, ℕ, ◌<◌, List, [], ◌∷◌, ◌++◌, refl, sym, ap, ◌∙◌}
-use Rattle.std.specs.Prelude.{Option, Some, None, fold}
+use Rattle.std.proofs.Common.{◌≡◌, ℕ, ◌<◌, [], ◌∷◌, ◌++◌, refl, ap, ◌∙◌}
+use Rattle.std.specs.Prelude.{Some}
 use Rattle.std.proofs.lemmas.List.Sums.{fold-append}
 use Rattle.lrc_lang.specs.declared.program.Program.{Program}
 use Rattle.lrc_protocol.specs.Node.{Node, OptionsRecord, fresh_node}
 use Rattle.lrc_protocol.specs.Turn.{TurnRecord, done}
-use Rattle.lrc_protocol.specs.Log.{Input, Local, outcome_of, local_step, local, local_after}
+use Rattle.lrc_protocol.specs.Log.{Input, Local, outcome_of, local_step, local_after}
 use Rattle.lrc_local.specs.Reached.{LeadsTo, IsReached}
 
 pub at_start : (program : Program) (nodes : ℕ) (options : OptionsRecord) (me : ℕ) → me < nodes

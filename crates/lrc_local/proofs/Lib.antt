@@ -21,4 +21,14 @@ pub mod Needed
 pub mod Reaches
 pub mod Awaited
 pub mod Whole
+pub mod Own
+pub mod OwnCopies
+pub mod OwnAsked
+pub mod Remembered
+pub mod MetNeeds
+pub mod Sized
+pub mod Opened
+pub mod Acted
 pub mod Always
+pub mod Wrote
+pub mod Comes

@@ -1,10 +1,10 @@
 -- Lists.
-use Rattle.std.proofs.Common.{◌≡◌, ℕ, zero, suc, ◌+◌, ◌<◌, ◌≤◌, List, [], ◌∷◌, ◌++◌, Bool, true, false, length, refl, sym, ap, subst, ◌∙◌, arith}
-use Rattle.std.specs.Prelude.{Option, Some, None, All, min, unwrap_or, option_map, map, filter, filter_map, fold}
+use Rattle.std.proofs.Common.{◌≡◌, ℕ, ◌+◌, ◌<◌, ◌≤◌, List, [], ◌∷◌, length, refl, ◌∙◌, arith}
+use Rattle.std.specs.Prelude.{Option, Some, None, All, min, unwrap_or, option_map, map, filter_map}
 use Rattle.std.specs.List.{enumerate_from, cons_option}
 use Rattle.std.proofs.lemmas.List.{length-map}
 use Rattle.std.proofs.lemmas.List.FromFn.{length-enumerate_from}
-use Rattle.std.proofs.lemmas.List.Elements.{All-nil, All-cons, All-head, All-tail, All-append, All-same, All-map}
+use Rattle.std.proofs.lemmas.List.Elements.{All-nil, All-cons, All-head, All-tail}
 use Rattle.lrc_protocol.specs.Memory.{least}
 
 -- ---- lists made from each element with its place
@@ -16,8 +16,8 @@ pub All-placed : {X Y : Type 0} (P : X → Type 0) (Q : Y → Type 0) (f : ℕ �
     → All P xs → All Q (map f (enumerate_from start xs))
 All-placed P Q f says start [] h = All-nil Q
 All-placed P Q f says start (x ∷ xs) h =
-    All-cons Q (f (start, x)) (map f (enumerate_from (start + 1) xs)) (says start x (All-head P x xs h)) (All-placed P Q f says (start + 1) xs (All-tail P x xs h))
-
+    All-cons Q (f (start, x)) (map f (enumerate_from (start + 1) xs)) (says start x (All-head P x xs h))
+    (All-placed P Q f says (start + 1) xs (All-tail P x xs h))
 
 All-cons_option : {X : Type 0} (P : X → Type 0) (o : Option X) (xs : List X) → ((x : X) → o ≡ Some x → P x) → All P xs → All P (cons_option o xs)
 All-cons_option P None xs says h = h

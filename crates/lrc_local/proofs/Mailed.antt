@@ -1,9 +1,9 @@
 -- A node counts messages of every node, only node 0 has the manager of barriers, and nobody arrives more often than it closes
 -- an interval.
-use Rattle.std.proofs.Common.{◌≡◌, ℕ, zero, suc, ◌+◌, ◌<◌, ◌≤◌, List, [], ◌∷◌, Bool, true, false, length, refl, sym, ap, subst, ◌∙◌, arith}
-use Rattle.std.specs.Prelude.{Option, Some, None, ◌==◌, slice_set, replicate, if◌then◌else◌}
-use Rattle.std.proofs.lemmas.List.{length-set, length-replicate}
-use Rattle.lrc_time.specs.Time.{entry, zeros, joined}
+use Rattle.std.proofs.Common.{◌≡◌, ℕ, ◌+◌, ◌<◌, ◌≤◌, Bool, true, false, length, refl, subst, ◌∙◌, arith}
+use Rattle.std.specs.Prelude.{Some, None, ◌==◌, slice_set, if◌then◌else◌}
+use Rattle.std.proofs.lemmas.List.{length-set}
+use Rattle.lrc_time.specs.Time.{entry}
 use Rattle.lrc_time.proofs.Times.{entry-set_same, entry-joined, length-zeros}
 use Rattle.lrc_barrier.specs.Barrier.{ManagerRecord, first_manager}
 use Rattle.lrc_protocol.specs.Mail.{Wait}

@@ -1,5 +1,5 @@
 -- The manager of barriers keeps its number of nodes.
-use Rattle.std.proofs.Common.{◌≡◌, ℕ, List, [], ◌∷◌, Bool, true, false, length, refl, sym, ap, subst, ◌∙◌}
+use Rattle.std.proofs.Common.{◌≡◌, ℕ, List, Bool, true, false, length, refl, sym, ap, ◌∙◌}
 use Rattle.std.specs.Prelude.{Option, Some, None, is_some, option_map, slice_set, slice_index_or, ◌==◌, if◌then◌else◌}
 use Rattle.std.specs.List.{list_all}
 use Rattle.std.proofs.lemmas.Option.{same_Some}
@@ -29,7 +29,8 @@ arrived_by manager from arrival true false = arrived_more (list_all is_some (wit
     arrived_more : (b : Bool)
         → length
         (after_arrive manager
-        (if b then departs (departures_of (arrivals_of (with_arrival manager from arrival))) (departed (with_arrival manager from arrival)) else waits (with_arrival manager from arrival))).last
+        (if b then departs (departures_of (arrivals_of (with_arrival manager from arrival))) (departed (with_arrival manager from arrival)) else waits
+        (with_arrival manager from arrival))).last
         ≡ length manager.last
     arrived_more true = length-set manager.last from _
     arrived_more false = length-set manager.last from _
@@ -71,12 +72,14 @@ next-cleaned manager (awaits next) after e = same_Some next after e
 next-cleaned manager (discards episode next) after e = same_Some next after e
 
 with-many : (manager : ManagerRecord) (cleans : List Bool) (b : Bool)
-    → length (after_clean manager (if b then discards manager.done (record manager { cleans = None }) else awaits (record manager { cleans = Some cleans }))).last ≡ length manager.last
+    → length (after_clean manager (if b then discards manager.done (record manager { cleans = None }) else awaits
+    (record manager { cleans = Some cleans }))).last ≡ length manager.last
 with-many manager cleans true = refl
 with-many manager cleans false = refl
 
 by-many : (manager : ManagerRecord) (from : ℕ) (cleans : List Bool) (same twice : Bool)
-    → length (after_clean manager (if same then (if twice then refuses_clean Twice else cleaned_with manager (slice_set cleans from true)) else refuses_clean WrongEpisode)).last
+    → length (after_clean manager (if same then (if twice then refuses_clean Twice else cleaned_with manager
+    (slice_set cleans from true)) else refuses_clean WrongEpisode)).last
     ≡ length manager.last
 by-many manager from cleans false twice = refl
 by-many manager from cleans true true = refl

@@ -1,15 +1,14 @@
 -- What is needed of pages, kept by every change.
-use Rattle.std.proofs.Common.{◌≡◌, ℕ, ◌+◌, ◌<◌, ◌≤◌, List, [], ◌∷◌, Bool, true, false, length, refl, sym, ap, subst, ◌∙◌, arith}
-use Rattle.std.specs.Prelude.{Option, Some, None, All, Contains, not, ◌==◌, ◌&&◌, fold, map, filter, slice_index, slice_index_or, if◌then◌else◌}
-use Rattle.std.specs.List.{list_all, range_with_len}
-use Rattle.std.proofs.lemmas.List.Elements.{All-nil, All-cons, All-weaker, All-contains, All-contains_itself}
+use Rattle.std.proofs.Common.{◌≡◌, ℕ, ◌<◌, List, [], Bool, true, false, length, refl, sym, ap, subst, ◌∙◌, arith}
+use Rattle.std.specs.Prelude.{All, Contains, not, ◌==◌, ◌&&◌, fold, map, filter, slice_index, if◌then◌else◌}
+use Rattle.std.specs.List.{range_with_len}
+use Rattle.std.proofs.lemmas.List.Elements.{All-nil, All-cons, All-weaker, All-contains_itself}
 use Rattle.lrc_page.specs.Page.{words_of}
 use Rattle.lrc_store.specs.Store.{IsStore, intervals_of}
-use Rattle.lrc_wire.specs.Records.{IndexedChangesRecord, ChangesReplyRecord}
-use Rattle.lrc_protocol.specs.Copy.{Copy, is_readable}
+use Rattle.lrc_protocol.specs.Copy.{is_readable}
 use Rattle.lrc_protocol.specs.Memory.{Memory, copy_at, is_named, keeper_at, kept_pages, with_keepers, with_word}
-use Rattle.lrc_protocol.specs.Fetch.{come, Need, need_of, is_met, with_changes, with_page}
-use Rattle.lrc_protocol.specs.Mail.{Wait, nothing, grant, departure, access, upkeep, discard, Collection, needs_of}
+use Rattle.lrc_protocol.specs.Fetch.{come, Need, need_of, with_changes, with_page}
+use Rattle.lrc_protocol.specs.Mail.{Wait, upkeep, needs_of}
 use Rattle.lrc_protocol.specs.Take.{with_part}
 use Rattle.lrc_protocol.specs.Waits.{clean_memory, with_needs}
 use Rattle.lrc_local.specs.Ranges.{HasRanges}
@@ -17,10 +16,10 @@ use Rattle.lrc_local.specs.Stored.{StoresExactly}
 use Rattle.lrc_local.specs.Needs.{FitsNeed, FitsKept}
 use Rattle.lrc_local.proofs.Stores.{parts-same}
 use Rattle.lrc_local.proofs.Indices.{Ascends}
-use Rattle.lrc_local.proofs.Change.{View, pages_in, kept_in, needs_in, Reply, Sent, Change, receives, manages, moves, puts, closes, learns, resumes, begins, cleans, discards, misses, mends, gets_changes, gets_page, is_settled, is_open}
+use Rattle.lrc_local.proofs.Change.{View, pages_in, kept_in, needs_in, Change, receives, manages, moves, puts, closes, learns, resumes, begins, cleans, discards, misses, mends, gets_changes, gets_page, is_settled}
 use Rattle.lrc_local.proofs.Ranges.{Ranged, SameRest, clean-same, keeps-ranges}
 use Rattle.lrc_local.proofs.Exact.{is_store}
-use Rattle.lrc_local.proofs.Needs.{need-fits, needs-fit, needs-with, kept-below, kept-ascends, ascends-filter, pages_needed, same_pages, open-needs, open-settled, settled-needs, settled-kept, kept-same}
+use Rattle.lrc_local.proofs.Needs.{need-fits, needs-fit, needs-with, kept-below, kept-ascends, ascends-filter, pages_needed, same_pages, open-settled, settled-needs, settled-kept, kept-same}
 use Rattle.lrc_local.proofs.Replies.{changes-fit, page-fits, asked-exactly, clean-readable}
 
 pub record Needed (v : View) : Type 0 where
@@ -31,7 +30,8 @@ pub record Needed (v : View) : Type 0 where
 -- who waits so needs nothing
 idle : (v : View) → is_settled v.wait ≡ true → Needed v
 idle v s = record {
-  each = subst (All (FitsNeed v.setting.nodes (pages_in v) (words_of v.size) v.memory)) (sym (settled-needs v.wait s)) (All-nil (FitsNeed v.setting.nodes (pages_in v) (words_of v.size) v.memory));
+  each = subst (All (FitsNeed v.setting.nodes (pages_in v) (words_of v.size) v.memory)) (sym (settled-needs v.wait s))
+      (All-nil (FitsNeed v.setting.nodes (pages_in v) (words_of v.size) v.memory));
   apart = subst (λ needs. Ascends (map (λ (need : Need). need.page) needs)) (sym (settled-needs v.wait s)) tt;
   kept = settled-kept v.setting.me v.memory v.wait s;
 }
@@ -87,14 +87,17 @@ needed-kept v _ (cleans collection needs w met) r s h =
     record {
       each = All-nil (FitsNeed v.setting.nodes (pages_in v) (words_of v.size) (clean_memory needs collection.kept v.memory));
       apart = tt;
-      kept =
-          (kept.0 ∙ sym (kept-by v.setting.me v.memory (clean_memory needs collection.kept v.memory) (ap intervals_of same.store) same.keepers),
-          All-weaker (λ page. (page < pages_in v) × Contains collection.kept page) (λ page. is_readable (copy_at (clean_memory needs collection.kept v.memory) page) ≡ true)
-          (λ page is. clean-readable v.memory needs collection.kept page (omega (arith, is.0, r.memory.copies)) is.1 kept.1)
-          collection.kept
-          (λ k d within.
-          (subst (All (λ page. page < pages_in v)) (sym kept.0) (kept-below v.setting.me (pages_in v) v.memory r.memory.keepers) k d within,
-          All-contains_itself collection.kept k d within)));
+      kept = (
+        kept.0 ∙ sym (kept-by v.setting.me v.memory (clean_memory needs collection.kept v.memory) (ap intervals_of same.store) same.keepers),
+        All-weaker (λ page. (page < pages_in v) × Contains collection.kept page)
+            (λ page. is_readable (copy_at (clean_memory needs collection.kept v.memory) page) ≡ true)
+            (λ page is. clean-readable v.memory needs collection.kept page (omega (arith, is.0, r.memory.copies)) is.1 kept.1)
+            collection.kept
+            (λ k d within. (
+              subst (All (λ page. page < pages_in v)) (sym kept.0) (kept-below v.setting.me (pages_in v) v.memory r.memory.keepers) k d within,
+              All-contains_itself collection.kept k d within,
+            )),
+      );
     }
 needed-kept v _ (discards collection w) r s h = idle _ refl
 needed-kept v _ (misses page w lt b n) r s h = record {

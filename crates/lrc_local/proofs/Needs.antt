@@ -1,36 +1,19 @@
 -- What a node needs of pages fits its memory, and every change keeps it so.
-use Rattle.std.proofs.Common.{◌≡◌, ℕ, zero, suc, ◌+◌, ◌<◌, ◌≤◌, List, [], ◌∷◌, Bool, true, false, cond, length, refl, sym, ap, subst, ◌∙◌, ◌⊎◌, inl, inr, ⊎_elim, arith}
-use Rattle.std.specs.Prelude.{Option, Some, None, All, Contains, not, ◌==◌, ◌&&◌, fold, map, filter, slice_index_or, slice_set, if◌then◌else◌}
-use Rattle.std.specs.List.{list_all, list_any, range_with_len, cons_option}
-use Rattle.std.proofs.lemmas.Bool.{cond_both, and_parts, cases_eq, cases_Bool, false≢true, or_cases, not-true, eqb-true, eqb-false, eq-eqb}
-use Rattle.std.proofs.lemmas.Option.{same_Some}
-use Rattle.std.proofs.lemmas.List.{get_or-set_same, get_or-set_other, length-set}
-use Rattle.std.proofs.lemmas.List.Elements.{All-nil, All-cons, All-head, All-tail, All-map, All-filter, All-weaker, All-get_or, All-contains, All-contains_itself, Contains-get_or}
-use Rattle.lrc_store.specs.declared.key.Key.{Key}
-use Rattle.lrc_store.specs.Interval.{IntervalRecord, by_weight}
-use Rattle.lrc_store.specs.Order.{ascending_part}
-use Rattle.lrc_store.specs.Store.{StoreRecord, IsStore, intervals_of, is_missing, key_of}
-use Rattle.lrc_store.proofs.Orders.{Contains-first, Contains-later, cases_Contains, none_Contains, filter-Contains}
-use Rattle.lrc_page.specs.Page.{words_of}
-use Rattle.lrc_wire.specs.Records.{IndexedChangesRecord, ChangesReplyRecord}
+use Rattle.std.proofs.Common.{◌≡◌, ℕ, zero, suc, ◌+◌, ◌<◌, ◌≤◌, List, [], ◌∷◌, Bool, true, false, length, refl, sym, ap, subst, ◌∙◌, ⊎_elim, arith}
+use Rattle.std.specs.Prelude.{All, not, ◌==◌, ◌&&◌, map, filter, slice_index_or}
+use Rattle.std.specs.List.{list_any, range_with_len}
+use Rattle.std.proofs.lemmas.Bool.{cond_both, false≢true, or_cases, not-true}
+use Rattle.std.proofs.lemmas.List.Elements.{All-nil, All-cons, All-head, All-tail, All-map, All-filter, All-weaker, All-get_or}
+use Rattle.lrc_store.specs.Store.{intervals_of}
 use Rattle.lrc_protocol.specs.Copy.{Copy, valid, written, invalid, absent, is_readable}
-use Rattle.lrc_protocol.specs.Memory.{Memory, copy_at, with_copy, lacking, lacking_in, is_named, keeper_at, kept_pages, with_base, with_keepers, repaired}
-use Rattle.lrc_protocol.specs.Fetch.{Base, unneeded, due, come, Asked, Need, base_of, need_of, indices_of, some_asked, asked_of, unknown_of, asks, awaits_changes, is_due_from, awaits_page, with_changes, with_page, first_values, mended}
-use Rattle.lrc_protocol.specs.Mail.{Wait, nothing, grant, departure, access, upkeep, discard, Collection, needs_of}
-use Rattle.lrc_protocol.specs.Take.{with_part}
-use Rattle.lrc_protocol.specs.Waits.{clean_memory, with_needs}
-use Rattle.lrc_local.specs.Ranges.{InRange, HasRanges}
-use Rattle.lrc_local.specs.Stored.{StoresExactly}
+use Rattle.lrc_protocol.specs.Memory.{Memory, copy_at, is_named, keeper_at, kept_pages}
+use Rattle.lrc_protocol.specs.Fetch.{Need, base_of, need_of}
+use Rattle.lrc_protocol.specs.Mail.{Wait, nothing, grant, departure, access, upkeep, discard, needs_of}
+use Rattle.lrc_protocol.specs.Waits.{with_needs}
+use Rattle.lrc_local.specs.Ranges.{HasRanges}
 use Rattle.lrc_local.specs.Needs.{FitsBase, FitsNeed, FitsKept}
-use Rattle.lrc_local.proofs.Tests.{same_numbers}
-use Rattle.lrc_local.proofs.Lists.{All-chosen}
-use Rattle.lrc_local.proofs.Stores.{SameIntervals, parts-same}
 use Rattle.lrc_local.proofs.Indices.{Ascends, range-ascends}
-use Rattle.lrc_local.proofs.Keys.{IsNoticed, missing-noticed}
-use Rattle.lrc_local.proofs.Asking.{asked-left, unknown-other, unknown-left, not_of}
-use Rattle.lrc_local.proofs.Change.{View, pages_in, kept_in, needs_in, Reply, Sent, Change, receives, manages, moves, puts, closes, learns, resumes, begins, cleans, discards, misses, mends, gets_changes, gets_page, is_settled, is_open}
-use Rattle.lrc_local.proofs.Ranges.{Ranged, SameRest, clean-same}
-use Rattle.lrc_local.proofs.Exact.{is_store}
+use Rattle.lrc_local.proofs.Change.{is_settled, is_open}
 
 -- ---- lists
 
@@ -161,10 +144,12 @@ kept-same me change a b same k c nothing h = tt
 kept-same me change a b same k c (grant lock) h = tt
 kept-same me change a b same k c departure h = tt
 kept-same me change a b same k c (access need) h = tt
-kept-same me change a b same k c (upkeep collection needs) h =
-    (h.0 ∙ sym k,
-    same_pages change same needs ∙ h.1
-    ∙ ap (λ (copies : List Copy). filter (λ page. not (is_readable (slice_index_or copies page absent))) collection.kept) (sym c))
-kept-same me change a b same k c (discard collection) h =
-    (h.0 ∙ sym k,
-    subst (λ (copies : List Copy). All (λ page. is_readable (slice_index_or copies page absent) ≡ true) collection.kept) (sym c) h.1)
+kept-same me change a b same k c (upkeep collection needs) h = (
+  h.0 ∙ sym k,
+  same_pages change same needs ∙ h.1
+      ∙ ap (λ (copies : List Copy). filter (λ page. not (is_readable (slice_index_or copies page absent))) collection.kept) (sym c),
+)
+kept-same me change a b same k c (discard collection) h = (
+  h.0 ∙ sym k,
+  subst (λ (copies : List Copy). All (λ page. is_readable (slice_index_or copies page absent) ≡ true) collection.kept) (sym c) h.1,
+)

@@ -1,14 +1,12 @@
 -- Who waits for another node's synchronization has no written page, and every change keeps it so.
-use Rattle.std.proofs.Common.{◌≡◌, ℕ, ◌+◌, List, [], ◌∷◌, Bool, true, false, refl, sym, ap, subst, ◌∙◌}
-use Rattle.std.specs.Prelude.{Option, Some, None, All, fold, map, if◌then◌else◌, slice_set}
-use Rattle.std.specs.List.{enumerate_from}
-use Rattle.std.proofs.lemmas.List.Elements.{All-map, All-set, All-weaker}
-use Rattle.lrc_page.specs.declared.changes.Change.{Change as PageChange}
+use Rattle.std.proofs.Common.{◌≡◌, ℕ, List, [], ◌∷◌, Bool, true, false, refl, sym, subst}
+use Rattle.std.specs.Prelude.{None, All, fold, map, if◌then◌else◌}
+use Rattle.std.proofs.lemmas.List.Elements.{All-map, All-set}
 use Rattle.lrc_protocol.specs.Copy.{Copy, valid, written, invalid, absent, changes_of, closed, invalidated}
 use Rattle.lrc_protocol.specs.Memory.{Memory, copy_at, is_named, learned, with_base, with_word, repaired}
 use Rattle.lrc_protocol.specs.Fetch.{Need, mended, first_values}
 use Rattle.lrc_protocol.specs.Mail.{Wait, nothing, grant, departure, access, upkeep, discard}
-use Rattle.lrc_protocol.specs.Waits.{clean_memory, with_needs}
+use Rattle.lrc_protocol.specs.Waits.{with_needs}
 use Rattle.lrc_store.specs.Interval.{IntervalRecord}
 use Rattle.lrc_local.specs.Waits.{NoneWritten, IsQuiet}
 use Rattle.lrc_local.proofs.Lists.{All-placed}
@@ -36,7 +34,7 @@ invalidated_if before false copy h = h
 closed-none : (copies : List Copy) → All Unwritten (map closed copies)
 closed-none copies = All-map Unwritten closed copies (λ k d within. closed-unwritten _)
 
-learned-none : (before : List ℕ) (intervals : List IntervalRecord) (memory : Memory) → NoneWritten memory → NoneWritten (learned before intervals memory)
+pub learned-none : (before : List ℕ) (intervals : List IntervalRecord) (memory : Memory) → NoneWritten memory → NoneWritten (learned before intervals memory)
 learned-none before intervals memory h =
     All-placed Unwritten Unwritten (λ place. if is_named intervals place.0 then invalidated before place.1 else place.1)
     (λ page copy u. invalidated_if before (is_named intervals page) copy u) 0 memory.copies h
@@ -44,7 +42,8 @@ learned-none before intervals memory h =
 mends-none : (needs : List Need) (memory : Memory) → NoneWritten memory → NoneWritten (fold mended memory needs)
 mends-none [] memory h = h
 mends-none (need ∷ needs) memory h =
-    mends-none needs (mended memory need) (All-set Unwritten memory.copies need.page (valid (repaired memory.store (first_values (copy_at memory need.page) need.base) need.missing)) refl h)
+    mends-none needs (mended memory need) (All-set Unwritten memory.copies need.page
+    (valid (repaired memory.store (first_values (copy_at memory need.page) need.base) need.missing)) refl h)
 
 bases-none : (kept : List ℕ) (memory : Memory) → NoneWritten memory → NoneWritten (fold with_base memory kept)
 bases-none [] memory h = h
@@ -73,7 +72,6 @@ still-quiet change departure a b e h = subst (All Unwritten) (sym e) h
 still-quiet change (access need) a b e h = tt
 still-quiet change (upkeep collection needs) a b e h = subst (All Unwritten) (sym e) h
 still-quiet change (discard collection) a b e h = subst (All Unwritten) (sym e) h
-
 
 pub quiet-kept : (v after : View) → Change v after → IsQuiet v.wait v.memory → IsQuiet after.wait after.memory
 quiet-kept v _ (receives from numbers) h = h

@@ -1,19 +1,18 @@
 -- The ranges of a node's memory and times are kept by every change.
-use Rattle.std.proofs.Common.{◌≡◌, ℕ, zero, suc, ◌+◌, ◌<◌, ◌≤◌, List, [], ◌∷◌, ◌++◌, Bool, true, false, length, max, refl, sym, ap, subst, ◌∙◌, arith}
-use Rattle.std.specs.Prelude.{Option, Some, None, All, not, ◌==◌, fold, map, filter, filter_map, slice_set, option_map, unwrap_or, replicate, if◌then◌else◌}
+use Rattle.std.proofs.Common.{◌≡◌, ℕ, ◌<◌, List, [], ◌∷◌, ◌++◌, Bool, true, false, length, refl, sym, ap, subst, ◌∙◌, arith}
+use Rattle.std.specs.Prelude.{Option, Some, None, All, not, ◌==◌, fold, map, option_map, unwrap_or, if◌then◌else◌}
 use Rattle.std.specs.List.{enumerate_from}
 use Rattle.std.proofs.lemmas.Option.{same_Some}
-use Rattle.std.proofs.lemmas.List.{length-map, length-set, length-replicate}
-use Rattle.std.proofs.lemmas.List.Elements.{All-nil, All-cons, All-append, All-filter, All-weaker, All-replicate, All-map}
-use Rattle.lrc_time.specs.Time.{entry, zeros, covers, joined}
-use Rattle.lrc_time.proofs.Times.{length-zeros, length-joined, length-joined_same, entry-joined, same_times, covers-true}
+use Rattle.std.proofs.lemmas.List.{length-map, length-set}
+use Rattle.std.proofs.lemmas.List.Elements.{All-nil, All-cons, All-append, All-filter, All-map}
+use Rattle.lrc_time.specs.Time.{entry, covers, joined}
+use Rattle.lrc_time.proofs.Times.{length-joined_same, entry-joined, same_times, covers-true}
 use Rattle.lrc_page.specs.declared.changes.Change.{Change as PageChange}
-use Rattle.lrc_exec.specs.Meaning.{Setting}
 use Rattle.lrc_store.specs.Interval.{IntervalRecord}
-use Rattle.lrc_store.specs.Store.{StoreRecord, intervals_of, added, discarded, is_covered}
+use Rattle.lrc_store.specs.Store.{StoreRecord, intervals_of, added, is_covered}
 use Rattle.lrc_store.proofs.Stores.{intervals_of-added, intervals_of-discarded}
-use Rattle.lrc_protocol.specs.Copy.{Copy, changes_of, closed, invalidated, dropped, after_write, valid}
-use Rattle.lrc_protocol.specs.Memory.{Memory, copy_at, with_copy, with_word, all_changes, closed_interval, with_own, with_interval, is_named, learned, least, namers_of, keeper_at, with_keepers, with_base, collected_at}
+use Rattle.lrc_protocol.specs.Copy.{Copy, changes_of, closed, invalidated, dropped}
+use Rattle.lrc_protocol.specs.Memory.{Memory, with_copy, all_changes, closed_interval, with_interval, is_named, learned, least, namers_of, keeper_at, with_keepers, with_base, collected_at}
 use Rattle.lrc_protocol.specs.Fetch.{Need, mended}
 use Rattle.lrc_protocol.specs.Mail.{Wait, nothing, grant, departure, access, upkeep, discard}
 use Rattle.lrc_protocol.specs.Locks.{next_time}
@@ -103,7 +102,8 @@ change-place n place page None lt e = cc
 change-place n place page (Some changes) lt e =
     subst (λ k. k < n) (ap (λ (p : ℕ × List PageChange). p.0) (same_Some (place.0, changes) page e)) lt
 
-pub pages-closed : (memory : Memory) (pages : ℕ) → length memory.copies ≡ pages → All (λ page. page < pages) (map (λ (page : ℕ × List PageChange). page.0) (all_changes memory))
+pub pages-closed : (memory : Memory) (pages : ℕ) → length memory.copies ≡ pages
+    → All (λ page. page < pages) (map (λ (page : ℕ × List PageChange). page.0) (all_changes memory))
 pages-closed memory pages long =
     All-map (λ page. page < pages) (λ (page : ℕ × List PageChange). page.0) (all_changes memory)
     (All-chosen (λ place. place.0 < pages) (λ (page : ℕ × List PageChange). page.0 < pages)

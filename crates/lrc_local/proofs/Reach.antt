@@ -1,5 +1,5 @@
 -- Every node that is reached has come by changes from a fresh one, and has its tokens as its text holds them.
-use Rattle.std.proofs.Common.{◌≡◌, ℕ, List, [], ◌∷◌, ◌++◌, ◌<◌, ◌≤◌, length, refl, sym, ap, subst, ◌∙◌, arith}
+use Rattle.std.proofs.Common.{◌≡◌, ℕ, List, [], ◌∷◌, ◌<◌, ◌≤◌, length, sym, ap, subst, ◌∙◌, arith}
 use Rattle.std.proofs.lemmas.List.{length-replicate}
 use Rattle.lrc_time.specs.Time.{entry}
 use Rattle.std.specs.Prelude.{Option, Some, None, fold}
@@ -8,7 +8,7 @@ use Rattle.lrc_exec.specs.Meaning.{Setting}
 use Rattle.lrc_exec.specs.Plain.{setting_of}
 use Rattle.lrc_protocol.specs.Node.{Node, OptionsRecord, fresh_node}
 use Rattle.lrc_protocol.specs.Turn.{TurnRecord, Outcome, done, not_ready, unexpected, worn}
-use Rattle.lrc_protocol.specs.Log.{Input, outcome_of, Local, local_after, local_step, local}
+use Rattle.lrc_protocol.specs.Log.{Input, outcome_of, Local, local_after, local_step}
 use Rattle.lrc_protocol.proofs.Turned.{Turns, turns}
 use Rattle.lrc_invariants.proofs.Shift.{part_of, Shifted, ShiftedIf, shifts}
 use Rattle.lrc_invariants.proofs.TextHolds.{TextIs}
@@ -19,7 +19,6 @@ use Rattle.lrc_local.proofs.Mailed.{early-kept}
 use Rattle.lrc_local.proofs.Inversion.{AtEnd, turn-at}
 
 module _ (program : Program) (nodes : ℕ) (options : OptionsRecord) (me : ℕ) (among : me < nodes) where
-
   abbrev pub first_view : View
   first_view = view_of (fresh_node program nodes options me)
 

@@ -1,6 +1,6 @@
 -- Who waits at a miss makes its next access on the page that it needs, and every change keeps it so.
-use Rattle.std.proofs.Common.{◌≡◌, ℕ, List, [], ◌∷◌, Bool, true, false, refl, sym, ap, subst, ◌∙◌}
-use Rattle.std.specs.Prelude.{Option, Some, None}
+use Rattle.std.proofs.Common.{◌≡◌, [], true, sym, ap, ◌∙◌}
+use Rattle.std.specs.Prelude.{Option, Some}
 use Rattle.lrc_page.specs.declared.size.Size.{Size}
 use Rattle.lrc_exec.specs.Meaning.{Next}
 use Rattle.lrc_protocol.specs.Fetch.{Need, with_changes, with_page}

@@ -1,26 +1,26 @@
 -- What comes for pages fits what they need, and leaves what is still needed.
-use Rattle.std.proofs.Common.{◌≡◌, ℕ, zero, suc, ◌+◌, ◌<◌, ◌≤◌, List, [], ◌∷◌, Bool, true, false, length, refl, sym, ap, subst, ◌∙◌, ◌⊎◌, inl, inr, ⊎_elim, arith}
-use Rattle.std.specs.Prelude.{Option, Some, None, All, Contains, not, ◌==◌, ◌&&◌, fold, map, filter, slice_index_or, slice_set, if◌then◌else◌}
-use Rattle.std.specs.List.{list_all, list_any, range_with_len, cons_option}
-use Rattle.std.proofs.lemmas.Bool.{and_parts, cases_eq, cases_Bool, eqb-true, eq-eqb, ne_eqb, false≢true}
+use Rattle.std.proofs.Common.{◌≡◌, ℕ, ◌<◌, List, [], ◌∷◌, Bool, true, false, length, refl, sym, ap, subst, ◌∙◌, ⊎_elim, arith}
+use Rattle.std.specs.Prelude.{Some, All, Contains, not, ◌==◌, fold, map, filter, slice_index_or, slice_set, if◌then◌else◌}
+use Rattle.std.specs.List.{list_any, range_with_len}
+use Rattle.std.proofs.lemmas.Bool.{and_parts, cases_eq, cases_Bool, eqb-true, eq-eqb, false≢true}
 use Rattle.std.proofs.lemmas.Option.{same_Some}
 use Rattle.std.proofs.lemmas.List.{get_or-set_same, get_or-set_other, length-set}
-use Rattle.std.proofs.lemmas.List.Elements.{All-nil, All-cons, All-head, All-tail, All-map, All-weaker, All-contains, All-contains_itself}
+use Rattle.std.proofs.lemmas.List.Elements.{All-nil, All-map, All-weaker}
 use Rattle.lrc_store.specs.declared.key.Key.{Key}
-use Rattle.lrc_store.specs.Interval.{IntervalRecord, by_weight}
+use Rattle.lrc_store.specs.Interval.{by_weight}
 use Rattle.lrc_store.specs.Order.{ascending_part}
 use Rattle.lrc_store.specs.Store.{StoreRecord, IsStore, intervals_of, is_missing, key_of}
-use Rattle.lrc_store.proofs.Orders.{Contains-first, Contains-later, cases_Contains, none_Contains, filter-Contains}
-use Rattle.lrc_wire.specs.Records.{IndexedChangesRecord, ChangesReplyRecord}
+use Rattle.lrc_store.proofs.Orders.{cases_Contains, none_Contains, filter-Contains}
+use Rattle.lrc_wire.specs.Records.{IndexedChangesRecord}
 use Rattle.lrc_protocol.specs.Copy.{Copy, valid, written, invalid, absent, is_readable}
-use Rattle.lrc_protocol.specs.Memory.{Memory, copy_at, with_copy, lacking, lacking_in, with_base, repaired}
+use Rattle.lrc_protocol.specs.Memory.{Memory, copy_at, lacking, lacking_in, with_base, repaired}
 use Rattle.lrc_protocol.specs.Fetch.{Base, unneeded, due, come, Asked, Need, indices_of, some_asked, asked_of, unknown_of, asks, awaits_changes, is_due_from, awaits_page, with_changes, with_page, first_values, mended}
 use Rattle.lrc_protocol.specs.Take.{with_part}
 use Rattle.lrc_protocol.specs.Waits.{clean_memory}
 use Rattle.lrc_local.specs.Needs.{FitsBase, FitsNeed}
 use Rattle.lrc_local.proofs.Tests.{same_numbers}
 use Rattle.lrc_local.proofs.Lists.{All-chosen}
-use Rattle.lrc_local.proofs.Stores.{SameIntervals, parts-same}
+use Rattle.lrc_local.proofs.Stores.{parts-same}
 use Rattle.lrc_local.proofs.Keys.{IsNoticed, missing-noticed}
 use Rattle.lrc_local.proofs.Asking.{asked-left, unknown-other, unknown-left, not_of}
 use Rattle.lrc_local.proofs.Needs.{any_fits}
@@ -87,7 +87,8 @@ module _ (nodes pages words : ℕ) (memory : Memory) (from page : ℕ) (parts : 
 
   still-lacking : (need : Need) → need.missing ≡ lacking memory need.page → need.missing ≡ lacking now need.page
   still-lacking need e =
-      e ∙ sym (lacking-same memory (fold (with_part from page) memory.store parts) need.page (copy_at memory need.page) (parts-same from page parts memory.store).intervals)
+      e ∙ sym (lacking-same memory (fold (with_part from page) memory.store parts) need.page (copy_at memory need.page)
+      (parts-same from page parts memory.store).intervals)
 
   noticed : (need : Need) → need.missing ≡ lacking memory need.page → All (λ (key : Key). (key.page ≡ need.page) × IsNoticed memory.store key) need.missing
   noticed need e =
@@ -171,7 +172,8 @@ page-fits nodes pages words memory needs page from values h e long =
 
 -- ---- pages are mended
 
-is-mended : (memory : Memory) (need : Need) (page : ℕ) → need.page ≡ page → page < length memory.copies → is_readable (copy_at (mended memory need) page) ≡ true
+pub is-mended : (memory : Memory) (need : Need) (page : ℕ) → need.page ≡ page → page < length memory.copies
+    → is_readable (copy_at (mended memory need) page) ≡ true
 is-mended memory need page e lt =
     let mend : Copy = valid (repaired memory.store (first_values (copy_at memory need.page) need.base) need.missing) in
     ap is_readable (subst (λ p. slice_index_or (slice_set memory.copies p mend) page absent ≡ mend) (sym e) (get_or-set_same memory.copies page mend absent lt))
@@ -183,7 +185,12 @@ still-readable : (needs : List Need) (memory : Memory) (page : ℕ) → page < l
     → is_readable (copy_at (fold mended memory needs) page) ≡ true
 still-readable [] memory page lt r = r
 still-readable (need ∷ needs) memory page lt r =
-    still-readable needs (mended memory need) page (omega (arith, lt, length-set memory.copies need.page (valid (repaired memory.store (first_values (copy_at memory need.page) need.base) need.missing))))
+    still-readable needs (mended memory need) page (omega (
+      arith,
+      lt,
+      length-set memory.copies need.page
+          (valid (repaired memory.store (first_values (copy_at memory need.page) need.base) need.missing)),
+    ))
     (⊎_elim
     (λ (here : need.page ≡ page). is-mended memory need page here lt)
     (λ other. ap is_readable (not-mended memory need page other) ∙ r)

@@ -1,10 +1,10 @@
 -- What the changes of a memory do to its intervals.
-use Rattle.std.proofs.Common.{◌≡◌, ℕ, ◌+◌, ◌<◌, ◌≤◌, List, [], ◌∷◌, ◌++◌, Bool, true, false, length, refl, sym, ap, subst, ◌∙◌, append_assoc, arith}
-use Rattle.std.specs.Prelude.{Option, Some, None, All, fold, map, filter, filter_map, slice_set, option_map}
+use Rattle.std.proofs.Common.{◌≡◌, ℕ, List, [], ◌∷◌, ◌++◌, length, refl, ap, ◌∙◌, append_assoc}
+use Rattle.std.specs.Prelude.{fold, slice_set}
 use Rattle.std.proofs.lemmas.List.{length-set}
 use Rattle.lrc_page.specs.declared.changes.Change.{Change}
 use Rattle.lrc_store.specs.Interval.{IntervalRecord, index_of}
-use Rattle.lrc_store.specs.Store.{StoreRecord, intervals_of, added, attached}
+use Rattle.lrc_store.specs.Store.{StoreRecord, intervals_of, added}
 use Rattle.lrc_store.proofs.Stores.{intervals_of-added, intervals_of-attached}
 use Rattle.lrc_wire.specs.Records.{IndexedChangesRecord}
 use Rattle.lrc_protocol.specs.Memory.{with_own}

@@ -1,19 +1,17 @@
 -- The tokens of a node that is reached.
-use Rattle.std.proofs.Common.{◌≡◌, ℕ, ◌<◌, List, Bool, true, false, length, refl, sym, ap, subst, ◌∙◌}
-use Rattle.std.specs.Prelude.{Some, None}
-use Rattle.lrc_exec.specs.Meaning.{Setting, Thread, acquires, releases}
+use Rattle.std.proofs.Common.{◌≡◌, ℕ, ◌<◌, true, false, length, refl, sym, subst}
+use Rattle.std.specs.Prelude.{Some}
+use Rattle.lrc_exec.specs.Meaning.{Setting, Thread, releases}
 use Rattle.lrc_exec.specs.Plain.{setting_of}
 use Rattle.lrc_lock.specs.declared.state.LockState.{LockState}
 use Rattle.lrc_lock.specs.declared.state.LockState.TheVariants.{Away, Awaited, Free, Held}
-use Rattle.lrc_lock.specs.Held.{HeldRecord, lock_at, is_free, is_held}
+use Rattle.lrc_lock.specs.Held.{lock_at, is_free, is_held}
 use Rattle.lrc_protocol.specs.Mail.{nothing, grant}
 use Rattle.lrc_protocol.specs.Node.{Node}
-use Rattle.lrc_protocol.specs.Log.{Local}
 use Rattle.lrc_invariants.specs.Waiting.{next_in, acquiring, FixesNext}
 use Rattle.lrc_invariants.specs.Shape.{HasShape}
 use Rattle.lrc_invariants.specs.Tokens.{is_awaited, AwaitsOne}
 use Rattle.lrc_invariants.proofs.Calls.{acquired, let_go, granted_is_awaited}
-use Rattle.lrc_invariants.proofs.Held.{Tokened}
 use Rattle.lrc_invariants.proofs.Holding.{Stands, stands}
 use Rattle.lrc_invariants.proofs.TextHolds.{acquired_below}
 use Rattle.lrc_local.specs.Reached.{IsReached}

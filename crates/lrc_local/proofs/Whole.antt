@@ -1,26 +1,22 @@
 -- Copies, twins and base copies are a page long, and every change keeps them so.
-use Rattle.std.proofs.Common.{◌≡◌, ℕ, zero, suc, ◌+◌, ◌<◌, ◌≤◌, List, [], ◌∷◌, Bool, true, false, length, refl, sym, ap, subst, ◌∙◌, ◌⊎◌, inl, inr, ⊎_elim, arith}
-use Rattle.std.specs.Prelude.{Option, Some, None, All, Contains, not, ◌==◌, fold, map, filter, slice_index_or, slice_set, if◌then◌else◌}
-use Rattle.std.specs.List.{list_all, enumerate_from}
+use Rattle.std.proofs.Common.{◌≡◌, ℕ, ◌<◌, ◌≤◌, List, [], ◌∷◌, Bool, true, false, length, refl, sym, ap, subst, ◌∙◌, ⊎_elim, arith}
+use Rattle.std.specs.Prelude.{Option, Some, None, All, ◌==◌, fold, map, slice_index_or, slice_set, if◌then◌else◌}
 use Rattle.std.proofs.lemmas.Bool.{and_parts, cases_eq, cases_lt, not-true}
 use Rattle.std.proofs.lemmas.List.{get_or-set_same, get_or-set_other, get_or_past, length-set}
-use Rattle.std.proofs.lemmas.List.Elements.{All-nil, All-cons, All-head, All-tail, All-map, All-set, All-weaker, All-get_or, All-contains_itself}
-use Rattle.lrc_page.specs.declared.size.Size.{Size}
+use Rattle.std.proofs.lemmas.List.Elements.{All-head, All-tail, All-map, All-set, All-weaker, All-get_or, All-contains_itself}
 use Rattle.lrc_page.specs.Page.{words_of}
 use Rattle.lrc_page.specs.Place.{page_of, offset_of}
 use Rattle.lrc_page.proofs.ChangeLists.{length-fold-applied}
-use Rattle.lrc_store.specs.Interval.{IntervalRecord}
-use Rattle.lrc_store.specs.Store.{StoreRecord}
 use Rattle.lrc_protocol.specs.Copy.{Copy, valid, written, invalid, absent, is_readable, values_of, after_write, closed, invalidated, dropped}
-use Rattle.lrc_protocol.specs.Memory.{Memory, copy_at, with_copy, with_word, is_named, keeper_at, with_base, changes_or_none, repaired, collected_at}
+use Rattle.lrc_protocol.specs.Memory.{Memory, copy_at, is_named, keeper_at, with_base, changes_or_none, repaired}
 use Rattle.lrc_protocol.specs.Fetch.{Base, unneeded, due, come, Need, is_due, is_met, first_values, mended}
-use Rattle.lrc_protocol.specs.Mail.{Wait, nothing, access, upkeep, discard, needs_of}
+use Rattle.lrc_protocol.specs.Mail.{upkeep, needs_of}
 use Rattle.lrc_protocol.specs.Waits.{clean_memory}
-use Rattle.lrc_local.specs.Ranges.{IsWhole, IsWholeBase, HasRanges}
+use Rattle.lrc_local.specs.Ranges.{IsWhole, IsWholeBase}
 use Rattle.lrc_local.specs.Needs.{FitsBase, FitsNeed, FitsKept}
 use Rattle.lrc_local.proofs.Tests.{each_passes}
 use Rattle.lrc_local.proofs.Lists.{All-placed}
-use Rattle.lrc_local.proofs.Ranges.{Ranged, SameRest, copy-same, mends-same}
+use Rattle.lrc_local.proofs.Ranges.{Ranged}
 use Rattle.lrc_local.proofs.Needs.{kept-below}
 use Rattle.lrc_local.proofs.Replies.{bases-copies, clean-readable}
 use Rattle.lrc_local.proofs.Needed.{Needed}
@@ -47,7 +43,8 @@ closed-whole nodes words (written values twin) h = h.0
 closed-whole nodes words (invalid values since) h = h
 closed-whole nodes words absent h = tt
 
-invalidated-whole : (nodes words : ℕ) (before : List ℕ) (copy : Copy) → length before ≡ nodes → IsWhole nodes words copy → IsWhole nodes words (invalidated before copy)
+invalidated-whole : (nodes words : ℕ) (before : List ℕ) (copy : Copy) → length before ≡ nodes → IsWhole nodes words copy
+    → IsWhole nodes words (invalidated before copy)
 invalidated-whole nodes words before (valid values) long h = (h, long)
 invalidated-whole nodes words before (written values twin) long h = h
 invalidated-whole nodes words before (invalid values since) long h = h
@@ -209,7 +206,8 @@ whole-kept v _ (cleans collection needs w met) r n h =
     (λ k d within. met-long nodes (pages_in v) words v.memory (slice_index_or needs k d) h.copies (each k d within) (came k d within)) h.copies in
     let below : All (λ page. page < pages_in v) collection.kept =
     subst (All (λ page. page < pages_in v)) (sym kept.0) (kept-below v.setting.me (pages_in v) v.memory r.memory.keepers) in
-    let same : (clean_memory needs collection.kept v.memory).copies ≡ (fold mended v.memory needs).copies = bases-copies collection.kept (fold mended v.memory needs) in
+    let same : (clean_memory needs collection.kept v.memory).copies ≡ (fold mended v.memory needs).copies =
+    bases-copies collection.kept (fold mended v.memory needs) in
     record {
       copies = subst (All (IsWhole nodes words)) (sym same) copies;
       bases =
@@ -218,7 +216,8 @@ whole-kept v _ (cleans collection needs w met) r n h =
           let page : ℕ = slice_index_or collection.kept k d in
           readable-long nodes words (copy_at (fold mended v.memory needs) page)
           (ap (λ (copies : List Copy). is_readable (slice_index_or copies page absent)) (sym same)
-          ∙ clean-readable v.memory needs collection.kept page (omega (arith, below k d within, r.memory.copies)) (All-contains_itself collection.kept k d within) kept.1)
+          ∙ clean-readable v.memory needs collection.kept page (omega (arith, below k d within, r.memory.copies))
+          (All-contains_itself collection.kept k d within) kept.1)
           (whole-at nodes words (fold mended v.memory needs).copies page copies))
           (subst (All (IsWholeBase words)) (sym (mends-bases needs v.memory)) h.bases);
     }

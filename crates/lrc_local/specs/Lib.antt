@@ -3,3 +3,8 @@ pub mod Ranges
 pub mod Stored
 pub mod Waits
 pub mod Needs
+pub mod Comes
+pub mod Own
+pub mod Opened
+pub mod Sized
+pub mod Remembered

@@ -1,5 +1,5 @@
 -- Which intervals a node stores.
-use Rattle.std.specs.Prelude.{◌≡◌, ℕ, ◌+◌, ◌-◌, List, [], ◌∷◌}
+use Rattle.std.specs.Prelude.{◌≡◌, ℕ, ◌+◌, ◌-◌, List}
 use Rattle.std.specs.List.{range_with_len}
 use Rattle.lrc_time.specs.Time.{entry, Covers}
 use Rattle.lrc_store.specs.Store.{intervals_of}

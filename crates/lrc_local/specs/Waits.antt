@@ -1,5 +1,5 @@
 -- What a node's memory is like while it waits.
-use Rattle.std.specs.Prelude.{◌≡◌, ℕ, None, All}
+use Rattle.std.specs.Prelude.{◌≡◌, None, All}
 use Rattle.lrc_protocol.specs.Copy.{changes_of}
 use Rattle.lrc_protocol.specs.Memory.{Memory}
 use Rattle.lrc_protocol.specs.Mail.{Wait, nothing, grant, departure, access, upkeep, discard}

@@ -1,15 +1,47 @@
 // What holds of each node that is reached. Each function is a theorem: its body is empty, and its clauses are the law.
 
-ghost use Rattle.std.specs.Prelude.{◌≡◌, ℕ, ◌<◌, Some};
-ghost use Rattle.lrc_lang.specs.declared.program.Program.{Program};
-ghost use Rattle.lrc_protocol.specs.Node.{Node, OptionsRecord, fresh_node};
-ghost use Rattle.lrc_local.specs.Reached.{IsReached};
-ghost use Rattle.std.specs.Prelude.{List, [], ◌∷◌, ◌++◌};
+ghost use Rattle.std.specs.List.{range_with_len};
+ghost use Rattle.std.specs.Prelude.{◌≡◌, ℕ, ◌<◌, Some, List, [], ◌∷◌, ◌++◌, length, true, false, ◌+◌, All, ◌≤◌, ◌==◌, AllPairs, map, None, is_some, is_none};
+ghost use Rattle.lrc_exec.specs.Meaning.{Thread, releases};
 ghost use Rattle.lrc_exec.specs.Plain.{setting_of};
-ghost use Rattle.lrc_protocol.specs.Turn.{TurnRecord, done, run_turn, take_turn};
+ghost use Rattle.lrc_invariants.specs.Counts.{is_inside};
+ghost use Rattle.lrc_invariants.specs.Shape.{HasShape};
+ghost use Rattle.lrc_invariants.specs.Tokens.{is_awaited};
+ghost use Rattle.lrc_invariants.specs.Waiting.{next_in, acquiring, FixesNext};
+ghost use Rattle.lrc_lang.specs.declared.program.Program.{Program};
+ghost use Rattle.lrc_local.specs.Comes.{CanBeRepaired};
+ghost use Rattle.lrc_protocol.specs.Waits.{with_needs};
+ghost use Rattle.lrc_wire.specs.declared.message.Message.TheVariants.{PageReply};
+ghost use Rattle.lrc_local.specs.Needs.{FitsNeed, FitsKept, ReachesFor};
+ghost use Rattle.lrc_local.specs.Opened.{AreMadeBy, open_in, open_writes};
+ghost use Rattle.lrc_protocol.specs.Follows.{deeds_in};
+ghost use Rattle.lrc_local.specs.Own.{OwnAttached, OwnCopied};
+ghost use Rattle.lrc_local.specs.Ranges.{InRange, HasRanges, CollectsAt, HasManager, IsWhole, IsWholeBase};
+ghost use Rattle.lrc_local.specs.Reached.{IsReached, LeadsTo};
+ghost use Rattle.lrc_local.specs.Remembered.{IsBetween};
+ghost use Rattle.lrc_local.specs.Sized.{IsSized};
+ghost use Rattle.lrc_local.specs.Stored.{StoresExactly};
+ghost use Rattle.lrc_local.specs.Waits.{IsQuiet};
+ghost use Rattle.lrc_lock.specs.Held.{lock_at, is_free, is_held};
+ghost use Rattle.lrc_lock.specs.declared.state.LockState.TheVariants.{Away};
+ghost use Rattle.lrc_page.specs.Page.{words_of};
+ghost use Rattle.lrc_page.specs.Place.{pages_of};
+ghost use Rattle.lrc_page.specs.declared.changes.Change.{Change};
+ghost use Rattle.lrc_protocol.specs.Course.{going};
+ghost use Rattle.lrc_protocol.specs.Expected.{indices_by, is_learnable, is_changes_reply, is_expected};
+ghost use Rattle.lrc_protocol.specs.Fetch.{Need, Asked, is_met, with_changes, with_page};
+ghost use Rattle.lrc_protocol.specs.Locks.{next_time};
 ghost use Rattle.lrc_protocol.specs.Log.{Input, Local, outcome_of};
+ghost use Rattle.lrc_protocol.specs.Mail.{nothing, grant, needs_of, access};
+ghost use Rattle.lrc_protocol.specs.Memory.{lacking, copy_at};
+ghost use Rattle.lrc_protocol.specs.Node.{Node, OptionsRecord, fresh_node};
+ghost use Rattle.lrc_protocol.specs.Turn.{TurnRecord, done, run_turn, take_turn};
+ghost use Rattle.lrc_store.specs.Interval.{IntervalRecord};
+ghost use Rattle.lrc_store.specs.Store.{IsStore, notice_at, unread, changes_at};
+ghost use Rattle.lrc_store.specs.declared.key.Key.{Key};
+ghost use Rattle.lrc_time.specs.Time.{entry};
 ghost use Rattle.lrc_wire.specs.Envelope.{EnvelopeRecord};
-ghost use Rattle.lrc_local.specs.Reached.{LeadsTo};
+ghost use Rattle.lrc_wire.specs.Records.{IndexedChangesRecord, ChangesReplyRecord, PageReplyRecord};
 
 /// A fresh node is reached, and so is a node after each turn of one that is reached.
 pub fn turns_lead_on()
@@ -28,14 +60,6 @@ pub fn setting_and_options_stay()
     ensures { (program : Program) (nodes : ℕ) (options : OptionsRecord) (me : ℕ) (l : Local) → LeadsTo program nodes options me l
         → (l.node.setting ≡ setting_of program nodes me) × (l.node.options ≡ options) }
 {}
-ghost use Rattle.std.specs.Prelude.{length, true, false};
-ghost use Rattle.lrc_exec.specs.Meaning.{Thread, releases};
-ghost use Rattle.lrc_lock.specs.Held.{lock_at, is_free, is_held};
-ghost use Rattle.lrc_lock.specs.declared.state.LockState.TheVariants.{Away};
-ghost use Rattle.lrc_protocol.specs.Mail.{nothing, grant};
-ghost use Rattle.lrc_invariants.specs.Shape.{HasShape};
-ghost use Rattle.lrc_invariants.specs.Tokens.{is_awaited};
-ghost use Rattle.lrc_invariants.specs.Waiting.{next_in, acquiring, FixesNext};
 
 /// At a node that is reached each call on a token is in turn: a lock that the text acquires next has a token with a place here
 /// that is not held, and where it isn't free it is neither here nor awaited; one that the text releases next is held; and one
@@ -52,16 +76,6 @@ pub fn tokens_are_called_in_turn()
         → (lock < length node.locks.held.locks) × (is_awaited (lock_at node.locks.held lock) ≡ true) }
     ensures waits { (node : Node) → IsReached node → FixesNext node.mail.wait (next_in node.course) }
 {}
-ghost use Rattle.std.specs.Prelude.{◌+◌, All};
-ghost use Rattle.std.specs.List.{range_with_len};
-ghost use Rattle.lrc_time.specs.Time.{entry};
-ghost use Rattle.lrc_page.specs.Place.{pages_of};
-ghost use Rattle.lrc_store.specs.Interval.{IntervalRecord};
-ghost use Rattle.lrc_store.specs.Store.{IsStore};
-ghost use Rattle.lrc_protocol.specs.Expected.{indices_by, is_learnable};
-ghost use Rattle.lrc_protocol.specs.Locks.{next_time};
-ghost use Rattle.lrc_local.specs.Ranges.{InRange, HasRanges, CollectsAt};
-ghost use Rattle.lrc_local.specs.Stored.{StoresExactly};
 
 /// A node that is reached is one of the nodes, its time has an entry for each, and its memory has a place for each page. The
 /// time of a collection under way is the node's own.
@@ -87,11 +101,6 @@ pub fn intervals_are_stored_exactly()
         → All (InRange node.setting.nodes (pages_of node.setting.words node.options.size)) intervals
         × ((q : ℕ) → indices_by intervals q ≡ range_with_len (entry node.memory.store.last q + 1) (length (indices_by intervals q))) }
 {}
-ghost use Rattle.std.specs.Prelude.{◌≤◌, ◌==◌};
-ghost use Rattle.lrc_protocol.specs.Course.{going};
-ghost use Rattle.lrc_invariants.specs.Counts.{is_inside};
-ghost use Rattle.lrc_local.specs.Ranges.{HasManager};
-ghost use Rattle.lrc_local.specs.Waits.{IsQuiet};
 
 /// A node that is reached counts messages of each node, has the manager of barriers exactly where it is node 0, and has arrived
 /// no more often than it closed intervals.
@@ -114,15 +123,6 @@ pub fn texts_fit()
 pub fn waiting_node_has_no_written_page()
     ensures { (node : Node) → IsReached node → IsQuiet node.mail.wait node.memory }
 {}
-ghost use Rattle.std.specs.Prelude.{AllPairs, map, None};
-ghost use Rattle.lrc_page.specs.Page.{words_of};
-ghost use Rattle.lrc_page.specs.declared.changes.Change.{Change};
-ghost use Rattle.lrc_store.specs.Store.{notice_at, unread};
-ghost use Rattle.lrc_wire.specs.Records.{IndexedChangesRecord, ChangesReplyRecord};
-ghost use Rattle.lrc_protocol.specs.Expected.{is_changes_reply};
-ghost use Rattle.lrc_protocol.specs.Fetch.{Need};
-ghost use Rattle.lrc_protocol.specs.Mail.{needs_of};
-ghost use Rattle.lrc_local.specs.Needs.{FitsNeed, FitsKept, ReachesFor};
 
 /// What a node that is reached needs of pages fits its memory: the pages ascend; each need has just the keys that the copy of
 /// its page lacks, and asks of each maker for just those changes that are not known; a base copy is due or has come exactly
@@ -145,10 +145,56 @@ pub fn replies_are_of_unread_notices()
         (notice_at node.memory.store (record { node = from; index = part.index; page = m.page }) ≡ Some (unread m.page))
         × All (λ (change : Change). change.offset < words_of node.options.size) part.changes) m.parts }
 {}
-ghost use Rattle.lrc_local.specs.Ranges.{IsWhole, IsWholeBase};
 
-/// At a node that is reached each copy, twin and base copy is a page long, and each remembered time has an entry for each node.
+/// At a node that is reached each copy, twin and base copy is a page long, each remembered time has an entry for each node, and
+/// all changes that are known are of words of a page.
 pub fn copies_are_whole()
     ensures copies { (node : Node) → IsReached node → All (IsWhole node.setting.nodes (words_of node.options.size)) node.memory.copies }
     ensures bases { (node : Node) → IsReached node → All (IsWholeBase (words_of node.options.size)) node.memory.bases }
+    ensures changes { (node : Node) → IsReached node → All (IsSized (words_of node.options.size)) node.memory.store.entries }
+{}
+
+/// A node that is reached stores each of its own intervals with the changes of all its pages, and its copies have what they
+/// wrote: so it has all that a request can ask of it, its copies lack no interval of its own, and it asks nothing of itself.
+pub fn own_changes_are_attached()
+    ensures attached { (node : Node) → IsReached node → OwnAttached node.setting.me node.memory }
+    ensures copied { (node : Node) → IsReached node → OwnCopied node.setting.me node.memory }
+    ensures known { (node : Node) (index page : ℕ) → IsReached node
+        → is_some (notice_at node.memory.store (record { node = node.setting.me; index = index; page = page })) ≡ true
+        → is_some (changes_at node.memory.store (record { node = node.setting.me; index = index; page = page })) ≡ true }
+    ensures lacking { (node : Node) (page : ℕ) → IsReached node
+        → All (λ (key : Key). key.node ≡ node.setting.me → ⊥) (lacking node.memory page) }
+    ensures asked { (node : Node) → IsReached node
+        → All (λ (need : Need). All (λ (asked : Asked). (asked.maker < node.setting.nodes) × (asked.maker ≡ node.setting.me → ⊥)) need.asked)
+        (needs_of node.mail.wait) }
+{}
+
+/// At a node that is reached the time that is remembered of an invalid copy covers what was collected and is covered by the
+/// node's time, and the copy lacks an interval that is stored. Where all has come that a page needs, all changes that its copy
+/// lacks are known.
+pub fn remembered_times_are_between()
+    ensures remembered { (node : Node) (page : ℕ) → IsReached node
+        → IsBetween node.locks.time node.memory page (copy_at node.memory page) }
+    ensures met { (node : Node) (need : Need) → IsReached node
+        → FitsNeed node.setting.nodes (pages_of node.setting.words node.options.size) (words_of node.options.size) node.memory need
+        → is_met need ≡ true → All (λ (key : Key). is_none (changes_at node.memory.store key) ≡ false) need.missing }
+{}
+
+/// A node's copies are what its open interval made of them: after the turns that lead to it, a page is written, with a twin,
+/// exactly where the node's own deeds since the last acquire, release or arrive write it, and its values are those of the twin
+/// after these writes, in order. Who waits for a grant has closed its interval already.
+pub fn copies_are_made_by_the_open_interval()
+    ensures { (program : Program) (nodes : ℕ) (options : OptionsRecord) (me : ℕ) (l : Local) → LeadsTo program nodes options me l
+        → AreMadeBy l.node.options.size l.node.memory (open_in l.node.mail.wait (open_writes (deeds_in l.turns))) }
+{}
+
+/// Where what comes for pages leaves a node waiting at a miss, the page that it needs is one of its memory's, a base copy is due
+/// or has come just where the copy is absent, the keys that it lacks are of it, and the text's next access is on it.
+pub fn what_comes_can_be_repaired()
+    ensures changes { (node : Node) (from : ℕ) (m : ChangesReplyRecord) (need : Need) → IsReached node
+        → is_changes_reply node from m ≡ true → with_needs (with_changes m.page from) node.mail.wait ≡ access need
+        → CanBeRepaired node need }
+    ensures page { (node : Node) (from : ℕ) (m : PageReplyRecord) (need : Need) → IsReached node
+        → is_expected node from (PageReply m) ≡ true → with_needs (with_page m.page m.values) node.mail.wait ≡ access need
+        → CanBeRepaired node need }
 {}

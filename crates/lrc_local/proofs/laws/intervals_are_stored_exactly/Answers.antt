@@ -1,4 +1,4 @@
-use Rattle.lrc_local.proofs.Always.{ranged_at, exact_at, is_store_at, own_next, can_be_added}
+use Rattle.lrc_local.proofs.Always.{exact_at, is_store_at, own_next, can_be_added}
 use Rattle.lrc_local.proofs.laws.intervals_are_stored_exactly.Goals as goal
 
 pub returns-clause-exact : goal.returns-clause-exact
