@@ -278,3 +278,14 @@ seen-collected kept n time is sound closed own =
     either : (b : Bool) → cond b nothing nothing ≡ nothing
     either true = refl
     either false = refl
+
+-- what was done, call by call
+pub collected-is : (kept : Kept) (time copied keepers : List ℕ) (store : StoreRecord) (t1 t2 t3 : Table) → store ≡ discarded kept.store time
+    → t1 ≡ with_each kept.table without_twin → t2 ≡ with_each t1 dropped → keepers ≡ kept.keepers → t3 ≡ without_bases kept.me keepers t2
+    → copied ≡ time → record kept { store = store; table = t3; collected = copied } ≡ collected kept time
+collected-is kept time copied keepers store t1 t2 t3 store_is one two keepers_are three copied_is =
+    let table : t3 ≡ swept kept =
+    three ∙ ap (λ ks. without_bases kept.me ks t2) keepers_are ∙ ap (without_bases kept.me kept.keepers) (two ∙ ap (λ (t : Table). with_each t dropped) one) in
+    ap (λ s. record kept { store = s; table = t3; collected = copied }) store_is
+    ∙ ap (λ t. record kept { store = discarded kept.store time; table = t; collected = copied }) table
+    ∙ ap (λ c. record kept { store = discarded kept.store time; table = swept kept; collected = c }) copied_is
