@@ -9,3 +9,4 @@ pub mod Loops
 pub mod Mending
 pub mod Discards
 pub mod Closes
+pub mod Learns

@@ -49,7 +49,7 @@ done c =
     (told_ok c.add.result c.add.ensures.ok (sym c.is_err.ensures.value ∙ c.if-is_err.false))
     c.in_ok-pages.ensures.ok
     (c.as_slice.ensures ∙ ap (λ (i : IntervalRecord). i.pages) c.interval.view_is)
-    (c.index.ensures.index ∙ ap index_of c.interval.view_is)
+    c.index.ensures.index
     c.name_pages.ensures
 
 next : (c : goal.After-drop-interval-inside-2)
