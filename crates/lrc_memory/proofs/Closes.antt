@@ -408,7 +408,10 @@ module _ (kept : Kept) (stamp : List ℕ) where
       ∙ ap (λ bs. with_memory (node_seen kept) (record (with_interval kept.me stamp (seen kept)) { bases = bs })) bases-closed
       ∙ ap (λ (n : NodeMemory). with_memory n (with_interval n.me stamp n.memory)) is
 
-  no_later : IsKept kept → (page : ℕ) → get_or kept.named page 0 ≤ entry kept.store.last kept.me
+  pub unsized : (ps : List ℕ) → All (λ (n : NoticeRecord). ForSome n.changes (λ cs. All (λ c. c.offset < words_of kept.table.size) cs)) (map unread ps)
+  unsized ps = All-map (λ (n : NoticeRecord). ForSome n.changes (λ cs. All (λ c. c.offset < words_of kept.table.size) cs)) unread ps (λ k d within cs is. absurd (cc))
+
+  pub no_later : IsKept kept → (page : ℕ) → get_or kept.named page 0 ≤ entry kept.store.last kept.me
   no_later is page =
       ⊎_elim
       (λ (within : page < length kept.named). is.passed page 0 within)
@@ -470,9 +473,6 @@ module _ (kept : Kept) (stamp : List ℕ) where
         sized = All-push (AreSized kept.table.size) kept.store.entries (without_changes (interval_at kept stamp)) is.sized (unsized (written_pages kept.table));
         unmade = λ page changes pending. unmade-closed is next page changes pending;
       }
-    where
-      unsized : (ps : List ℕ) → All (λ (n : NoticeRecord). ForSome n.changes (λ cs. All (λ c. c.offset < words_of kept.table.size) cs)) (map unread ps)
-      unsized ps = All-map (λ (n : NoticeRecord). ForSome n.changes (λ cs. All (λ c. c.offset < words_of kept.table.size) cs)) unread ps (λ k d within cs is. absurd (cc))
 
 -- ---- where the interval could not be stored
 

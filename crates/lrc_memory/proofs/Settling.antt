@@ -355,3 +355,10 @@ after-settle kept page named store table named_is table_is store_is =
 
 pub same-parts : (kept : Kept) (store : StoreRecord) (table : Table) → table ≡ kept.table → store ≡ kept.store → with_parts kept store table ≡ kept
 same-parts kept store table table_is store_is = ap (with_parts kept store) table_is ∙ ap (λ s. with_parts kept s kept.table) store_is
+
+pub last-settled : (kept : Kept) (page : ℕ) → length (settled_at kept page).store.last ≡ length kept.store.last
+last-settled kept page = by_found (pending_changes (copy_at kept.table page))
+  where
+    by_found : (found : Option (List Change)) → length (settled_store kept.store (key_on kept page) found).last ≡ length kept.store.last
+    by_found None = refl
+    by_found (Some changes) = refl

@@ -55,7 +55,7 @@ impl Memory {
             (record self.old.memory { copies = invalidated_on before.now self.old.memory.copies page })) }
         ensures same { SameMemory self.old self.new }
     {
-        if self.table.state(page) == State::Valid {
+        if let State::Valid = self.table.state(page) {
             settle_page(
                 &mut self.table,
                 &mut self.store,
