@@ -7,7 +7,7 @@ use Rattle.std.proofs.lemmas.Bool.{cases_eq, cases_lt, true≢false, and_parts, 
 use Rattle.std.proofs.lemmas.List.{ext_get_or, length-map, length-set, get_or-map, get_or_past, get_or_default, get_or-set_same, get_or-set_other, set-get_or}
 use Rattle.std.proofs.lemmas.List.Elements.{All-set, All-weaker, All-push}
 use Rattle.std.proofs.lemmas.List.FromFn.{get_or-enumerate_from, length-enumerate_from}
-use Rattle.std.proofs.Math.Seq.{map-set_same}
+use Rattle.std.proofs.Math.Seq.{map-set_same, drop-cons}
 use Rattle.lrc_time.specs.Time.{entry}
 use Rattle.lrc_page.specs.Page.{words_of}
 use Rattle.lrc_page.specs.declared.changes.Change.{Change}
@@ -32,7 +32,7 @@ use Rattle.lrc_memory.specs.View.{Kept, NodeMemory, AreSized, IsKept, SameMemory
 use Rattle.lrc_memory.specs.Turns.{CanBeAdded, IsInRange}
 use Rattle.lrc_memory.specs.Steps.{invalidated_on, learned_one}
 use Rattle.lrc_memory.proofs.Overlays.{over-alike, over-added}
-use Rattle.lrc_memory.proofs.Copies.{copy-seen, within-seen}
+use Rattle.lrc_memory.proofs.Copies.{copy-seen, within-seen, length-seen}
 use Rattle.lrc_memory.proofs.Settling.{settled_at, changed, set_copies, unmade-changed, kept-changed, kept-settled, seen-settled, with_parts, after-settle, last-settled}
 use Rattle.lrc_memory.proofs.Closes.{no_later, unsized}
 use Rattle.lrc_memory.proofs.Writes.{nothing-settled, quiet-settled}
@@ -314,26 +314,75 @@ module _ (kept : Kept) (interval : IntervalRecord) (is : IsKept kept) (next : in
 
 -- ---- one after another
 
+indices-more : (i : IntervalRecord) (is : List IntervalRecord) (q : ℕ) → indices_by (i ∷ is) q ≡ cond (eqb i.node q) (index_of i ∷ indices_by is q) (indices_by is q)
+indices-more i is q = either (eqb i.node q)
+  where
+    either : (b : Bool) → map index_of (cond b (i ∷ filter (λ (interval : IntervalRecord). eqb interval.node q) is) (filter (λ (interval : IntervalRecord). eqb interval.node q) is))
+        ≡ cond b (index_of i ∷ indices_by is q) (indices_by is q)
+    either true = refl
+    either false = refl
+
+-- of its node an interval is the next one, and the others follow it
+of-node : (store : StoreRecord) (i : IntervalRecord) (is : List IntervalRecord) (q : ℕ) → CanBeAdded store (i ∷ is) → eqb i.node q ≡ true
+    → index_of i ∷ indices_by is q ≡ (entry store.last q + 1) ∷ range_with_len (entry store.last q + 1 + 1) (length (indices_by is q))
+of-node store i is q can same =
+    let shown : indices_by (i ∷ is) q ≡ index_of i ∷ indices_by is q =
+    indices-more i is q ∙ ap (λ b. cond b (index_of i ∷ indices_by is q) (indices_by is q)) same in
+    sym shown ∙ can.next q ∙ ap (λ l. range_with_len (entry store.last q + 1) (length l)) shown
+
 -- what is added next, and what after it
 pub head-next : (store : StoreRecord) (i : IntervalRecord) (is : List IntervalRecord) → CanBeAdded store (i ∷ is)
     → index_of i ≡ entry store.last i.node + 1
-head-next store i is can =
-    let here : cond (eqb i.node i.node) (index_of i ∷ indices_by is i.node) (indices_by is i.node)
-        ≡ range_with_len (entry store.last i.node + 1) (length (cond (eqb i.node i.node) (index_of i ∷ indices_by is i.node) (indices_by is i.node))) =
-    sym (indices-more i is i.node) ∙ can.next i.node ∙ ap (λ l. range_with_len (entry store.last i.node + 1) (length l)) (indices-more i is i.node) in
-    let same : eqb i.node i.node ≡ true = eq-eqb i.node i.node refl in
-    let listed : index_of i ∷ indices_by is i.node ≡ (entry store.last i.node + 1) ∷ range_with_len (entry store.last i.node + 1 + 1) (length (indices_by is i.node)) =
-    sym (ap (λ b. cond b (index_of i ∷ indices_by is i.node) (indices_by is i.node)) same) ∙ here
-    ∙ ap (λ b. range_with_len (entry store.last i.node + 1) (length (cond b (index_of i ∷ indices_by is i.node) (indices_by is i.node)))) same in
-    cc
+head-next store i is can = let listed = of-node store i is i.node can (eq-eqb i.node i.node refl) in cc
+
+pub can-go_on : (store : StoreRecord) (i : IntervalRecord) (is : List IntervalRecord) → CanBeAdded store (i ∷ is) → CanBeAdded (added store i) is
+can-go_on store i is can =
+    let range : IsInRange store i = can.in_range 0 i (omega arith) in
+    let last = length-set store.last i.node (index_of i) in record {
+      in_range = λ k d within.
+          let there : IsInRange store (get_or is k d) = can.in_range (suc k) d (omega arith) in record {
+            node = omega (arith, there.node, last);
+            stamp = there.stamp ∙ sym last;
+            pages = there.pages;
+          };
+      next = λ q. by_test q (eqb i.node q) refl (range.node);
+    }
   where
-    indices-more : (i : IntervalRecord) (is : List IntervalRecord) (q : ℕ) → indices_by (i ∷ is) q ≡ cond (eqb i.node q) (index_of i ∷ indices_by is q) (indices_by is q)
-    indices-more i is q = either (eqb i.node q)
-      where
-        either : (b : Bool) → map index_of (cond b (i ∷ filter (λ (interval : IntervalRecord). eqb interval.node q) is) (filter (λ (interval : IntervalRecord). eqb interval.node q) is))
-            ≡ cond b (index_of i ∷ indices_by is q) (indices_by is q)
-        either true = refl
-        either false = refl
+    by_test : (q : ℕ) (b : Bool) → eqb i.node q ≡ b → i.node < length store.last
+        → indices_by is q ≡ range_with_len (entry (set store.last i.node (index_of i)) q + 1) (length (indices_by is q))
+    by_test q true same within =
+        let node : i.node ≡ q = eqb-true _ _ same in
+        let listed = of-node store i is q can same in
+        let index : index_of i ≡ entry store.last q + 1 = cc in
+        let rest : indices_by is q ≡ range_with_len (entry store.last q + 1 + 1) (length (indices_by is q)) = cc in
+        let now : entry (set store.last i.node (index_of i)) q ≡ entry store.last q + 1 =
+        ap (λ p. entry (set store.last i.node (index_of i)) p) (sym node) ∙ get_or-set_same store.last i.node (index_of i) 0 within ∙ index in
+        rest ∙ ap (λ e. range_with_len (e + 1) (length (indices_by is q))) (sym now)
+    by_test q false other within =
+        let shown : indices_by (i ∷ is) q ≡ indices_by is q =
+        indices-more i is q ∙ ap (λ b. cond b (index_of i ∷ indices_by is q) (indices_by is q)) other in
+        let now : entry (set store.last i.node (index_of i)) q ≡ entry store.last q =
+        get_or-set_other store.last i.node q (index_of i) 0 (λ same. true≢false (sym (eq-eqb i.node q (sym same)) ∙ other)) in
+        sym shown ∙ can.next q ∙ ap (λ l. range_with_len (entry store.last q + 1) (length l)) shown
+        ∙ ap (λ e. range_with_len (e + 1) (length (indices_by is q))) (sym now)
+
+-- where a list of intervals stands
+pub can-at : (store : StoreRecord) (is : List IntervalRecord) (k : ℕ) (i : IntervalRecord) → k < length is → i ≡ get_or is k i
+    → CanBeAdded store (drop k is) → CanBeAdded store (i ∷ drop (k + 1) is)
+can-at store is k i within is_at can =
+    let count : suc k ≡ k + 1 = omega arith in
+    subst (CanBeAdded store) (drop-cons is k i within ∙ ap (λ j. j ∷ drop (suc k) is) (sym is_at) ∙ ap (λ n. i ∷ drop n is) count) can
+
+pub same-same : (n : NodeMemory) → SameMemory n n
+same-same n = record { me = refl; size = refl; pages = refl; nodes = refl }
+
+pub same-trans : (a b c : NodeMemory) → SameMemory a b → SameMemory b c → SameMemory a c
+same-trans a b c first second = record {
+  me = second.me ∙ first.me;
+  size = second.size ∙ first.size;
+  pages = second.pages ∙ first.pages;
+  nodes = second.nodes ∙ first.nodes;
+}
 
 -- ---- what the calls on one page ask
 
@@ -364,3 +413,19 @@ in_range-seen kept n interval is range = record {
   stamp = range.stamp ∙ sym (ap (λ (n : NodeMemory). length n.memory.store.last) is);
   pages = subst (λ (n : NodeMemory). All (λ page. page < n.memory.store.pages) interval.pages) (sym is) range.pages;
 }
+
+-- the pages of a list are in range
+pub page-within : (kept : Kept) (n loop : NodeMemory) (pages items : List ℕ) (k : ℕ) → node_seen kept ≡ n → IsKept kept → SameMemory n loop
+    → All (λ page. page < n.memory.store.pages) pages → items ≡ pages → k < length items → get_or items k 0 < length loop.memory.copies
+page-within kept n loop pages items k is sound same range items_are within =
+    let here : get_or pages k 0 < n.memory.store.pages = range k 0 (omega (arith, ap length items_are, within)) in
+    omega (
+      arith,
+      here,
+      ap (λ l. get_or l k 0) items_are,
+      ap (λ (n : NodeMemory). n.memory.store.pages) is,
+      ap (λ (n : NodeMemory). length n.memory.copies) is,
+      length-seen kept,
+      sound.pages,
+      same.pages,
+    )

@@ -35,7 +35,6 @@ impl Memory {
     fn learn_one(&mut self, before: &Time, interval: &Interval) -> Result<(), AllocError>
         requires before { length before.now ≡ length self.old.memory.store.last }
         requires in_range { IsInRange self.old.memory.store interval.now }
-        requires pages { self.old.memory.store.pages ≡ length self.old.memory.copies }
         requires next { index_of interval.now ≡ entry self.old.memory.store.last interval.now.node + 1 }
         ensures ok { OnOk result (self.new ≡ with_memory self.old (learned_one before.now self.old.memory interval.now)) }
         ensures same { SameMemory self.old self.new }
