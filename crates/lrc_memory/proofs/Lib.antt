@@ -10,3 +10,4 @@ pub mod Mending
 pub mod Discards
 pub mod Closes
 pub mod Learns
+pub mod Attaches

@@ -1,8 +1,10 @@
 // What a node gives to others, and takes from them.
 
-ghost use Rattle.std.specs.Prelude.{◌≡◌, ◌<◌, All, IfOk, OnOk, fold, length, true, []};
+ghost use Rattle.std.specs.Prelude.{◌≡◌, ◌<◌, Some, All, IfOk, OnOk, fold, length, true, []};
 ghost use Rattle.lrc_protocol.specs.Memory.{changes_or_none, copy_at, keeper_at};
 ghost use Rattle.lrc_protocol.specs.Fetch.{mended, need_of};
+ghost use Rattle.lrc_page.specs.Page.{words_of};
+ghost use Rattle.lrc_store.specs.Store.{notice_at, unread, attached};
 ghost use Rattle.lrc_protocol.specs.Take.{with_part};
 ghost use Rattle.lrc_table.specs.Table.{with_copy};
 ghost use Rattle.lrc_table.specs.Table as tables;
@@ -12,12 +14,13 @@ ghost use Rattle.lrc_memory.specs.View.{AreSized, SameMemory, seen_in, with_memo
 ghost use Rattle.lrc_memory.specs.Turns.{AreAwaited, is_mendable};
 
 use crate::memory::Memory;
+use crate::settle::settle_page;
 use lrc_mail::{Base, Need};
 use lrc_page::Changes;
 use lrc_store::{Key, Store};
 use lrc_table::{PageTable, State};
 use lrc_wire::Parts;
-use std::alloc::AllocError;
+use std::alloc::{AllocError, Global};
 
 impl Memory {
     /// What the node's own interval of this index changed in a page, for a reply. Nothing where no such changes are known.
@@ -28,7 +31,16 @@ impl Memory {
         ensures ok { OnOk result (self.new ≡ self.old) }
         ensures same { SameMemory self.old self.new }
     {
-        Err(AllocError)
+        settle_page(
+            &mut self.table,
+            &mut self.store,
+            self.me,
+            &self.named,
+            page,
+        )?;
+        let alloc = *self.named.allocator();
+        let node = self.me;
+        changes_or_none(alloc, &self.store, Key { node, index, page })
     }
 
     /// Stores what intervals of a maker changed in a page.
@@ -38,7 +50,22 @@ impl Memory {
             (record self.old.memory { store = fold (with_part maker page) self.old.memory.store parts.now })) }
         ensures same { SameMemory self.old self.new }
     {
-        Err(AllocError)
+        for part in parts.as_slice() {
+            let node = maker;
+            let index = part.index;
+            self.keep(Key { node, index, page }, part.changes.duplicate()?);
+        }
+        Ok(())
+    }
+
+    /// Keeps the changes of a stored notice of which none are known.
+    fn keep(&mut self, key: Key, changes: Changes)
+        requires awaited { notice_at self.old.memory.store key ≡ Some (unread key.page) }
+        requires sized { All (λ c. c.offset < words_of self.old.size) changes }
+        ensures kept { self.new ≡ with_memory self.old (record self.old.memory { store = attached self.old.memory.store key changes }) }
+        ensures same { SameMemory self.old self.new }
+    {
+        self.store.attach(key, changes);
     }
 
     /// What a page needs before it can be read: a base copy where its copy is absent, and the changes that its copy lacks,
@@ -92,5 +119,15 @@ fn patch_all(table: &mut PageTable, store: &Store, page: u16, keys: &[Key])
         if let Some(changes) = store.changes(*key) {
             table.patch(page, changes);
         }
+    }
+}
+
+/// The changes of a key, and none where they are not known.
+fn changes_or_none(alloc: Global, store: &Store, key: Key) -> Result<Changes, AllocError>
+    ensures { IfOk result (λ changes. changes ≡ changes_or_none store.now key) }
+{
+    match store.changes(key) {
+        Some(changes) => changes.duplicate(),
+        None => Ok(Changes::empty(alloc)),
     }
 }
