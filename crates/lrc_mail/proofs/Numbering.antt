@@ -35,9 +35,9 @@ begins me first start all counts to = record { counts = counts; to = to; same = 
 goes_on : (me first : ℕ) (sent : List ℕ) (out : List EnvelopeRecord) (letter : Letter) (rest : List Letter) (number : ℕ) (b : Bool)
     → (if b then Some (first + slice_index sent letter.to) else None) ≡ Some number
     → behind out (if b
-      then option_map (λ more. (envelope_of me (first + slice_index sent letter.to) letter ∷ more.0, more.1))
-        (numbered me first (slice_set sent letter.to (slice_index sent letter.to + 1)) rest)
-      else None)
+    then option_map (λ more. (envelope_of me (first + slice_index sent letter.to) letter ∷ more.0, more.1))
+    (numbered me first (slice_set sent letter.to (slice_index sent letter.to + 1)) rest)
+    else None)
     ≡ behind (out ++ envelope_of me number letter ∷ []) (numbered me first (slice_set sent letter.to (slice_index sent letter.to + 1)) rest)
 goes_on me first sent out letter rest number false e = cc
 goes_on me first sent out letter rest number true e =
@@ -67,9 +67,9 @@ finishes me first start all sent out m = m.same ∙ ap (λ l. Some (l, sent)) (a
 stops : (me first : ℕ) (sent : List ℕ) (out : List EnvelopeRecord) (letter : Letter) (rest : List Letter) (b : Bool)
     → (if b then Some (first + slice_index sent letter.to) else None) ≡ None
     → behind out (if b
-      then option_map (λ more. (envelope_of me (first + slice_index sent letter.to) letter ∷ more.0, more.1))
-        (numbered me first (slice_set sent letter.to (slice_index sent letter.to + 1)) rest)
-      else None)
+    then option_map (λ more. (envelope_of me (first + slice_index sent letter.to) letter ∷ more.0, more.1))
+    (numbered me first (slice_set sent letter.to (slice_index sent letter.to + 1)) rest)
+    else None)
     ≡ None
 stops me first sent out letter rest false e = refl
 stops me first sent out letter rest true e = cc

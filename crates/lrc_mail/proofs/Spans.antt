@@ -97,8 +97,8 @@ found_at n least (span ∷ spans) zero are before from =
     (λ begins.
     le-leb span.first n begins
     ∙ sym (
-      list_any-append (λ m. m == n) (numbers_in span) (numbers_of spans)
-      ∙ ap (λ b. b || list_any (λ m. m == n) (numbers_of spans)) (any-within n span.first (span.last + 1 - span.first) begins (omega (arith, le, begins)))
+    list_any-append (λ m. m == n) (numbers_in span) (numbers_of spans)
+    ∙ ap (λ b. b || list_any (λ m. m == n) (numbers_of spans)) (any-within n span.first (span.last + 1 - span.first) begins (omega (arith, le, begins)))
     ))
     (λ begins.
     lt-leb span.first n begins
@@ -109,8 +109,8 @@ found_at n least (span ∷ spans) (suc i) are before from =
     found_at n (span.last + 2) spans i are.2 (λ k d le lt. before (suc k) d (omega arith) (omega (arith, lt)))
     (λ k d le lt. from (suc k) d (omega (arith, le)) (omega (arith, lt)))
     ∙ sym (
-      list_any-append (λ m. m == n) (numbers_in span) (numbers_of spans)
-      ∙ ap (λ b. b || list_any (λ m. m == n) (numbers_of spans)) (none-above n span.first (span.last + 1 - span.first) (omega (arith, below, are.1)))
+    list_any-append (λ m. m == n) (numbers_in span) (numbers_of spans)
+    ∙ ap (λ b. b || list_any (λ m. m == n) (numbers_of spans)) (none-above n span.first (span.last + 1 - span.first) (omega (arith, below, are.1)))
     )
 
 -- where a number is not among spans, the first span that doesn't end below it begins above it

@@ -86,7 +86,8 @@ impl Mail {
     pub fn note_taken(&mut self, from: u8, number: u32) -> Result<(), AllocError>
         requires from { from < length self.old.taken }
         requires anew { was_taken self.old from number ≡ false }
-        ensures { OnOk result (self.new ≡ with_taken from number self.old) }
+        ensures ok { OnOk result (self.new ≡ with_taken from number self.old) }
+        ensures lengths { (length self.new.sent ≡ length self.old.sent) × (length self.new.taken ≡ length self.old.taken) }
     {
         self.taken[usize::from(from)].add(number)
     }
@@ -104,6 +105,7 @@ impl Mail {
         ensures numbers { IfOk result (λ out. numbered me first self.old.sent letters.items ≡ Some (out.items, self.new.sent)) }
         ensures after { OnOk result (self.new ≡ record self.old { sent = self.new.sent }) }
         ensures worn { result ≡ Err Worn → numbered me first self.old.sent letters.items ≡ None }
+        ensures lengths { (length self.new.sent ≡ length self.old.sent) × (length self.new.taken ≡ length self.old.taken) }
     {
         number_all(&mut self.sent, me, first, letters)
     }

@@ -80,9 +80,18 @@ fn put(spans: &mut Vec<Span>, place: usize, number: u32) -> Result<(), AllocErro
         lengthen(spans, place - 1, number, joins);
     } else if joins {
         let last = spans[place].last;
-        spans[place] = Span { first: number, last };
+        spans[place] = Span {
+            first: number,
+            last,
+        };
     } else {
-        spans.insert(place, Span { first: number, last: number })?;
+        spans.insert(
+            place,
+            Span {
+                first: number,
+                last: number,
+            },
+        )?;
     }
     Ok(())
 }
@@ -121,9 +130,15 @@ fn lengthen(spans: &mut Vec<Span>, place: usize, number: u32, joins: bool)
     let first = spans[place].first;
     if joins {
         let next = spans.remove(place + 1);
-        spans[place] = Span { first, last: next.last };
+        spans[place] = Span {
+            first,
+            last: next.last,
+        };
     } else {
-        spans[place] = Span { first, last: number };
+        spans[place] = Span {
+            first,
+            last: number,
+        };
     }
 }
 
