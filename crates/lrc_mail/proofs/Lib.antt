@@ -2,3 +2,4 @@ pub mod Lists
 pub mod Spans
 pub mod Puts
 pub mod Numbering
+pub mod Asking
