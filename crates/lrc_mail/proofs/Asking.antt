@@ -1,5 +1,5 @@
 -- What is asked of makers: indices are put in order, and makers with none are left out.
-use Rattle.std.proofs.Common.{⊎_elim, inl, inr, ◌≡◌, ◌≢◌, ℕ, suc, ◌+◌, ◌<◌, ◌≤◌, true, List, [], ◌∷◌, ◌++◌, map, length, refl, sym, ap, ◌∙◌, subst, add-one, arith}
+use Rattle.std.proofs.Common.{⊎_elim, inl, inr, ◌≡◌, ◌≢◌, ℕ, zero, suc, ◌+◌, ◌<◌, ◌≤◌, true, List, [], ◌∷◌, ◌++◌, map, length, refl, sym, ap, ◌∙◌, subst, add-one, arith}
 use Rattle.std.specs.Prelude.{◌==◌, nat_lt, slice_index_or, option_to_list, Option, Some, None, filter_map}
 use Rattle.std.specs.List.{All, AllPairs, filter, range_with_len, cons_option}
 use Rattle.std.specs.List.Sorted.{IsPermutation, IsSorted}
@@ -15,8 +15,11 @@ use Rattle.lrc_store.proofs.Orders.{Comparable, IsAscendingPart-ascending_part, 
 use Rattle.lrc_protocol.proofs.Numbers.{ranges-append}
 use Rattle.lrc_store.proofs.Ranks.{is_lt-nat_cmp}
 use Rattle.lrc_wire.specs.Records.{AreIndices}
-use Rattle.lrc_protocol.specs.Fetch.{Asked, some_asked, indices_of, asked_of}
-use Rattle.lrc_mail.specs.Need.{AreAskable}
+use Rattle.lrc_wire.specs.declared.message.Message.TheVariants.{PageRequest}
+use Rattle.lrc_protocol.specs.Fetch.{Base, unneeded, due, come, Asked, Need, some_asked, indices_of, asked_of}
+use Rattle.lrc_protocol.specs.Mail.{Letter}
+use Rattle.lrc_protocol.specs.Letters.{letter, page_request_of, changes_request_of, requests_of}
+use Rattle.lrc_mail.specs.Need.{AreAskable, DueBelow}
 
 -- a maker's keys, and their indices
 abbrev keys_by : List Key → ℕ → List Key
@@ -99,3 +102,33 @@ some maker (index ∷ indices) = All-cons (λ (a : Asked). 1 ≤ length a.indice
 pub asks-some : (maker : ℕ) (indices : List ℕ) (all : List Asked) → All (λ (a : Asked). 1 ≤ length a.indices) all
     → All (λ (a : Asked). 1 ≤ length a.indices) (all ++ option_to_list (some_asked maker indices))
 asks-some maker indices all are = All-append (λ (a : Asked). 1 ≤ length a.indices) all (option_to_list (some_asked maker indices)) are (some maker indices)
+
+-- ---- whom letters are for
+
+of_maker : (maker : ℕ) (indices : List ℕ) → All (λ (a : Asked). a.maker < maker + 1) (option_to_list (some_asked maker indices))
+of_maker maker [] = λ k d lt. absurd (omega (arith, lt))
+of_maker maker (index ∷ indices) =
+    All-cons (λ (a : Asked). a.maker < maker + 1) (record { maker = maker; indices = index ∷ indices }) [] (omega arith) (λ k d lt. absurd (omega (arith, lt)))
+
+-- only nodes are asked
+pub asked-below : (nodes : ℕ) (keys : List Key) → All (λ (a : Asked). a.maker < nodes) (asked_of nodes keys)
+asked-below zero keys = λ k d lt. absurd (omega (arith, lt))
+asked-below (suc n) keys =
+    subst (λ m. All (λ (a : Asked). a.maker < m) (asked_of m keys)) (add-one n)
+    (subst (All (λ (a : Asked). a.maker < n + 1)) (sym (asked_of-more n keys))
+    (All-append (λ (a : Asked). a.maker < n + 1) (asked_of n keys) (option_to_list (some_asked n (indices_of keys n)))
+    (λ k d lt. let below : (slice_index_or (asked_of n keys) k d).maker < n = asked-below n keys k d lt in omega (arith, below))
+    (of_maker n (indices_of keys n))))
+
+page-request-below : (nodes page : ℕ) (base : Base) → DueBelow nodes base → All (λ (l : Letter). l.to < nodes) (page_request_of page base)
+page-request-below nodes page unneeded h = λ k d lt. absurd (omega (arith, lt))
+page-request-below nodes page (due keeper) h =
+    All-cons (λ (l : Letter). l.to < nodes) (letter keeper (PageRequest page)) [] h (λ k d lt. absurd (omega (arith, lt)))
+page-request-below nodes page (come values) h = λ k d lt. absurd (omega (arith, lt))
+
+-- the requests for a page go to nodes
+pub requests-below : (nodes : ℕ) (need : Need) → DueBelow nodes need.base → All (λ (a : Asked). a.maker < nodes) need.asked
+    → All (λ (l : Letter). l.to < nodes) (requests_of need)
+requests-below nodes need keeper makers =
+    All-append (λ (l : Letter). l.to < nodes) (page_request_of need.page need.base) (map (changes_request_of need.page) need.asked)
+    (page-request-below nodes need.page need.base keeper) (All-map (λ (l : Letter). l.to < nodes) (changes_request_of need.page) need.asked makers)

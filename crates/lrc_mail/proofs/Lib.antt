@@ -3,3 +3,5 @@ pub mod Spans
 pub mod Puts
 pub mod Numbering
 pub mod Asking
+pub mod Askable
+pub mod Sparse

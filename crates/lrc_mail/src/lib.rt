@@ -7,6 +7,7 @@
 mod asked;
 mod base;
 mod fault;
+pub mod laws;
 mod letter;
 mod mail;
 mod need;
