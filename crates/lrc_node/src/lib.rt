@@ -1,0 +1,13 @@
+//! One node of the distributed shared memory: what each of its turns does. A turn goes on by one statement, or takes one
+//! message (Keleher, Cox, Dwarkadas and Zwaenepoel 1994; Amza et al. 1996). In contracts a node is that of the protocol
+//! machine in `lrc_protocol`.
+#![tactic(auto)]
+
+mod barrier;
+mod clock;
+mod end;
+mod fault;
+mod text;
+
+pub use end::End;
+pub use fault::NodeFault;
