@@ -1,8 +1,7 @@
 -- What comes of an arrival or a Clean at the manager of barriers, beside its node's state.
-use Rattle.std.specs.Prelude.{ℕ, Option, Some, None, List, IfSome, ◌<◌, ◌≡◌, length, option_map, is_some}
-use Rattle.lrc_barrier.specs.declared.arrival.Arrival.{Arrival}
+use Rattle.std.specs.Prelude.{ℕ, Option, Some, None, List, IfSome, ◌≡◌, length, is_some}
 use Rattle.lrc_barrier.specs.declared.departure.Departure.{Departure}
-use Rattle.lrc_barrier.specs.Barrier.{ManagerRecord, ArriveStep, refuses, waits, departs, CleanStep, refuses_clean, awaits, discards}
+use Rattle.lrc_barrier.specs.Barrier.{ArriveStep, refuses, waits, departs, CleanStep, refuses_clean, awaits, discards}
 use Rattle.lrc_protocol.specs.Barrier.{Barrier, with_manager}
 
 -- what an arrival is answered, the departures if it was the last, and the barrier then; none where it isn't accepted

@@ -1,3 +1,4 @@
 pub mod Text
 pub mod Clock
 pub mod Barrier
+pub mod News

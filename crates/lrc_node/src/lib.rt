@@ -7,6 +7,7 @@ mod barrier;
 mod clock;
 mod end;
 mod fault;
+mod news;
 mod text;
 
 pub use end::End;

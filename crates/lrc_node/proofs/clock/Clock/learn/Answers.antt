@@ -1,5 +1,5 @@
 use Rattle.std.proofs.Common.{◌≡◌, length, sym, ◌∙◌, ap, subst, refl}
-use Rattle.std.specs.Prelude.{ℕ, ◌<◌, ◌≤◌}
+use Rattle.std.specs.Prelude.{ℕ}
 use Rattle.lrc_time.proofs.Times.{length-joined_same}
 use Rattle.lrc_protocol.specs.Locks.{Locks}
 use Rattle.lrc_node.specs.Clock.{IsClock, SameClock}
