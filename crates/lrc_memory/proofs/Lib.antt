@@ -1,0 +1,4 @@
+pub mod Inside
+pub mod Overlays
+pub mod Copies
+pub mod Starts
