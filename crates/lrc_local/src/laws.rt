@@ -1,0 +1,54 @@
+// What holds of each node that is reached. Each function is a theorem: its body is empty, and its clauses are the law.
+
+ghost use Rattle.std.specs.Prelude.{◌≡◌, ℕ, ◌<◌, Some};
+ghost use Rattle.lrc_lang.specs.declared.program.Program.{Program};
+ghost use Rattle.lrc_protocol.specs.Node.{Node, OptionsRecord, fresh_node};
+ghost use Rattle.lrc_local.specs.Reached.{IsReached};
+ghost use Rattle.std.specs.Prelude.{List, [], ◌∷◌, ◌++◌};
+ghost use Rattle.lrc_exec.specs.Plain.{setting_of};
+ghost use Rattle.lrc_protocol.specs.Turn.{TurnRecord, done, run_turn, take_turn};
+ghost use Rattle.lrc_protocol.specs.Log.{Input, Local, outcome_of};
+ghost use Rattle.lrc_wire.specs.Envelope.{EnvelopeRecord};
+ghost use Rattle.lrc_local.specs.Reached.{LeadsTo};
+
+/// A fresh node is reached, and so is a node after each turn of one that is reached.
+pub fn turns_lead_on()
+    ensures fresh { (program : Program) (nodes : ℕ) (options : OptionsRecord) (me : ℕ) → me < nodes
+        → IsReached (fresh_node program nodes options me) }
+    ensures run { (node after : Node) (turn : TurnRecord) → IsReached node → run_turn node ≡ done turn after → IsReached after }
+    ensures take { (node after : Node) (turn : TurnRecord) (envelope : EnvelopeRecord) → IsReached node
+        → take_turn node envelope ≡ done turn after → IsReached after }
+    ensures with_turns { (program : Program) (nodes : ℕ) (options : OptionsRecord) (me : ℕ) (l : Local) (input : Input)
+        (turn : TurnRecord) (after : Node) → LeadsTo program nodes options me l → outcome_of l.node input ≡ done turn after
+        → LeadsTo program nodes options me (record { node = after; turns = l.turns ++ turn ∷ [] }) }
+{}
+
+/// A node that is reached has the setting of its program on one of the nodes, and its options.
+pub fn setting_and_options_stay()
+    ensures { (program : Program) (nodes : ℕ) (options : OptionsRecord) (me : ℕ) (l : Local) → LeadsTo program nodes options me l
+        → (l.node.setting ≡ setting_of program nodes me) × (l.node.options ≡ options) }
+{}
+ghost use Rattle.std.specs.Prelude.{length, true, false};
+ghost use Rattle.lrc_exec.specs.Meaning.{Thread, releases};
+ghost use Rattle.lrc_lock.specs.Held.{lock_at, is_free, is_held};
+ghost use Rattle.lrc_lock.specs.declared.state.LockState.TheVariants.{Away};
+ghost use Rattle.lrc_protocol.specs.Mail.{nothing, grant};
+ghost use Rattle.lrc_invariants.specs.Shape.{HasShape};
+ghost use Rattle.lrc_invariants.specs.Tokens.{is_awaited};
+ghost use Rattle.lrc_invariants.specs.Waiting.{next_in, acquiring, FixesNext};
+
+/// At a node that is reached each call on a token is in turn: a lock that the text acquires next has a token with a place here
+/// that is not held, and where it isn't free it is neither here nor awaited; one that the text releases next is held; and one
+/// whose grant is awaited is awaited.
+pub fn tokens_are_called_in_turn()
+    ensures shape { (node : Node) → IsReached node → HasShape node.setting node.locks }
+    ensures acquire { (node : Node) (lock : ℕ) → IsReached node → acquiring (next_in node.course) ≡ Some lock
+        → (lock < length node.locks.held.locks) × (is_held (lock_at node.locks.held lock) ≡ false) }
+    ensures ask { (node : Node) (lock : ℕ) → IsReached node → node.mail.wait ≡ nothing → acquiring (next_in node.course) ≡ Some lock
+        → is_free (lock_at node.locks.held lock) ≡ false → lock_at node.locks.held lock ≡ Away }
+    ensures release { (node : Node) (lock : ℕ) (after : Thread) → IsReached node → next_in node.course ≡ Some (releases lock after)
+        → (lock < length node.locks.held.locks) × (is_held (lock_at node.locks.held lock) ≡ true) }
+    ensures grant { (node : Node) (lock : ℕ) → IsReached node → node.mail.wait ≡ grant lock
+        → (lock < length node.locks.held.locks) × (is_awaited (lock_at node.locks.held lock) ≡ true) }
+    ensures waits { (node : Node) → IsReached node → FixesNext node.mail.wait (next_in node.course) }
+{}
