@@ -1,2 +1,3 @@
 pub mod Texts
 pub mod Runs
+pub mod Effects

@@ -2,3 +2,4 @@ pub mod Text
 pub mod Clock
 pub mod Barrier
 pub mod News
+pub mod Effects

@@ -8,6 +8,7 @@ use Rattle.lrc_exec.specs.Ask.{ask_of}
 use Rattle.lrc_exec.specs.Meaning.{Thread, Next, next_of}
 use Rattle.lrc_protocol.specs.Course.{Course, going, trapped, ended, deed_of, course_of, cost_of}
 use Rattle.lrc_protocol.specs.Node.{begins_of}
+use Rattle.lrc_invariants.specs.Waiting.{next_in}
 use Rattle.lrc_node.specs.declared.text.Standing.{Standing}
 use Rattle.lrc_node.specs.declared.text.Standing.TheVariants.{Running, Arrived, Trapped, Ended}
 use Rattle.lrc_node.specs.declared.end.End.{End as Ending}
@@ -24,12 +25,6 @@ course_in Running thread = going thread
 course_in Arrived thread = going (record thread { arrived = true })
 course_in (Trapped cause) thread = trapped cause
 course_in Ended thread = ended
-
--- what the text does next, none once it has stopped
-abbrev pub next_in : Course → Option Next
-next_in (going thread) = Some (next_of thread)
-next_in (trapped cause) = None
-next_in ended = None
 
 -- what it asks for next
 abbrev pub asked_in : Course → Option Ask

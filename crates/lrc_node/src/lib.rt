@@ -9,6 +9,7 @@ mod end;
 mod fault;
 mod news;
 mod text;
+pub mod tmp_law;
 
 pub use end::End;
 pub use fault::NodeFault;
