@@ -1,10 +1,11 @@
 -- In every run the numbers that a node has taken from another are among those that were sent to it.
 use Rattle.std.proofs.Common.{◌≡◌, ℕ, zero, suc, ◌+◌, ◌<◌, ◌≤◌, List, [], ◌∷◌, Bool, true, false, length, refl, sym, ap, subst, ◌∙◌, inl, inr, arith}
-use Rattle.std.specs.Prelude.{Some, ◌==◌, cond, replicate, filter, slice_get, slice_set, slice_index, slice_index_or}
+use Rattle.std.specs.Prelude.{Some, ◌==◌, nat_lt, cond, replicate, filter, slice_get, slice_set, slice_index, slice_index_or}
 use Rattle.std.proofs.lemmas.Bool.{cases_eq, eq-eqb, and_from}
 use Rattle.std.proofs.lemmas.List.{length-set}
 use Rattle.std.proofs.lemmas.Option.{same_Some, slice_get_within}
 use Rattle.lrc_lang.specs.declared.program.Program.{Program}
+use Rattle.lrc_store.specs.Order.{placed}
 use Rattle.lrc_protocol.specs.declared.event.Event.{Event}
 use Rattle.lrc_protocol.specs.Node.{Node, OptionsRecord}
 use Rattle.lrc_protocol.specs.Log.{Input, run, taken, EntryRecord, Logged}
@@ -22,10 +23,18 @@ below-more : (b c : ℕ) (xs : List ℕ) → b ≤ c → Below b xs → Below c 
 below-more b c [] le h = tt
 below-more b c (x ∷ xs) le h = let lt : x < b = h.0 in (omega (arith, lt, le), below-more b c xs le h.1)
 
+below-placed : (x bound : ℕ) (xs : List ℕ) → x < bound → Below bound xs → Below bound (placed nat_lt x xs)
+below-placed x bound [] lt h = (lt, tt)
+below-placed x bound (y ∷ xs) lt h = by_test (below-placed x bound xs lt h.1) (nat_lt x y)
+  where
+    by_test : Below bound (placed nat_lt x xs) → (b : Bool) → Below bound (cond b (x ∷ y ∷ xs) (y ∷ placed nat_lt x xs))
+    by_test rest true = (lt, h)
+    by_test rest false = (h.0, rest)
+
 below-set : (t : List (List ℕ)) (k a x bound : ℕ) → (k ≡ a → x < bound) → Below bound (slice_index_or t a [])
-    → Below bound (slice_index_or (slice_set t k (x ∷ slice_index_or t k [])) a [])
+    → Below bound (slice_index_or (slice_set t k (placed nat_lt x (slice_index_or t k []))) a [])
 below-set [] k a x bound h r = r
-below-set (y ∷ t) zero zero x bound h r = (h refl, r)
+below-set (y ∷ t) zero zero x bound h r = below-placed x bound y (h refl) r
 below-set (y ∷ t) zero (suc a) x bound h r = r
 below-set (y ∷ t) (suc k) zero x bound h r = r
 below-set (y ∷ t) (suc k) (suc a) x bound h r = below-set t k a x bound (λ e. h (ap suc e)) r

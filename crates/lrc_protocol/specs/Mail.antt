@@ -1,6 +1,7 @@
 -- A node's mail: what it waits for, with what has come of it, and the numbers of messages sent and taken.
-use Rattle.std.specs.Prelude.{ℕ, ◌+◌, ◌==◌, Bool, true, false, Option, Some, None, is_some, option_map, List, [], ◌∷◌, nat_le, replicate, slice_index, slice_index_or, slice_set, if◌then◌else◌}
+use Rattle.std.specs.Prelude.{ℕ, ◌+◌, ◌==◌, Bool, true, false, Option, Some, None, is_some, option_map, List, [], ◌∷◌, nat_lt, nat_le, replicate, slice_index, slice_index_or, slice_set, if◌then◌else◌}
 use Rattle.std.specs.List.{list_any}
+use Rattle.lrc_store.specs.Order.{placed}
 use Rattle.lrc_wire.specs.declared.message.Message.{Message}
 use Rattle.lrc_wire.specs.Envelope.{EnvelopeRecord}
 use Rattle.lrc_protocol.specs.Fetch.{Need}
@@ -24,7 +25,7 @@ pub data Wait : Type 0 where
   -- or, its copies being clean, the word to discard.
   discard : (collection : Collection) → Wait
 
--- what it waits for; how many messages it has sent to each node; the numbers that it has taken from each
+-- what it waits for; how many messages it has sent to each node; the numbers that it has taken from each, ascending
 pub record Mail : Type 0 where
   pub wait : Wait
   pub sent : List ℕ
@@ -73,7 +74,7 @@ was_taken mail from number = list_any (λ taken. taken == number) (slice_index_o
 -- the mail once the message of this number is taken
 abbrev pub with_taken : ℕ → ℕ → Mail → Mail
 with_taken from number mail =
-    record mail { taken = slice_set mail.taken from (number ∷ slice_index_or mail.taken from []) }
+    record mail { taken = slice_set mail.taken from (placed nat_lt number (slice_index_or mail.taken from [])) }
 
 -- a message for a node, before it has a number
 pub record Letter : Type 0 where

@@ -1,0 +1,102 @@
+-- Sets of numbers as spans: where a number stands among them.
+use Rattle.std.proofs.Common.{⊎_elim, inl, inr, ◌≡◌, ℕ, zero, suc, ◌+◌, ◌-◌, ◌<◌, ◌≤◌, Bool, true, false, List, [], ◌∷◌, length, refl, sym, ap, ◌∙◌, subst, arith}
+use Rattle.std.specs.Prelude.{slice_index_or, ◌==◌, ◌||◌, nat_le, ◌⊎◌}
+use Rattle.std.specs.List.{All, AllWithin, list_any, range_with_len}
+use Rattle.std.specs.List.Sorted.{IsNonDecreasingBy}
+use Rattle.std.proofs.lemmas.Bool.{ne_eqb, eq-eqb, le-leb, lt-leb, cases_eq, cases_lt}
+use Rattle.std.proofs.lemmas.List.Elements.{All-cons}
+use Rattle.std.proofs.lemmas.List.Folds.{list_any-append}
+use Rattle.lrc_mail.specs.declared.numbers.Span.{Span}
+use Rattle.lrc_mail.specs.Spans.{numbers_in, numbers_of, AreSpans}
+
+-- the ends of spans rise
+pub ends_rise : (spans : List Span) → AreSpans spans → IsNonDecreasingBy (λ span. span.last) spans
+ends_rise spans are i j d le within = ⊎_elim
+    (λ e. subst (λ k. (slice_index_or spans i d).last ≤ (slice_index_or spans k d).last) e (omega arith))
+    (λ other.
+    let some : (slice_index_or spans j d).first ≤ (slice_index_or spans j d).last = are.some j d within in
+    let apart : (slice_index_or spans i d).last + 1 < (slice_index_or spans j d).first = are.apart i j d (omega (arith, le, other)) within in
+    omega (arith, some, apart))
+    (cases_eq i j)
+
+-- ---- a number among others
+
+-- a number that is none of a range
+pub none-below : (n a k : ℕ) → n < a → list_any (λ m. m == n) (range_with_len a k) ≡ false
+none-below n a zero lt = refl
+none-below n a (suc k) lt =
+    ap (λ b. b || list_any (λ m. m == n) (range_with_len (a + 1) k)) (ne_eqb a n (omega (arith, lt))) ∙ none-below n (a + 1) k (omega (arith, lt))
+
+pub none-above : (n a k : ℕ) → a + k ≤ n → list_any (λ m. m == n) (range_with_len a k) ≡ false
+none-above n a zero le = refl
+none-above n a (suc k) le =
+    ap (λ b. b || list_any (λ m. m == n) (range_with_len (a + 1) k)) (ne_eqb a n (omega (arith, le))) ∙ none-above n (a + 1) k (omega (arith, le))
+
+pub any-within : (n a k : ℕ) → a ≤ n → n < a + k → list_any (λ m. m == n) (range_with_len a k) ≡ true
+any-within n a zero le lt = absurd (omega (arith, le, lt))
+any-within n a (suc k) le lt = ⊎_elim
+    (λ e. ap (λ b. b || list_any (λ m. m == n) (range_with_len (a + 1) k)) (eq-eqb a n e))
+    (λ other. ap (λ b. b || list_any (λ m. m == n) (range_with_len (a + 1) k)) (ne_eqb a n other)
+    ∙ any-within n (a + 1) k (omega (arith, le, other)) (omega (arith, lt)))
+    (cases_eq a n)
+
+-- a number below all spans
+pub none-before : (n : ℕ) (spans : List Span) → All (λ span. n < span.first) spans → list_any (λ m. m == n) (numbers_of spans) ≡ false
+none-before n [] above = refl
+none-before n (span ∷ spans) above =
+    list_any-append (λ m. m == n) (numbers_in span) (numbers_of spans)
+    ∙ ap (λ b. b || list_any (λ m. m == n) (numbers_of spans)) (none-below n span.first (span.last + 1 - span.first) (above zero span (omega arith)))
+    ∙ none-before n spans (λ k d lt. above (suc k) d (omega (arith, lt)))
+
+-- spans without the first
+pub later : (span : Span) (spans : List Span) → AreSpans (span ∷ spans) → AreSpans spans
+later span spans are = record {
+  some = λ k d lt. are.some (suc k) d (omega (arith, lt));
+  apart = λ i j d lt within. are.apart (suc i) (suc j) d (omega (arith, lt)) (omega (arith, within));
+}
+
+-- the first span ends below the others
+pub above_first : (n : ℕ) (span : Span) (spans : List Span) → AreSpans (span ∷ spans) → n ≤ span.last → All (λ other. n < other.first) spans
+above_first n span spans are le k d within =
+    let apart : span.last + 1 < (slice_index_or spans k d).first = are.apart zero (suc k) d (omega arith) (omega (arith, within)) in
+    omega (arith, le, apart)
+
+cases_le : (a n : ℕ) → (a ≤ n) ⊎ (n < a)
+cases_le a n = ⊎_elim inr inl (cases_lt n a)
+
+-- ---- where a number is looked for
+
+-- whether the span at a place, if there is one, begins at the number or below
+abbrev pub begins_by : ℕ → List Span → ℕ → Bool
+begins_by n [] i = false
+begins_by n (span ∷ spans) zero = nat_le span.first n
+begins_by n (span ∷ spans) (suc i) = begins_by n spans i
+
+pub begins_by-at : (n : ℕ) (spans : List Span) (i : ℕ) (d : Span) → i < length spans → begins_by n spans i ≡ nat_le (slice_index_or spans i d).first n
+begins_by-at n [] i d lt = absurd (omega (arith, lt))
+begins_by-at n (span ∷ spans) zero d lt = refl
+begins_by-at n (span ∷ spans) (suc i) d lt = begins_by-at n spans i d (omega (arith, lt))
+
+pub begins_by-past : (n : ℕ) (spans : List Span) (i : ℕ) → length spans ≤ i → begins_by n spans i ≡ false
+begins_by-past n [] i le = refl
+begins_by-past n (span ∷ spans) zero le = absurd (omega (arith, le))
+begins_by-past n (span ∷ spans) (suc i) le = begins_by-past n spans i (omega (arith, le))
+
+-- a number is among spans where the first span that doesn't end below it begins at it or below
+pub found_at : (n : ℕ) (spans : List Span) (i : ℕ) → AreSpans spans → AllWithin (λ span. span.last < n) spans 0 i
+    → AllWithin (λ span. n ≤ span.last) spans i (length spans) → begins_by n spans i ≡ list_any (λ m. m == n) (numbers_of spans)
+found_at n [] i are before from = refl
+found_at n (span ∷ spans) zero are before from =
+    let le : n ≤ span.last = from zero span (omega arith) (omega arith) in
+    ⊎_elim
+    (λ begins. le-leb span.first n begins ∙ sym (list_any-append (λ m. m == n) (numbers_in span) (numbers_of spans)
+    ∙ ap (λ b. b || list_any (λ m. m == n) (numbers_of spans)) (any-within n span.first (span.last + 1 - span.first) begins (omega (arith, le, begins)))))
+    (λ begins. lt-leb span.first n begins ∙ sym (none-before n (span ∷ spans) (All-cons (λ other. n < other.first) span spans begins (above_first n span spans are le))))
+    (cases_le span.first n)
+found_at n (span ∷ spans) (suc i) are before from =
+    let below : span.last < n = before zero span (omega arith) (omega arith) in
+    let some : span.first ≤ span.last = are.some zero span (omega arith) in
+    found_at n spans i (later span spans are) (λ k d le lt. before (suc k) d (omega arith) (omega (arith, lt)))
+    (λ k d le lt. from (suc k) d (omega (arith, le)) (omega (arith, lt)))
+    ∙ sym (list_any-append (λ m. m == n) (numbers_in span) (numbers_of spans)
+    ∙ ap (λ b. b || list_any (λ m. m == n) (numbers_of spans)) (none-above n span.first (span.last + 1 - span.first) (omega (arith, below, some))))

@@ -1,0 +1,21 @@
+//! What one node waits for, and the messages that it has sent and taken. A node that misses a page, or that has to keep
+//! one anew in a collection, asks the makers of changes that it lacks, and for an absent page first the keeper of a base
+//! copy (Amza et al. 1996). Messages may be repeated and come in any order: each has a number, and the numbers taken from
+//! a node are kept as spans, so that those taken in order cost constant memory.
+#![tactic(auto)]
+
+mod base;
+mod fault;
+mod letter;
+mod mail;
+mod need;
+mod numbers;
+mod wait;
+
+pub use base::Base;
+pub use fault::MailFault;
+pub use letter::Letter;
+pub use mail::Mail;
+pub use need::{Asked, Need, requests};
+pub use numbers::{Numbers, Span};
+pub use wait::{Collection, Wait};
