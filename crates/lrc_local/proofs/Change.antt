@@ -23,6 +23,7 @@ use Rattle.lrc_protocol.specs.Waits.{clean_memory, with_needs}
 use Rattle.lrc_protocol.specs.Expected.{is_page, is_interval, is_news, are_changes, indices_by, are_between, is_learnable, is_changes_reply}
 use Rattle.lrc_protocol.specs.Take.{with_part}
 use Rattle.lrc_invariants.specs.Waiting.{next_in}
+use Rattle.lrc_local.specs.Ranges.{InRange}
 use Rattle.lrc_local.proofs.Tests.{each_passes, in_range, same_numbers}
 
 -- what changes, and what it depends on
@@ -49,15 +50,9 @@ pages_in v = pages_of v.setting.words v.size
 
 -- ---- what a node makes sure of before it takes a message
 
--- an interval of one of the nodes, with a stamp of as many entries, that names some of the pages
-pub record InRange (v : View) (i : IntervalRecord) : Type 0 where
-  pub node : i.node < v.setting.nodes
-  pub stamp : length i.stamp ≡ v.setting.nodes
-  pub pages : All (λ page. page < pages_in v) i.pages
-
 pub record News (v : View) (time : List ℕ) (intervals : List IntervalRecord) : Type 0 where
   pub counted : length time ≡ v.setting.nodes
-  pub each : All (InRange v) intervals
+  pub each : All (InRange v.setting.nodes (pages_in v)) intervals
   pub covered : All (λ (i : IntervalRecord). Covers time i.stamp) intervals
   pub between : (q : ℕ) → q < v.setting.nodes
       → indices_by intervals q ≡ range_with_len (entry v.time q + 1) (entry time q - entry v.time q)
@@ -150,14 +145,14 @@ pub data Walk (start : View) : View → Type 0 where
 
 -- ---- from the tests
 
-interval_in : (node : Node) (i : IntervalRecord) → is_interval node i ≡ true → InRange (view_of node) i
+interval_in : (node : Node) (i : IntervalRecord) → is_interval node i ≡ true → InRange node.setting.nodes (pages_in (view_of node)) i
 interval_in node i e =
     let outer : _ = and_parts _ _ e in
     let inner : _ = and_parts _ _ outer.0 in
     record {
       node = ltb-true _ _ inner.0;
       stamp = eqb-true _ _ inner.1;
-      pages = each_passes (is_page node) (λ page. page < pages_in (view_of node)) (λ page b. ltb-true _ _ b) i.pages outer.1;
+      named = each_passes (is_page node) (λ page. page < pages_in (view_of node)) (λ page b. ltb-true _ _ b) i.pages outer.1;
     }
 
 pub news : (node : Node) (time : List ℕ) (intervals : List IntervalRecord) → is_learnable node time intervals ≡ true
@@ -169,7 +164,7 @@ news node time intervals e =
     let ranges : _ = and_parts _ _ told.0 in
     record {
       counted = eqb-true _ _ ranges.0;
-      each = each_passes (is_interval node) (InRange (view_of node)) (interval_in node) intervals ranges.1;
+      each = each_passes (is_interval node) (InRange node.setting.nodes (pages_in (view_of node))) (interval_in node) intervals ranges.1;
       covered = each_passes (λ i. covers time i.stamp) (λ i. Covers time i.stamp) (λ i b. covers-true time i.stamp b) intervals told.1;
       between = λ q lt. same_numbers _ _ (in_range (λ q. are_between intervals q (entry node.locks.time q) (entry time q)) node.setting.nodes inner.1 q lt);
       own = leb-true _ _ outer.1;

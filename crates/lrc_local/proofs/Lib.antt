@@ -1,7 +1,13 @@
 pub mod Tests
+pub mod Lists
+pub mod Stores
+pub mod Indices
 pub mod Change
 pub mod Words
 pub mod Inversion
 pub mod Reach
 pub mod Leads
 pub mod Tokened
+pub mod Ranges
+pub mod Exact
+pub mod Always

@@ -52,3 +52,38 @@ pub fn tokens_are_called_in_turn()
         → (lock < length node.locks.held.locks) × (is_awaited (lock_at node.locks.held lock) ≡ true) }
     ensures waits { (node : Node) → IsReached node → FixesNext node.mail.wait (next_in node.course) }
 {}
+ghost use Rattle.std.specs.Prelude.{◌+◌, All};
+ghost use Rattle.std.specs.List.{range_with_len};
+ghost use Rattle.lrc_time.specs.Time.{entry};
+ghost use Rattle.lrc_page.specs.Place.{pages_of};
+ghost use Rattle.lrc_store.specs.Interval.{IntervalRecord};
+ghost use Rattle.lrc_store.specs.Store.{IsStore};
+ghost use Rattle.lrc_protocol.specs.Expected.{indices_by, is_learnable};
+ghost use Rattle.lrc_protocol.specs.Locks.{next_time};
+ghost use Rattle.lrc_local.specs.Ranges.{InRange, HasRanges, CollectsAt};
+ghost use Rattle.lrc_local.specs.Stored.{StoresExactly};
+
+/// A node that is reached is one of the nodes, its time has an entry for each, and its memory has a place for each page. The
+/// time of a collection under way is the node's own.
+pub fn memory_has_its_ranges()
+    ensures me { (node : Node) → IsReached node → node.setting.me < node.setting.nodes }
+    ensures time { (node : Node) → IsReached node → length node.locks.time ≡ node.setting.nodes }
+    ensures memory { (node : Node) → IsReached node
+        → HasRanges node.setting.nodes (pages_of node.setting.words node.options.size) node.memory }
+    ensures collection { (node : Node) → IsReached node → CollectsAt node.locks.time node.mail.wait }
+{}
+
+/// A node that is reached stores exactly the intervals above its collected time and up to its time, those of each node in
+/// rising order, and the greatest index ever added of each node is the entry of the time. So the interval that it closes next,
+/// and the news that it can learn, can be added one after another.
+pub fn intervals_are_stored_exactly()
+    ensures exact { (node : Node) → IsReached node → StoresExactly node.locks.time node.memory }
+    ensures store { (node : Node) → IsReached node → IsStore node.memory.store }
+    ensures own { (node : Node) → IsReached node
+        → (length (next_time node.setting.me node.locks.time) ≡ length node.memory.store.last)
+        × (entry (next_time node.setting.me node.locks.time) node.setting.me ≡ entry node.memory.store.last node.setting.me + 1) }
+    ensures news { (node : Node) (time : List ℕ) (intervals : List IntervalRecord) → IsReached node
+        → is_learnable node time intervals ≡ true
+        → All (InRange node.setting.nodes (pages_of node.setting.words node.options.size)) intervals
+        × ((q : ℕ) → indices_by intervals q ≡ range_with_len (entry node.memory.store.last q + 1) (length (indices_by intervals q))) }
+{}

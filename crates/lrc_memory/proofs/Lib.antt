@@ -2,3 +2,4 @@ pub mod Inside
 pub mod Overlays
 pub mod Copies
 pub mod Starts
+pub mod Settling

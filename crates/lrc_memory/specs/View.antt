@@ -8,10 +8,10 @@ use Rattle.lrc_page.specs.declared.size.Size.{Size}
 use Rattle.lrc_page.specs.Page.{words_of}
 use Rattle.lrc_store.specs.declared.key.Key.{Key}
 use Rattle.lrc_store.specs.Interval.{index_of}
-use Rattle.lrc_store.specs.Store.{NoticeRecord, StoredRecord, StoreRecord, IsStore, interval_of, notice_at}
+use Rattle.lrc_store.specs.Store.{NoticeRecord, StoredRecord, StoreRecord, IsStore, interval_of, notice_at, attached}
 use Rattle.lrc_table.specs.declared.slot.State.{State}
 use Rattle.lrc_table.specs.declared.slot.State.TheVariants.{Valid, Written, Invalid, Absent}
-use Rattle.lrc_table.specs.PageCopy.{PageCopy, is_pending, pending_changes}
+use Rattle.lrc_table.specs.PageCopy.{PageCopy, pending_changes}
 use Rattle.lrc_table.specs.Table.{Table, copy_at}
 use Rattle.lrc_protocol.specs.Copy.{Copy, valid, written, invalid, absent}
 use Rattle.lrc_protocol.specs.Memory.{Memory}
@@ -25,6 +25,13 @@ pub record NodeMemory : Type 0 where
 abbrev pub with_memory : NodeMemory → Memory → NodeMemory
 with_memory node memory = record node { memory = memory }
 
+-- what every call leaves as it is: which node it is, and the numbers of words on a page, pages and nodes
+pub record SameMemory (old new : NodeMemory) : Type 0 where
+  pub me : new.me ≡ old.me
+  pub size : new.size ≡ old.size
+  pub pages : length new.memory.copies ≡ length old.memory.copies
+  pub nodes : length new.memory.store.last ≡ length old.memory.store.last
+
 -- what is kept: intervals, copies, and for each page the time from before it became invalid, the index of the own interval
 -- that named it last, and its keeper; and the time up to which intervals were collected
 pub record Kept : Type 0 where
@@ -35,6 +42,11 @@ pub record Kept : Type 0 where
   pub named : List ℕ
   pub keepers : List ℕ
   pub collected : List ℕ
+
+-- the store once changes of a key are made, if there are any to make
+abbrev pub settled_store : StoreRecord → Key → Option (List Change) → StoreRecord
+settled_store store key None = store
+settled_store store key (Some changes) = attached store key changes
 
 -- ---- copies
 
@@ -102,6 +114,6 @@ pub record IsKept (kept : Kept) : Type 0 where
   pub keeping : All (λ keeper. keeper < length kept.store.last) kept.keepers
   pub store : IsStore kept.store
   pub sized : All (AreSized kept.table.size) kept.store.entries
-  pub unmade : (page : ℕ) → is_pending (copy_at kept.table page) ≡ true
+  pub unmade : (page : ℕ) (changes : List Change) → pending_changes (copy_at kept.table page) ≡ Some changes
       → notice_at kept.store (record { node = kept.me; index = slice_index kept.named page; page = page })
       ≡ Some (record { page = page; changes = None })
