@@ -1,17 +1,21 @@
 -- What a turn does, by what the text asks for.
-use Rattle.std.proofs.Common.{◌≡◌, ℕ, ◌-◌, Bool, true, false, List, [], refl, sym, ◌∙◌, ap, subst}
+use Rattle.std.proofs.Common.{◌≡◌, ℕ, ◌-◌, Bool, true, false, List, [], ◌⊎◌, inl, inr, refl, sym, ◌∙◌, ap, subst}
 use Rattle.std.proofs.lemmas.Option.{same_Some}
 use Rattle.std.specs.Prelude.{Option, Some, None, nat_le, option_map, is_some, if◌then◌else◌}
 use Rattle.lrc_exec.specs.declared.machine.Ask.{Ask}
+use Rattle.lrc_exec.specs.declared.machine.Ask.TheVariants.{Quiet as Ask_Quiet, Print as Ask_Print, Read as Ask_Read, Write as Ask_Write, Acquire as Ask_Acquire, Release as Ask_Release, Barrier as Ask_Barrier, Trap as Ask_Trap, End as Ask_End}
+use Rattle.lrc_wire.specs.Envelope.{EnvelopeRecord}
 use Rattle.lrc_exec.specs.Ask.{ask_of}
 use Rattle.lrc_exec.specs.Meaning.{Thread, Next, quiet, prints, reads, writes, acquires, releases, arrives, departs, traps, ends, next_of}
 use Rattle.lrc_protocol.specs.Course.{Course, going, trapped, ended, deed_of, course_of}
 use Rattle.lrc_protocol.specs.Mail.{Letter, is_idle}
 use Rattle.lrc_protocol.specs.Node.{Node, Effect, acts, acts_by, makes, begins_of, begins, may_begin}
 use Rattle.lrc_protocol.specs.Run.{run_effect, charged}
-use Rattle.lrc_protocol.specs.Turn.{run_turn, turn_by, turn_if, not_ready}
+use Rattle.lrc_protocol.specs.Turn.{run_turn, turn_by, turn_if, turn_of, turn_with, done, not_ready, worn}
 use Rattle.lrc_node.specs.Text.{asked_in, deed_in, gone_on, cost_to_begin}
-use Rattle.lrc_node.specs.Effects.{value_asked, memory_asked, acted, deed_next, effect_asked, begun_node}
+use Rattle.lrc_node.specs.Effects.{value_asked, memory_asked, acted, deed_next, effect_asked, begun_node, CanBegin, RefusesRun, too_large, without_memory}
+use Rattle.lrc_node.specs.declared.fault.NodeFault.{NodeFault}
+use Rattle.lrc_node.specs.declared.fault.NodeFault.TheVariants.{Worn, NoMemory}
 
 -- ---- acts
 
@@ -105,18 +109,74 @@ none_begun : (node : Node) (o : Option Next) → option_map ask_of o ≡ None �
 none_begun node None e = refl
 none_begun node (Some next) e = cc
 
-idle : (node : Node) → is_idle node.mail.wait ≡ true → begins node ≡ begins_of node.left node.course
-idle node e = ap (λ b. if b then begins_of node.left node.course else None) e
+idle_no_departure : (node : Node) (idle : Bool) → NotDeparting (if idle then begins_of node.left node.course else None)
+unfolding NotDeparting
+idle_no_departure node true = begun_no_departure node.left node.course
+idle_no_departure node false = tt
 
--- the turn of a node that waits for nothing, by what it begins
-pub run_asked : (node : Node) (ask : Ask) → is_idle node.mail.wait ≡ true → option_map ask_of (begins_of node.left node.course) ≡ Some ask
-    → run_turn node ≡ turn_if (effect_asked (begun_node node) ask)
-run_asked node ask is e =
-    ap (turn_by node) (idle node is)
-    ∙ by_begun node (begins_of node.left node.course) ask (begun_no_departure node.left node.course) e
+-- the turn of a node by what it begins
+pub run_asked : (node : Node) (ask : Ask) → option_map ask_of (begins node) ≡ Some ask → run_turn node ≡ turn_if (effect_asked (begun_node node) ask)
+run_asked node ask e = by_begun node (begins node) ask (idle_no_departure node (is_idle node.mail.wait)) e
 
-pub run_none : (node : Node) → is_idle node.mail.wait ≡ true → option_map ask_of (begins_of node.left node.course) ≡ None → run_turn node ≡ not_ready
-run_none node is e = ap (turn_by node) (idle node is) ∙ none_begun node (begins_of node.left node.course) e
+pub run_none : (node : Node) → option_map ask_of (begins node) ≡ None → run_turn node ≡ not_ready
+run_none node e = none_begun node (begins node) e
 
-pub run_waiting : (node : Node) → is_idle node.mail.wait ≡ false → run_turn node ≡ not_ready
-run_waiting node is = ap (λ b. turn_by node (if b then begins_of node.left node.course else None)) is
+-- ---- what it asks for is what its text asks for
+
+asked_may : (thread : Thread) (b : Bool) (ask : Ask) → option_map ask_of (if b then Some (next_of thread) else None) ≡ Some ask
+    → asked_in (going thread) ≡ Some ask
+asked_may thread true ask e = e
+asked_may thread false ask e = cc
+
+asked_on : (left : ℕ) (course : Course) (ask : Ask) → option_map ask_of (begins_of left course) ≡ Some ask → asked_in course ≡ Some ask
+asked_on left (going thread) ask e = asked_may thread (may_begin left (next_of thread)) ask e
+asked_on left (trapped cause) ask e = e
+asked_on left ended ask e = e
+
+asked_if : (node : Node) (idle : Bool) (ask : Ask) → option_map ask_of (if idle then begins_of node.left node.course else None) ≡ Some ask
+    → asked_in node.course ≡ Some ask
+asked_if node true ask e = asked_on node.left node.course ask e
+asked_if node false ask e = cc
+
+pub begins_asked : (node : Node) (ask : Ask) → option_map ask_of (begins node) ≡ Some ask → asked_in node.course ≡ Some ask
+begins_asked node ask e = asked_if node (is_idle node.mail.wait) ask e
+
+-- ---- turns
+
+numbered_not_ready : (effect : Effect) (sent : Option (List EnvelopeRecord × List ℕ)) → turn_with effect sent ≡ not_ready → ⊥
+numbered_not_ready effect None e = cc
+numbered_not_ready effect (Some (envelopes, sent)) e = cc
+
+turn_not_ready : (o : Option Effect) → turn_if o ≡ not_ready → ⊥
+turn_not_ready None e = cc
+turn_not_ready (Some effect) e = numbered_not_ready effect _ e
+
+-- a node that begins something is ready
+pub begun_ready : (node : Node) (ask : Ask) → option_map ask_of (begins node) ≡ Some ask → run_turn node ≡ not_ready → ⊥
+begun_ready node ask e r = turn_not_ready (effect_asked (begun_node node) ask) (sym (run_asked node ask e) ∙ r)
+
+-- to count the step changes nothing else
+pub can_begun : (node : Node) (ask : Ask) → CanBegin node ask → CanBegin (begun_node node) ask
+can_begun node Ask_Quiet h = h
+can_begun node (Ask_Print value) h = h
+can_begun node (Ask_Read word) h = h
+can_begun node (Ask_Write word value) h = h
+can_begun node (Ask_Acquire lock) h = h
+can_begun node (Ask_Release lock) h = h
+can_begun node Ask_Barrier h = h
+can_begun node (Ask_Trap cause) h = h
+can_begun node Ask_End h = h
+
+-- why it doesn't go on, by what would come of what it begins
+pub refuses_begun : (node : Node) (ask : Ask) (o : Option Effect) (fault : NodeFault) → run_turn node ≡ turn_if o
+    → (fault ≡ Worn × o ≡ None) ⊎ (fault ≡ NoMemory) → RefusesRun (run_turn node) fault
+refuses_begun node ask o fault e (inl (f, none)) =
+    let is : run_turn node ≡ worn = e ∙ ap turn_if none in
+    subst (λ g. RefusesRun (run_turn node) g) (sym f) (subst (λ t. RefusesRun t Worn) (sym is) too_large)
+refuses_begun node ask o fault e (inr f) = subst (λ g. RefusesRun (run_turn node) g) (sym f) without_memory
+
+pub refuses_sent : (node : Node) (effect : Effect) (fault : NodeFault) → run_turn node ≡ turn_of effect
+    → (fault ≡ Worn × turn_of effect ≡ worn) ⊎ (fault ≡ NoMemory) → RefusesRun (run_turn node) fault
+refuses_sent node effect fault e (inl (f, is)) =
+    subst (λ g. RefusesRun (run_turn node) g) (sym f) (subst (λ t. RefusesRun t Worn) (sym (e ∙ is)) too_large)
+refuses_sent node effect fault e (inr f) = subst (λ g. RefusesRun (run_turn node) g) (sym f) without_memory

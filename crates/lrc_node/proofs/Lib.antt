@@ -1,3 +1,4 @@
 pub mod Texts
 pub mod Runs
 pub mod Effects
+pub mod States

@@ -3,13 +3,23 @@
 //! machine in `lrc_protocol`.
 #![tactic(auto)]
 
+mod act;
 mod barrier;
 mod clock;
 mod end;
 mod fault;
+mod letters;
 mod news;
+mod options;
+mod reach;
+mod run;
+mod send;
+mod state;
+mod syncs;
 mod text;
-pub mod tmp_law;
+mod turn;
 
 pub use end::End;
 pub use fault::NodeFault;
+pub use options::Options;
+pub use turn::Turn;

@@ -1,6 +1,6 @@
 // A node's text: how far it has come, and how many steps are left.
 
-ghost use Rattle.std.specs.Prelude.{◌≡◌, ◌≤◌, IfSome, false, is_some, option_map};
+ghost use Rattle.std.specs.Prelude.{◌≡◌, ◌≤◌, IfNone, IfSome, false, is_some, option_map};
 ghost use Rattle.lrc_exec.specs.Ask.{ask_of};
 ghost use Rattle.lrc_exec.specs.Meaning.{next_of};
 ghost use Rattle.lrc_exec.specs.Plain.{start_of};
@@ -95,6 +95,7 @@ impl<'c> Text<'c> {
     pub(crate) fn begin(&mut self) -> Option<Ask>
         ensures asked { result ≡ option_map ask_of (begun_by self.old) }
         ensures text { self.new ≡ begun self.old }
+        ensures none { IfNone result (self.new ≡ self.old) }
     {
         let ask = self.begins()?;
         self.left -= cost(ask);
