@@ -1,2 +1,4 @@
 pub mod Lists
 pub mod Spans
+pub mod Puts
+pub mod Numbering
