@@ -3,3 +3,4 @@ pub mod Overlays
 pub mod Copies
 pub mod Starts
 pub mod Settling
+pub mod Writes

@@ -2,22 +2,24 @@
 use Rattle.std.proofs.Common.{◌≡◌, ◌≢◌, ◌∙◌, ℕ, ◌+◌, ◌<◌, ◌⊎◌, Bool, true, false, cond, eqb, eqb-true, ◌&&◌, Option, Some, None, List, [], ◌∷◌, ◌++◌, map, length, get_or, set, refl, ap, sym, subst, ⊎_elim, inl, inr, arith}
 use Rattle.std.specs.Prelude.{All}
 use Rattle.std.specs.List.{range_with_len}
-use Rattle.std.specs.Option.{ForSome}
+use Rattle.std.specs.Option.{ForSome, option_map}
 use Rattle.std.proofs.lemmas.Bool.{true≢false, and_parts, cases_eq, eq-eqb, ne_eqb, false_from_ne_true}
 use Rattle.std.proofs.lemmas.List.{ext_get_or, length-set, get_or-set_same, get_or-set_other, map-set}
 use Rattle.std.proofs.Math.Seq.{map-set_same}
-use Rattle.std.proofs.lemmas.List.Elements.{All-map}
+use Rattle.std.proofs.lemmas.List.Elements.{All-map, All-weaker}
 use Rattle.std.proofs.lemmas.List.FromFn.{get_or-map-range_with_len, length-map-range_with_len}
 use Rattle.lrc_page.specs.declared.changes.Change.{Change}
 use Rattle.lrc_page.specs.declared.size.Size.{Size}
 use Rattle.lrc_page.specs.Page.{words_of}
+use Rattle.lrc_page.specs.Changes.{changes_between}
+use Rattle.lrc_page.proofs.ChangeLists.{IsDifference, each-between}
 use Rattle.lrc_store.specs.declared.key.Key.{Key}
 use Rattle.lrc_store.specs.Store.{NoticeRecord, StoredRecord, StoreRecord, notice_at, notice_with, stored_with, attached, is_at}
 use Rattle.lrc_store.proofs.Lookups.{notice_at-attached_other}
 use Rattle.lrc_store.proofs.Stores.{IsStore-attached}
 use Rattle.lrc_table.specs.declared.slot.State.{State}
 use Rattle.lrc_table.specs.declared.slot.State.TheVariants.{Valid, Written, Invalid, Absent}
-use Rattle.lrc_table.specs.PageCopy.{PageCopy, pending_changes, settled}
+use Rattle.lrc_table.specs.PageCopy.{PageCopy, IsWhole, fresh, is_valid, pending_changes, settled}
 use Rattle.lrc_table.specs.Table.{Table, copy_at, with_copy}
 use Rattle.lrc_table.proofs.Tables.{copy_at-with_copy, copy_at-with_copy_other}
 use Rattle.lrc_table.proofs.Copies.{copy_of, pending-settled}
@@ -304,3 +306,47 @@ kept-settled kept page within is fit = by_found (pending_changes (copy_at kept.t
         ∙ ap pending_changes (copy_at-with_copy kept.table page (settled (copy_at kept.table page)) within)
         ∙ pending-settled (copy_at kept.table page) in
         absurd (cc))
+
+-- ---- the changes still to make are of words of a page
+
+sized-between : (twin page : List ℕ) (n : ℕ) → length page ≡ n → All (λ c. c.offset < n) (changes_between twin page)
+sized-between twin page n long =
+    All-weaker (IsDifference twin page) (λ c. c.offset < n) (λ c is. omega (arith, is.0, long)) (changes_between twin page) (each-between twin page)
+
+sized-in : (size : Size) (copy : PageCopy) → length copy.values ≡ words_of size
+    → ForSome (pending_changes copy) (λ changes. All (λ c. c.offset < words_of size) changes)
+sized-in size copy long changes is = by_state copy.state copy.twin is
+  where
+    by_state : (state : State) (twin : Option (List ℕ))
+        → cond (is_valid state) (option_map (λ twin. changes_between twin copy.values) twin) None ≡ Some changes
+        → All (λ c. c.offset < words_of size) changes
+    by_state Valid None is = absurd (cc)
+    by_state Valid (Some twin) is =
+        let e : changes_between twin copy.values ≡ changes = cc in
+        subst (All (λ c. c.offset < words_of size)) e (sized-between twin copy.values (words_of size) long)
+    by_state Written twin is = absurd (cc)
+    by_state Invalid twin is = absurd (cc)
+    by_state Absent twin is = absurd (cc)
+
+pub sized-pending : (table : Table) (page : ℕ) → All (IsWhole table.size) table.copies → page < length table.copies
+    → ForSome (pending_changes (copy_at table page)) (λ changes. All (λ c. c.offset < words_of table.size) changes)
+sized-pending table page whole within = sized-in table.size (copy_at table page) (whole page (fresh []) within).values
+
+-- ---- after a call
+
+-- a store and a table in place of those that were kept
+abbrev pub with_parts : Kept → StoreRecord → Table → Kept
+with_parts kept store table = record kept { store = store; table = table }
+
+pub after-settle : (kept : Kept) (page : ℕ) (named : List ℕ) (store : StoreRecord) (table : Table) → named ≡ kept.named
+    → table ≡ with_copy kept.table page (settled (copy_at kept.table page))
+    → store ≡ settled_store kept.store (record { node = kept.me; index = get_or named page 0; page = page }) (pending_changes (copy_at kept.table page))
+    → with_parts kept store table ≡ settled_at kept page
+after-settle kept page named store table named_is table_is store_is =
+    ap (with_parts kept store) table_is
+    ∙ ap (λ s. with_parts kept s (with_copy kept.table page (settled (copy_at kept.table page)))) store_is
+    ∙ ap (λ named. with_parts kept (settled_store kept.store (record { node = kept.me; index = get_or named page 0; page = page }) (pending_changes (copy_at kept.table page)))
+    (with_copy kept.table page (settled (copy_at kept.table page)))) named_is
+
+pub same-parts : (kept : Kept) (store : StoreRecord) (table : Table) → table ≡ kept.table → store ≡ kept.store → with_parts kept store table ≡ kept
+same-parts kept store table table_is store_is = ap (with_parts kept store) table_is ∙ ap (λ s. with_parts kept s kept.table) store_is

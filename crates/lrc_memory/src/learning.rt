@@ -4,7 +4,7 @@ ghost use Rattle.std.specs.Prelude.{◌≡◌, ◌<◌, IfOk, OnOk, is_some, len
 ghost use Rattle.lrc_time.specs.Time.{entry};
 ghost use Rattle.lrc_store.specs.Store.{IsStore, newer_of};
 ghost use Rattle.lrc_protocol.specs.Memory.{learned};
-ghost use Rattle.lrc_memory.specs.View.{with_memory};
+ghost use Rattle.lrc_memory.specs.View.{SameMemory, with_memory};
 ghost use Rattle.lrc_memory.specs.Turns.{CanBeAdded};
 
 use crate::memory::Memory;
@@ -18,7 +18,8 @@ impl Memory {
     pub fn learn(&mut self, before: &Time, intervals: &Intervals) -> Result<(), AllocError>
         requires before { length before.now ≡ length self.old.memory.store.last }
         requires intervals { CanBeAdded self.old.memory.store intervals.now }
-        ensures { OnOk result (self.new ≡ with_memory self.old (learned before.now intervals.now self.old.memory)) }
+        ensures ok { OnOk result (self.new ≡ with_memory self.old (learned before.now intervals.now self.old.memory)) }
+        ensures same { SameMemory self.old self.new }
     {
         Err(AllocError)
     }

@@ -6,5 +6,6 @@ mod collecting;
 mod fetching;
 mod learning;
 mod memory;
+mod settle;
 
 pub use memory::Memory;

@@ -5,8 +5,9 @@ ghost use Rattle.lrc_time.specs.Time.{entry};
 ghost use Rattle.lrc_page.specs.Place.{page_of, pages_of};
 ghost use Rattle.lrc_protocol.specs.Copy.{is_readable};
 ghost use Rattle.lrc_protocol.specs.Memory.{fresh_memory, copy_at, value_at, with_word, with_interval};
-ghost use Rattle.lrc_memory.specs.View.{with_memory};
+ghost use Rattle.lrc_memory.specs.View.{SameMemory, with_memory};
 
+use crate::settle::settle_page;
 use lrc_page::{MOST_WORDS, Size, page_of, pages_of};
 use lrc_store::Store;
 use lrc_table::{PageTable, State};
@@ -119,15 +120,25 @@ impl Memory {
         requires on_a_page { page_of word self.old.size < length self.old.memory.copies }
         ensures done { IfOk result (λ done. done ≡ is_readable (copy_at self.old.memory (page_of word self.old.size))) }
         ensures ok { OnOk result (self.new ≡ with_memory self.old (with_word self.old.size word value self.old.memory)) }
+        ensures same { SameMemory self.old self.new }
     {
-        Err(AllocError)
+        let page = page_of(word, self.table.size());
+        settle_page(
+            &mut self.table,
+            &mut self.store,
+            self.me,
+            &self.named,
+            page,
+        )?;
+        self.table.write(word, value)
     }
 
     /// Closes the open interval, which names the pages written in it. The stamp is the node's time just after.
     pub fn close(&mut self, stamp: &Time) -> Result<(), AllocError>
         requires stamp { length stamp.now ≡ length self.old.memory.store.last }
         requires next { entry stamp.now self.old.me ≡ entry self.old.memory.store.last self.old.me + 1 }
-        ensures { OnOk result (self.new ≡ with_memory self.old (with_interval self.old.me stamp.now self.old.memory)) }
+        ensures ok { OnOk result (self.new ≡ with_memory self.old (with_interval self.old.me stamp.now self.old.memory)) }
+        ensures same { SameMemory self.old self.new }
     {
         Err(AllocError)
     }
