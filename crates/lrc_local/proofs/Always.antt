@@ -1,5 +1,5 @@
 -- What holds of a fresh node and is kept by every change holds of each node that is reached.
-use Rattle.std.proofs.Common.{◌≡◌, ℕ, zero, suc, ◌+◌, ◌-◌, ◌<◌, List, [], ◌∷◌, true, length, refl, sym, ap, subst, ◌∙◌, arith}
+use Rattle.std.proofs.Common.{◌≡◌, ℕ, zero, suc, ◌+◌, ◌-◌, ◌<◌, ◌≤◌, List, [], ◌∷◌, Bool, true, false, length, refl, sym, ap, subst, ◌∙◌, arith}
 use Rattle.std.specs.Prelude.{All, replicate}
 use Rattle.std.specs.List.{range_with_len}
 use Rattle.std.proofs.lemmas.List.{length-replicate, length-set}
@@ -21,15 +21,27 @@ use Rattle.lrc_local.specs.Reached.{IsReached}
 use Rattle.lrc_local.specs.Stored.{StoresExactly}
 use Rattle.lrc_local.proofs.Change.{View, News, news, view_of, pages_in, Change, Walk, stands, goes}
 use Rattle.lrc_local.proofs.Reach.{Come, come, first_view}
-use Rattle.lrc_local.proofs.Tokened.{come_to}
+use Rattle.lrc_local.proofs.Tokened.{come_to, is_set}
+use Rattle.lrc_exec.specs.Meaning.{Setting, Thread, Next, quiet, prints, reads, writes, acquires, releases, arrives, departs, traps, ends}
+use Rattle.lrc_exec.specs.Plain.{setting_of}
+use Rattle.lrc_protocol.specs.Course.{going}
+use Rattle.lrc_invariants.specs.Waiting.{next_in, is_departing, is_access, acquiring, FixesNext}
+use Rattle.lrc_invariants.specs.Counts.{is_inside}
+use Rattle.lrc_protocol.specs.Mail.{Wait, nothing, grant, departure, access, upkeep, discard}
+use Rattle.std.specs.Prelude.{Option, Some, None, ◌==◌}
+use Rattle.lrc_invariants.proofs.Waiting.{departs_arrived}
+use Rattle.lrc_invariants.proofs.TextHolds.{IsText}
 use Rattle.lrc_local.proofs.Ranges.{Ranged, ranged-kept}
+use Rattle.lrc_local.specs.Waits.{IsQuiet}
+use Rattle.lrc_local.proofs.Quiet.{quiet-kept}
+use Rattle.lrc_local.proofs.Mailed.{Mailed, mailed-kept, first-manager}
 use Rattle.lrc_local.proofs.Exact.{exact-kept, is_store, own-entry, next-indices}
 
 module _ (program : Program) (nodes : ℕ) (options : OptionsRecord) (me : ℕ) (among : me < nodes) where
   abbrev From : View → Type 0
-  From v = Walk (first_view program nodes options me) v
+  From v = Walk (first_view program nodes options me among) v
 
-  ranged-first : Ranged (first_view program nodes options me)
+  ranged-first : Ranged (first_view program nodes options me among)
   ranged-first =
       let pages : ℕ = pages_of program.words options.size in
       record {
@@ -65,6 +77,14 @@ module _ (program : Program) (nodes : ℕ) (options : OptionsRecord) (me : ℕ) 
   exact _ stands = exact-first
   exact _ (goes {v = v} {after = after} w c) = exact-kept v after c (ranged v w) (exact v w)
 
+  pub all_quiet : (v : View) → From v → IsQuiet v.wait v.memory
+  all_quiet _ stands = tt
+  all_quiet _ (goes {v = v} {after = after} w c) = quiet-kept v after c (all_quiet v w)
+
+  pub mailed : (v : View) → From v → Mailed v
+  mailed _ stands = record { taken = length-replicate nodes []; manager = first-manager me nodes }
+  mailed _ (goes {v = v} {after = after} w c) = mailed-kept v after c (mailed v w)
+
 -- of a node that is reached
 pub ranged_at : (node : Node) → IsReached node → Ranged (view_of node)
 ranged_at node r = ranged r.program r.nodes r.options r.me r.leads.among (view_of node) (come_to node r).walked
@@ -98,3 +118,65 @@ can_be_added node time intervals r e =
     next
     ∙ ap (range_with_len (entry node.locks.time q + 1)) (sym (length-range_with_len (entry node.locks.time q + 1) _) ∙ ap length (sym next))
     ∙ ap (λ l. range_with_len (entry l q + 1) (length (indices_by intervals q))) (sym s.last))
+
+pub quiet_at : (node : Node) → IsReached node → IsQuiet node.mail.wait node.memory
+quiet_at node r = all_quiet r.program r.nodes r.options r.me r.leads.among (view_of node) (come_to node r).walked
+
+pub mailed_at : (node : Node) → IsReached node → Mailed (view_of node)
+mailed_at node r = mailed r.program r.nodes r.options r.me r.leads.among (view_of node) (come_to node r).walked
+
+pub sent_at : (node : Node) → IsReached node → length node.mail.sent ≡ node.setting.nodes
+sent_at node r = (come_to node r).sent ∙ sym (ap (λ (s : Setting). s.nodes) (is_set node r))
+
+pub early_at : (node : Node) → IsReached node → node.barrier.episode ≤ entry node.locks.time node.setting.me
+early_at node r = subst (λ (s : Setting). node.barrier.episode ≤ entry node.locks.time s.me) (sym (is_set node r)) (come_to node r).early
+
+-- ---- of its text
+
+pub text_at : (node : Node) → IsReached node → (thread : Thread) → node.course ≡ going thread → (thread.setting ≡ node.setting) × (length thread.held ≡ 64)
+text_at node r thread e =
+    let is : IsText (setting_of r.program r.nodes r.me) thread = (come_to node r).tokened.text thread e in
+    (is.setting ∙ sym (is_set node r), is.places)
+
+-- a thread of which it is known whether it departs next
+pub arrived_at : (node : Node) (thread : Thread) (b : Bool) → node.course ≡ going thread → is_departing (next_in node.course) ≡ b → thread.arrived ≡ b
+arrived_at node thread b e d = sym (departs_arrived thread) ∙ ap (λ c. is_departing (next_in c)) (sym e) ∙ d
+
+grant-stays : (lock : ℕ) (next : Option Next) → acquiring next ≡ Some lock → is_departing next ≡ false
+grant-stays lock None e = cc
+grant-stays lock (Some (quiet after)) e = refl
+grant-stays lock (Some (prints value after)) e = refl
+grant-stays lock (Some (reads word after)) e = refl
+grant-stays lock (Some (writes word value after)) e = refl
+grant-stays lock (Some (acquires l after)) e = refl
+grant-stays lock (Some (releases l after)) e = refl
+grant-stays lock (Some (arrives after)) e = refl
+grant-stays lock (Some (departs after)) e = cc
+grant-stays lock (Some (traps cause)) e = refl
+grant-stays lock (Some ends) e = refl
+
+access-stays : (next : Option Next) → is_access next ≡ true → is_departing next ≡ false
+access-stays None e = cc
+access-stays (Some (quiet after)) e = refl
+access-stays (Some (prints value after)) e = refl
+access-stays (Some (reads word after)) e = refl
+access-stays (Some (writes word value after)) e = refl
+access-stays (Some (acquires l after)) e = refl
+access-stays (Some (releases l after)) e = refl
+access-stays (Some (arrives after)) e = refl
+access-stays (Some (departs after)) e = cc
+access-stays (Some (traps cause)) e = refl
+access-stays (Some ends) e = refl
+
+-- who is inside a barrier departs next, and nobody else does
+departs_inside : (w : Wait) (next : Option Next) → FixesNext w next → is_departing next ≡ (is_inside w == 1)
+departs_inside nothing next f = f
+departs_inside (grant lock) next f = grant-stays lock next f
+departs_inside departure next f = f
+departs_inside (access need) next f = access-stays next f
+departs_inside (upkeep collection needs) next f = f
+departs_inside (discard collection) next f = f
+
+pub inside_at : (node : Node) → IsReached node → (thread : Thread) → node.course ≡ going thread → thread.arrived ≡ (is_inside node.mail.wait == 1)
+inside_at node r thread e =
+    arrived_at node thread (is_inside node.mail.wait == 1) e (departs_inside node.mail.wait (next_in node.course) (come_to node r).tokened.fits)

@@ -1,7 +1,7 @@
 -- What turns do to a node's memory, its time and what it waits for: a second inversion of the machine, with one constructor
 -- for each kind of change. A turn is some changes one after another.
 use Rattle.std.proofs.Common.{◌≡◌, ℕ, ◌+◌, ◌-◌, ◌<◌, ◌≤◌, List, [], ◌∷◌, Bool, true, false, length, refl, sym, ap, subst, ◌∙◌}
-use Rattle.std.specs.Prelude.{Option, Some, None, All, if◌then◌else◌, fold, map, filter, not, nat_lt}
+use Rattle.std.specs.Prelude.{Option, Some, None, All, if◌then◌else◌, fold, map, filter, not, nat_lt, slice_set}
 use Rattle.std.specs.List.{list_all, list_any, range_with_len}
 use Rattle.std.proofs.lemmas.Bool.{and_parts, eqb-true, leb-true, ltb-true}
 use Rattle.lrc_time.specs.Time.{entry, Covers, covers, joined}
@@ -12,6 +12,7 @@ use Rattle.lrc_page.specs.Place.{page_of, pages_of}
 use Rattle.lrc_exec.specs.Meaning.{Setting, Thread, Next, quiet, prints, reads, writes, acquires, releases, arrives, departs, traps, ends, next_of}
 use Rattle.lrc_store.specs.Interval.{IntervalRecord}
 use Rattle.lrc_wire.specs.Records.{IndexedChangesRecord, ChangesReplyRecord}
+use Rattle.lrc_barrier.specs.Barrier.{ManagerRecord}
 use Rattle.lrc_protocol.specs.Copy.{is_readable}
 use Rattle.lrc_protocol.specs.Memory.{Memory, copy_at, with_word, with_interval, learned, with_keepers, kept_pages, collected_at}
 use Rattle.lrc_protocol.specs.Fetch.{Need, need_of, is_met, mended, awaits_changes, awaits_page, with_changes, with_page}
@@ -34,6 +35,8 @@ pub record View : Type 0 where
   pub wait : Wait
   pub time : List ℕ
   pub memory : Memory
+  pub taken : List (List ℕ)
+  pub manager : Option ManagerRecord
 
 abbrev pub view_of : Node → View
 view_of node = record {
@@ -43,6 +46,8 @@ view_of node = record {
   wait = node.mail.wait;
   time = node.locks.time;
   memory = node.memory;
+  taken = node.mail.taken;
+  manager = node.barrier.manager;
 }
 
 abbrev pub pages_in : View → ℕ
@@ -99,6 +104,10 @@ needs_in v =
 -- ---- the changes
 
 pub data Change (v : View) : View → Type 0 where
+  -- a message comes, and the manager of barriers takes what it says
+  receives : (from : ℕ) (numbers : List ℕ) → Change v (record v { taken = slice_set v.taken from numbers })
+  manages : (before manager : ManagerRecord) → v.manager ≡ Some before → length manager.last ≡ length before.last
+      → Change v (record v { manager = Some manager })
   -- the text goes on
   moves : (course : Course) → needs_of v.wait ≡ [] → Change v (record v { course = course })
   -- a word is written

@@ -19,7 +19,7 @@ use Rattle.lrc_local.specs.Ranges.{InRange, HasRanges, CollectsAt}
 use Rattle.lrc_local.specs.Stored.{StoresExactly}
 use Rattle.lrc_local.proofs.Stores.{SameIntervals, append_none, own-same, parts-same, Longer, learned-longer, length-last_with, last_with}
 use Rattle.lrc_local.proofs.Indices.{Ascends, range-join, range-below, range-ascends, indices-append, indices-here, indices-there, indices-none, entry-last_next, by_indices, by_node-ascend, none_left}
-use Rattle.lrc_local.proofs.Change.{View, pages_in, News, Change, moves, puts, closes, learns, resumes, begins, cleans, discards, misses, mends, gets_changes, gets_page}
+use Rattle.lrc_local.proofs.Change.{View, pages_in, News, Change, receives, manages, moves, puts, closes, learns, resumes, begins, cleans, discards, misses, mends, gets_changes, gets_page}
 use Rattle.lrc_local.proofs.Ranges.{SameRest, copy-same, clean-same, Ranged}
 
 -- the same intervals, and the same collected time
@@ -174,6 +174,8 @@ discards-exact me time memory h = record {
 -- ---- every change
 
 pub exact-kept : (v after : View) → Change v after → Ranged v → StoresExactly v.time v.memory → StoresExactly after.time after.memory
+exact-kept v _ (receives from numbers) r h = h
+exact-kept v _ (manages before manager e many) r h = h
 exact-kept v _ (moves course n) r h = h
 exact-kept v _ (puts word value w) r h = exact-rest v.time v.memory _ (copy-same v.memory _ _) h
 exact-kept v _ (closes wait w s) r h = closes-exact v.setting.nodes (pages_in v) v.setting.me v.time v.memory r.me r.time h

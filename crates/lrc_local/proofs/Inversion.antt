@@ -13,7 +13,8 @@ use Rattle.lrc_wire.specs.declared.message.Message.{Message}
 use Rattle.lrc_wire.specs.declared.message.Message.TheVariants.{LockRequest, LockForward, LockGrant, Arrive, Depart, Clean, Discard, ChangesRequest, ChangesReply, PageRequest, PageReply}
 use Rattle.lrc_lock.specs.Held.{lock_at, is_free, granted, held_after}
 use Rattle.lrc_lock.specs.Managed.{Requested, refuses as refuses_request, forwards, requested}
-use Rattle.lrc_barrier.specs.Barrier.{ArriveStep, refuses as refuses_arrival, waits, departs as all_depart, CleanStep, refuses_clean, awaits, discards}
+use Rattle.lrc_barrier.specs.Barrier.{ArriveStep, refuses as refuses_arrival, waits, departs as all_depart, CleanStep, refuses_clean, awaits, discards as discards_all}
+use Rattle.lrc_barrier.specs.declared.arrival.Arrival.{Arrival}
 use Rattle.lrc_protocol.specs.Copy.{is_readable}
 use Rattle.lrc_protocol.specs.Memory.{copy_at, base_at, with_keepers}
 use Rattle.lrc_protocol.specs.Fetch.{Need, need_of, is_met, mended, with_changes, with_page}
@@ -30,7 +31,8 @@ use Rattle.lrc_protocol.specs.Turn.{TurnRecord, Outcome, done, not_ready, unexpe
 use Rattle.lrc_protocol.specs.Log.{Input, run, taken as taken_in, outcome_of}
 use Rattle.lrc_invariants.specs.Waiting.{next_in}
 use Rattle.lrc_invariants.proofs.TextHolds.{TextIs}
-use Rattle.lrc_local.proofs.Change.{View, News, view_of, pages_in, Change, Walk, stands, goes, moves, puts, closes, learns, resumes, begins, cleans, discards, misses, mends, gets_changes, gets_page, is_settled, is_open, page_next, news, reply}
+use Rattle.lrc_local.proofs.Change.{View, News, view_of, pages_in, Change, Walk, stands, goes, receives, manages, moves, puts, closes, learns, resumes, begins, cleans, discards, misses, mends, gets_changes, gets_page, is_settled, is_open, page_next, news, reply}
+use Rattle.lrc_local.proofs.Managers.{Manages, arrival-manages, clean-manages}
 use Rattle.lrc_local.proofs.Words.{InWords, next-in_words, page-in_range}
 
 module _ (start : View) where
@@ -148,17 +150,27 @@ module _ (start : View) where
   request-at node from lock time (refuses_request fault) at = at
   request-at node from lock time (forwards to managed) at = at
 
-  arrival-at : (node : Node) (step : Option ArriveStep) → At node → At (arrive_by node step).node
-  arrival-at node None at = at
-  arrival-at node (Some (refuses_arrival fault)) at = at
-  arrival-at node (Some (waits manager)) at = at
-  arrival-at node (Some (all_depart departures manager)) at = at
+  arrival-at : (node : Node) (from : ℕ) (arrival : Arrival) (step : Option ArriveStep) → arrive_step node.barrier from arrival ≡ step → At node
+      → At (arrive_by node step).node
+  arrival-at node from arrival None e at = at
+  arrival-at node from arrival (Some (refuses_arrival fault)) e at = at
+  arrival-at node from arrival (Some (waits manager)) e at =
+      let m : Manages node.barrier.manager manager = arrival-manages from arrival node.barrier.manager (waits manager) e manager refl in
+      goes at (manages m.before manager m.was m.many)
+  arrival-at node from arrival (Some (all_depart departures manager)) e at =
+      let m : Manages node.barrier.manager manager = arrival-manages from arrival node.barrier.manager (all_depart departures manager) e manager refl in
+      goes at (manages m.before manager m.was m.many)
 
-  clean-at : (node : Node) (step : Option CleanStep) → At node → At (clean_by node step).node
-  clean-at node None at = at
-  clean-at node (Some (refuses_clean fault)) at = at
-  clean-at node (Some (awaits manager)) at = at
-  clean-at node (Some (discards episode manager)) at = at
+  clean-at : (node : Node) (from episode : ℕ) (step : Option CleanStep) → clean_step node.barrier from episode ≡ step → At node
+      → At (clean_by node step).node
+  clean-at node from episode None e at = at
+  clean-at node from episode (Some (refuses_clean fault)) e at = at
+  clean-at node from episode (Some (awaits manager)) e at =
+      let m : Manages node.barrier.manager manager = clean-manages from episode node.barrier.manager (awaits manager) e manager refl in
+      goes at (manages m.before manager m.was m.many)
+  clean-at node from episode (Some (discards_all number manager)) e at =
+      let m : Manages node.barrier.manager manager = clean-manages from episode node.barrier.manager (discards_all number manager) e manager refl in
+      goes at (manages m.before manager m.was m.many)
 
   discard-at : (node : Node) (w : Wait) → node.mail.wait ≡ w → At node → At (discard_by node (collection_of w)).node
   discard-at node (discard collection) e at = acts-at [] _ refl (goes at (discards collection e))
@@ -198,7 +210,7 @@ module _ (start : View) where
       (λ no. acts-at [] _ refl (goes known (resumes (ap is_open w))))
 
   -- an expected message, its number taken
-  take-at : (node : Node) (envelope : EnvelopeRecord) (from : ℕ) (message : Message) → is_expected node from message ≡ true → At node
+  take-at : (node : Node) (envelope : EnvelopeRecord) (from : ℕ) (message : Message) → is_expected node from message ≡ true → At (taking node envelope)
       → At (take_effect (taking node envelope) from message).node
   take-at node envelope from (LockRequest m) e at = request-at (taking node envelope) from m.lock m.time (requested node.locks.managed m.lock from) at
   take-at node envelope from (LockForward m) e at = at
@@ -206,21 +218,21 @@ module _ (start : View) where
       let outer : _ = and_parts _ _ e in
       let inner : _ = and_parts _ _ outer.0 in
       let open_is : is_open node.mail.wait ≡ true = awaits_lock m.lock node.mail.wait inner.1 in
-      acts-at [] _ refl (goes (goes at (learns m.time m.intervals open_is (news node m.time m.intervals outer.1))) (resumes open_is))
-  take-at node envelope from (Arrive m) e at = arrival-at (taking node envelope) _ at
+      acts-at [] _ refl (goes (goes at (learns m.time m.intervals open_is (news (taking node envelope) m.time m.intervals outer.1))) (resumes open_is))
+  take-at node envelope from (Arrive m) e at = arrival-at (taking node envelope) from _ _ refl at
   take-at node envelope from (Depart m) e at =
       let outer : _ = and_parts _ _ e in
       let covered : _ = and_parts _ _ outer.0 in
       let counted : _ = and_parts _ _ covered.0 in
       let waited : _ = and_parts _ _ counted.0 in
       departure-at (taking node envelope) m.collect m.time m.intervals (awaits_leave node.mail.wait waited.1) covered.1
-      (news node m.time m.intervals outer.1) at
-  take-at node envelope from (Clean episode) e at = clean-at (taking node envelope) (clean_step node.barrier from episode) at
+      (news (taking node envelope) m.time m.intervals outer.1) at
+  take-at node envelope from (Clean episode) e at = clean-at (taking node envelope) from episode _ refl at
   take-at node envelope from (Discard episode) e at = discard-at (taking node envelope) node.mail.wait refl at
   take-at node envelope from (ChangesRequest m) e at = at
   take-at node envelope from (ChangesReply m) e at =
       goes_on-at [] (with_memory (taking node envelope) (record node.memory { store = fold (with_part from m.page) node.memory.store m.parts }))
-      (with_needs (with_changes m.page from) node.mail.wait) (goes at (gets_changes from m (reply node from m e)))
+      (with_needs (with_changes m.page from) node.mail.wait) (goes at (gets_changes from m (reply (taking node envelope) from m e)))
   take-at node envelope from (PageRequest page) e at = page_reply-at (taking node envelope) from page (base_at node.memory page) at
   take-at node envelope from (PageReply m) e at =
       let outer : _ = and_parts _ _ e in
@@ -274,7 +286,7 @@ module _ (start : View) where
       expected_or_not (is_addressed node envelope) _
       (λ a. repeated_or_not node (is_repeat node envelope) (take_anew node envelope) at
       (expected_or_not (is_expected node envelope.from envelope.message) (turn_of (take_effect (taking node envelope) envelope.from envelope.message))
-      (λ e. effect-at (take_effect (taking node envelope) envelope.from envelope.message) (take-at node envelope envelope.from envelope.message e at))))
+      (λ e. effect-at (take_effect (taking node envelope) envelope.from envelope.message) (take-at node envelope envelope.from envelope.message e (goes at (receives envelope.from _))))))
 
   -- each input leads on by changes, or is no turn
   pub turn-at : (node : Node) (input : Input) → TextIs node.setting node.course → At node → AtEnd (outcome_of node input)

@@ -21,7 +21,7 @@ use Rattle.lrc_protocol.specs.Waits.{clean_memory, with_needs}
 use Rattle.lrc_local.specs.Ranges.{InRange, HasRanges, CollectsAt}
 use Rattle.lrc_local.proofs.Lists.{length-placed, All-placed, All-chosen, places-below, least_or-below}
 use Rattle.lrc_local.proofs.Stores.{SameIntervals, own-same, parts-same, Longer, learned-longer, length-last_with}
-use Rattle.lrc_local.proofs.Change.{View, pages_in, Change, moves, puts, closes, learns, resumes, begins, cleans, discards, misses, mends, gets_changes, gets_page, is_settled, is_open}
+use Rattle.lrc_local.proofs.Change.{View, pages_in, Change, receives, manages, moves, puts, closes, learns, resumes, begins, cleans, discards, misses, mends, gets_changes, gets_page, is_settled, is_open}
 
 -- ---- parts of a memory
 
@@ -218,6 +218,8 @@ at_wait : (time : List ℕ) (w x : Wait) → w ≡ x → CollectsAt time w → C
 at_wait time w x e h = subst (CollectsAt time) e h
 
 pub ranged-kept : (v after : View) → Change v after → Ranged v → Ranged after
+ranged-kept v _ (receives from numbers) h = record { me = h.me; time = h.time; present = h.present; memory = h.memory }
+ranged-kept v _ (manages before manager e many) h = record { me = h.me; time = h.time; present = h.present; memory = h.memory }
 ranged-kept v _ (moves course n) h = record { me = h.me; time = h.time; present = h.present; memory = h.memory }
 ranged-kept v _ (puts word value w) h = record {
   me = h.me;

@@ -19,8 +19,8 @@ use Rattle.lrc_invariants.proofs.TextHolds.{acquired_below}
 use Rattle.lrc_local.specs.Reached.{IsReached}
 use Rattle.lrc_local.proofs.Reach.{Come, come}
 
-pub come_to : (node : Node) (r : IsReached node) → Come r.program r.nodes r.options r.me (record { node = node; turns = r.turns })
-come_to node r = come r.program r.nodes r.options r.me (record { node = node; turns = r.turns }) r.leads
+pub come_to : (node : Node) (r : IsReached node) → Come r.program r.nodes r.options r.me r.leads.among (record { node = node; turns = r.turns })
+come_to node r = come r.program r.nodes r.options r.me r.leads.among (record { node = node; turns = r.turns }) r.leads
 
 pub is_set : (node : Node) (r : IsReached node) → node.setting ≡ setting_of r.program r.nodes r.me
 is_set node r = (come_to node r).tokened.shape.setting

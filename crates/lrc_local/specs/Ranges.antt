@@ -1,5 +1,6 @@
 -- The ranges of what a node's memory has: with so many nodes and pages, and pages of so many words.
-use Rattle.std.specs.Prelude.{◌≡◌, ℕ, ◌<◌, Option, Some, None, List, length, All}
+use Rattle.std.specs.Prelude.{◌≡◌, ℕ, ◌<◌, ◌==◌, true, false, Option, Some, None, List, length, All}
+use Rattle.lrc_barrier.specs.Barrier.{ManagerRecord}
 use Rattle.lrc_store.specs.Interval.{IntervalRecord}
 use Rattle.lrc_store.specs.Store.{intervals_of}
 use Rattle.lrc_protocol.specs.Copy.{Copy, valid, written, invalid, absent}
@@ -41,3 +42,8 @@ abbrev pub CollectsAt : List ℕ → Wait → Type 0
 CollectsAt time (upkeep collection needs) = collection.time ≡ time
 CollectsAt time (discard collection) = collection.time ≡ time
 CollectsAt time _ = Unit {0}
+
+-- the manager of barriers is at node 0 alone, and counts the nodes
+abbrev pub HasManager : ℕ → ℕ → Option ManagerRecord → Type 0
+HasManager me nodes None = (me == 0) ≡ false
+HasManager me nodes (Some manager) = ((me == 0) ≡ true) × (length manager.last ≡ nodes)

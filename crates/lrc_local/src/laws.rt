@@ -87,3 +87,30 @@ pub fn intervals_are_stored_exactly()
         → All (InRange node.setting.nodes (pages_of node.setting.words node.options.size)) intervals
         × ((q : ℕ) → indices_by intervals q ≡ range_with_len (entry node.memory.store.last q + 1) (length (indices_by intervals q))) }
 {}
+ghost use Rattle.std.specs.Prelude.{◌≤◌, ◌==◌};
+ghost use Rattle.lrc_protocol.specs.Course.{going};
+ghost use Rattle.lrc_invariants.specs.Counts.{is_inside};
+ghost use Rattle.lrc_local.specs.Ranges.{HasManager};
+ghost use Rattle.lrc_local.specs.Waits.{IsQuiet};
+
+/// A node that is reached counts messages of each node, has the manager of barriers exactly where it is node 0, and has arrived
+/// no more often than it closed intervals.
+pub fn mail_and_barriers_fit()
+    ensures sent { (node : Node) → IsReached node → length node.mail.sent ≡ node.setting.nodes }
+    ensures taken { (node : Node) → IsReached node → length node.mail.taken ≡ node.setting.nodes }
+    ensures manager { (node : Node) → IsReached node → HasManager node.setting.me node.setting.nodes node.barrier.manager }
+    ensures episode { (node : Node) → IsReached node → node.barrier.episode ≤ entry node.locks.time node.setting.me }
+{}
+
+/// The text of a node that is reached has the node's setting, and has arrived at a barrier exactly while the node is inside one.
+pub fn texts_fit()
+    ensures setting { (node : Node) (thread : Thread) → IsReached node → node.course ≡ going thread
+        → (thread.setting ≡ node.setting) × (length thread.held ≡ 64) }
+    ensures arrived { (node : Node) (thread : Thread) → IsReached node → node.course ≡ going thread
+        → thread.arrived ≡ (is_inside node.mail.wait == 1) }
+{}
+
+/// A node that is reached and waits for a grant, or is inside a barrier, has no page that is written in its open interval.
+pub fn waiting_node_has_no_written_page()
+    ensures { (node : Node) → IsReached node → IsQuiet node.mail.wait node.memory }
+{}
