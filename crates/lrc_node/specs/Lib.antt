@@ -5,3 +5,5 @@ pub mod News
 pub mod Effects
 pub mod State
 pub mod Seen
+pub mod Fault
+pub mod Node

@@ -1,6 +1,7 @@
 // Why a node doesn't take its turn.
 
 ghost use Rattle.std.specs.Prelude.{◌≡◌};
+ghost use Rattle.lrc_node.specs.Fault.{is_final};
 ghost use Rattle.lrc_node.specs.declared.fault.NodeFault.TheVariants.{NoMemory};
 
 use std::alloc::{AllocError, AllocFailed};
@@ -24,6 +25,15 @@ pub enum NodeFault {
     /// No memory was left.
     #[error("out of memory")]
     NoMemory,
+}
+
+impl NodeFault {
+    /// Whether the node fails with it.
+    pub(crate) fn is_final(self) -> bool
+        ensures { result ≡ is_final self }
+    {
+        matches!(self, NodeFault::Worn | NodeFault::NoMemory)
+    }
 }
 
 impl From<AllocError> for NodeFault {

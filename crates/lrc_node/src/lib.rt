@@ -10,6 +10,7 @@ mod end;
 mod fault;
 mod letters;
 mod news;
+mod node;
 mod options;
 mod reach;
 mod run;
@@ -21,5 +22,6 @@ mod turn;
 
 pub use end::End;
 pub use fault::NodeFault;
+pub use node::Node;
 pub use options::Options;
 pub use turn::Turn;

@@ -61,4 +61,4 @@ returns-clause-refused c =
     let e = run_asked c.args.self.now c.in-Some.ask (sym c.next.ensures.asked ∙ c.in-Some.is)
         ∙ ap (λ n. turn_if (effect_asked n c.in-Some.ask)) (sym c.next.ensures.node)
         ∙ ap turn_if c.in_ok-effect.ensures.effect in
-    IfErr-weaker c.send.result _ _ (λ fault. refuses_sent c.args.self.now _ fault e) c.send.ensures.refused
+    IfErr-weaker c.send.result _ _ (λ fault. refuses_sent c.args.self.now (seen_effect c.in_ok-effect.effect c.begin.new.self) fault e) c.send.ensures.refused
