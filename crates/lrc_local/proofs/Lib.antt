@@ -1,0 +1,17 @@
+pub mod Tests
+pub mod Lists
+pub mod Stores
+pub mod Indices
+pub mod Change
+pub mod Words
+pub mod Managers
+pub mod Inversion
+pub mod Mailed
+pub mod Reach
+pub mod Leads
+pub mod Tokened
+pub mod Ranges
+pub mod Exact
+pub mod Quiet
+pub mod Keys
+pub mod Always

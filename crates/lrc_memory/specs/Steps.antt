@@ -1,0 +1,23 @@
+-- What the parts of a call do to the page table.
+use Rattle.std.specs.Prelude.{ℕ, ◌==◌, List, length, map, fold, slice_index, if◌then◌else◌}
+use Rattle.std.specs.List.{range_with_len}
+use Rattle.lrc_page.specs.Changes.{applied}
+use Rattle.lrc_store.specs.declared.key.Key.{Key}
+use Rattle.lrc_store.specs.Store.{StoreRecord}
+use Rattle.lrc_table.specs.PageCopy.{PageCopy, without_base}
+use Rattle.lrc_table.specs.Table.{Table, copy_at}
+use Rattle.lrc_protocol.specs.Memory.{changes_or_none}
+
+-- a copy with the known changes of these keys written into it
+abbrev pub patched_with : StoreRecord → PageCopy → List Key → PageCopy
+patched_with store copy keys = record copy { values = fold applied copy.values (map (changes_or_none store) keys) }
+
+-- the copy of a page, with its base copy if this node keeps the page
+abbrev pub kept_base : ℕ → List ℕ → Table → ℕ → PageCopy
+kept_base me keepers table page =
+    let copy = copy_at table page in
+    if slice_index keepers page == me then copy else without_base copy
+
+-- the table without base copies of pages that other nodes keep
+abbrev pub without_bases : ℕ → List ℕ → Table → Table
+without_bases me keepers table = record table { copies = map (kept_base me keepers table) (range_with_len 0 (length table.copies)) }

@@ -1,0 +1,71 @@
+// Base copies, their keepers, and collections.
+
+ghost use Rattle.std.specs.Prelude.{◌≡◌, ◌<◌, ◌≤◌, IfOk, OnOk, MatchOption, Some, None, length, true};
+ghost use Rattle.lrc_time.specs.Time.{entry};
+ghost use Rattle.lrc_protocol.specs.Copy.{is_readable, changes_of};
+ghost use Rattle.lrc_protocol.specs.Memory.{copy_at, with_base, base_at, kept_pages, with_keepers, collected_at};
+ghost use Rattle.lrc_memory.specs.Steps.{without_bases};
+ghost use Rattle.lrc_memory.specs.View.{SameMemory, with_memory};
+ghost use Rattle.lrc_memory.specs.Turns.{IsClosed};
+
+use crate::memory::Memory;
+use lrc_page::{Page, Pages};
+use lrc_table::PageTable;
+use lrc_time::Time;
+use std::alloc::AllocError;
+
+impl Memory {
+    /// The base copy of a page, if one is kept here.
+    pub fn base(&self, page: u16) -> Option<&Page>
+        requires { page < length self.now.memory.copies }
+        ensures { MatchOption result (base_at self.now.memory page ≡ None) (λ base. base_at self.now.memory page ≡ Some base.now) }
+    {
+        self.table.base(page)
+    }
+
+    /// The pages that this node keeps and that were named since the last collection, ascending.
+    pub fn kept_pages(&self) -> Result<Pages, AllocError>
+        ensures { IfOk result (λ pages. pages ≡ kept_pages self.now.me self.now.memory) }
+    {
+        Err(AllocError)
+    }
+
+    /// Keeps the values of a valid copy as the base copy of its page.
+    pub fn keep_base(&mut self, page: u16) -> Result<(), AllocError>
+        requires in_range { page < length self.old.memory.copies }
+        requires readable { is_readable (copy_at self.old.memory page) ≡ true }
+        requires closed { changes_of (copy_at self.old.memory page) ≡ None }
+        ensures ok { OnOk result (self.new ≡ with_memory self.old (with_base self.old.memory page)) }
+        ensures same { SameMemory self.old self.new }
+    {
+        self.table.keep_base(page)
+    }
+
+    /// Drops all that is covered by a collection's time, which covers the node's own intervals: intervals with their
+    /// changes, made or not, base copies of pages that other nodes keep, and invalid copies.
+    pub fn collect(&mut self, time: &Time)
+        requires time { length time.now ≡ length self.old.memory.store.last }
+        requires closed { IsClosed self.old.memory }
+        requires own { entry self.old.memory.store.last self.old.me ≤ entry time.now self.old.me }
+        ensures collected { self.new ≡ with_memory self.old (collected_at self.old.me time.now self.old.memory) }
+        ensures same { SameMemory self.old self.new }
+    {
+        self.store.discard(time);
+        self.table.drop_twins();
+        self.table.drop_invalid();
+        drop_bases(&mut self.table, self.me, &self.keepers);
+        self.collected = time.copy();
+    }
+}
+
+/// Drops the base copies of the pages that other nodes keep.
+fn drop_bases(table: &mut PageTable, me: u8, keepers: &[u8])
+    requires { length keepers.now ≡ length table.old.copies }
+    ensures { table.new ≡ without_bases me keepers.now table.old }
+{
+    for (page, keeper) in keepers.iter().enumerate() {
+        if *keeper != me {
+            table.drop_base(page as u16);
+        }
+    }
+}

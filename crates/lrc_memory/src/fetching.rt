@@ -1,0 +1,84 @@
+// What a node gives to others, and takes from them.
+
+ghost use Rattle.std.specs.Prelude.{◌≡◌, ◌<◌, All, IfOk, OnOk, fold, length, true};
+ghost use Rattle.lrc_protocol.specs.Memory.{changes_or_none, copy_at, keeper_at};
+ghost use Rattle.lrc_protocol.specs.Fetch.{mended, need_of};
+ghost use Rattle.lrc_protocol.specs.Take.{with_part};
+ghost use Rattle.lrc_table.specs.Table.{with_copy};
+ghost use Rattle.lrc_table.specs.Table as tables;
+ghost use Rattle.lrc_memory.specs.Steps.{patched_with};
+ghost use Rattle.lrc_memory.specs.View.{AreSized, SameMemory, with_memory};
+ghost use Rattle.lrc_memory.specs.Turns.{AreAwaited, is_mendable};
+
+use crate::memory::Memory;
+use lrc_mail::{Base, Need};
+use lrc_page::Changes;
+use lrc_store::{Key, Store};
+use lrc_table::{PageTable, State};
+use lrc_wire::Parts;
+use std::alloc::AllocError;
+
+impl Memory {
+    /// What the node's own interval of this index changed in a page, for a reply. Nothing where no such changes are known.
+    pub fn changes_of(&mut self, page: u16, index: u32) -> Result<Changes, AllocError>
+        requires { page < length self.old.memory.copies }
+        ensures changes { IfOk result (λ changes. changes
+            ≡ changes_or_none self.old.memory.store (record { node = self.old.me; index = index; page = page })) }
+        ensures ok { OnOk result (self.new ≡ self.old) }
+        ensures same { SameMemory self.old self.new }
+    {
+        Err(AllocError)
+    }
+
+    /// Stores what intervals of a maker changed in a page.
+    pub fn attach(&mut self, maker: u8, page: u16, parts: &Parts) -> Result<(), AllocError>
+        requires awaited { AreAwaited self.old.size self.old.memory.store maker page parts.now }
+        ensures ok { OnOk result (self.new ≡ with_memory self.old
+            (record self.old.memory { store = fold (with_part maker page) self.old.memory.store parts.now })) }
+        ensures same { SameMemory self.old self.new }
+    {
+        Err(AllocError)
+    }
+
+    /// What a page needs before it can be read: a base copy where its copy is absent, and the changes that its copy lacks,
+    /// of which those are asked of their makers that are not known.
+    pub fn need(&self, page: u16) -> Result<Need, AllocError>
+        requires { page < length self.now.memory.copies }
+        ensures need { IfOk result (λ need. need ≡ need_of (length self.now.memory.store.last) self.now.memory page) }
+        ensures keeper { keeper_at self.now.memory page < length self.now.memory.store.last }
+    {
+        let _kept = self.keepers[usize::from(page)];
+        Err(AllocError)
+    }
+
+    /// Repairs a page whose copy is not readable: what it lacks is applied to the base copy that came, or else to the
+    /// copy, and it is valid.
+    pub fn mend(&mut self, need: &Need)
+        requires in_range { need.now.page < length self.old.memory.copies }
+        requires fit { is_mendable self.old.size (copy_at self.old.memory need.now.page) need.now.base ≡ true }
+        requires of_page { All (λ key. key.page ≡ need.now.page) need.now.missing }
+        ensures mended { self.new ≡ with_memory self.old (mended self.old.memory need.now) }
+        ensures same { SameMemory self.old self.new }
+    {
+        let page = need.page();
+        if let Base::Come(copy) = need.base() {
+            self.table.install(page, copy.copy());
+        }
+        patch_all(&mut self.table, &self.store, page, need.missing());
+        self.table.repair(page, &[]);
+    }
+}
+
+/// Writes the changes of these keys, where they are known, into an invalid copy of a page.
+fn patch_all(table: &mut PageTable, store: &Store, page: u16, keys: &[Key])
+    requires in_range { page < length table.old.copies }
+    requires invalid { (tables.copy_at table.old page).state ≡ State.Invalid }
+    requires sized { All (AreSized table.old.size) store.now.entries }
+    ensures { table.new ≡ with_copy table.old page (patched_with store.now (tables.copy_at table.old page) keys.now) }
+{
+    for key in keys {
+        if let Some(changes) = store.changes(*key) {
+            table.patch(page, changes);
+        }
+    }
+}

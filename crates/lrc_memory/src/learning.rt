@@ -1,0 +1,50 @@
+// What a node knows of the intervals of all nodes.
+
+ghost use Rattle.std.specs.Prelude.{◌≡◌, ◌<◌, IfOk, OnOk, is_some, length};
+ghost use Rattle.lrc_time.specs.Time.{entry};
+ghost use Rattle.lrc_store.specs.Store.{IsStore, newer_of};
+ghost use Rattle.lrc_protocol.specs.Memory.{learned};
+ghost use Rattle.lrc_memory.specs.View.{SameMemory, with_memory};
+ghost use Rattle.lrc_memory.specs.Turns.{CanBeAdded};
+
+use crate::memory::Memory;
+use lrc_store::Intervals;
+use lrc_time::Time;
+use std::alloc::AllocError;
+
+impl Memory {
+    /// Learns intervals of other nodes, at a time before these are known: they are stored, and the valid copies of the
+    /// pages that they name become invalid. A page that is written stays so.
+    pub fn learn(&mut self, before: &Time, intervals: &Intervals) -> Result<(), AllocError>
+        requires before { length before.now ≡ length self.old.memory.store.last }
+        requires intervals { CanBeAdded self.old.memory.store intervals.now }
+        ensures ok { OnOk result (self.new ≡ with_memory self.old (learned before.now intervals.now self.old.memory)) }
+        ensures same { SameMemory self.old self.new }
+    {
+        Err(AllocError)
+    }
+
+    /// The intervals that `upto` knows and `since` does not, ascending by node and index.
+    pub fn newer(&self, since: &Time, upto: &Time) -> Result<Intervals, AllocError>
+        requires since { length since.now ≡ length self.now.memory.store.last }
+        requires upto { length upto.now ≡ length self.now.memory.store.last }
+        ensures { IfOk result (λ found. found ≡ newer_of self.now.memory.store since.now upto.now) }
+    {
+        self.store.newer_than(since, upto)
+    }
+
+    /// How many intervals there are.
+    pub fn len(&self) -> usize
+        ensures { result ≡ length self.now.memory.store.entries }
+    {
+        self.store.len()
+    }
+
+    /// The greatest index ever added of this node, 0 before any.
+    pub fn last(&self, node: u8) -> u32
+        requires { node < length self.now.memory.store.last }
+        ensures index { result ≡ entry self.now.memory.store.last node }
+    {
+        self.store.last(node)
+    }
+}

@@ -1,0 +1,6 @@
+pub mod Texts
+pub mod Runs
+pub mod Effects
+pub mod States
+pub mod CanRun
+pub mod Turns
