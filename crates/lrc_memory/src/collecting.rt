@@ -63,6 +63,7 @@ fn drop_bases(table: &mut PageTable, me: u8, keepers: &[u8])
     requires { length keepers.now ≡ length table.old.copies }
     ensures { table.new ≡ without_bases me keepers.now table.old }
 {
+    let _few = table.size();
     for (page, keeper) in keepers.iter().enumerate() {
         if *keeper != me {
             table.drop_base(page as u16);
