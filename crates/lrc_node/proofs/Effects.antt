@@ -20,10 +20,10 @@ use Rattle.lrc_node.specs.declared.fault.NodeFault.TheVariants.{Worn, NoMemory}
 -- ---- acts
 
 made : (letters : List Letter) (node : Node) (next : Next) → makes letters node next ≡ record {
-    deed = Some (deed_of (value_asked node (Some (ask_of next))) next);
-    letters = letters;
-    node = record node { course = course_of (value_asked node (Some (ask_of next))) next; memory = memory_asked node (Some (ask_of next)) };
-  }
+  deed = Some (deed_of (value_asked node (Some (ask_of next))) next);
+  letters = letters;
+  node = record node { course = course_of (value_asked node (Some (ask_of next))) next; memory = memory_asked node (Some (ask_of next)) };
+}
 made letters node (quiet after) = refl
 made letters node (prints value after) = refl
 made letters node (reads word after) = refl
