@@ -4,3 +4,4 @@ pub mod Effects
 pub mod States
 pub mod CanRun
 pub mod Turns
+pub mod Episodes

@@ -55,7 +55,11 @@ impl State<'_> {
             intervals,
         };
         let lock = pass.lock;
-        one(self.alloc, pass.to, Message::LockGrant(LockGrant { lock, news }))
+        one(
+            self.alloc,
+            pass.to,
+            Message::LockGrant(LockGrant { lock, news }),
+        )
     }
 
     /// Whether so many intervals are stored that the node asks for a collection.

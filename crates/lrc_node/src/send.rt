@@ -20,7 +20,10 @@ impl State<'_> {
     {
         let node = self.me;
         let act = effect.deed.map(|deed| Act { node, deed });
-        match self.mail.number(self.me, self.options.first, effect.letters) {
+        match self
+            .mail
+            .number(self.me, self.options.first, effect.letters)
+        {
             Ok(out) => Ok(Turn { act, out }),
             Err(MailFault::Worn) => Err(NodeFault::Worn),
             Err(MailFault::NoMemory) => Err(NodeFault::NoMemory),

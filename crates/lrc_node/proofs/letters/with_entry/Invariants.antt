@@ -7,5 +7,5 @@ abbrev pub invariant-loop-at : goal.invariant-loop-at
 invariant-loop-at l = record {
   counted : length l.other ≡ length l.time;
   below : (q : ℕ) → q < l.at → entry l.other q ≡ entry (slice_set l.time l.node l.entry) q;
-  above : (q : ℕ) → l.at ≤ q → entry l.other q ≡ 0
+  above : (q : ℕ) → l.at ≤ q → entry l.other q ≡ 0;
 }
