@@ -4,3 +4,8 @@ pub mod Copies
 pub mod Starts
 pub mod Settling
 pub mod Writes
+pub mod Quiet
+pub mod Loops
+pub mod Mending
+pub mod Discards
+pub mod Closes

@@ -4,9 +4,15 @@ use Rattle.std.specs.List.{range_with_len}
 use Rattle.lrc_page.specs.Changes.{applied}
 use Rattle.lrc_store.specs.declared.key.Key.{Key}
 use Rattle.lrc_store.specs.Store.{StoreRecord}
-use Rattle.lrc_table.specs.PageCopy.{PageCopy, without_base}
+use Rattle.lrc_table.specs.PageCopy.{PageCopy, installed, without_base}
 use Rattle.lrc_table.specs.Table.{Table, copy_at}
 use Rattle.lrc_protocol.specs.Memory.{changes_or_none}
+use Rattle.lrc_protocol.specs.Fetch.{Base, come}
+
+-- the copy that a repair begins with
+abbrev pub begun_with : PageCopy → Base → PageCopy
+begun_with copy (come values) = installed copy values
+begun_with copy _ = copy
 
 -- a copy with the known changes of these keys written into it
 abbrev pub patched_with : StoreRecord → PageCopy → List Key → PageCopy

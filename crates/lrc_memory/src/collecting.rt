@@ -23,9 +23,17 @@ impl Memory {
         self.table.base(page)
     }
 
+    /// Pages that were named since the last collection get new keepers: of each the lowest node that named it.
+    pub fn take_keepers(&mut self) -> Result<(), AllocError>
+        ensures ok { OnOk result (self.new ≡ with_memory self.old (with_keepers self.old.memory)) }
+        ensures same { SameMemory self.old self.new }
+    {
+        Err(AllocError)
+    }
+
     /// The pages that this node keeps and that were named since the last collection, ascending.
     pub fn kept_pages(&self) -> Result<Pages, AllocError>
-        ensures { IfOk result (λ pages. pages ≡ kept_pages self.now.me self.now.memory) }
+        ensures pages { IfOk result (λ pages. pages ≡ kept_pages self.now.me self.now.memory) }
     {
         Err(AllocError)
     }
@@ -63,6 +71,7 @@ fn drop_bases(table: &mut PageTable, me: u8, keepers: &[u8])
     requires { length keepers.now ≡ length table.old.copies }
     ensures { table.new ≡ without_bases me keepers.now table.old }
 {
+    let _few = table.size();
     for (page, keeper) in keepers.iter().enumerate() {
         if *keeper != me {
             table.drop_base(page as u16);

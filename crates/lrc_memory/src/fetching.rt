@@ -1,13 +1,14 @@
 // What a node gives to others, and takes from them.
 
-ghost use Rattle.std.specs.Prelude.{◌≡◌, ◌<◌, All, IfOk, OnOk, fold, length, true};
+ghost use Rattle.std.specs.Prelude.{◌≡◌, ◌<◌, All, IfOk, OnOk, fold, length, true, []};
 ghost use Rattle.lrc_protocol.specs.Memory.{changes_or_none, copy_at, keeper_at};
 ghost use Rattle.lrc_protocol.specs.Fetch.{mended, need_of};
 ghost use Rattle.lrc_protocol.specs.Take.{with_part};
 ghost use Rattle.lrc_table.specs.Table.{with_copy};
 ghost use Rattle.lrc_table.specs.Table as tables;
-ghost use Rattle.lrc_memory.specs.Steps.{patched_with};
-ghost use Rattle.lrc_memory.specs.View.{AreSized, SameMemory, with_memory};
+ghost use Rattle.lrc_mail.specs.Seen.{seen_base};
+ghost use Rattle.lrc_memory.specs.Steps.{begun_with, patched_with};
+ghost use Rattle.lrc_memory.specs.View.{AreSized, SameMemory, seen_in, with_memory};
 ghost use Rattle.lrc_memory.specs.Turns.{AreAwaited, is_mendable};
 
 use crate::memory::Memory;
@@ -61,11 +62,22 @@ impl Memory {
         ensures same { SameMemory self.old self.new }
     {
         let page = need.page();
-        if let Base::Come(copy) = need.base() {
-            self.table.install(page, copy.copy());
-        }
+        let _whole = self.table.size();
+        install_base(&mut self.table, page, need.base());
         patch_all(&mut self.table, &self.store, page, need.missing());
         self.table.repair(page, &[]);
+    }
+}
+
+/// Puts the base copy that has come in the place of an absent copy, which is invalid then. An invalid copy stays.
+fn install_base(table: &mut PageTable, page: u16, base: &Base)
+    requires in_range { page < length table.old.copies }
+    requires fit { is_mendable table.old.size (seen_in (tables.copy_at table.old page).state [] (tables.copy_at table.old page)) (seen_base base.now) ≡ true }
+    ensures copy { table.new ≡ with_copy table.old page (begun_with (tables.copy_at table.old page) (seen_base base.now)) }
+    ensures invalid { (tables.copy_at table.new page).state ≡ State.Invalid }
+{
+    if let Base::Come(copy) = base {
+        table.install(page, copy.copy());
     }
 }
 
