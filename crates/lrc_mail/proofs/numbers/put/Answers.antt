@@ -1,6 +1,6 @@
-use Rattle.std.proofs.Common.{◌≡◌, ℕ, suc, ◌+◌, ◌<◌, ◌≤◌, List, length, refl, sym, ap, ◌∙◌, arith, subst}
+use Rattle.std.proofs.Common.{◌≡◌, ◌+◌, ◌<◌, List, length, refl, sym, arith, subst}
 use Rattle.std.specs.Prelude.{slice_set, slice_index_or}
-use Rattle.std.specs.List.{insert, AllWithin}
+use Rattle.std.specs.List.{AllWithin}
 use Rattle.lrc_mail.specs.declared.numbers.Span.{Span}
 use Rattle.lrc_mail.specs.Spans.{Puts, IsClear}
 use Rattle.lrc_mail.proofs.Puts.{inserted, begun_lower}

@@ -1,8 +1,7 @@
-use Rattle.std.proofs.Common.{◌≡◌, ℕ, ◌<◌, ◌≤◌, false, List, length, sym, ap, ◌∙◌, subst}
+use Rattle.std.proofs.Common.{◌<◌, ◌≤◌, List, length, ap, ◌∙◌, subst}
 use Rattle.std.specs.Prelude.{◌==◌}
 use Rattle.std.specs.List.{AllWithin, list_any}
 use Rattle.lrc_mail.specs.declared.numbers.Span.{Span}
-use Rattle.lrc_mail.specs.Spans.{numbers_of}
 use Rattle.lrc_mail.proofs.Spans.{found_at, above_place}
 use Rattle.lrc_mail.proofs.numbers.Numbers.add.Goals as goal
 

@@ -1,7 +1,7 @@
 use Rattle.std.proofs.Common.{not, rules}
 use Rattle.std.specs.Prelude.{◌==◌}
 use Rattle.std.proofs.lemmas.Fn.{filter_same}
-use Rattle.lrc_mail.proofs.need.drop_maker.Goals as goal
+use Rattle.lrc_mail.proofs.asked.drop_maker.Goals as goal
 
 pub returns : goal.returns
 returns c =

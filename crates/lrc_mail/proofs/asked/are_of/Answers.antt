@@ -2,7 +2,7 @@ use Rattle.std.proofs.Common.{◌≡◌, ℕ, map, length, arith, sym, ap, ◌�
 use Rattle.std.proofs.lemmas.List.{length-map, get_or-map}
 use Rattle.lrc_wire.specs.Records.{IndexedChangesRecord}
 use Rattle.lrc_mail.proofs.Lists.{lists_differ, lists_agree}
-use Rattle.lrc_mail.proofs.need.are_of.Goals as goal
+use Rattle.lrc_mail.proofs.asked.are_of.Goals as goal
 
 pub returns-then-indices-place : goal.returns-then-indices-place
 returns-then-indices-place c =
