@@ -1,6 +1,6 @@
 -- What holds of a fresh node and is kept by every change holds of each node that is reached.
 use Rattle.std.proofs.Common.{◌≡◌, ℕ, zero, suc, ◌+◌, ◌-◌, ◌<◌, ◌≤◌, List, [], ◌∷◌, Bool, true, false, length, refl, sym, ap, subst, ◌∙◌, arith}
-use Rattle.std.specs.Prelude.{All, replicate}
+use Rattle.std.specs.Prelude.{All, map, replicate}
 use Rattle.std.specs.List.{range_with_len}
 use Rattle.std.proofs.lemmas.List.{length-replicate, length-set}
 use Rattle.std.proofs.lemmas.List.FromFn.{length-range_with_len}
@@ -8,7 +8,7 @@ use Rattle.std.proofs.lemmas.List.Elements.{All-nil, All-replicate}
 use Rattle.lrc_lang.specs.declared.program.Program.{Program}
 use Rattle.lrc_time.specs.Time.{entry, zeros}
 use Rattle.lrc_time.proofs.Times.{length-zeros, covers-refl}
-use Rattle.lrc_page.specs.Page.{zero_page}
+use Rattle.lrc_page.specs.Page.{zero_page, words_of}
 use Rattle.lrc_page.specs.Place.{pages_of}
 use Rattle.lrc_store.specs.Interval.{IntervalRecord}
 use Rattle.lrc_store.specs.Store.{IsStore}
@@ -19,7 +19,7 @@ use Rattle.lrc_protocol.specs.Node.{Node, OptionsRecord}
 use Rattle.lrc_local.specs.Ranges.{InRange, HasRanges}
 use Rattle.lrc_local.specs.Reached.{IsReached}
 use Rattle.lrc_local.specs.Stored.{StoresExactly}
-use Rattle.lrc_local.proofs.Change.{View, News, news, view_of, pages_in, Change, Walk, stands, goes}
+use Rattle.lrc_local.proofs.Change.{View, News, news, Reply, reply, view_of, pages_in, Walk, stands, goes}
 use Rattle.lrc_local.proofs.Reach.{Come, come, first_view}
 use Rattle.lrc_local.proofs.Tokened.{come_to, is_set}
 use Rattle.lrc_exec.specs.Meaning.{Setting, Thread, Next, quiet, prints, reads, writes, acquires, releases, arrives, departs, traps, ends}
@@ -33,6 +33,22 @@ use Rattle.lrc_invariants.proofs.Waiting.{departs_arrived}
 use Rattle.lrc_invariants.proofs.TextHolds.{IsText}
 use Rattle.lrc_local.proofs.Ranges.{Ranged, ranged-kept}
 use Rattle.lrc_local.specs.Waits.{IsQuiet}
+use Rattle.lrc_page.specs.declared.changes.Change.{Change}
+use Rattle.lrc_store.specs.Store.{notice_at, unread}
+use Rattle.lrc_wire.specs.Records.{IndexedChangesRecord, ChangesReplyRecord}
+use Rattle.lrc_protocol.specs.Expected.{is_changes_reply}
+use Rattle.lrc_protocol.specs.Fetch.{indices_of, unknown_of}
+use Rattle.lrc_protocol.specs.Memory.{lacking}
+use Rattle.lrc_protocol.specs.Mail.{needs_of}
+use Rattle.lrc_local.specs.Needs.{FitsNeed, ReachesFor}
+use Rattle.lrc_local.proofs.Needed.{Needed, needed-kept}
+use Rattle.lrc_local.proofs.Reaches.{reaches-kept}
+use Rattle.lrc_local.proofs.Replies.{asked-exactly}
+use Rattle.lrc_local.proofs.Awaited.{All-unmap, asked-unread}
+use Rattle.lrc_page.specs.declared.size.Size.{Size}
+use Rattle.lrc_protocol.specs.Copy.{valid}
+use Rattle.lrc_local.specs.Ranges.{IsWhole, IsWholeBase}
+use Rattle.lrc_local.proofs.Whole.{Whole, whole-kept}
 use Rattle.lrc_local.proofs.Quiet.{quiet-kept}
 use Rattle.lrc_local.proofs.Mailed.{Mailed, mailed-kept, first-manager}
 use Rattle.lrc_local.proofs.Exact.{exact-kept, is_store, own-entry, next-indices}
@@ -84,6 +100,29 @@ module _ (program : Program) (nodes : ℕ) (options : OptionsRecord) (me : ℕ) 
   pub mailed : (v : View) → From v → Mailed v
   mailed _ stands = record { taken = length-replicate nodes []; manager = first-manager me nodes }
   mailed _ (goes {v = v} {after = after} w c) = mailed-kept v after c (mailed v w)
+
+  pub needed : (v : View) → From v → Needed v
+  needed _ stands = record {
+    each = All-nil (FitsNeed nodes (pages_of program.words options.size) (words_of options.size) (fresh_memory nodes (pages_of program.words options.size) options.size));
+    apart = tt;
+    kept = tt;
+  }
+  needed _ (goes {v = v} {after = after} w c) = needed-kept v after c (ranged v w) (exact v w) (needed v w)
+
+  pub reaching : (v : View) → From v → ReachesFor v.size (next_in v.course) v.wait
+  reaching _ stands = tt
+  reaching _ (goes {v = v} {after = after} w c) = reaches-kept v after c (reaching v w)
+
+  whole-first : (size : Size) (pages : ℕ) → Whole nodes (words_of size) (fresh_memory nodes pages size)
+  unfolding zero_page
+  whole-first size pages = record {
+    copies = All-replicate (IsWhole nodes (words_of size)) pages (valid (zero_page size)) (length-replicate (words_of size) 0);
+    bases = All-replicate (IsWholeBase (words_of size)) pages None tt;
+  }
+
+  pub whole : (v : View) → From v → Whole v.setting.nodes (words_of v.size) v.memory
+  whole _ stands = whole-first options.size (pages_of program.words options.size)
+  whole _ (goes {v = v} {after = after} w c) = whole-kept v after c (ranged v w) (needed v w) (whole v w)
 
 -- of a node that is reached
 pub ranged_at : (node : Node) → IsReached node → Ranged (view_of node)
@@ -180,3 +219,28 @@ departs_inside (discard collection) next f = f
 pub inside_at : (node : Node) → IsReached node → (thread : Thread) → node.course ≡ going thread → thread.arrived ≡ (is_inside node.mail.wait == 1)
 inside_at node r thread e =
     arrived_at node thread (is_inside node.mail.wait == 1) e (departs_inside node.mail.wait (next_in node.course) (come_to node r).tokened.fits)
+
+-- ---- needs
+
+pub needed_at : (node : Node) → IsReached node → Needed (view_of node)
+needed_at node r = needed r.program r.nodes r.options r.me r.leads.among (view_of node) (come_to node r).walked
+
+pub reaching_at : (node : Node) → IsReached node → ReachesFor node.options.size (next_in node.course) node.mail.wait
+reaching_at node r = reaching r.program r.nodes r.options r.me r.leads.among (view_of node) (come_to node r).walked
+
+pub awaited_at : (node : Node) → IsReached node → (from : ℕ) (m : ChangesReplyRecord) → is_changes_reply node from m ≡ true
+    → All (λ (part : IndexedChangesRecord). (notice_at node.memory.store (record { node = from; index = part.index; page = m.page }) ≡ Some (unread m.page))
+    × All (λ (change : Change). change.offset < words_of node.options.size) part.changes) m.parts
+awaited_at node r from m e =
+    let it : Reply (view_of node) from m = reply node from m e in
+    let P : ℕ → Type 0 = λ index. notice_at node.memory.store (record { node = from; index = index; page = m.page }) ≡ Some (unread m.page) in
+    let just : map (λ (part : IndexedChangesRecord). part.index) m.parts ≡ indices_of (unknown_of node.memory.store (lacking node.memory m.page)) from =
+    asked-exactly node.setting.nodes (pages_in (view_of node)) (words_of node.options.size) node.memory (needs_of node.mail.wait) m.page from
+    (map (λ (part : IndexedChangesRecord). part.index) m.parts) (needed_at node r).each it.asked in
+    let unread_all : All (λ (part : IndexedChangesRecord). P part.index) m.parts =
+    All-unmap P (λ (part : IndexedChangesRecord). part.index) m.parts
+    (subst (All P) (sym just) (asked-unread node.memory m.page from (is_store_at node r))) in
+    λ k d within. (unread_all k d within, it.changes k d within)
+
+pub whole_at : (node : Node) → IsReached node → Whole node.setting.nodes (words_of node.options.size) node.memory
+whole_at node r = whole r.program r.nodes r.options r.me r.leads.among (view_of node) (come_to node r).walked

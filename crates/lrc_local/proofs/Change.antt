@@ -25,6 +25,7 @@ use Rattle.lrc_protocol.specs.Expected.{is_page, is_interval, is_news, are_chang
 use Rattle.lrc_protocol.specs.Take.{with_part}
 use Rattle.lrc_invariants.specs.Waiting.{next_in}
 use Rattle.lrc_local.specs.Ranges.{InRange}
+use Rattle.lrc_local.specs.Needs.{page_next}
 use Rattle.lrc_local.proofs.Tests.{each_passes, in_range, same_numbers}
 
 -- what changes, and what it depends on
@@ -85,12 +86,6 @@ abbrev pub is_open : Wait → Bool
 is_open (grant lock) = true
 is_open departure = true
 is_open _ = false
-
--- the page of the next access, if the text makes one next
-abbrev pub page_next : Size → Option Next → Option ℕ
-page_next size (Some (reads word after)) = Some (page_of word size)
-page_next size (Some (writes word value after)) = Some (page_of word size)
-page_next size _ = None
 
 -- the pages that a node keeps after a collection, and what those need that are not readable
 abbrev pub kept_in : View → List ℕ

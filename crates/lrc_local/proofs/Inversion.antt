@@ -31,7 +31,8 @@ use Rattle.lrc_protocol.specs.Turn.{TurnRecord, Outcome, done, not_ready, unexpe
 use Rattle.lrc_protocol.specs.Log.{Input, run, taken as taken_in, outcome_of}
 use Rattle.lrc_invariants.specs.Waiting.{next_in}
 use Rattle.lrc_invariants.proofs.TextHolds.{TextIs}
-use Rattle.lrc_local.proofs.Change.{View, News, view_of, pages_in, Change, Walk, stands, goes, receives, manages, moves, puts, closes, learns, resumes, begins, cleans, discards, misses, mends, gets_changes, gets_page, is_settled, is_open, page_next, news, reply}
+use Rattle.lrc_local.proofs.Change.{View, News, view_of, pages_in, Change, Walk, stands, goes, receives, manages, moves, puts, closes, learns, resumes, begins, cleans, discards, misses, mends, gets_changes, gets_page, is_settled, is_open, news, reply}
+use Rattle.lrc_local.specs.Needs.{page_next}
 use Rattle.lrc_local.proofs.Managers.{Manages, arrival-manages, clean-manages}
 use Rattle.lrc_local.proofs.Words.{InWords, next-in_words, page-in_range}
 

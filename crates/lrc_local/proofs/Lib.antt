@@ -14,4 +14,11 @@ pub mod Ranges
 pub mod Exact
 pub mod Quiet
 pub mod Keys
+pub mod Asking
+pub mod Needs
+pub mod Replies
+pub mod Needed
+pub mod Reaches
+pub mod Awaited
+pub mod Whole
 pub mod Always

@@ -147,7 +147,7 @@ namers-below nodes pages page store each =
     All-chosen (InRange nodes pages) (λ node. node < nodes) (λ i. if is_named (i ∷ []) page then Some i.node else None)
     (λ i y r e. namer-below nodes page i (is_named (i ∷ []) page) y r.node e) (intervals_of store) each
 
-keeps-ranges : (nodes pages : ℕ) (memory : Memory) → HasRanges nodes pages memory → HasRanges nodes pages (with_keepers memory)
+pub keeps-ranges : (nodes pages : ℕ) (memory : Memory) → HasRanges nodes pages memory → HasRanges nodes pages (with_keepers memory)
 keeps-ranges nodes pages memory h = record {
   copies = h.copies;
   bases = h.bases;

@@ -1,9 +1,12 @@
 -- What a node needs of pages while it waits for them, and the pages that it keeps in a collection.
-use Rattle.std.specs.Prelude.{◌≡◌, ℕ, ◌<◌, true, not, List, length, map, filter, All}
+use Rattle.std.specs.Prelude.{◌≡◌, ℕ, ◌<◌, true, not, Option, Some, None, List, length, map, filter, All}
+use Rattle.lrc_page.specs.declared.size.Size.{Size}
+use Rattle.lrc_page.specs.Place.{page_of}
+use Rattle.lrc_exec.specs.Meaning.{Next, reads, writes}
 use Rattle.lrc_protocol.specs.Copy.{Copy, valid, written, invalid, absent, is_readable}
 use Rattle.lrc_protocol.specs.Memory.{Memory, copy_at, kept_pages, lacking}
 use Rattle.lrc_protocol.specs.Fetch.{Base, unneeded, due, come, Need, asked_of, unknown_of}
-use Rattle.lrc_protocol.specs.Mail.{Wait, upkeep, discard}
+use Rattle.lrc_protocol.specs.Mail.{Wait, access, upkeep, discard}
 
 -- with so many nodes, and words on a page: a copy that is absent has a base copy that is due from one of the nodes, or has come
 -- whole; one that is invalid needs none; and one that is readable needs nothing
@@ -33,3 +36,14 @@ FitsKept me memory (upkeep collection needs) =
 FitsKept me memory (discard collection) =
     (collection.kept ≡ kept_pages me memory) × All (λ page. is_readable (copy_at memory page) ≡ true) collection.kept
 FitsKept me memory _ = Unit {0}
+
+-- the page of the next access, if the text makes one next
+abbrev pub page_next : Size → Option Next → Option ℕ
+page_next size (Some (reads word after)) = Some (page_of word size)
+page_next size (Some (writes word value after)) = Some (page_of word size)
+page_next size _ = None
+
+-- who waits at a miss makes its next access on the page that it needs
+abbrev pub ReachesFor : Size → Option Next → Wait → Type 0
+ReachesFor size next (access need) = page_next size next ≡ Some need.page
+ReachesFor size next _ = Unit {0}

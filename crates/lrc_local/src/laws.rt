@@ -114,3 +114,41 @@ pub fn texts_fit()
 pub fn waiting_node_has_no_written_page()
     ensures { (node : Node) → IsReached node → IsQuiet node.mail.wait node.memory }
 {}
+ghost use Rattle.std.specs.Prelude.{AllPairs, map, None};
+ghost use Rattle.lrc_page.specs.Page.{words_of};
+ghost use Rattle.lrc_page.specs.declared.changes.Change.{Change};
+ghost use Rattle.lrc_store.specs.Store.{notice_at, unread};
+ghost use Rattle.lrc_wire.specs.Records.{IndexedChangesRecord, ChangesReplyRecord};
+ghost use Rattle.lrc_protocol.specs.Expected.{is_changes_reply};
+ghost use Rattle.lrc_protocol.specs.Fetch.{Need};
+ghost use Rattle.lrc_protocol.specs.Mail.{needs_of};
+ghost use Rattle.lrc_local.specs.Needs.{FitsNeed, FitsKept, ReachesFor};
+
+/// What a node that is reached needs of pages fits its memory: the pages ascend; each need has just the keys that the copy of
+/// its page lacks, and asks of each maker for just those changes that are not known; a base copy is due or has come exactly
+/// where the copy is absent. In a collection the node keeps the pages that were named and are its own, and needs those that are
+/// not readable. Who waits at a miss makes its next access on the page that it needs.
+pub fn needs_fit_the_memory()
+    ensures each { (node : Node) → IsReached node
+        → All (FitsNeed node.setting.nodes (pages_of node.setting.words node.options.size) (words_of node.options.size) node.memory)
+        (needs_of node.mail.wait) }
+    ensures apart { (node : Node) → IsReached node
+        → AllPairs (λ (a b : ℕ). a < b) (map (λ (need : Need). need.page) (needs_of node.mail.wait)) }
+    ensures kept { (node : Node) → IsReached node → FitsKept node.setting.me node.memory node.mail.wait }
+    ensures access { (node : Node) → IsReached node → ReachesFor node.options.size (next_in node.course) node.mail.wait }
+{}
+
+/// The changes in a reply that a node expects are of stored notices of which no changes are known, and of words of a page.
+pub fn replies_are_of_unread_notices()
+    ensures { (node : Node) (from : ℕ) (m : ChangesReplyRecord) → IsReached node → is_changes_reply node from m ≡ true
+        → All (λ (part : IndexedChangesRecord).
+        (notice_at node.memory.store (record { node = from; index = part.index; page = m.page }) ≡ Some (unread m.page))
+        × All (λ (change : Change). change.offset < words_of node.options.size) part.changes) m.parts }
+{}
+ghost use Rattle.lrc_local.specs.Ranges.{IsWhole, IsWholeBase};
+
+/// At a node that is reached each copy, twin and base copy is a page long, and each remembered time has an entry for each node.
+pub fn copies_are_whole()
+    ensures copies { (node : Node) → IsReached node → All (IsWhole node.setting.nodes (words_of node.options.size)) node.memory.copies }
+    ensures bases { (node : Node) → IsReached node → All (IsWholeBase (words_of node.options.size)) node.memory.bases }
+{}

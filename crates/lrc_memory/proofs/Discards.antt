@@ -14,7 +14,7 @@ use Rattle.lrc_page.specs.Changes.{changes_between}
 use Rattle.lrc_store.specs.declared.key.Key.{Key}
 use Rattle.lrc_store.specs.Interval.{IntervalRecord, index_of}
 use Rattle.lrc_store.specs.Store.{NoticeRecord, StoredRecord, StoreRecord, IsStore, interval_of, intervals_of, discarded, is_covered}
-use Rattle.lrc_store.proofs.Stores.{IsStore-discarded}
+use Rattle.lrc_store.proofs.Stores.{IsStore-discarded, intervals_of-discarded}
 use Rattle.lrc_table.specs.declared.slot.State.{State}
 use Rattle.lrc_table.specs.declared.slot.State.TheVariants.{Valid, Written, Invalid, Absent}
 use Rattle.lrc_table.specs.PageCopy.{PageCopy, fresh, is_valid, pending_changes, without_twin, without_base, dropped}
@@ -185,16 +185,16 @@ over-nothing o (s ∷ ss) none =
         let rest : map (notice_over o s.node (index_of (interval_of s))) ns ≡ ns = bare s none ns in
         cc
 
+pub counted : (kept : Kept) → IsStore kept.store → All (λ (s : StoredRecord). index_of (interval_of s) ≤ entry kept.store.last s.node) kept.store.entries
+counted kept sound k d within =
+    let there = get_or kept.store.entries k d in
+    let read : get_or (intervals_of kept.store) k (interval_of d) ≡ interval_of there = get_or-map interval_of kept.store.entries k d (interval_of d) within in
+    subst (λ (i : IntervalRecord). index_of i ≤ entry kept.store.last i.node) read
+    (sound.counted k (interval_of d) (omega (arith, length-map kept.store.entries interval_of, within)))
+
 module _ (kept : Kept) (time : List ℕ) where
   o : Key → Option (List Change)
   o = unmade kept.me kept.named kept.table
-
-  counted : IsStore kept.store → All (λ (s : StoredRecord). index_of (interval_of s) ≤ entry kept.store.last s.node) kept.store.entries
-  counted sound k d within =
-      let there = get_or kept.store.entries k d in
-      let read : get_or (intervals_of kept.store) k (interval_of d) ≡ interval_of there = get_or-map interval_of kept.store.entries k d (interval_of d) within in
-      subst (λ (i : IntervalRecord). index_of i ≤ entry kept.store.last i.node) read
-      (sound.counted k (interval_of d) (omega (arith, length-map kept.store.entries interval_of, within)))
 
   others : IsStore kept.store → entry kept.store.last kept.me ≤ entry time kept.me
       → All (λ (s : StoredRecord). s.node ≢ kept.me) (discarded kept.store time).entries
@@ -203,7 +203,7 @@ module _ (kept : Kept) (time : List ℕ) where
       let there = get_or (filter test kept.store.entries) k d in
       let passes : not (is_covered time (interval_of there)) ≡ true = filter_passes test kept.store.entries k d within in
       let below : index_of (interval_of there) ≤ entry kept.store.last there.node =
-      All-filter test (λ (s : StoredRecord). index_of (interval_of s) ≤ entry kept.store.last s.node) kept.store.entries (counted sound) k d within in
+      All-filter test (λ (s : StoredRecord). index_of (interval_of s) ≤ entry kept.store.last s.node) kept.store.entries (counted kept sound) k d within in
       let at : entry kept.store.last there.node ≡ entry kept.store.last kept.me = ap (entry kept.store.last) mine in
       let mine_too : entry time there.node ≡ entry time kept.me = ap (entry time) mine in
       let known : is_covered time (interval_of there) ≡ true = le-test (index_of (interval_of there)) (entry time there.node) (omega (arith, below, at, mine_too, own)) in
@@ -237,6 +237,9 @@ kept-collected kept time is long = record {
   times = is.times;
   collected = long;
   keeping = is.keeping;
+  makers = subst (All (λ (i : IntervalRecord). i.node < length kept.store.last)) (sym (intervals_of-discarded kept.store time))
+      (All-filter (λ (i : IntervalRecord). not (is_covered time i)) (λ (i : IntervalRecord). i.node < length kept.store.last) (intervals_of kept.store) is.makers);
+  passed = is.passed;
   store = IsStore-discarded kept.store time is.store;
   sized = All-filter (λ (s : StoredRecord). not (is_covered time (interval_of s))) (AreSized kept.table.size) kept.store.entries is.sized;
   unmade = λ page changes pending. let nothing : Some changes ≡ None = sym pending ∙ nothing-swept kept page in absurd (cc);

@@ -8,3 +8,4 @@ pub mod Quiet
 pub mod Loops
 pub mod Mending
 pub mod Discards
+pub mod Closes

@@ -46,7 +46,7 @@ module _ (o : Key → Option (List Change)) where
   pub intervals-over : (store : StoreRecord) → intervals_of (store_over o store) ≡ intervals_of store
   intervals-over store = entries-over store.entries
 
-  is_at-over : (node index : ℕ) (stored : StoredRecord) → is_at node index (stored_over o stored) ≡ is_at node index stored
+  pub is_at-over : (node index : ℕ) (stored : StoredRecord) → is_at node index (stored_over o stored) ≡ is_at node index stored
   is_at-over node index stored = ap (λ (i : IntervalRecord). eqb i.node node && eqb (index_of i) index) (interval-over stored)
 
   -- a notice with the changes from elsewhere

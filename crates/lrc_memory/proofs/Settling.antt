@@ -14,9 +14,10 @@ use Rattle.lrc_page.specs.Page.{words_of}
 use Rattle.lrc_page.specs.Changes.{changes_between}
 use Rattle.lrc_page.proofs.ChangeLists.{IsDifference, each-between}
 use Rattle.lrc_store.specs.declared.key.Key.{Key}
+use Rattle.lrc_store.specs.Interval.{IntervalRecord}
 use Rattle.lrc_store.specs.Store.{NoticeRecord, StoredRecord, StoreRecord, notice_at, notice_with, stored_with, attached, is_at}
 use Rattle.lrc_store.proofs.Lookups.{notice_at-attached_other}
-use Rattle.lrc_store.proofs.Stores.{IsStore-attached}
+use Rattle.lrc_store.proofs.Stores.{IsStore-attached, intervals_of-attached}
 use Rattle.lrc_table.specs.declared.slot.State.{State}
 use Rattle.lrc_table.specs.declared.slot.State.TheVariants.{Valid, Written, Invalid, Absent}
 use Rattle.lrc_table.specs.PageCopy.{PageCopy, IsWhole, fresh, is_valid, pending_changes, settled}
@@ -96,6 +97,8 @@ kept-changed kept page copy within is none = record {
   times = is.times;
   collected = is.collected;
   keeping = is.keeping;
+  makers = is.makers;
+  passed = is.passed;
   store = is.store;
   sized = is.sized;
   unmade = λ p changes pending.
@@ -282,6 +285,8 @@ kept-store kept key changes is fit apart = record {
   times = is.times;
   collected = is.collected;
   keeping = is.keeping;
+  makers = subst (All (λ (i : IntervalRecord). i.node < length kept.store.last)) (sym (intervals_of-attached kept.store key changes)) is.makers;
+  passed = is.passed;
   store = IsStore-attached kept.store key changes is.store;
   sized = sized-attached kept.table.size kept.store key changes fit is.sized;
   unmade = λ page cs pending.

@@ -1,14 +1,15 @@
 -- How a node's memory is kept, and how it is seen. The changes of a closed interval are made lazily: a page written in it
 -- keeps its twin until they are needed (Keleher, Cox, Dwarkadas and Zwaenepoel 1994). Seen from outside they are made.
-use Rattle.std.specs.Prelude.{ℕ, ◌≡◌, ◌<◌, ◌==◌, ◌&&◌, Bool, true, false, Option, None, Some, unwrap_or, List, [], length, map, All, IsTrue, slice_index, slice_index_or, if◌then◌else◌}
+use Rattle.std.specs.Prelude.{ℕ, ◌≡◌, ◌<◌, ◌≤◌, ◌==◌, ◌&&◌, Bool, true, false, Option, None, Some, unwrap_or, List, [], length, map, All, IsTrue, slice_index, slice_index_or, if◌then◌else◌}
 use Rattle.std.specs.List.{range_with_len}
 use Rattle.std.specs.Option.{ForSome, option_or}
 use Rattle.lrc_page.specs.declared.changes.Change.{Change}
 use Rattle.lrc_page.specs.declared.size.Size.{Size}
 use Rattle.lrc_page.specs.Page.{words_of}
 use Rattle.lrc_store.specs.declared.key.Key.{Key}
+use Rattle.lrc_time.specs.Time.{entry}
 use Rattle.lrc_store.specs.Interval.{index_of}
-use Rattle.lrc_store.specs.Store.{NoticeRecord, StoredRecord, StoreRecord, IsStore, interval_of, notice_at, attached}
+use Rattle.lrc_store.specs.Store.{NoticeRecord, StoredRecord, StoreRecord, IsStore, interval_of, intervals_of, notice_at, attached}
 use Rattle.lrc_table.specs.declared.slot.State.{State}
 use Rattle.lrc_table.specs.declared.slot.State.TheVariants.{Valid, Written, Invalid, Absent}
 use Rattle.lrc_table.specs.PageCopy.{PageCopy, pending_changes}
@@ -112,6 +113,8 @@ pub record IsKept (kept : Kept) : Type 0 where
   pub times : All (λ time. length time ≡ length kept.store.last) kept.since
   pub collected : length kept.collected ≡ length kept.store.last
   pub keeping : All (λ keeper. keeper < length kept.store.last) kept.keepers
+  pub makers : All (λ interval. interval.node < length kept.store.last) (intervals_of kept.store)
+  pub passed : All (λ index. index ≤ entry kept.store.last kept.me) kept.named
   pub store : IsStore kept.store
   pub sized : All (AreSized kept.table.size) kept.store.entries
   pub unmade : (page : ℕ) (changes : List Change) → pending_changes (copy_at kept.table page) ≡ Some changes

@@ -23,9 +23,17 @@ impl Memory {
         self.table.base(page)
     }
 
+    /// Pages that were named since the last collection get new keepers: of each the lowest node that named it.
+    pub fn take_keepers(&mut self) -> Result<(), AllocError>
+        ensures ok { OnOk result (self.new ≡ with_memory self.old (with_keepers self.old.memory)) }
+        ensures same { SameMemory self.old self.new }
+    {
+        Err(AllocError)
+    }
+
     /// The pages that this node keeps and that were named since the last collection, ascending.
     pub fn kept_pages(&self) -> Result<Pages, AllocError>
-        ensures { IfOk result (λ pages. pages ≡ kept_pages self.now.me self.now.memory) }
+        ensures pages { IfOk result (λ pages. pages ≡ kept_pages self.now.me self.now.memory) }
     {
         Err(AllocError)
     }

@@ -2,7 +2,7 @@
 
 ghost use Rattle.std.specs.Prelude.{◌≡◌, ◌<◌, IfOk, OnOk, is_some, length};
 ghost use Rattle.lrc_time.specs.Time.{entry};
-ghost use Rattle.lrc_store.specs.Store.{IsStore, newer_of};
+ghost use Rattle.lrc_store.specs.Store.{newer_of, notice_at};
 ghost use Rattle.lrc_protocol.specs.Memory.{learned};
 ghost use Rattle.lrc_memory.specs.View.{SameMemory, with_memory};
 ghost use Rattle.lrc_memory.specs.Turns.{CanBeAdded};
@@ -46,5 +46,13 @@ impl Memory {
         ensures index { result ≡ entry self.now.memory.store.last node }
     {
         self.store.last(node)
+    }
+
+    /// Whether the interval of this node and index is stored and names the page.
+    pub fn has_notice(&self, node: u8, index: u32, page: u16) -> Result<bool, AllocError>
+        ensures { IfOk result (λ found. found
+            ≡ is_some (notice_at self.now.memory.store (record { node = node; index = index; page = page }))) }
+    {
+        Err(AllocError)
     }
 }

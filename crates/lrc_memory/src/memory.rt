@@ -1,6 +1,6 @@
 // One node's memory.
 
-ghost use Rattle.std.specs.Prelude.{◌≡◌, ◌<◌, ◌≤◌, ◌+◌, IfOk, OnOk, Some, None, length, replicate, if◌then◌else◌};
+ghost use Rattle.std.specs.Prelude.{◌≡◌, ◌<◌, ◌≤◌, ◌+◌, All, IfOk, OnOk, fold, slice_set, Some, None, length, replicate, if◌then◌else◌};
 ghost use Rattle.lrc_time.specs.Time.{entry};
 ghost use Rattle.lrc_page.specs.Place.{page_of, pages_of};
 ghost use Rattle.lrc_protocol.specs.Copy.{is_readable};
@@ -9,7 +9,7 @@ ghost use Rattle.lrc_memory.specs.View.{SameMemory, with_memory};
 
 use crate::settle::settle_page;
 use lrc_page::{MOST_WORDS, Size, page_of, pages_of};
-use lrc_store::Store;
+use lrc_store::{Interval, Store};
 use lrc_table::{PageTable, State};
 use lrc_time::Time;
 use std::alloc::{AllocError, Global};
@@ -140,7 +140,29 @@ impl Memory {
         ensures ok { OnOk result (self.new ≡ with_memory self.old (with_interval self.old.me stamp.now self.old.memory)) }
         ensures same { SameMemory self.old self.new }
     {
-        Err(AllocError)
+        let _whole = self.table.size();
+        let pages = self.table.close()?;
+        let interval = Interval::new(self.me, stamp.copy(), pages);
+        if self.store.add(&interval).is_err() {
+            self.table.drop_twins();
+            return Err(AllocError);
+        }
+        name_pages(
+            &mut self.named,
+            interval.pages.as_slice(),
+            interval.index(),
+        );
+        Ok(())
+    }
+}
+
+/// Sets the index for each of these pages.
+fn name_pages(named: &mut [u32], pages: &[u16], index: u32)
+    requires { All (λ page. page < length named.old) pages.now }
+    ensures { named.new ≡ fold (λ named page. slice_set named page index) named.old pages.now }
+{
+    for page in pages {
+        named[usize::from(*page)] = index;
     }
 }
 

@@ -1,14 +1,14 @@
 -- A node that is reached can begin what its text asks for.
-use Rattle.std.proofs.Common.{◌≡◌, ℕ, ◌<◌, Bool, true, false, refl, sym, ◌∙◌, ap, subst}
+use Rattle.std.proofs.Common.{◌≡◌, ℕ, ◌<◌, Bool, true, false, refl, ap, subst}
 use Rattle.std.specs.Prelude.{Option, Some, None, option_map, if◌then◌else◌}
 use Rattle.std.proofs.lemmas.Option.{same_Some}
 use Rattle.lrc_exec.specs.declared.machine.Ask.{Ask}
 use Rattle.lrc_exec.specs.Ask.{ask_of}
-use Rattle.lrc_exec.specs.Meaning.{Setting, Thread, Next, quiet, prints, reads, writes, acquires, releases, arrives, departs, traps, ends, next_of}
+use Rattle.lrc_exec.specs.Meaning.{Setting, Thread, Next, quiet, prints, reads, writes, acquires, releases, arrives, departs, traps, ends}
 use Rattle.lrc_exec.proofs.NextLaws.{IsFine, next_of-fine}
 use Rattle.lrc_protocol.specs.Course.{Course, going, trapped, ended}
 use Rattle.lrc_protocol.specs.Mail.{Wait, nothing, grant, departure, access, upkeep, discard, is_idle}
-use Rattle.lrc_protocol.specs.Node.{Node, begins, begins_of}
+use Rattle.lrc_protocol.specs.Node.{Node, begins_of}
 use Rattle.lrc_invariants.specs.Waiting.{next_in, acquiring}
 use Rattle.lrc_local.specs.Reached.{IsReached}
 use Rattle.lrc_local.proofs.Tokened.{acquired-in_place, released-in_place, held_here, away}

@@ -1,7 +1,7 @@
 -- What a turn does, by what the text asks for.
-use Rattle.std.proofs.Common.{◌≡◌, ℕ, ◌-◌, Bool, true, false, List, [], ◌⊎◌, inl, inr, refl, sym, ◌∙◌, ap, subst}
+use Rattle.std.proofs.Common.{◌≡◌, ℕ, ◌-◌, Bool, true, false, List, ◌⊎◌, inl, inr, refl, sym, ◌∙◌, ap, subst}
 use Rattle.std.proofs.lemmas.Option.{same_Some}
-use Rattle.std.specs.Prelude.{Option, Some, None, nat_le, option_map, is_some, if◌then◌else◌}
+use Rattle.std.specs.Prelude.{Option, Some, None, nat_le, option_map, if◌then◌else◌}
 use Rattle.lrc_exec.specs.declared.machine.Ask.{Ask}
 use Rattle.lrc_exec.specs.declared.machine.Ask.TheVariants.{Quiet as Ask_Quiet, Print as Ask_Print, Read as Ask_Read, Write as Ask_Write, Acquire as Ask_Acquire, Release as Ask_Release, Barrier as Ask_Barrier, Trap as Ask_Trap, End as Ask_End}
 use Rattle.lrc_wire.specs.Envelope.{EnvelopeRecord}
@@ -11,8 +11,8 @@ use Rattle.lrc_protocol.specs.Course.{Course, going, trapped, ended, deed_of, co
 use Rattle.lrc_protocol.specs.Mail.{Letter, is_idle}
 use Rattle.lrc_protocol.specs.Node.{Node, Effect, acts, acts_by, makes, begins_of, begins, may_begin}
 use Rattle.lrc_protocol.specs.Run.{run_effect, charged}
-use Rattle.lrc_protocol.specs.Turn.{run_turn, turn_by, turn_if, turn_of, turn_with, done, not_ready, worn}
-use Rattle.lrc_node.specs.Text.{asked_in, deed_in, gone_on, cost_to_begin}
+use Rattle.lrc_protocol.specs.Turn.{run_turn, turn_by, turn_if, turn_of, turn_with, not_ready, worn}
+use Rattle.lrc_node.specs.Text.{asked_in, cost_to_begin}
 use Rattle.lrc_node.specs.Effects.{value_asked, memory_asked, acted, deed_next, effect_asked, begun_node, CanBegin, RefusesRun, too_large, without_memory}
 use Rattle.lrc_node.specs.declared.fault.NodeFault.{NodeFault}
 use Rattle.lrc_node.specs.declared.fault.NodeFault.TheVariants.{Worn, NoMemory}

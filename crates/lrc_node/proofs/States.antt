@@ -1,16 +1,14 @@
 -- What a node keeps of its parts.
-use Rattle.std.proofs.Common.{◌≡◌, ℕ, ◌<◌, ◌≤◌, Bool, true, false, length, refl, sym, ap}
+use Rattle.std.proofs.Common.{◌≡◌, ℕ, ◌<◌, ◌≤◌, Bool, true, false, length, refl}
 use Rattle.std.specs.Prelude.{◌==◌, Some, None, IfSome, if◌then◌else◌}
 use Rattle.std.proofs.lemmas.List.{length-replicate}
 use Rattle.std.proofs.lemmas.List.FromFn.{length-map-range_with_len}
 use Rattle.lrc_lang.specs.declared.program.Program.{Program}
 use Rattle.lrc_page.specs.Place.{pages_of}
-use Rattle.lrc_page.specs.Page.{zero_page}
 use Rattle.lrc_time.proofs.Times.{length-zeros}
 use Rattle.lrc_lock.specs.Held.{first_state}
 use Rattle.lrc_barrier.specs.Barrier.{ManagerRecord, first_manager}
-use Rattle.lrc_protocol.specs.Copy.{valid}
-use Rattle.lrc_protocol.specs.Node.{Node, OptionsRecord, fresh_node}
+use Rattle.lrc_protocol.specs.Node.{OptionsRecord, fresh_node}
 use Rattle.lrc_node.specs.State.{IsState}
 
 managed : (nodes : ℕ) (here : Bool) → IfSome (if here then Some (first_manager nodes) else None) (λ (manager : ManagerRecord). length manager.last ≡ nodes)

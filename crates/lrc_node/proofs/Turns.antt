@@ -1,10 +1,9 @@
 -- What comes of a turn that is asked of a node.
-use Rattle.std.proofs.Common.{◌≡◌, Bool, true, false, cond, Option, Some, None, refl, sym, ◌∙◌, ap, subst}
+use Rattle.std.proofs.Common.{◌≡◌, false, cond, Some, None, refl, sym, subst}
 use Rattle.lrc_protocol.specs.Node.{Node}
-use Rattle.lrc_protocol.specs.Turn.{Outcome, not_ready, worn}
+use Rattle.lrc_protocol.specs.Turn.{Outcome, not_ready}
 use Rattle.lrc_local.specs.Reached.{IsReached}
 use Rattle.lrc_node.specs.declared.fault.NodeFault.{NodeFault}
-use Rattle.lrc_node.specs.declared.fault.NodeFault.TheVariants.{Failed, NotReady, Unexpected, Worn, NoMemory}
 use Rattle.lrc_node.specs.Fault.{is_final}
 use Rattle.lrc_node.specs.Effects.{RefusesRun, unready, too_large, without_memory}
 use Rattle.lrc_node.specs.Node.{Answers, unready as answers_unready, too_large as answers_too_large, without_memory as answers_without_memory}

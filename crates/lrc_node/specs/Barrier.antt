@@ -1,7 +1,9 @@
 -- What comes of an arrival or a Clean at the manager of barriers, beside its node's state.
-use Rattle.std.specs.Prelude.{ℕ, Option, Some, None, List, IfSome, ◌≡◌, length, is_some}
+use Rattle.std.specs.Prelude.{ℕ, Option, Some, None, List, All, IfSome, ◌≤◌, ◌≡◌, length, is_some, slice_index_or}
+use Rattle.lrc_barrier.specs.declared.arrival.Arrival.{Arrival}
 use Rattle.lrc_barrier.specs.declared.departure.Departure.{Departure}
-use Rattle.lrc_barrier.specs.Barrier.{ArriveStep, refuses, waits, departs, CleanStep, refuses_clean, awaits, discards}
+use Rattle.lrc_barrier.specs.Barrier.{ManagerRecord, IsDeparture, ArriveStep, refuses, waits, departs, CleanStep, refuses_clean, awaits, discards}
+use Rattle.lrc_wire.specs.Records.{ArriveRecord}
 use Rattle.lrc_protocol.specs.Barrier.{Barrier, with_manager}
 
 -- what an arrival is answered, the departures if it was the last, and the barrier then; none where it isn't accepted
@@ -26,3 +28,16 @@ IsOfNodes nodes barrier = IfSome barrier.manager (λ manager. length manager.las
 pub record SameBarrier (before after : Barrier) : Type 0 where
   pub manager : is_some after.manager ≡ is_some before.manager
   pub nodes : (nodes : ℕ) → IsOfNodes nodes before → IsOfNodes nodes after
+
+-- each arrival that the manager keeps is at an episode, which are counted from 1
+abbrev pub KeepsEpisodes : ManagerRecord → Type 0
+KeepsEpisodes manager = (node : ℕ) → IfSome (slice_index_or manager.arrivals node None) (λ arrival. 1 ≤ arrival.episode)
+
+-- the departures are of an episode, of as many nodes
+pub record AreDepartures (nodes : ℕ) (departures : List Departure) : Type 0 where
+  pub each : All (IsDeparture nodes) departures
+  pub episodes : All (λ departure. 1 ≤ departure.episode) departures
+
+-- the arrival of a message
+abbrev pub arrival_in : ArriveRecord → Arrival
+arrival_in m = record { episode = m.episode; ask = m.ask; time = m.time; intervals = m.intervals }

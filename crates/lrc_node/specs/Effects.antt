@@ -1,5 +1,5 @@
 -- What a turn does, by what the text asks for.
-use Rattle.std.specs.Prelude.{ℕ, ◌≡◌, ◌+◌, ◌-◌, ◌<◌, ◌≤◌, true, false, IsTrue, Option, Some, List, [], length, option_map}
+use Rattle.std.specs.Prelude.{ℕ, ◌≡◌, ◌+◌, ◌-◌, ◌<◌, ◌≤◌, true, false, IsTrue, Option, Some, [], length, option_map}
 use Rattle.lrc_time.specs.Time.{entry}
 use Rattle.lrc_lock.specs.Held.{lock_at, is_free, is_held}
 use Rattle.lrc_lock.specs.declared.state.LockState.TheVariants.{Away}
@@ -9,7 +9,6 @@ use Rattle.lrc_exec.specs.declared.machine.Ask.{Ask}
 use Rattle.lrc_exec.specs.declared.machine.Ask.TheVariants.{Read, Write, Acquire, Release, Barrier}
 use Rattle.lrc_protocol.specs.Copy.{is_readable}
 use Rattle.lrc_protocol.specs.Memory.{Memory, copy_at, value_at, with_word}
-use Rattle.lrc_protocol.specs.Mail.{Letter}
 use Rattle.lrc_protocol.specs.Locks.{next_time}
 use Rattle.lrc_protocol.specs.Node.{Node, Effect, begins, acts}
 use Rattle.lrc_protocol.specs.Run.{own_index, reaches, closing, acquire_at, release_at, arrive_at}

@@ -1,12 +1,12 @@
 // A node's part in barriers.
 
-ghost use Rattle.std.specs.Prelude.{◌≡◌, ◌⊎◌, ℕ, ◌<◌, ◌≤◌, IfOk, IfErr, IfSome, None, OnErr, Some, length, All, false, option_map, unwrap_or};
-ghost use Rattle.lrc_barrier.specs.Barrier.{is_accepted, IsArrival, IsDeparture};
+ghost use Rattle.std.specs.Prelude.{◌≡◌, ◌⊎◌, ℕ, ◌<◌, ◌≤◌, IfOk, IfErr, IfSome, None, OnErr, Some, length, false, option_map, unwrap_or};
+ghost use Rattle.lrc_barrier.specs.Barrier.{is_accepted, IsArrival};
 ghost use Rattle.lrc_barrier.specs.declared.arrival.Arrival.{Arrival as ArrivalRecord};
 ghost use Rattle.lrc_protocol.specs.Expected.{is_clean};
 ghost use Rattle.lrc_protocol.specs.Barrier.{arrive_step, clean_step, fresh_barrier, last_from, with_arrive};
 ghost use Rattle.lrc_protocol.specs.Mail.{MOST_NUMBER};
-ghost use Rattle.lrc_node.specs.Barrier.{arrival_taken, clean_taken, IsOfNodes, SameBarrier};
+ghost use Rattle.lrc_node.specs.Barrier.{arrival_taken, clean_taken, AreDepartures, IsOfNodes, SameBarrier};
 ghost use Rattle.lrc_node.specs.declared.fault.NodeFault.TheVariants.{NoMemory, Unexpected};
 
 use crate::fault::NodeFault;
@@ -24,11 +24,15 @@ pub(crate) struct Barrier {
 }
 
 impl Model for Barrier {
+    ghost use Rattle.std.specs.Prelude.{IfSome};
     ghost use Rattle.lrc_protocol.specs.Barrier.{Barrier as BarrierRecord};
+    ghost use Rattle.lrc_node.specs.Barrier.{KeepsEpisodes};
 
     ghost Value = { BarrierRecord };
 
     ghost view = { λ b. record { episode = b.episode; sent = b.sent; manager = b.manager } };
+
+    ghost invariant = { λ b. IfSome b.manager KeepsEpisodes };
 }
 
 impl Barrier {
@@ -114,13 +118,14 @@ impl Barrier {
         from: u8,
         arrival: &Arrival,
     ) -> Result<Option<Departures>, NodeFault>
-        requires { IfSome self.old.manager (λ manager. (from < length manager.last) × IsArrival (length manager.last) from arrival.now) }
+        requires own { IfSome self.old.manager (λ manager. (from < length manager.last) × IsArrival (length manager.last) from arrival.now) }
+        requires begun { 1 ≤ arrival.now.episode }
         ensures taken { IfOk result (λ answer. arrival_taken self.old (arrive_step self.old from arrival.now) ≡ Some (answer, self.new)) }
         ensures refused { arrival_taken self.old (arrive_step self.old from arrival.now) ≡ None → result ≡ Err Unexpected }
         ensures memory { IfErr result (λ fault. (arrival_taken self.old (arrive_step self.old from arrival.now) ≡ None) ⊎ (fault ≡ NoMemory)) }
         ensures same { SameBarrier self.old self.new }
         ensures unchanged { OnErr result (self.new ≡ self.old) }
-        ensures departures { (nodes : ℕ) → IsOfNodes nodes self.old → IfOk result (λ answer. IfSome answer (All (IsDeparture nodes))) }
+        ensures departures { (nodes : ℕ) → IsOfNodes nodes self.old → IfOk result (λ answer. IfSome answer (AreDepartures nodes)) }
     {
         let Some(manager) = &mut self.manager else {
             return Err(NodeFault::Unexpected);

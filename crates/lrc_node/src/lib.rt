@@ -19,6 +19,8 @@ mod run;
 mod send;
 mod state;
 mod syncs;
+mod take_barrier;
+mod take_locks;
 mod text;
 mod turn;
 
