@@ -33,7 +33,7 @@ pub record Tokened (s : Setting) (o : OptionsRecord) (l : Local) : Type 0 where
   pub waits : AwaitsOne l.node.mail.wait l.node.locks.held
   pub holding : HoldsTokens l.node.course l.node.locks.held
 
-node-tokened : (s : Setting) (o : OptionsRecord) → s.locks ≤ 64 → KeptByShifts (Tokened s o)
+pub node-tokened : (s : Setting) (o : OptionsRecord) → s.locks ≤ 64 → KeptByShifts (Tokened s o)
 node-tokened s o few l turn after t sh h = record {
   shape = node-shape s o l turn after t sh h.shape;
   fits = node-fits l turn after t sh h.fits;
@@ -64,7 +64,7 @@ nothing_held zero lock = refl
 nothing_held (suc n) zero = refl
 nothing_held (suc n) (suc lock) = nothing_held n lock
 
-fresh-tokened : (program : Program) (nodes : ℕ) (options : OptionsRecord) (n : ℕ)
+pub fresh-tokened : (program : Program) (nodes : ℕ) (options : OptionsRecord) (n : ℕ)
     → Tokened (setting_of program nodes n) options (record { node = fresh_node program nodes options n; turns = [] })
 fresh-tokened program nodes options n =
     let start : Thread = start_of program nodes n in

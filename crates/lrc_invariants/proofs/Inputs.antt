@@ -41,7 +41,7 @@ module _ (P : Local → Type 0) (kept : KeptByShifts P) where
   by_inputs (input ∷ inputs) o p = by_inputs inputs (local_step o input) (by_step o input p)
 
   module _ (program : Program) (nodes : ℕ) (options : OptionsRecord) where
-    by_local : (n : ℕ) (inputs : List Input) (l : Local) → P (record { node = fresh_node program nodes options n; turns = [] })
+    pub by_local : (n : ℕ) (inputs : List Input) (l : Local) → P (record { node = fresh_node program nodes options n; turns = [] })
         → local program nodes options n inputs ≡ Some l → P l
     unfolding HoldsIf
     by_local n inputs l start e =

@@ -1,0 +1,35 @@
+-- Inputs one after another.
+use Rattle.std.proofs.Common.{◌≡◌, ℕ, ◌<◌, List, [], ◌∷◌, ◌++◌, refl, sym, ap, ◌∙◌}
+use Rattle.std.specs.Prelude.{Option, Some, None, fold}
+use Rattle.std.proofs.lemmas.List.Sums.{fold-append}
+use Rattle.lrc_lang.specs.declared.program.Program.{Program}
+use Rattle.lrc_protocol.specs.Node.{Node, OptionsRecord, fresh_node}
+use Rattle.lrc_protocol.specs.Turn.{TurnRecord, done}
+use Rattle.lrc_protocol.specs.Log.{Input, Local, outcome_of, local_step, local, local_after}
+use Rattle.lrc_local.specs.Reached.{LeadsTo, IsReached}
+
+pub at_start : (program : Program) (nodes : ℕ) (options : OptionsRecord) (me : ℕ) → me < nodes
+    → LeadsTo program nodes options me (record { node = fresh_node program nodes options me; turns = [] })
+at_start program nodes options me lt = record { among = lt; inputs = []; made = refl }
+
+pub one_more : (program : Program) (nodes : ℕ) (options : OptionsRecord) (me : ℕ) (l : Local) (input : Input) (turn : TurnRecord) (after : Node)
+    → LeadsTo program nodes options me l → outcome_of l.node input ≡ done turn after
+    → LeadsTo program nodes options me (record { node = after; turns = l.turns ++ turn ∷ [] })
+one_more program nodes options me l input turn after leads e = record {
+  among = leads.among;
+  inputs = leads.inputs ++ input ∷ [];
+  made =
+      fold-append local_step (Some (record { node = fresh_node program nodes options me; turns = [] })) leads.inputs (input ∷ [])
+      ∙ ap (λ o. local_step o input) leads.made
+      ∙ ap (local_after l.turns) e;
+}
+
+pub reached : (node : Node) (input : Input) (turn : TurnRecord) (after : Node) → IsReached node → outcome_of node input ≡ done turn after → IsReached after
+reached node input turn after r e = record {
+  program = r.program;
+  nodes = r.nodes;
+  options = r.options;
+  me = r.me;
+  turns = r.turns ++ turn ∷ [];
+  leads = one_more r.program r.nodes r.options r.me (record { node = node; turns = r.turns }) input turn after r.leads e;
+}

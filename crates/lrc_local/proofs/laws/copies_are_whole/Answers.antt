@@ -1,0 +1,8 @@
+use Rattle.lrc_local.proofs.Always.{whole_at}
+use Rattle.lrc_local.proofs.laws.copies_are_whole.Goals as goal
+
+pub returns-clause-copies : goal.returns-clause-copies
+returns-clause-copies c = λ node r. (whole_at node r).copies
+
+pub returns-clause-bases : goal.returns-clause-bases
+returns-clause-bases c = λ node r. (whole_at node r).bases

@@ -1,0 +1,154 @@
+// What holds of each node that is reached. Each function is a theorem: its body is empty, and its clauses are the law.
+
+ghost use Rattle.std.specs.Prelude.{◌≡◌, ℕ, ◌<◌, Some};
+ghost use Rattle.lrc_lang.specs.declared.program.Program.{Program};
+ghost use Rattle.lrc_protocol.specs.Node.{Node, OptionsRecord, fresh_node};
+ghost use Rattle.lrc_local.specs.Reached.{IsReached};
+ghost use Rattle.std.specs.Prelude.{List, [], ◌∷◌, ◌++◌};
+ghost use Rattle.lrc_exec.specs.Plain.{setting_of};
+ghost use Rattle.lrc_protocol.specs.Turn.{TurnRecord, done, run_turn, take_turn};
+ghost use Rattle.lrc_protocol.specs.Log.{Input, Local, outcome_of};
+ghost use Rattle.lrc_wire.specs.Envelope.{EnvelopeRecord};
+ghost use Rattle.lrc_local.specs.Reached.{LeadsTo};
+
+/// A fresh node is reached, and so is a node after each turn of one that is reached.
+pub fn turns_lead_on()
+    ensures fresh { (program : Program) (nodes : ℕ) (options : OptionsRecord) (me : ℕ) → me < nodes
+        → IsReached (fresh_node program nodes options me) }
+    ensures run { (node after : Node) (turn : TurnRecord) → IsReached node → run_turn node ≡ done turn after → IsReached after }
+    ensures take { (node after : Node) (turn : TurnRecord) (envelope : EnvelopeRecord) → IsReached node
+        → take_turn node envelope ≡ done turn after → IsReached after }
+    ensures with_turns { (program : Program) (nodes : ℕ) (options : OptionsRecord) (me : ℕ) (l : Local) (input : Input)
+        (turn : TurnRecord) (after : Node) → LeadsTo program nodes options me l → outcome_of l.node input ≡ done turn after
+        → LeadsTo program nodes options me (record { node = after; turns = l.turns ++ turn ∷ [] }) }
+{}
+
+/// A node that is reached has the setting of its program on one of the nodes, and its options.
+pub fn setting_and_options_stay()
+    ensures { (program : Program) (nodes : ℕ) (options : OptionsRecord) (me : ℕ) (l : Local) → LeadsTo program nodes options me l
+        → (l.node.setting ≡ setting_of program nodes me) × (l.node.options ≡ options) }
+{}
+ghost use Rattle.std.specs.Prelude.{length, true, false};
+ghost use Rattle.lrc_exec.specs.Meaning.{Thread, releases};
+ghost use Rattle.lrc_lock.specs.Held.{lock_at, is_free, is_held};
+ghost use Rattle.lrc_lock.specs.declared.state.LockState.TheVariants.{Away};
+ghost use Rattle.lrc_protocol.specs.Mail.{nothing, grant};
+ghost use Rattle.lrc_invariants.specs.Shape.{HasShape};
+ghost use Rattle.lrc_invariants.specs.Tokens.{is_awaited};
+ghost use Rattle.lrc_invariants.specs.Waiting.{next_in, acquiring, FixesNext};
+
+/// At a node that is reached each call on a token is in turn: a lock that the text acquires next has a token with a place here
+/// that is not held, and where it isn't free it is neither here nor awaited; one that the text releases next is held; and one
+/// whose grant is awaited is awaited.
+pub fn tokens_are_called_in_turn()
+    ensures shape { (node : Node) → IsReached node → HasShape node.setting node.locks }
+    ensures acquire { (node : Node) (lock : ℕ) → IsReached node → acquiring (next_in node.course) ≡ Some lock
+        → (lock < length node.locks.held.locks) × (is_held (lock_at node.locks.held lock) ≡ false) }
+    ensures ask { (node : Node) (lock : ℕ) → IsReached node → node.mail.wait ≡ nothing → acquiring (next_in node.course) ≡ Some lock
+        → is_free (lock_at node.locks.held lock) ≡ false → lock_at node.locks.held lock ≡ Away }
+    ensures release { (node : Node) (lock : ℕ) (after : Thread) → IsReached node → next_in node.course ≡ Some (releases lock after)
+        → (lock < length node.locks.held.locks) × (is_held (lock_at node.locks.held lock) ≡ true) }
+    ensures grant { (node : Node) (lock : ℕ) → IsReached node → node.mail.wait ≡ grant lock
+        → (lock < length node.locks.held.locks) × (is_awaited (lock_at node.locks.held lock) ≡ true) }
+    ensures waits { (node : Node) → IsReached node → FixesNext node.mail.wait (next_in node.course) }
+{}
+ghost use Rattle.std.specs.Prelude.{◌+◌, All};
+ghost use Rattle.std.specs.List.{range_with_len};
+ghost use Rattle.lrc_time.specs.Time.{entry};
+ghost use Rattle.lrc_page.specs.Place.{pages_of};
+ghost use Rattle.lrc_store.specs.Interval.{IntervalRecord};
+ghost use Rattle.lrc_store.specs.Store.{IsStore};
+ghost use Rattle.lrc_protocol.specs.Expected.{indices_by, is_learnable};
+ghost use Rattle.lrc_protocol.specs.Locks.{next_time};
+ghost use Rattle.lrc_local.specs.Ranges.{InRange, HasRanges, CollectsAt};
+ghost use Rattle.lrc_local.specs.Stored.{StoresExactly};
+
+/// A node that is reached is one of the nodes, its time has an entry for each, and its memory has a place for each page. The
+/// time of a collection under way is the node's own.
+pub fn memory_has_its_ranges()
+    ensures me { (node : Node) → IsReached node → node.setting.me < node.setting.nodes }
+    ensures time { (node : Node) → IsReached node → length node.locks.time ≡ node.setting.nodes }
+    ensures memory { (node : Node) → IsReached node
+        → HasRanges node.setting.nodes (pages_of node.setting.words node.options.size) node.memory }
+    ensures collection { (node : Node) → IsReached node → CollectsAt node.locks.time node.mail.wait }
+{}
+
+/// A node that is reached stores exactly the intervals above its collected time and up to its time, those of each node in
+/// rising order, and the greatest index ever added of each node is the entry of the time. So the interval that it closes next,
+/// and the news that it can learn, can be added one after another.
+pub fn intervals_are_stored_exactly()
+    ensures exact { (node : Node) → IsReached node → StoresExactly node.locks.time node.memory }
+    ensures store { (node : Node) → IsReached node → IsStore node.memory.store }
+    ensures own { (node : Node) → IsReached node
+        → (length (next_time node.setting.me node.locks.time) ≡ length node.memory.store.last)
+        × (entry (next_time node.setting.me node.locks.time) node.setting.me ≡ entry node.memory.store.last node.setting.me + 1) }
+    ensures news { (node : Node) (time : List ℕ) (intervals : List IntervalRecord) → IsReached node
+        → is_learnable node time intervals ≡ true
+        → All (InRange node.setting.nodes (pages_of node.setting.words node.options.size)) intervals
+        × ((q : ℕ) → indices_by intervals q ≡ range_with_len (entry node.memory.store.last q + 1) (length (indices_by intervals q))) }
+{}
+ghost use Rattle.std.specs.Prelude.{◌≤◌, ◌==◌};
+ghost use Rattle.lrc_protocol.specs.Course.{going};
+ghost use Rattle.lrc_invariants.specs.Counts.{is_inside};
+ghost use Rattle.lrc_local.specs.Ranges.{HasManager};
+ghost use Rattle.lrc_local.specs.Waits.{IsQuiet};
+
+/// A node that is reached counts messages of each node, has the manager of barriers exactly where it is node 0, and has arrived
+/// no more often than it closed intervals.
+pub fn mail_and_barriers_fit()
+    ensures sent { (node : Node) → IsReached node → length node.mail.sent ≡ node.setting.nodes }
+    ensures taken { (node : Node) → IsReached node → length node.mail.taken ≡ node.setting.nodes }
+    ensures manager { (node : Node) → IsReached node → HasManager node.setting.me node.setting.nodes node.barrier.manager }
+    ensures episode { (node : Node) → IsReached node → node.barrier.episode ≤ entry node.locks.time node.setting.me }
+{}
+
+/// The text of a node that is reached has the node's setting, and has arrived at a barrier exactly while the node is inside one.
+pub fn texts_fit()
+    ensures setting { (node : Node) (thread : Thread) → IsReached node → node.course ≡ going thread
+        → (thread.setting ≡ node.setting) × (length thread.held ≡ 64) }
+    ensures arrived { (node : Node) (thread : Thread) → IsReached node → node.course ≡ going thread
+        → thread.arrived ≡ (is_inside node.mail.wait == 1) }
+{}
+
+/// A node that is reached and waits for a grant, or is inside a barrier, has no page that is written in its open interval.
+pub fn waiting_node_has_no_written_page()
+    ensures { (node : Node) → IsReached node → IsQuiet node.mail.wait node.memory }
+{}
+ghost use Rattle.std.specs.Prelude.{AllPairs, map, None};
+ghost use Rattle.lrc_page.specs.Page.{words_of};
+ghost use Rattle.lrc_page.specs.declared.changes.Change.{Change};
+ghost use Rattle.lrc_store.specs.Store.{notice_at, unread};
+ghost use Rattle.lrc_wire.specs.Records.{IndexedChangesRecord, ChangesReplyRecord};
+ghost use Rattle.lrc_protocol.specs.Expected.{is_changes_reply};
+ghost use Rattle.lrc_protocol.specs.Fetch.{Need};
+ghost use Rattle.lrc_protocol.specs.Mail.{needs_of};
+ghost use Rattle.lrc_local.specs.Needs.{FitsNeed, FitsKept, ReachesFor};
+
+/// What a node that is reached needs of pages fits its memory: the pages ascend; each need has just the keys that the copy of
+/// its page lacks, and asks of each maker for just those changes that are not known; a base copy is due or has come exactly
+/// where the copy is absent. In a collection the node keeps the pages that were named and are its own, and needs those that are
+/// not readable. Who waits at a miss makes its next access on the page that it needs.
+pub fn needs_fit_the_memory()
+    ensures each { (node : Node) → IsReached node
+        → All (FitsNeed node.setting.nodes (pages_of node.setting.words node.options.size) (words_of node.options.size) node.memory)
+        (needs_of node.mail.wait) }
+    ensures apart { (node : Node) → IsReached node
+        → AllPairs (λ (a b : ℕ). a < b) (map (λ (need : Need). need.page) (needs_of node.mail.wait)) }
+    ensures kept { (node : Node) → IsReached node → FitsKept node.setting.me node.memory node.mail.wait }
+    ensures access { (node : Node) → IsReached node → ReachesFor node.options.size (next_in node.course) node.mail.wait }
+{}
+
+/// The changes in a reply that a node expects are of stored notices of which no changes are known, and of words of a page.
+pub fn replies_are_of_unread_notices()
+    ensures { (node : Node) (from : ℕ) (m : ChangesReplyRecord) → IsReached node → is_changes_reply node from m ≡ true
+        → All (λ (part : IndexedChangesRecord).
+        (notice_at node.memory.store (record { node = from; index = part.index; page = m.page }) ≡ Some (unread m.page))
+        × All (λ (change : Change). change.offset < words_of node.options.size) part.changes) m.parts }
+{}
+ghost use Rattle.lrc_local.specs.Ranges.{IsWhole, IsWholeBase};
+
+/// At a node that is reached each copy, twin and base copy is a page long, and each remembered time has an entry for each node.
+pub fn copies_are_whole()
+    ensures copies { (node : Node) → IsReached node → All (IsWhole node.setting.nodes (words_of node.options.size)) node.memory.copies }
+    ensures bases { (node : Node) → IsReached node → All (IsWholeBase (words_of node.options.size)) node.memory.bases }
+{}
