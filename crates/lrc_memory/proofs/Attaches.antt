@@ -1,19 +1,23 @@
 -- What changes that come do to what is seen.
 use Rattle.std.proofs.Common.{◌≡◌, ◌≢◌, ◌∙◌, ℕ, suc, ◌+◌, ◌<◌, ◌≤◌, Option, Some, None, List, [], ◌∷◌, map, length, get_or, take, refl, ap, sym, subst, arith}
-use Rattle.std.specs.Prelude.{All, AllPairs, fold}
+use Rattle.std.specs.Prelude.{All, AllPairs, fold, unwrap_or, Result, Ok, Err, IfOk, OnOk}
+use Rattle.std.proofs.lemmas.List.{get_or-take, get_or_default, length-take-le}
 use Rattle.std.specs.Option.{option_and_then, option_map, option_or}
 use Rattle.lrc_page.specs.Page.{words_of}
 use Rattle.lrc_page.specs.declared.changes.Change.{Change}
 use Rattle.lrc_store.specs.declared.key.Key.{Key}
 use Rattle.lrc_store.specs.Store.{NoticeRecord, StoreRecord, notice_at, unread, attached}
 use Rattle.lrc_store.proofs.Lookups.{notice_at-attached_other}
-use Rattle.lrc_table.specs.PageCopy.{pending_changes}
+use Rattle.lrc_table.specs.PageCopy.{pending_changes, settled}
+use Rattle.lrc_table.proofs.Copies.{pending-settled}
+use Rattle.lrc_protocol.specs.Memory.{changes_or_none}
+use Rattle.lrc_memory.proofs.Mending.{changes-over}
 use Rattle.lrc_table.specs.Table.{copy_at}
 use Rattle.lrc_wire.specs.Records.{IndexedChangesRecord, AreParts}
 use Rattle.lrc_protocol.specs.Take.{with_part}
 use Rattle.lrc_memory.specs.View.{Kept, NodeMemory, IsKept, seen, node_seen, unmade, store_over, with_memory}
 use Rattle.lrc_memory.proofs.Overlays.{notice_at-over, notice_seen, over-attached}
-use Rattle.lrc_memory.proofs.Settling.{key_on, kept-store, unmade-on}
+use Rattle.lrc_memory.proofs.Settling.{key_on, kept-store, unmade-on, unmade-here, settled_at, seen-settled}
 
 -- a notice that is seen without changes has none from elsewhere, and none of its own
 module _ (kept : Kept) (key : Key) (wanted : notice_at (seen kept).store key ≡ Some (unread key.page)) where
@@ -98,6 +102,27 @@ still-awaited maker page parts store k part are within is wanted =
       arith,
       pair,
       ap (λ (p : IndexedChangesRecord). p.index) is,
-      ap (λ (p : IndexedChangesRecord). p.index) (get_or-take parts k j d short ∙ get_or_default parts j d part (omega (arith, short, within))),
+      ap (λ (p : IndexedChangesRecord). p.index) (get_or-take k parts j d short ∙ get_or_default parts j d part (omega (arith, short, within))),
     ))
     ∙ wanted
+
+-- what is known of an own interval of a page that was settled
+pub known-settled : (kept : Kept) (n : NodeMemory) (page index : ℕ) → node_seen kept ≡ n → page < length kept.table.copies
+    → changes_or_none (settled_at kept page).store (part_key kept.me page index) ≡ changes_or_none n.memory.store (part_key n.me page index)
+known-settled kept n page index is within =
+    let after = settled_at kept page in
+    let key = part_key kept.me page index in
+    ap (λ (found : Option (List Change)). unwrap_or found [])
+    (sym (changes-over (unmade after.me after.named after.table) after.store key
+    (unmade-here kept page (settled (copy_at kept.table page)) key within refl (pending-settled (copy_at kept.table page)))))
+    ∙ ap (λ (n : NodeMemory). changes_or_none n.memory.store (part_key n.me page index)) (seen-settled kept page within ∙ is)
+
+-- ---- answers
+
+pub ok_then : {X E : Type 0} {P Q : X → Type 0} (r : Result X E) → IfOk r P → ((x : X) → P x → Q x) → IfOk r Q
+ok_then (Ok x) told then = then x told
+ok_then (Err e) told then = tt
+
+pub on_ok : {X E : Type 0} {P : Type 0} (r : Result X E) → P → OnOk r P
+on_ok (Ok x) told = told
+on_ok (Err e) told = tt

@@ -11,3 +11,4 @@ pub mod Discards
 pub mod Closes
 pub mod Learns
 pub mod Attaches
+pub mod Needs

@@ -1,13 +1,14 @@
 // What a node gives to others, and takes from them.
 
 ghost use Rattle.std.specs.Prelude.{◌≡◌, ◌<◌, Some, All, IfOk, OnOk, fold, length, true, []};
-ghost use Rattle.lrc_protocol.specs.Memory.{changes_or_none, copy_at, keeper_at};
-ghost use Rattle.lrc_protocol.specs.Fetch.{mended, need_of};
+ghost use Rattle.lrc_protocol.specs.Memory.{changes_or_none, copy_at, keeper_at, lacking};
+ghost use Rattle.lrc_protocol.specs.Fetch.{mended, need_of, unknown_of};
 ghost use Rattle.lrc_page.specs.Page.{words_of};
 ghost use Rattle.lrc_store.specs.Store.{notice_at, unread, attached};
 ghost use Rattle.lrc_protocol.specs.Take.{with_part};
 ghost use Rattle.lrc_table.specs.Table.{with_copy};
 ghost use Rattle.lrc_table.specs.Table as tables;
+ghost use Rattle.lrc_mail.specs.Need.{AreAskable};
 ghost use Rattle.lrc_mail.specs.Seen.{seen_base};
 ghost use Rattle.lrc_memory.specs.Steps.{begun_with, patched_with};
 ghost use Rattle.lrc_memory.specs.View.{AreSized, SameMemory, seen_in, with_memory};
@@ -75,8 +76,30 @@ impl Memory {
         ensures need { IfOk result (λ need. need ≡ need_of (length self.now.memory.store.last) self.now.memory page) }
         ensures keeper { keeper_at self.now.memory page < length self.now.memory.store.last }
     {
-        let _kept = self.keepers[usize::from(page)];
-        Err(AllocError)
+        let alloc = *self.named.allocator();
+        let missing = self.lacking(page)?;
+        let unknown = unknown_of(alloc, &self.store, &missing)?;
+        let base = match self.table.state(page) {
+            State::Absent => Base::Due(self.keepers[usize::from(page)]),
+            _ => Base::Unneeded,
+        };
+        Need::new(alloc, self.collected.nodes(), page, base, missing, &unknown)
+    }
+
+    /// The notices of a page that its copy lacks, in the order in which their changes are applied.
+    fn lacking(&self, page: u16) -> Result<Vec<Key>, AllocError>
+        requires { page < length self.now.memory.copies }
+        ensures keys { IfOk result (λ keys. keys.items ≡ lacking self.now.memory page) }
+        ensures askable { IfOk result (λ keys. AreAskable keys.items) }
+    {
+        match self.table.state(page) {
+            State::Invalid => {
+                let since = &self.since[usize::from(page)];
+                self.store.missing(page, since)
+            }
+            State::Absent => self.store.missing(page, &self.collected),
+            _ => Ok(Vec::new(*self.named.allocator())),
+        }
     }
 
     /// Repairs a page whose copy is not readable: what it lacks is applied to the base copy that came, or else to the
@@ -130,4 +153,17 @@ fn changes_or_none(alloc: Global, store: &Store, key: Key) -> Result<Changes, Al
         Some(changes) => changes.duplicate(),
         None => Ok(Changes::empty(alloc)),
     }
+}
+
+/// The keys of which no changes are known.
+fn unknown_of(alloc: Global, store: &Store, keys: &[Key]) -> Result<Vec<Key>, AllocError>
+    ensures { IfOk result (λ unknown. unknown.items ≡ unknown_of store.now keys.now) }
+{
+    let mut unknown = Vec::new(alloc);
+    for key in keys {
+        if store.changes(*key).is_none() {
+            unknown.push(*key)?;
+        }
+    }
+    Ok(unknown)
 }
