@@ -9,7 +9,9 @@ use Rattle.lrc_table.specs.Table.{Table, copy_at}
 use Rattle.lrc_store.specs.Interval.{IntervalRecord}
 use Rattle.lrc_protocol.specs.Copy.{Copy, absent, invalidated}
 use Rattle.lrc_protocol.specs.Memory.{Memory, changes_or_none}
-use Rattle.lrc_protocol.specs.Fetch.{Base, come}
+use Rattle.lrc_protocol.specs.Fetch.{Base, unneeded, due, come}
+use Rattle.lrc_table.specs.declared.slot.State.{State}
+use Rattle.lrc_table.specs.declared.slot.State.TheVariants.{Valid, Written, Invalid, Absent}
 
 -- the copy that a repair begins with
 abbrev pub begun_with : PageCopy → Base → PageCopy
@@ -40,3 +42,10 @@ learned_one before memory interval = record memory {
   store = added memory.store interval;
   copies = fold (invalidated_on before) memory.copies interval.pages;
 }
+
+-- the base copy that is needed, by the state of the copy
+abbrev pub base_in : State → ℕ → Base
+base_in Valid keeper = unneeded
+base_in Written keeper = unneeded
+base_in Invalid keeper = unneeded
+base_in Absent keeper = due keeper

@@ -10,7 +10,7 @@ ghost use Rattle.lrc_table.specs.Table.{with_copy};
 ghost use Rattle.lrc_table.specs.Table as tables;
 ghost use Rattle.lrc_mail.specs.Need.{AreAskable};
 ghost use Rattle.lrc_mail.specs.Seen.{seen_base};
-ghost use Rattle.lrc_memory.specs.Steps.{begun_with, patched_with};
+ghost use Rattle.lrc_memory.specs.Steps.{base_in, begun_with, patched_with};
 ghost use Rattle.lrc_memory.specs.View.{AreSized, SameMemory, seen_in, with_memory};
 ghost use Rattle.lrc_memory.specs.Turns.{AreAwaited, is_mendable};
 
@@ -79,11 +79,17 @@ impl Memory {
         let alloc = *self.named.allocator();
         let missing = self.lacking(page)?;
         let unknown = unknown_of(alloc, &self.store, &missing)?;
-        let base = match self.table.state(page) {
-            State::Absent => Base::Due(self.keepers[usize::from(page)]),
-            _ => Base::Unneeded,
-        };
-        Need::new(alloc, self.collected.nodes(), page, base, missing, &unknown)
+        let _few = self.table.size();
+        let keeper = self.keepers[usize::from(page)];
+        let base = base_due(self.table.state(page), keeper);
+        Need::new(
+            alloc,
+            self.collected.nodes(),
+            page,
+            base,
+            missing,
+            &unknown,
+        )
     }
 
     /// The notices of a page that its copy lacks, in the order in which their changes are applied.
@@ -166,4 +172,14 @@ fn unknown_of(alloc: Global, store: &Store, keys: &[Key]) -> Result<Vec<Key>, Al
         }
     }
     Ok(unknown)
+}
+
+/// A base copy is due from the keeper where the copy is absent.
+fn base_due(state: State, keeper: u8) -> Base
+    ensures { seen_base result ≡ base_in state keeper }
+{
+    match state {
+        State::Absent => Base::Due(keeper),
+        State::Valid | State::Written | State::Invalid => Base::Unneeded,
+    }
 }

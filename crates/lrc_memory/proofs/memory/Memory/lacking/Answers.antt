@@ -1,4 +1,5 @@
 use Rattle.std.proofs.Common.{◌≡◌, ◌∙◌, ◌<◌, List, [], get_or, ap, length, sym, subst, refl, arith}
+use Rattle.std.proofs.lemmas.List.{get_or_default}
 use Rattle.lrc_store.specs.declared.key.Key.{Key}
 use Rattle.lrc_store.specs.Store.{missing_of}
 use Rattle.lrc_mail.proofs.Askable.{missing-AreAskable}
@@ -12,13 +13,25 @@ pub state-requires : goal.state-requires
 state-requires c = within-seen (kept c.self.inside) _ _ c.self.view_is c.requires
 
 pub index-since-requires : goal.index-since-requires
-index-since-requires c = ?
+index-since-requires c =
+    omega (arith, c.from.ensures, c.self.invariant.since, within-seen (kept c.self.inside) _ _ c.self.view_is c.requires)
 
 pub missing-requires : goal.missing-requires
-missing-requires c = ?
+missing-requires c =
+    ap length c.index-since.ensures
+    ∙ c.self.invariant.times c.from.result c.index-since.result.now
+      (omega (arith, c.from.ensures, c.self.invariant.since, within-seen (kept c.self.inside) _ _ c.self.view_is c.requires))
 
 pub returns-in-Invalid-clause-keys : goal.returns-in-Invalid-clause-keys
-returns-in-Invalid-clause-keys c = ?
+returns-in-Invalid-clause-keys c =
+    let k = kept c.self.inside in
+    let within : c.args.page < length c.self.inside.table.copies = within-seen k _ _ c.self.view_is c.requires in
+    let since : c.index-since.result.now ≡ get_or c.self.inside.since.items c.args.page [] =
+    c.index-since.ensures ∙ ap (λ p. get_or c.self.inside.since.items p c.index-since.result.now) c.from.ensures
+    ∙ get_or_default c.self.inside.since.items c.args.page c.index-since.result.now [] (omega (arith, c.self.invariant.since, within)) in
+    ok_then c.missing.result c.missing.ensures.value
+    (λ keys is. is ∙ ap (missing_of c.self.inside.store c.args.page) since
+    ∙ sym (lacking-invalid k _ c.args.page c.self.view_is within (sym c.state.ensures ∙ c.in-Invalid.is)))
 
 pub returns-in-Invalid-clause-askable : goal.returns-in-Invalid-clause-askable
 returns-in-Invalid-clause-askable c =
