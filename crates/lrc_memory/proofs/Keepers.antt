@@ -1,5 +1,5 @@
 -- Which pages were named.
-use Rattle.std.proofs.Common.{◌≡◌, ◌≢◌, ◌∙◌, ℕ, zero, suc, ◌+◌, ◌-◌, ◌<◌, ◌≤◌, Bool, true, false, cond, eqb, ◌&&◌, ◌||◌, Option, Some, None, List, [], ◌∷◌, ◌++◌, map, length, get_or, take, refl, ap, sym, subst, arith}
+use Rattle.std.proofs.Common.{◌≡◌, ◌∙◌, ℕ, suc, ◌+◌, ◌-◌, ◌<◌, Bool, true, false, cond, eqb, ◌&&◌, ◌||◌, Option, Some, None, List, [], ◌∷◌, ◌++◌, map, length, get_or, refl, ap, sym, arith}
 use Rattle.std.specs.Prelude.{All, filter, flat_map, is_some}
 use Rattle.std.specs.List.{list_any, range_with_len}
 use Rattle.std.specs.Option.{ForSome, option_or}
@@ -8,12 +8,12 @@ use Rattle.std.proofs.lemmas.List.FromFn.{length-range_with_len, get_or-range_wi
 use Rattle.std.proofs.lemmas.Option.{get_or_from_slice_get}
 use Rattle.lrc_page.specs.Pages.{last_page}
 use Rattle.lrc_store.specs.declared.key.Key.{Key}
-use Rattle.lrc_store.specs.Chains.{last_from, last_at}
+use Rattle.lrc_store.specs.Chains.{last_from}
 use Rattle.lrc_store.specs.Interval.{IntervalRecord}
 use Rattle.lrc_store.specs.Lists.{keys_of, pages_noted, first_on_page_of}
 use Rattle.lrc_store.specs.Store.{StoreRecord, intervals_of, key_of}
-use Rattle.lrc_protocol.specs.Memory.{is_named, keeper_at, kept_pages}
-use Rattle.lrc_memory.specs.View.{Kept, NodeMemory, IsKept, seen, node_seen, unmade}
+use Rattle.lrc_protocol.specs.Memory.{is_named, kept_pages}
+use Rattle.lrc_memory.specs.View.{Kept, NodeMemory, node_seen, unmade}
 use Rattle.lrc_memory.proofs.Overlays.{intervals-over}
 
 some-last : (t : ℕ → Bool) (start : ℕ) (xs : List ℕ) → is_some (last_from t start xs) ≡ list_any t xs

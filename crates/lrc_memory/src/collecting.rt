@@ -39,12 +39,7 @@ impl Memory {
         ensures pages { IfOk result (λ pages. pages ≡ kept_pages self.now.me self.now.memory) }
     {
         let _few = self.table.size();
-        kept_pages(
-            *self.named.allocator(),
-            &self.store,
-            self.me,
-            &self.keepers,
-        )
+        kept_pages(*self.named.allocator(), &self.store, self.me, &self.keepers)
     }
 
     /// Keeps the values of a valid copy as the base copy of its page.

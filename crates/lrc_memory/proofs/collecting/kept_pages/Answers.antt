@@ -1,4 +1,4 @@
-use Rattle.std.proofs.Common.{◌≡◌, ◌∙◌, ◌++◌, ◌∷◌, [], append-nil, true, false, ap, sym, subst, arith}
+use Rattle.std.proofs.Common.{◌∙◌, ◌++◌, ◌∷◌, [], append-nil, true, false, ap, sym}
 use Rattle.lrc_memory.proofs.Keepers.{is_kept, kept_more, kept_below}
 use Rattle.lrc_memory.proofs.collecting.kept_pages.Goals as goal
 use Rattle.lrc_memory.proofs.collecting.kept_pages.Goals.{then-is_kept+in_ok-push, else-is_kept}

@@ -1,4 +1,4 @@
-use Rattle.std.proofs.Common.{◌≡◌, ◌∙◌, ap, length, sym, subst, arith}
+use Rattle.std.proofs.Common.{◌∙◌, ap, length, arith}
 use Rattle.lrc_memory.proofs.Inside.{kept}
 use Rattle.lrc_memory.proofs.Attaches.{ok_then}
 use Rattle.lrc_memory.proofs.Keepers.{kept-seen, kept_with}

@@ -1,7 +1,7 @@
-use Rattle.std.proofs.Common.{◌≡◌, ℕ, List, ap, sym, ◌∙◌}
-use Rattle.lrc_store.specs.Interval.{IntervalRecord, by_node}
+use Rattle.std.proofs.Common.{◌≡◌, ap, sym, ◌∙◌}
+use Rattle.lrc_store.specs.Interval.{by_node}
 use Rattle.lrc_store.specs.Order.{ascending_part}
-use Rattle.lrc_store.specs.Store.{StoreRecord, is_newer, newer_of}
+use Rattle.lrc_store.specs.Store.{is_newer, newer_of}
 use Rattle.lrc_memory.specs.View.{NodeMemory, unmade}
 use Rattle.lrc_memory.proofs.Inside.{kept}
 use Rattle.lrc_memory.proofs.Overlays.{intervals-over}
