@@ -1,6 +1,6 @@
 // The manager of the barrier.
 
-ghost use Rattle.std.specs.Prelude.{◌≡◌, ◌<◌, ◌≤◌, ◌+◌, ◌^◌, Bool, if◌then◌else◌, All, Err, IfErr, IfOk, IfSome, IsTrue, OnErr, OnOk, None, Ok, Some, Option, is_some, length, replicate, slice_index, slice_index_or, slice_set};
+ghost use Rattle.std.specs.Prelude.{◌≡◌, ◌<◌, ◌≤◌, ◌+◌, ◌^◌, Bool, if◌then◌else◌, All, Err, IfErr, IfOk, IfSome, IsTrue, OnErr, OnOk, None, Ok, Some, Option, is_ok, is_some, length, replicate, slice_index, slice_index_or, slice_set};
 ghost use Rattle.std.specs.List.{list_all};
 ghost use Rattle.lrc_barrier.specs.Barrier.{first_manager, arrived, arrive_answer, after_arrive, is_accepted, is_next, has_arrived, with_arrival, departed, arrivals_of, departures_of, cleaned, clean_answer, after_clean, IsArrival, IsDeparture, refuses};
 ghost use Rattle.lrc_barrier.specs.declared.arrival.Arrival.{Arrival};
@@ -70,6 +70,25 @@ impl Manager {
         ensures { result ≡ slice_index self.now.last node }
     {
         self.last[usize::from(node)]
+    }
+
+    /// Whether an arrival of this node at this episode would be accepted now.
+    pub fn accepts(&self, from: u8, episode: u32) -> bool
+        requires { from < length self.now.last }
+        ensures { (arrival : Arrival) → arrival.episode ≡ episode → result ≡ is_accepted (arrived self.now from arrival) }
+    {
+        self.expect(from, episode).is_ok()
+    }
+
+    /// Whether this node's Clean for this episode would be accepted now.
+    pub fn accepts_clean(&self, from: u8, episode: u32) -> bool
+        requires { from < length self.now.last }
+        ensures { result ≡ is_ok (clean_answer (cleaned self.now from episode)) }
+    {
+        match &self.cleans {
+            Some(cleans) => episode == self.done && !cleans[usize::from(from)],
+            None => false,
+        }
     }
 
     /// A node arrives. The last of an episode's arrivals gives the departures, one for each node from node 0 on; if

@@ -1,6 +1,6 @@
 // The tokens at one node.
 
-ghost use Rattle.std.specs.Prelude.{◌≡◌, ◌<◌, ◌≤◌, IfOk, IfSome, IsTrue, length};
+ghost use Rattle.std.specs.Prelude.{◌≡◌, ℕ, ◌<◌, ◌≤◌, List, IfOk, IfSome, IsTrue, is_ok, length};
 ghost use Rattle.lrc_lock.specs.Held.{first_held, lock_at, held_after, answer_of, grant_answer, pass_of, is_free, is_held, taken, asked, forwarded, granted, released, SamePlace};
 ghost use Rattle.lrc_lock.specs.Lock.{IsPass};
 ghost use Rattle.lrc_lock.specs.declared.state.LockState.TheVariants.{Away};
@@ -71,6 +71,14 @@ impl Held {
         ensures place { SamePlace self.old self.new }
     {
         self.locks[usize::from(lock)] = LockState::Awaited(None);
+    }
+
+    /// Whether a request of this node would be taken now, if it reached this one.
+    pub fn accepts(&self, lock: u8, asker: u8) -> bool
+        requires { lock < length self.now.locks }
+        ensures { (time : List ℕ) → result ≡ is_ok (answer_of (forwarded self.now lock asker time)) }
+    {
+        asker != self.me && self.locks[usize::from(lock)].accepts()
     }
 
     /// A request of another node, with its time, reaches this one. If the token is here and the lock is free it leaves

@@ -1,6 +1,6 @@
 // What a node knows of one lock.
 
-ghost use Rattle.std.specs.Prelude.{◌≡◌, ◌<◌, ◌≤◌};
+ghost use Rattle.std.specs.Prelude.{◌≡◌, ℕ, ◌<◌, ◌≤◌, is_ok};
 ghost use Rattle.lrc_lock.specs.Held.{answer_of, first_state, forwarded_at, grant_answer, granted_at, is_free, pass_of, pass_to, released_at, state_after};
 
 use crate::fault::LockFault;
@@ -76,6 +76,16 @@ impl LockState {
         ensures { result ≡ is_free self.now }
     {
         matches!(self, LockState::Free(_))
+    }
+
+    /// Whether another node's request is taken now.
+    pub(crate) fn accepts(&self) -> bool
+        ensures { (lock : ℕ) (waiter : Waiter) → result ≡ is_ok (answer_of (forwarded_at lock waiter self.now)) }
+    {
+        matches!(
+            self,
+            LockState::Awaited(None) | LockState::Held(None) | LockState::Free(_)
+        )
     }
 
     /// Another node's request comes.

@@ -1,23 +1,35 @@
 -- Sets of numbers as spans: where a number stands among them.
-use Rattle.std.proofs.Common.{⊎_elim, inl, inr, ◌≡◌, ℕ, zero, suc, ◌+◌, ◌-◌, ◌<◌, ◌≤◌, Bool, true, false, List, [], ◌∷◌, length, refl, sym, ap, ◌∙◌, subst, arith}
+use Rattle.std.proofs.Common.{⊎_elim, inl, inr, ◌≡◌, ℕ, zero, suc, ◌+◌, ◌-◌, ◌<◌, ◌≤◌, Bool, true, false, List, [], ◌∷◌, length, refl, sym, ap, ◌∙◌, arith}
 use Rattle.std.specs.Prelude.{slice_index_or, ◌==◌, ◌||◌, nat_le, ◌⊎◌}
 use Rattle.std.specs.List.{All, AllWithin, list_any, range_with_len}
 use Rattle.std.specs.List.Sorted.{IsNonDecreasingBy}
-use Rattle.std.proofs.lemmas.Bool.{ne_eqb, eq-eqb, le-leb, lt-leb, cases_eq, cases_lt}
+use Rattle.std.proofs.lemmas.Bool.{ne_eqb, eq-eqb, le-leb, lt-leb, leb-false, cases_eq, cases_lt}
 use Rattle.std.proofs.lemmas.List.Elements.{All-cons}
 use Rattle.std.proofs.lemmas.List.Folds.{list_any-append}
 use Rattle.lrc_mail.specs.declared.numbers.Span.{Span}
-use Rattle.lrc_mail.specs.Spans.{numbers_in, numbers_of, AreSpans}
+use Rattle.lrc_mail.specs.Spans.{numbers_in, numbers_of, AreSpansFrom}
+
+-- all spans begin at the least or above, and end there
+pub all_from : (least : ℕ) (spans : List Span) → AreSpansFrom least spans → All (λ span. least ≤ span.first) spans
+all_from least [] are = λ k d lt. absurd (omega (arith, lt))
+all_from least (span ∷ spans) are =
+    All-cons (λ (s : Span). least ≤ s.first) span spans are.0
+    (λ k d lt. let rest : span.last + 2 ≤ (slice_index_or spans k d).first = all_from (span.last + 2) spans are.2 k d lt in omega (arith, are.0, are.1, rest))
+
+pub all_some : (least : ℕ) (spans : List Span) → AreSpansFrom least spans → All (λ span. span.first ≤ span.last) spans
+all_some least [] are = λ k d lt. absurd (omega (arith, lt))
+all_some least (span ∷ spans) are = All-cons (λ (s : Span). s.first ≤ s.last) span spans are.1 (all_some (span.last + 2) spans are.2)
 
 -- the ends of spans rise
-pub ends_rise : (spans : List Span) → AreSpans spans → IsNonDecreasingBy (λ span. span.last) spans
-ends_rise spans are i j d le within = ⊎_elim
-    (λ e. subst (λ k. (slice_index_or spans i d).last ≤ (slice_index_or spans k d).last) e (omega arith))
-    (λ other.
-    let some : (slice_index_or spans j d).first ≤ (slice_index_or spans j d).last = are.some j d within in
-    let apart : (slice_index_or spans i d).last + 1 < (slice_index_or spans j d).first = are.apart i j d (omega (arith, le, other)) within in
-    omega (arith, some, apart))
-    (cases_eq i j)
+pub ends_rise : (least : ℕ) (spans : List Span) → AreSpansFrom least spans → IsNonDecreasingBy (λ span. span.last) spans
+ends_rise least [] are i j d le within = absurd (omega (arith, within))
+ends_rise least (span ∷ spans) are zero zero d le within = omega arith
+ends_rise least (span ∷ spans) are zero (suc j) d le within =
+    let from : span.last + 2 ≤ (slice_index_or spans j d).first = all_from (span.last + 2) spans are.2 j d (omega (arith, within)) in
+    let some : (slice_index_or spans j d).first ≤ (slice_index_or spans j d).last = all_some (span.last + 2) spans are.2 j d (omega (arith, within)) in
+    omega (arith, from, some)
+ends_rise least (span ∷ spans) are (suc i) zero d le within = absurd (omega (arith, le))
+ends_rise least (span ∷ spans) are (suc i) (suc j) d le within = ends_rise (span.last + 2) spans are.2 i j d (omega (arith, le)) (omega (arith, within))
 
 -- ---- a number among others
 
@@ -48,18 +60,11 @@ none-before n (span ∷ spans) above =
     ∙ ap (λ b. b || list_any (λ m. m == n) (numbers_of spans)) (none-below n span.first (span.last + 1 - span.first) (above zero span (omega arith)))
     ∙ none-before n spans (λ k d lt. above (suc k) d (omega (arith, lt)))
 
--- spans without the first
-pub later : (span : Span) (spans : List Span) → AreSpans (span ∷ spans) → AreSpans spans
-later span spans are = record {
-  some = λ k d lt. are.some (suc k) d (omega (arith, lt));
-  apart = λ i j d lt within. are.apart (suc i) (suc j) d (omega (arith, lt)) (omega (arith, within));
-}
-
 -- the first span ends below the others
-pub above_first : (n : ℕ) (span : Span) (spans : List Span) → AreSpans (span ∷ spans) → n ≤ span.last → All (λ other. n < other.first) spans
-above_first n span spans are le k d within =
-    let apart : span.last + 1 < (slice_index_or spans k d).first = are.apart zero (suc k) d (omega arith) (omega (arith, within)) in
-    omega (arith, le, apart)
+above_first : (n least : ℕ) (span : Span) (spans : List Span) → AreSpansFrom least (span ∷ spans) → n ≤ span.last → All (λ other. n < other.first) spans
+above_first n least span spans are le k d within =
+    let from : span.last + 2 ≤ (slice_index_or spans k d).first = all_from (span.last + 2) spans are.2 k d within in
+    omega (arith, le, from)
 
 cases_le : (a n : ℕ) → (a ≤ n) ⊎ (n < a)
 cases_le a n = ⊎_elim inr inl (cases_lt n a)
@@ -83,20 +88,38 @@ begins_by-past n (span ∷ spans) zero le = absurd (omega (arith, le))
 begins_by-past n (span ∷ spans) (suc i) le = begins_by-past n spans i (omega (arith, le))
 
 -- a number is among spans where the first span that doesn't end below it begins at it or below
-pub found_at : (n : ℕ) (spans : List Span) (i : ℕ) → AreSpans spans → AllWithin (λ span. span.last < n) spans 0 i
+pub found_at : (n least : ℕ) (spans : List Span) (i : ℕ) → AreSpansFrom least spans → AllWithin (λ span. span.last < n) spans 0 i
     → AllWithin (λ span. n ≤ span.last) spans i (length spans) → begins_by n spans i ≡ list_any (λ m. m == n) (numbers_of spans)
-found_at n [] i are before from = refl
-found_at n (span ∷ spans) zero are before from =
+found_at n least [] i are before from = refl
+found_at n least (span ∷ spans) zero are before from =
     let le : n ≤ span.last = from zero span (omega arith) (omega arith) in
     ⊎_elim
-    (λ begins. le-leb span.first n begins ∙ sym (list_any-append (λ m. m == n) (numbers_in span) (numbers_of spans)
-    ∙ ap (λ b. b || list_any (λ m. m == n) (numbers_of spans)) (any-within n span.first (span.last + 1 - span.first) begins (omega (arith, le, begins)))))
-    (λ begins. lt-leb span.first n begins ∙ sym (none-before n (span ∷ spans) (All-cons (λ other. n < other.first) span spans begins (above_first n span spans are le))))
+    (λ begins.
+    le-leb span.first n begins
+    ∙ sym (
+    list_any-append (λ m. m == n) (numbers_in span) (numbers_of spans)
+    ∙ ap (λ b. b || list_any (λ m. m == n) (numbers_of spans)) (any-within n span.first (span.last + 1 - span.first) begins (omega (arith, le, begins)))
+    ))
+    (λ begins.
+    lt-leb span.first n begins
+    ∙ sym (none-before n (span ∷ spans) (All-cons (λ (other : Span). n < other.first) span spans begins (above_first n least span spans are le))))
     (cases_le span.first n)
-found_at n (span ∷ spans) (suc i) are before from =
+found_at n least (span ∷ spans) (suc i) are before from =
     let below : span.last < n = before zero span (omega arith) (omega arith) in
-    let some : span.first ≤ span.last = are.some zero span (omega arith) in
-    found_at n spans i (later span spans are) (λ k d le lt. before (suc k) d (omega arith) (omega (arith, lt)))
+    found_at n (span.last + 2) spans i are.2 (λ k d le lt. before (suc k) d (omega arith) (omega (arith, lt)))
     (λ k d le lt. from (suc k) d (omega (arith, le)) (omega (arith, lt)))
-    ∙ sym (list_any-append (λ m. m == n) (numbers_in span) (numbers_of spans)
-    ∙ ap (λ b. b || list_any (λ m. m == n) (numbers_of spans)) (none-above n span.first (span.last + 1 - span.first) (omega (arith, below, some))))
+    ∙ sym (
+    list_any-append (λ m. m == n) (numbers_in span) (numbers_of spans)
+    ∙ ap (λ b. b || list_any (λ m. m == n) (numbers_of spans)) (none-above n span.first (span.last + 1 - span.first) (omega (arith, below, are.1)))
+    )
+
+-- where a number is not among spans, the first span that doesn't end below it begins above it
+pub above_place : (n least : ℕ) (spans : List Span) (i : ℕ) → AreSpansFrom least spans → AllWithin (λ span. n ≤ span.last) spans i (length spans)
+    → begins_by n spans i ≡ false → AllWithin (λ span. n < span.first) spans i (length spans)
+above_place n least [] i are from not k d le lt = absurd (omega (arith, lt))
+above_place n least (span ∷ spans) zero are from not zero d le lt = leb-false span.first n not
+above_place n least (span ∷ spans) zero are from not (suc k) d le lt =
+    above_first n least span spans are (from zero span (omega arith) (omega arith)) k d (omega (arith, lt))
+above_place n least (span ∷ spans) (suc i) are from not zero d le lt = absurd (omega (arith, le))
+above_place n least (span ∷ spans) (suc i) are from not (suc k) d le lt =
+    above_place n (span.last + 2) spans i are.2 (λ k e le lt. from (suc k) e (omega (arith, le)) (omega (arith, lt))) not k d (omega (arith, le)) (omega (arith, lt))

@@ -2,7 +2,7 @@
 use Rattle.std.specs.Prelude.{◌≡◌, ◌≢◌, ℕ, ◌<◌, ◌≤◌, List, All, AllPairs, length}
 use Rattle.lrc_page.specs.declared.TheConstants.{MOST_PAGES}
 use Rattle.lrc_store.specs.declared.key.Key.{Key}
-use Rattle.lrc_protocol.specs.Fetch.{Asked}
+use Rattle.lrc_protocol.specs.Fetch.{Base, due, Asked}
 
 -- keys of which changes may be asked: indices begin at 1, and no interval of a maker is there twice
 pub record AreAskable (keys : List Key) : Type 0 where
@@ -13,3 +13,8 @@ pub record AreAskable (keys : List Key) : Type 0 where
 pub record IsNeed (of : ℕ) (asked : List Asked) : Type 0 where
   pub in_range : of < MOST_PAGES
   pub some : All (λ a. 1 ≤ length a.indices) asked
+
+-- a base copy is due from one of so many nodes, if it is due
+abbrev pub DueBelow : ℕ → Base → Type 0
+DueBelow nodes (due keeper) = keeper < nodes
+DueBelow nodes _ = Unit {0}

@@ -4,18 +4,23 @@
 //! a node are kept as spans, so that those taken in order cost constant memory.
 #![tactic(auto)]
 
+mod asked;
 mod base;
 mod fault;
+pub mod laws;
 mod letter;
 mod mail;
 mod need;
 mod numbers;
+mod request;
 mod wait;
 
+pub use asked::Asked;
 pub use base::Base;
 pub use fault::MailFault;
 pub use letter::Letter;
 pub use mail::Mail;
-pub use need::{Asked, Need, requests};
+pub use need::Need;
 pub use numbers::{Numbers, Span};
+pub use request::requests;
 pub use wait::{Collection, Wait};

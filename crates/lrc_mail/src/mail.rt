@@ -1,9 +1,10 @@
 // A node's mail.
 
-ghost use Rattle.std.specs.Prelude.{◌≡◌, ◌<◌, ◌≤◌, Some, None, Err, All, IfOk, OnOk, false, length};
+ghost use Rattle.std.specs.Prelude.{◌≡◌, ◌+◌, ◌<◌, ◌≤◌, Some, None, Err, All, IfOk, OnOk, OnSome, false, [], length, replicate, slice_index, slice_set};
 ghost use Rattle.lrc_wire.specs.declared.limits.TheConstants.{MOST_NODES};
 ghost use Rattle.lrc_mail.specs.declared.fault.MailFault.TheVariants.{Worn};
-ghost use Rattle.lrc_protocol.specs.Mail.{fresh_mail, nothing, was_taken, with_taken, numbered};
+ghost use Rattle.lrc_protocol.specs.Mail.{fresh_mail, nothing, was_taken, with_taken, numbered, MOST_NUMBER};
+ghost use Rattle.lrc_mail.specs.Sent.{AreCounts, number_after};
 
 use crate::fault::MailFault;
 use crate::letter::Letter;
@@ -44,7 +45,11 @@ impl Mail {
         requires { nodes ≤ MOST_NODES }
         ensures { IfOk result (λ mail. mail ≡ fresh_mail nodes) }
     {
-        Err(AllocError)
+        Ok(Mail {
+            wait: Wait::Nothing,
+            sent: none_sent(alloc, nodes)?,
+            taken: none_taken(alloc, nodes)?,
+        })
     }
 
     /// What is awaited.
@@ -81,7 +86,8 @@ impl Mail {
     pub fn note_taken(&mut self, from: u8, number: u32) -> Result<(), AllocError>
         requires from { from < length self.old.taken }
         requires anew { was_taken self.old from number ≡ false }
-        ensures { OnOk result (self.new ≡ with_taken from number self.old) }
+        ensures ok { OnOk result (self.new ≡ with_taken from number self.old) }
+        ensures lengths { (length self.new.sent ≡ length self.old.sent) × (length self.new.taken ≡ length self.old.taken) }
     {
         self.taken[usize::from(from)].add(number)
     }
@@ -99,7 +105,74 @@ impl Mail {
         ensures numbers { IfOk result (λ out. numbered me first self.old.sent letters.items ≡ Some (out.items, self.new.sent)) }
         ensures after { OnOk result (self.new ≡ record self.old { sent = self.new.sent }) }
         ensures worn { result ≡ Err Worn → numbered me first self.old.sent letters.items ≡ None }
+        ensures lengths { (length self.new.sent ≡ length self.old.sent) × (length self.new.taken ≡ length self.old.taken) }
     {
-        Err(MailFault::NoMemory)
+        number_all(&mut self.sent, me, first, letters)
     }
+}
+
+/// For each of so many nodes, that no message was sent to it.
+fn none_sent(alloc: Global, nodes: u8) -> Result<Vec<u64>, AllocError>
+    ensures { IfOk result (λ sent. sent.items ≡ replicate nodes 0) }
+{
+    let mut sent = Vec::with_capacity(alloc, usize::from(nodes))?;
+    for _ in 0..nodes {
+        sent.push(0)?;
+    }
+    Ok(sent)
+}
+
+/// For each of so many nodes, that no message from it was taken.
+fn none_taken(alloc: Global, nodes: u8) -> Result<Vec<Numbers>, AllocError>
+    ensures { IfOk result (λ taken. taken.items ≡ replicate nodes []) }
+{
+    let mut taken = Vec::with_capacity(alloc, usize::from(nodes))?;
+    for _ in 0..nodes {
+        taken.push(Numbers::empty(alloc))?;
+    }
+    Ok(taken)
+}
+
+/// The number of the next message to a node, which counts as sent, unless the number would be too large.
+fn next_number(sent: &mut [u64], to: u8, first: u32) -> Option<u32>
+    requires counts { AreCounts sent.old }
+    requires to { to < length sent.old }
+    requires first { first ≤ MOST_NUMBER }
+    ensures number { result ≡ number_after first (slice_index sent.old to) }
+    ensures after { OnSome result (sent.new ≡ slice_set sent.old to (slice_index sent.old to + 1)) }
+    ensures counts { AreCounts sent.new }
+{
+    let count = &mut sent[usize::from(to)];
+    let number = u32::try_from(u64::from(first) + *count).ok()?;
+    *count += 1;
+    Some(number)
+}
+
+/// The letters with their numbers, each of which counts as sent.
+fn number_all(
+    sent: &mut [u64],
+    me: u8,
+    first: u32,
+    letters: Vec<Letter>,
+) -> Result<Vec<Envelope>, MailFault>
+    requires counts { AreCounts sent.old }
+    requires me { me < MOST_NODES }
+    requires to { All (λ letter. letter.to < length sent.old) letters.items }
+    ensures numbers { IfOk result (λ out. numbered me first sent.old letters.items ≡ Some (out.items, sent.new)) }
+    ensures worn { result ≡ Err Worn → numbered me first sent.old letters.items ≡ None }
+    ensures counts { AreCounts sent.new }
+{
+    let mut envelopes = Vec::new(*letters.allocator());
+    for letter in letters {
+        let Some(number) = next_number(sent, letter.to, first) else {
+            return Err(MailFault::Worn);
+        };
+        envelopes.push(Envelope {
+            from: me,
+            to: letter.to,
+            number,
+            message: letter.message,
+        })?;
+    }
+    Ok(envelopes)
 }

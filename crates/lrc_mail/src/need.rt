@@ -1,36 +1,19 @@
 // What pages need before they can be read.
 
-ghost use Rattle.std.specs.Prelude.{◌≡◌, ◌<◌, ◌==◌, IfOk, not, map, filter, flat_map};
-ghost use Rattle.std.specs.List.{list_any};
-ghost use lib.Pointwise.{pointwise};
+ghost use Rattle.std.specs.Prelude.{◌≡◌, ◌<◌, ◌++◌, IfOk, OnOk, map};
 ghost use Rattle.lrc_page.specs.declared.TheConstants.{MOST_PAGES};
-ghost use Rattle.lrc_protocol.specs.Fetch.{asked_of, asks, is_met, awaits_changes, awaits_page, with_changes, with_page};
+ghost use Rattle.lrc_protocol.specs.Fetch.{asked_of, is_met, awaits_changes, awaits_page, with_changes, with_page};
 ghost use Rattle.lrc_protocol.specs.Letters.{requests_of};
 
+use crate::asked::{Asked, ask, drop_maker, is_any_of};
 use crate::base::Base;
 use crate::letter::Letter;
+use crate::request::{page_request, put_changes_requests};
 use lrc_page::Page;
 use lrc_store::Key;
-use lrc_wire::{IndexedChanges, Indices};
+use lrc_wire::IndexedChanges;
 use std::alloc::{AllocError, Global};
 use std::marker::Model;
-
-/// The changes that are asked of a maker.
-#[derive(Drop)]
-pub struct Asked {
-    /// The node that made them, counted from 0.
-    pub maker: u8,
-    /// Its intervals that made them.
-    pub indices: Indices,
-}
-
-impl Model for Asked {
-    ghost use Rattle.lrc_protocol.specs.Fetch as fetch;
-
-    ghost Value = { fetch.Asked };
-
-    ghost view = { λ a. record { maker = a.maker; indices = a.indices } };
-}
 
 /// What one page needs before it can be read: perhaps a base copy, changes that have not come yet, and the keys of all
 /// changes that the node's copy lacks, in the order in which they are applied.
@@ -73,7 +56,13 @@ impl Need {
         requires askable { AreAskable unknown.now }
         ensures { IfOk result (λ need. need ≡ record { page = page; base = seen_base base; asked = asked_of nodes unknown.now; missing = missing.items }) }
     {
-        Err(AllocError)
+        let asked = ask(alloc, nodes, unknown)?;
+        Ok(Need {
+            page,
+            base,
+            asked,
+            missing,
+        })
     }
 
     /// Which page it is.
@@ -146,51 +135,18 @@ impl Need {
     pub fn requests(&self, alloc: Global) -> Result<Vec<Letter>, AllocError>
         ensures { IfOk result (λ letters. letters.items ≡ requests_of self.now) }
     {
-        Err(AllocError)
+        let mut letters = Vec::new(alloc);
+        self.put_requests(&mut letters)?;
+        Ok(letters)
     }
-}
 
-impl Asked {
-    /// Whether these are the changes that are asked of this maker.
-    fn is_of(&self, maker: u8, parts: &[IndexedChanges]) -> bool
-        ensures { result ≡ asks maker (map (λ part. part.index) parts.now) self.now }
+    /// Puts the requests for the page behind other letters.
+    pub(crate) fn put_requests(&self, letters: &mut Vec<Letter>) -> Result<(), AllocError>
+        ensures { OnOk result (letters.new.items ≡ letters.old.items ++ requests_of self.now) }
     {
-        self.maker == maker && are_of(self.indices.as_slice(), parts)
-    }
-}
-
-/// Whether these are the indices of these parts.
-fn are_of(indices: &[u32], parts: &[IndexedChanges]) -> bool
-    ensures { result ≡ pointwise ◌==◌ indices.now (map (λ part. part.index) parts.now) }
-{
-    if indices.len() != parts.len() {
-        return false;
-    }
-    for (place, part) in parts.iter().enumerate() {
-        if indices[place] != part.index {
-            return false;
+        if let Base::Due(keeper) = self.base {
+            letters.push(page_request(keeper, self.page))?;
         }
+        put_changes_requests(self.page, &self.asked, letters)
     }
-    true
-}
-
-/// Whether these are the changes that are asked of this maker in one of these.
-fn is_any_of(all: &[Asked], maker: u8, parts: &[IndexedChanges]) -> bool
-    ensures { result ≡ list_any (asks maker (map (λ part. part.index) parts.now)) all.now }
-{
-    all.iter().any(|asked| asked.is_of(maker, parts))
-}
-
-/// Takes out what is asked of this maker.
-fn drop_maker(all: &mut Vec<Asked>, maker: u8)
-    ensures { all.new.items ≡ filter (λ asked. not (asked.maker == maker)) all.old.items }
-{
-    all.retain(|asked| asked.maker != maker);
-}
-
-/// The requests for some pages, page by page.
-pub fn requests(alloc: Global, needs: &[Need]) -> Result<Vec<Letter>, AllocError>
-    ensures { IfOk result (λ letters. letters.items ≡ flat_map requests_of needs.now) }
-{
-    Err(AllocError)
 }

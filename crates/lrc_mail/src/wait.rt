@@ -8,7 +8,7 @@ ghost use Rattle.lrc_protocol.specs.Mail.{is_idle, needs_of, awaits_grant, await
 ghost use Rattle.lrc_protocol.specs.Waits.{with_needs};
 
 use crate::need::Need;
-use lrc_page::Page;
+use lrc_page::{Page, Pages};
 use lrc_time::Time;
 use lrc_wire::IndexedChanges;
 use std::marker::Model;
@@ -20,7 +20,7 @@ pub struct Collection {
     /// The barrier's time, up to which intervals are collected.
     pub time: Time,
     /// The pages of which the node keeps a base copy anew.
-    pub kept: Vec<u16>,
+    pub kept: Pages,
 }
 
 impl Model for Collection {
@@ -28,7 +28,7 @@ impl Model for Collection {
 
     ghost Value = { mail.Collection };
 
-    ghost view = { λ c. record { time = c.time; kept = c.kept.items } };
+    ghost view = { λ c. record { time = c.time; kept = c.kept } };
 }
 
 /// What a node waits for.

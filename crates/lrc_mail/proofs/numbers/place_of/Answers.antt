@@ -14,7 +14,7 @@ ends_below n span = nat_lt span.last n
 point : (c : After-partition_point) → IsPartitionPoint (λ span. ends_below c.args.number span ≡ true) (λ span. ends_below c.args.number span ≡ false) c.args.spans.now c.partition_point.result
 point c =
     IsPartitionPoint-from_clause (ends_below c.args.number) c.args.spans.now c.partition_point.result c.partition_point.ensures.partitioned
-    (IsPartitionedBy-ltb (λ (span : Span). span.last) c.args.spans.now c.args.number (ends_rise c.args.spans.now c.requires))
+    (IsPartitionedBy-ltb (λ (span : Span). span.last) c.args.spans.now c.args.number (ends_rise 0 c.args.spans.now c.requires))
     (λ a r f' h. (search rules, search rules))
 
 pub returns-clause-before : goal.returns-clause-before

@@ -1,0 +1,64 @@
+// The requests for what pages need.
+
+ghost use Rattle.std.specs.Prelude.{◌≡◌, ◌<◌, ◌≤◌, ◌++◌, All, IfOk, OnOk, length, map, flat_map};
+ghost use Rattle.lrc_page.specs.declared.TheConstants.{MOST_PAGES};
+ghost use Rattle.lrc_wire.specs.declared.message.Message.TheVariants as messages;
+ghost use Rattle.lrc_protocol.specs.Letters.{letter, changes_request_of, requests_of};
+
+use crate::asked::Asked;
+use crate::letter::Letter;
+use crate::need::Need;
+use lrc_wire::{ChangesRequest, Message, PageRequest};
+use std::alloc::{AllocError, Global};
+
+/// The requests for some pages, page by page.
+pub fn requests(alloc: Global, needs: &[Need]) -> Result<Vec<Letter>, AllocError>
+    ensures { IfOk result (λ letters. letters.items ≡ flat_map requests_of needs.now) }
+{
+    let mut letters = Vec::new(alloc);
+    for need in needs {
+        need.put_requests(&mut letters)?;
+    }
+    Ok(letters)
+}
+
+/// The request of a page's base copy from its keeper.
+pub(crate) fn page_request(keeper: u8, page: u16) -> Letter
+    requires { page < MOST_PAGES }
+    ensures { result ≡ letter keeper (messages.PageRequest page) }
+{
+    Letter {
+        to: keeper,
+        message: Message::PageRequest(PageRequest { page }),
+    }
+}
+
+/// The request of changes of a page from their maker.
+fn changes_request(alloc: Global, page: u16, asked: &Asked) -> Result<Letter, AllocError>
+    requires page { page < MOST_PAGES }
+    requires some { 1 ≤ length asked.now.indices }
+    ensures { IfOk result (λ request. request ≡ changes_request_of page asked.now) }
+{
+    let indices = asked.copied(alloc)?;
+    Ok(Letter {
+        to: asked.maker,
+        message: Message::ChangesRequest(ChangesRequest { page, indices }),
+    })
+}
+
+/// Puts the requests of changes of a page from each of these makers behind other letters.
+pub(crate) fn put_changes_requests(
+    page: u16,
+    all: &[Asked],
+    letters: &mut Vec<Letter>,
+) -> Result<(), AllocError>
+    requires page { page < MOST_PAGES }
+    requires some { All (λ asked. 1 ≤ length asked.indices) all.now }
+    ensures { OnOk result (letters.new.items ≡ letters.old.items ++ map (changes_request_of page) all.now) }
+{
+    for asked in all {
+        let request = changes_request(*letters.allocator(), page, asked)?;
+        letters.push(request)?;
+    }
+    Ok(())
+}

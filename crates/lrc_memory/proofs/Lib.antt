@@ -1,0 +1,15 @@
+pub mod Inside
+pub mod Overlays
+pub mod Copies
+pub mod Starts
+pub mod Settling
+pub mod Writes
+pub mod Quiet
+pub mod Loops
+pub mod Mending
+pub mod Discards
+pub mod Closes
+pub mod Learns
+pub mod Attaches
+pub mod Needs
+pub mod Keepers

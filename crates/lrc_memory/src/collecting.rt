@@ -1,0 +1,107 @@
+// Base copies, their keepers, and collections.
+
+ghost use Rattle.std.specs.Prelude.{◌≡◌, ◌<◌, ◌≤◌, ◌==◌, ◌&&◌, filter, slice_index, IfOk, OnOk, MatchOption, Some, None, length, true};
+ghost use Rattle.lrc_time.specs.Time.{entry};
+ghost use Rattle.lrc_protocol.specs.Copy.{is_readable, changes_of};
+ghost use Rattle.lrc_protocol.specs.Memory.{copy_at, with_base, base_at, kept_pages, with_keepers, collected_at, is_named};
+ghost use Rattle.std.specs.List.{range_with_len};
+ghost use Rattle.lrc_store.specs.Store.{intervals_of};
+ghost use Rattle.lrc_memory.specs.Steps.{without_bases};
+ghost use Rattle.lrc_memory.specs.View.{SameMemory, with_memory};
+ghost use Rattle.lrc_memory.specs.Turns.{IsClosed};
+
+use crate::memory::Memory;
+use lrc_page::{MOST_PAGES, Page, Pages};
+use lrc_store::Store;
+use lrc_table::PageTable;
+use lrc_time::Time;
+use std::alloc::{AllocError, Global};
+
+impl Memory {
+    /// The base copy of a page, if one is kept here.
+    pub fn base(&self, page: u16) -> Option<&Page>
+        requires { page < length self.now.memory.copies }
+        ensures { MatchOption result (base_at self.now.memory page ≡ None) (λ base. base_at self.now.memory page ≡ Some base.now) }
+    {
+        self.table.base(page)
+    }
+
+    /// Pages that were named since the last collection get new keepers: of each the lowest node that named it.
+    pub fn take_keepers(&mut self) -> Result<(), AllocError>
+        ensures ok { OnOk result (self.new ≡ with_memory self.old (with_keepers self.old.memory)) }
+        ensures same { SameMemory self.old self.new }
+    {
+        Err(AllocError)
+    }
+
+    /// The pages that this node keeps and that were named since the last collection, ascending.
+    pub fn kept_pages(&self) -> Result<Pages, AllocError>
+        ensures pages { IfOk result (λ pages. pages ≡ kept_pages self.now.me self.now.memory) }
+    {
+        let _few = self.table.size();
+        kept_pages(*self.named.allocator(), &self.store, self.me, &self.keepers)
+    }
+
+    /// Keeps the values of a valid copy as the base copy of its page.
+    pub fn keep_base(&mut self, page: u16) -> Result<(), AllocError>
+        requires in_range { page < length self.old.memory.copies }
+        requires readable { is_readable (copy_at self.old.memory page) ≡ true }
+        requires closed { changes_of (copy_at self.old.memory page) ≡ None }
+        ensures ok { OnOk result (self.new ≡ with_memory self.old (with_base self.old.memory page)) }
+        ensures same { SameMemory self.old self.new }
+    {
+        self.table.keep_base(page)
+    }
+
+    /// Drops all that is covered by a collection's time, which covers the node's own intervals: intervals with their
+    /// changes, made or not, base copies of pages that other nodes keep, and invalid copies.
+    pub fn collect(&mut self, time: &Time)
+        requires time { length time.now ≡ length self.old.memory.store.last }
+        requires closed { IsClosed self.old.memory }
+        requires own { entry self.old.memory.store.last self.old.me ≤ entry time.now self.old.me }
+        ensures collected { self.new ≡ with_memory self.old (collected_at self.old.me time.now self.old.memory) }
+        ensures same { SameMemory self.old self.new }
+    {
+        self.store.discard(time);
+        self.table.drop_twins();
+        self.table.drop_invalid();
+        drop_bases(&mut self.table, self.me, &self.keepers);
+        self.collected = time.copy();
+    }
+}
+
+/// Drops the base copies of the pages that other nodes keep.
+fn drop_bases(table: &mut PageTable, me: u8, keepers: &[u8])
+    requires { length keepers.now ≡ length table.old.copies }
+    ensures { table.new ≡ without_bases me keepers.now table.old }
+{
+    let _few = table.size();
+    for (page, keeper) in keepers.iter().enumerate() {
+        if *keeper != me {
+            table.drop_base(page as u16);
+        }
+    }
+}
+
+/// The pages that this node keeps and that an interval names, ascending.
+fn kept_pages(alloc: Global, store: &Store, me: u8, keepers: &[u8]) -> Result<Pages, AllocError>
+    requires { length keepers.now ≤ MOST_PAGES }
+    ensures { IfOk result (λ pages. pages ≡ filter (λ page. is_named (intervals_of store.now) page && (slice_index keepers.now page == me))
+        (range_with_len 0 (length keepers.now))) }
+{
+    let mut pages = Pages::empty(alloc);
+    for page in 0..keepers.len() as u16 {
+        if is_kept(store, me, keepers, page) {
+            pages.push(page)?;
+        }
+    }
+    Ok(pages)
+}
+
+/// Whether this node keeps the page and an interval names it.
+fn is_kept(store: &Store, me: u8, keepers: &[u8], page: u16) -> bool
+    requires { page < length keepers.now }
+    ensures { result ≡ (is_named (intervals_of store.now) page && (slice_index keepers.now page == me)) }
+{
+    store.first_on_page(page).is_some() && keepers[usize::from(page)] == me
+}

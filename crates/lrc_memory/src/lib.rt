@@ -1,0 +1,11 @@
+//! One node's memory under lazy release consistency: its copies of the pages, the intervals that it knows with their
+//! changes, and who keeps a base copy of which page (Keleher, Cox, Dwarkadas and Zwaenepoel 1994; Amza et al. 1996).
+#![tactic(auto)]
+
+mod collecting;
+mod fetching;
+mod learning;
+mod memory;
+mod settle;
+
+pub use memory::Memory;

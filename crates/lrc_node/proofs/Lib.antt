@@ -1,0 +1,8 @@
+pub mod Texts
+pub mod Runs
+pub mod Effects
+pub mod States
+pub mod CanRun
+pub mod Turns
+pub mod InRange
+pub mod Episodes

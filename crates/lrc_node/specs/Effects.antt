@@ -1,0 +1,86 @@
+-- What a turn does, by what the text asks for.
+use Rattle.std.specs.Prelude.{ℕ, ◌≡◌, ◌+◌, ◌-◌, ◌<◌, ◌≤◌, true, false, IsTrue, Option, Some, [], length, option_map}
+use Rattle.lrc_time.specs.Time.{entry}
+use Rattle.lrc_lock.specs.Held.{lock_at, is_free, is_held}
+use Rattle.lrc_lock.specs.declared.state.LockState.TheVariants.{Away}
+use Rattle.lrc_trace.specs.declared.act.Deed.{Deed}
+use Rattle.lrc_page.specs.Place.{page_of}
+use Rattle.lrc_exec.specs.declared.machine.Ask.{Ask}
+use Rattle.lrc_exec.specs.declared.machine.Ask.TheVariants.{Read, Write, Acquire, Release, Barrier}
+use Rattle.lrc_protocol.specs.Copy.{is_readable}
+use Rattle.lrc_protocol.specs.Memory.{Memory, copy_at, value_at, with_word}
+use Rattle.lrc_protocol.specs.Locks.{next_time}
+use Rattle.lrc_protocol.specs.Node.{Node, Effect, begins, acts}
+use Rattle.lrc_protocol.specs.Run.{own_index, reaches, closing, acquire_at, release_at, arrive_at}
+use Rattle.lrc_exec.specs.Ask.{ask_of}
+use Rattle.lrc_protocol.specs.Turn.{Outcome, not_ready, worn}
+use Rattle.lrc_node.specs.declared.fault.NodeFault.{NodeFault}
+use Rattle.lrc_node.specs.declared.fault.NodeFault.TheVariants.{NotReady, Worn, NoMemory}
+use Rattle.lrc_node.specs.Text.{asked_in, deed_in, gone_on, cost_to_begin}
+
+-- the value that is read where this is asked for, 0 where nothing is
+abbrev pub value_asked : Node → Option Ask → ℕ
+value_asked node (Some (Read word)) = value_at node.options.size node.memory word
+value_asked node _ = 0
+
+-- the memory after what is asked for
+abbrev pub memory_asked : Node → Option Ask → Memory
+memory_asked node (Some (Write word value)) = with_word node.options.size word value node.memory
+memory_asked node _ = node.memory
+
+-- a word that is accessed is one of the memory's, and its page may be read
+abbrev pub CanAccess : Node → Option Ask → Type 0
+CanAccess node (Some (Read word)) = (word < node.setting.words) × (is_readable (copy_at node.memory (page_of word node.options.size)) ≡ true)
+CanAccess node (Some (Write word value)) = (word < node.setting.words) × (is_readable (copy_at node.memory (page_of word node.options.size)) ≡ true)
+CanAccess node _ = Unit {0}
+
+-- the node once its text made its next deed
+abbrev pub acted : Node → Node
+acted node = record node {
+  course = gone_on (value_asked node (asked_in node.course)) node.course;
+  memory = memory_asked node (asked_in node.course);
+}
+
+-- that deed
+abbrev pub deed_next : Node → Option Deed
+deed_next node = deed_in (value_asked node (asked_in node.course)) node.course
+
+-- the effect of a node that begins what is asked for; none where an index would be too large
+abbrev pub effect_asked : Node → Ask → Option Effect
+effect_asked node (Read word) = Some (reaches node (page_of word node.options.size))
+effect_asked node (Write word value) = Some (reaches node (page_of word node.options.size))
+effect_asked node (Acquire lock) = closing node (acquire_at lock)
+effect_asked node (Release lock) = closing node (release_at lock)
+effect_asked node Barrier = closing node arrive_at
+effect_asked node _ = Some (acts [] node)
+
+-- the node that has begun what comes next
+abbrev pub begun_node : Node → Node
+begun_node node = record node { left = node.left - cost_to_begin (begins node) }
+
+-- what a node that begins this has: for an access a word of the memory; for a synchronization as much as it takes to close
+-- the open interval; to acquire a lock, one whose token is free here or away; to release one, one that it holds; and to
+-- arrive, a number for the episode
+abbrev pub CanClose : Node → Type 0
+CanClose node = entry (next_time node.setting.me node.locks.time) node.setting.me ≡ entry node.memory.store.last node.setting.me + 1
+
+abbrev pub CanBegin : Node → Ask → Type 0
+CanBegin node (Read word) = word < node.setting.words
+CanBegin node (Write word value) = word < node.setting.words
+CanBegin node (Acquire lock) =
+    CanClose node × (lock < length node.locks.held.locks)
+    × (is_free (lock_at node.locks.held lock) ≡ false → lock_at node.locks.held lock ≡ Away)
+CanBegin node (Release lock) =
+    CanClose node × (lock < length node.locks.held.locks) × IsTrue (is_held (lock_at node.locks.held lock))
+CanBegin node Barrier = CanClose node × (node.barrier.episode ≤ own_index node)
+CanBegin node _ = Unit {0}
+
+-- a node that may go on can begin what its text asks for
+abbrev pub CanRun : Node → Type 0
+CanRun node = (ask : Ask) → option_map ask_of (begins node) ≡ Some ask → CanBegin node ask
+
+-- why a node doesn't go on, by what would come of it: it isn't ready; a number would be too large; or no memory is left
+pub data RefusesRun : Outcome → NodeFault → Type 0 where
+  unready : RefusesRun not_ready NotReady
+  too_large : RefusesRun worn Worn
+  without_memory : {outcome : Outcome} → RefusesRun outcome NoMemory

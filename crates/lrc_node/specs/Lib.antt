@@ -1,0 +1,10 @@
+pub mod Text
+pub mod Clock
+pub mod Barrier
+pub mod News
+pub mod Effects
+pub mod State
+pub mod Seen
+pub mod Fault
+pub mod Node
+pub mod Ranges

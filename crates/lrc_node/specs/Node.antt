@@ -1,0 +1,25 @@
+-- What a caller sees of a node.
+use Rattle.std.specs.Prelude.{Bool, Option, Some, None, if◌then◌else◌}
+use Rattle.lrc_protocol.specs.Node.{Node}
+use Rattle.lrc_protocol.specs.Turn.{Outcome, not_ready, unexpected, worn}
+use Rattle.lrc_node.specs.declared.end.End.{End}
+use Rattle.lrc_node.specs.declared.end.End.TheVariants.{Unfinished}
+use Rattle.lrc_node.specs.Text.{end_of}
+use Rattle.lrc_node.specs.declared.fault.NodeFault.{NodeFault}
+use Rattle.lrc_node.specs.declared.fault.NodeFault.TheVariants.{NotReady, Unexpected, Worn, NoMemory}
+
+-- a node as the protocol has it, none once it has failed
+abbrev pub seen_node : Bool → Node → Option Node
+seen_node failed node = if failed then None else Some node
+
+-- What comes of a turn that is asked of a node: it is made; it is refused, and the node is as it was; or the node fails.
+pub data Answers : Outcome → Node → NodeFault → Option Node → Type 0 where
+  unready : {node : Node} → Answers not_ready node NotReady (Some node)
+  unawaited : {node : Node} → Answers unexpected node Unexpected (Some node)
+  too_large : {node : Node} → Answers worn node Worn None
+  without_memory : {outcome : Outcome} {node : Node} → Answers outcome node NoMemory None
+
+-- how a node ended; a failed one is unfinished
+abbrev pub end_in : Option Node → End
+end_in None = Unfinished
+end_in (Some node) = end_of node.course

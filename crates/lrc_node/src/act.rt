@@ -1,0 +1,44 @@
+// The act that a node's text makes next.
+
+ghost use Rattle.std.specs.Prelude.{◌≡◌, ◌<◌, IfOk, OnOk};
+ghost use Rattle.lrc_protocol.specs.Node.{acts, with_memory};
+ghost use Rattle.lrc_node.specs.Effects.{CanAccess, memory_asked, value_asked};
+ghost use Rattle.lrc_node.specs.State.{seen_effect, AreFor};
+ghost use Rattle.lrc_node.specs.Text.{asked_in};
+
+use crate::state::State;
+use crate::turn::Effect;
+use lrc_exec::machine::Ask;
+use lrc_mail::Letter;
+use std::alloc::AllocError;
+
+impl State<'_> {
+    /// Makes the access that the text asks for next, if it asks for one. The value is what is read, else 0.
+    fn access(&mut self) -> Result<u64, AllocError>
+        requires { CanAccess self.old (asked_in self.old.course) }
+        ensures value { IfOk result (λ value. value ≡ value_asked self.old (asked_in self.old.course)) }
+        ensures node { OnOk result (self.new ≡ with_memory self.old (memory_asked self.old (asked_in self.old.course))) }
+        ensures setting { self.new.setting ≡ self.old.setting }
+    {
+        match self.text.asked() {
+            Some(Ask::Read(word)) => Ok(self.memory.read(word).unwrap_or(0)),
+            Some(Ask::Write(word, value)) => {
+                self.memory.write(word, value)?;
+                Ok(0)
+            }
+            _ => Ok(0),
+        }
+    }
+
+    /// Sends these letters, and makes the act that the text is at.
+    pub(crate) fn act(&mut self, letters: Vec<Letter>) -> Result<Effect, AllocError>
+        requires access { CanAccess self.old (asked_in self.old.course) }
+        ensures effect { IfOk result (λ effect. acts letters.items self.old ≡ seen_effect effect self.new) }
+        ensures letters { IfOk result (λ effect. effect.letters ≡ letters) }
+        ensures setting { self.new.setting ≡ self.old.setting }
+    {
+        let value = self.access()?;
+        let deed = self.text.go_on(value);
+        Ok(Effect { deed, letters })
+    }
+}

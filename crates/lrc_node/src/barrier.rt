@@ -1,0 +1,156 @@
+// A node's part in barriers.
+
+ghost use Rattle.std.specs.Prelude.{◌≡◌, ◌⊎◌, ℕ, ◌<◌, ◌≤◌, IfOk, IfErr, IfSome, None, OnErr, Some, length, false, option_map, unwrap_or};
+ghost use Rattle.lrc_barrier.specs.Barrier.{is_accepted, IsArrival};
+ghost use Rattle.lrc_barrier.specs.declared.arrival.Arrival.{Arrival as ArrivalRecord};
+ghost use Rattle.lrc_protocol.specs.Expected.{is_clean};
+ghost use Rattle.lrc_protocol.specs.Barrier.{arrive_step, clean_step, fresh_barrier, last_from, with_arrive};
+ghost use Rattle.lrc_protocol.specs.Mail.{MOST_NUMBER};
+ghost use Rattle.lrc_node.specs.Barrier.{arrival_taken, clean_taken, AreDepartures, IsOfNodes, SameBarrier};
+ghost use Rattle.lrc_node.specs.declared.fault.NodeFault.TheVariants.{NoMemory, Unexpected};
+
+use crate::fault::NodeFault;
+use lrc_barrier::{Arrival, BarrierFault, Departures, Manager};
+use std::alloc::Global;
+use std::marker::Model;
+
+/// How often a node has arrived, and up to which of its intervals it has sent them with an arrival. Node 0 has the
+/// manager of barriers too.
+#[derive(Drop)]
+pub(crate) struct Barrier {
+    episode: u32,
+    sent: u32,
+    manager: Option<Manager>,
+}
+
+impl Model for Barrier {
+    ghost use Rattle.std.specs.Prelude.{IfSome};
+    ghost use Rattle.lrc_protocol.specs.Barrier.{Barrier as BarrierRecord};
+    ghost use Rattle.lrc_node.specs.Barrier.{KeepsEpisodes};
+
+    ghost Value = { BarrierRecord };
+
+    ghost view = { λ b. record { episode = b.episode; sent = b.sent; manager = b.manager } };
+
+    ghost invariant = { λ b. IfSome b.manager KeepsEpisodes };
+}
+
+impl Barrier {
+    /// Node `me` of 1 to 16 before any arrival.
+    pub(crate) fn new(alloc: Global, me: u8, nodes: u8) -> Barrier
+        requires some { 1 ≤ nodes }
+        requires few { nodes ≤ 16 }
+        ensures { result ≡ fresh_barrier me nodes }
+    {
+        let manager = if me == 0 {
+            Some(Manager::new(alloc, nodes))
+        } else {
+            None
+        };
+        Barrier {
+            episode: 0,
+            sent: 0,
+            manager,
+        }
+    }
+
+    /// How often the node has arrived.
+    pub(crate) fn episode(&self) -> u32
+        ensures { result ≡ self.now.episode }
+    {
+        self.episode
+    }
+
+    /// The index of the node's newest interval that it sent with an arrival.
+    pub(crate) fn sent(&self) -> u32
+        ensures { result ≡ self.now.sent }
+    {
+        self.sent
+    }
+
+    /// The node arrives once more, with its intervals up to this index.
+    pub(crate) fn arrive(&mut self, index: u32)
+        requires { self.old.episode < MOST_NUMBER }
+        ensures barrier { self.new ≡ with_arrive index self.old }
+        ensures same { SameBarrier self.old self.new }
+    {
+        self.episode += 1;
+        self.sent = index;
+    }
+
+    /// The index of a node's newest interval that has come to the manager, 0 where the manager isn't here.
+    pub(crate) fn last_from(&self, from: u8) -> u32
+        requires { IfSome self.now.manager (λ manager. from < length manager.last) }
+        ensures { result ≡ last_from self.now from }
+    {
+        match &self.manager {
+            Some(manager) => manager.last(from),
+            None => 0,
+        }
+    }
+
+    /// Whether the manager is here and would accept a node's arrival at this episode.
+    pub(crate) fn accepts(&self, from: u8, episode: u32) -> bool
+        requires { IfSome self.now.manager (λ manager. from < length manager.last) }
+        ensures { (arrival : ArrivalRecord) → arrival.episode ≡ episode → result ≡ unwrap_or (option_map is_accepted (arrive_step self.now from arrival)) false }
+    {
+        match &self.manager {
+            Some(manager) => manager.accepts(from, episode),
+            None => false,
+        }
+    }
+
+    /// Whether the manager is here and would accept a node's Clean for this episode.
+    pub(crate) fn accepts_clean(&self, from: u8, episode: u32) -> bool
+        requires { IfSome self.now.manager (λ manager. from < length manager.last) }
+        ensures { result ≡ unwrap_or (option_map is_clean (clean_step self.now from episode)) false }
+    {
+        match &self.manager {
+            Some(manager) => manager.accepts_clean(from, episode),
+            None => false,
+        }
+    }
+
+    /// The manager takes another node's arrival; the last one gives the departures. `Unexpected` if the manager isn't here
+    /// or doesn't accept it. An error leaves the barrier as it was.
+    pub(crate) fn take_arrival(
+        &mut self,
+        from: u8,
+        arrival: &Arrival,
+    ) -> Result<Option<Departures>, NodeFault>
+        requires own { IfSome self.old.manager (λ manager. (from < length manager.last) × IsArrival (length manager.last) from arrival.now) }
+        requires begun { 1 ≤ arrival.now.episode }
+        ensures taken { IfOk result (λ answer. arrival_taken self.old (arrive_step self.old from arrival.now) ≡ Some (answer, self.new)) }
+        ensures refused { arrival_taken self.old (arrive_step self.old from arrival.now) ≡ None → result ≡ Err Unexpected }
+        ensures memory { IfErr result (λ fault. (arrival_taken self.old (arrive_step self.old from arrival.now) ≡ None) ⊎ (fault ≡ NoMemory)) }
+        ensures same { SameBarrier self.old self.new }
+        ensures unchanged { OnErr result (self.new ≡ self.old) }
+        ensures departures { (nodes : ℕ) → IsOfNodes nodes self.old → IfOk result (λ answer. IfSome answer (AreDepartures nodes)) }
+    {
+        let Some(manager) = &mut self.manager else {
+            return Err(NodeFault::Unexpected);
+        };
+        match manager.arrive(from, arrival) {
+            Ok(departures) => Ok(departures),
+            Err(BarrierFault::NoMemory) => Err(NodeFault::NoMemory),
+            Err(BarrierFault::WrongEpisode | BarrierFault::Twice) => Err(NodeFault::Unexpected),
+        }
+    }
+
+    /// The manager takes a node's Clean; the last one gives the episode of which all may discard. `Unexpected`, with
+    /// nothing changed, if the manager isn't here or doesn't accept it.
+    pub(crate) fn take_clean(&mut self, from: u8, episode: u32) -> Result<Option<u32>, NodeFault>
+        requires { IfSome self.old.manager (λ manager. from < length manager.last) }
+        ensures taken { IfOk result (λ answer. clean_taken self.old (clean_step self.old from episode) ≡ Some (answer, self.new)) }
+        ensures refused { IfErr result (λ fault. (fault ≡ Unexpected) × (clean_taken self.old (clean_step self.old from episode) ≡ None) × (self.new ≡ self.old)) }
+        ensures same { SameBarrier self.old self.new }
+    {
+        let Some(manager) = &mut self.manager else {
+            return Err(NodeFault::Unexpected);
+        };
+        match manager.clean(from, episode) {
+            Ok(last) => Ok(last),
+            Err(_) => Err(NodeFault::Unexpected),
+        }
+    }
+}

@@ -1,0 +1,31 @@
+//! One node of the distributed shared memory: what each of its turns does. A turn goes on by one statement, or takes one
+//! message (Keleher, Cox, Dwarkadas and Zwaenepoel 1994; Amza et al. 1996). In contracts a node is that of the protocol
+//! machine in `lrc_protocol`.
+#![tactic(auto)]
+
+mod act;
+mod barrier;
+mod clock;
+mod end;
+mod expected;
+mod fault;
+mod letters;
+mod news;
+mod node;
+mod options;
+mod ranges;
+mod reach;
+mod run;
+mod send;
+mod state;
+mod syncs;
+mod take_barrier;
+mod take_locks;
+mod text;
+mod turn;
+
+pub use end::End;
+pub use fault::NodeFault;
+pub use node::Node;
+pub use options::Options;
+pub use turn::Turn;

@@ -1,0 +1,195 @@
+// A node's text: how far it has come, and how many steps are left.
+
+ghost use Rattle.std.specs.Prelude.{◌≡◌, ◌≤◌, IfNone, IfSome, false, is_some, option_map};
+ghost use Rattle.lrc_exec.specs.Ask.{ask_of};
+ghost use Rattle.lrc_exec.specs.Meaning.{next_of};
+ghost use Rattle.lrc_exec.specs.Plain.{start_of};
+ghost use Rattle.lrc_protocol.specs.Course.{going, course_of, deed_of};
+ghost use Rattle.lrc_node.specs.Text.{asked_in, begun, begun_by, deed_in, end_of, gone_on, course_in, cost_asked, allowed_with, deed_asked, standing_after, stops};
+
+use crate::end::End;
+use lrc_exec::code::Code;
+use lrc_exec::machine::{Ask, Machine};
+use lrc_trace::act::{Cause, Deed};
+use std::marker::Model;
+
+/// Where a node's text stands.
+#[derive(Clone, Copy)]
+pub(crate) enum Standing {
+    /// It goes on.
+    Running,
+    /// It has arrived at a barrier, and has not departed from it.
+    Arrived,
+    /// It has trapped.
+    Trapped(Cause),
+    /// It has come to its end.
+    Ended,
+}
+
+/// How far a node's text has come, and how many steps the node may still make. A step is a statement begun or a
+/// condition evaluated; the end of the text counts none.
+#[derive(Drop)]
+pub(crate) struct Text<'c> {
+    machine: Machine<'c>,
+    standing: Standing,
+    left: u32,
+}
+
+impl<'c> Model for Text<'c> {
+    ghost use Rattle.std.specs.Prelude.{◌≡◌, false};
+    ghost use Rattle.std.specs.Coded.{codes};
+    ghost use Rattle.lrc_lang.specs.contracts.program.Statement as statement;
+    ghost use Rattle.lrc_node.specs.Text.{TextRecord, course_in};
+
+    ghost Value = { TextRecord };
+
+    ghost coded = { Prim.hlevel (codes, statement.the_row.coded) };
+
+    ghost view = { λ t. record { course = course_in t.standing t.machine; left = t.left } };
+
+    ghost invariant = { λ t. t.machine.arrived ≡ false };
+}
+
+impl<'c> Text<'c> {
+    /// Node `me` of `nodes` at the beginning of a program, with so many steps.
+    pub(crate) fn new(code: &'c Code<'_>, me: u8, nodes: u8, steps: u32) -> Text<'c>
+        ensures { result ≡ record { course = going (start_of code.now nodes me); left = steps } }
+    {
+        Text {
+            machine: Machine::new(code, me, nodes),
+            standing: Standing::Running,
+            left: steps,
+        }
+    }
+
+    /// What the text asks for next, none once it has stopped.
+    pub(crate) fn asked(&self) -> Option<Ask>
+        ensures { result ≡ asked_in self.now.course }
+    {
+        match self.standing {
+            Standing::Running => Some(self.machine.ask()),
+            Standing::Arrived => Some(Ask::Barrier),
+            Standing::Trapped(_) | Standing::Ended => None,
+        }
+    }
+
+    /// What the text would begin: none where it has stopped or is at a barrier, or its steps are used up.
+    fn begins(&self) -> Option<Ask>
+        ensures asked { result ≡ option_map ask_of (begun_by self.now) }
+        ensures paid { IfSome result (λ ask. cost_asked ask ≤ self.now.left) }
+    {
+        match self.standing {
+            Standing::Running => allowed(self.machine.ask(), self.left),
+            Standing::Arrived | Standing::Trapped(_) | Standing::Ended => None,
+        }
+    }
+
+    /// Whether the text would begin anything.
+    pub(crate) fn is_ready(&self) -> bool
+        ensures { result ≡ is_some (begun_by self.now) }
+    {
+        self.begins().is_some()
+    }
+
+    /// Begins what comes next, if it may, and counts the step.
+    pub(crate) fn begin(&mut self) -> Option<Ask>
+        ensures asked { result ≡ option_map ask_of (begun_by self.old) }
+        ensures text { self.new ≡ begun self.old }
+        ensures none { IfNone result (self.new ≡ self.old) }
+    {
+        let ask = self.begins()?;
+        self.left -= cost(ask);
+        Some(ask)
+    }
+
+    /// Makes the deed that comes next, a read with this value. None once the text has stopped.
+    pub(crate) fn go_on(&mut self, value: u64) -> Option<Deed>
+        ensures deed { result ≡ deed_in value self.old.course }
+        ensures text { self.new ≡ record self.old { course = gone_on value self.old.course } }
+    {
+        match self.standing {
+            Standing::Running => {
+                let (deed, standing) = step(&mut self.machine, value);
+                self.standing = standing;
+                Some(deed)
+            }
+            Standing::Arrived => {
+                self.standing = Standing::Running;
+                Some(Deed::Depart)
+            }
+            Standing::Trapped(_) | Standing::Ended => None,
+        }
+    }
+
+    /// How the node ended.
+    pub(crate) fn end(&self) -> End
+        ensures { result ≡ end_of self.now.course }
+    {
+        match self.standing {
+            Standing::Running | Standing::Arrived => End::Unfinished,
+            Standing::Trapped(cause) => End::Trapped(cause),
+            Standing::Ended => End::Ended,
+        }
+    }
+}
+
+/// What it costs to begin what is asked for.
+fn cost(ask: Ask) -> u32
+    ensures { result ≡ cost_asked ask }
+{
+    match ask {
+        Ask::End => 0,
+        _ => 1,
+    }
+}
+
+/// What is begun where this is asked for, with so many steps left.
+fn allowed(ask: Ask, left: u32) -> Option<Ask>
+    ensures asked { result ≡ allowed_with left ask }
+    ensures paid { IfSome result (λ ask. cost_asked ask ≤ left) }
+{
+    if cost(ask) <= left { Some(ask) } else { None }
+}
+
+/// The deed of a thread that asks for this, a read with this value.
+fn deed_for(ask: Ask, value: u64) -> Deed
+    ensures { result ≡ deed_asked value ask }
+{
+    match ask {
+        Ask::Quiet => Deed::Quiet,
+        Ask::Print(printed) => Deed::Print(printed),
+        Ask::Read(word) => Deed::Read(word, value),
+        Ask::Write(word, written) => Deed::Write(word, written),
+        Ask::Acquire(lock) => Deed::Acquire(lock),
+        Ask::Release(lock) => Deed::Release(lock),
+        Ask::Barrier => Deed::Arrive,
+        Ask::Trap(cause) => Deed::Trap(cause),
+        Ask::End => Deed::End,
+    }
+}
+
+/// Where a text stands once it has done what it asked for.
+fn stand_after(ask: Ask) -> Standing
+    ensures { result ≡ standing_after ask }
+{
+    match ask {
+        Ask::Barrier => Standing::Arrived,
+        Ask::Trap(cause) => Standing::Trapped(cause),
+        Ask::End => Standing::Ended,
+        _ => Standing::Running,
+    }
+}
+
+/// Makes a thread's next deed, a read with this value, and answers where the text stands then.
+fn step(machine: &mut Machine<'_>, value: u64) -> (Deed, Standing)
+    requires { machine.old.arrived ≡ false }
+    ensures deed { result.0 ≡ deed_of value (next_of machine.old) }
+    ensures course { course_in result.1 machine.new ≡ course_of value (next_of machine.old) }
+    ensures past { machine.new.arrived ≡ false }
+{
+    let ask = machine.ask();
+    if !matches!(ask, Ask::Trap(_) | Ask::End) {
+        machine.answer(value);
+    }
+    (deed_for(ask, value), stand_after(ask))
+}

@@ -1,0 +1,28 @@
+// What a turn does.
+
+use lrc_mail::Letter;
+use lrc_trace::act::{Act, Deed};
+use lrc_wire::Envelope;
+use std::marker::Model;
+
+/// What a node's turn does: its act if it makes one, and the messages that it sends, in order.
+#[derive(Drop)]
+pub struct Turn {
+    pub act: Option<Act>,
+    pub out: Vec<Envelope>,
+}
+
+impl Model for Turn {
+    ghost use Rattle.lrc_protocol.specs.Turn.{TurnRecord};
+
+    ghost Value = { TurnRecord };
+
+    ghost view = { λ t. record { act = t.act; out = t.out.items } };
+}
+
+/// A turn before its messages have numbers: its deed if it makes an act, and what it sends.
+#[derive(Drop)]
+pub(crate) struct Effect {
+    pub deed: Option<Deed>,
+    pub letters: Vec<Letter>,
+}
