@@ -5,3 +5,4 @@ pub mod States
 pub mod CanRun
 pub mod Turns
 pub mod Episodes
+pub mod Misses

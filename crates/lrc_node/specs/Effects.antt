@@ -84,3 +84,9 @@ pub data RefusesRun : Outcome → NodeFault → Type 0 where
   unready : RefusesRun not_ready NotReady
   too_large : RefusesRun worn Worn
   without_memory : {outcome : Outcome} → RefusesRun outcome NoMemory
+
+-- a word that is accessed is one of the memory's, on this page
+abbrev pub AccessesPage : Node → ℕ → Option Ask → Type 0
+AccessesPage node page (Some (Read word)) = (word < node.setting.words) × (page_of word node.options.size ≡ page)
+AccessesPage node page (Some (Write word value)) = (word < node.setting.words) × (page_of word node.options.size ≡ page)
+AccessesPage node page _ = Unit {0}
