@@ -7,3 +7,4 @@ pub mod State
 pub mod Seen
 pub mod Fault
 pub mod Node
+pub mod Taking

@@ -6,6 +6,7 @@
 mod act;
 mod barrier;
 mod clock;
+mod collect;
 mod end;
 mod fault;
 mod letters;
@@ -19,6 +20,9 @@ mod state;
 mod syncs;
 mod take_barrier;
 mod take_locks;
+mod take_pages;
+mod take_message;
+mod take_requests;
 mod text;
 mod turn;
 

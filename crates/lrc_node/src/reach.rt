@@ -58,7 +58,7 @@ impl State<'_> {
     }
 
     /// Sends the requests for a page, and waits.
-    fn await_access(&mut self, need: Need, letters: Vec<Letter>) -> Effect
+    pub(crate) fn await_access(&mut self, need: Need, letters: Vec<Letter>) -> Effect
         requires { is_met need ≡ false }
         ensures effect { waits_or_goes_on letters.items self.old (access need) ≡ seen_effect result self.new }
         ensures letters { result.letters ≡ letters }
