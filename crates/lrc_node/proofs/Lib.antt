@@ -6,3 +6,5 @@ pub mod CanRun
 pub mod Turns
 pub mod Episodes
 pub mod Misses
+pub mod CanTake
+pub mod Replied

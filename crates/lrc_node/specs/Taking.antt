@@ -32,7 +32,7 @@ CanTake node from (LockGrant m) =
 CanTake node from (Arrive m) = IsArrival node.setting.nodes from (arrival_in m)
 CanTake node from (Depart m) =
     (asked_in node.course ≡ Some Barrier) × (length m.time ≡ node.setting.nodes) × CanBeAdded node.memory.store m.intervals
-CanTake node from (Clean episode) = 1 ≤ episode
+CanTake node from (Clean episode) = Unit {0}
 CanTake node from (Discard episode) = CanDiscard node
 CanTake node from (ChangesRequest m) = m.page < length node.memory.copies
 CanTake node from (ChangesReply m) =
