@@ -1,28 +1,30 @@
 -- What a close does to what is seen.
 use Rattle.std.proofs.Common.{◌≡◌, ◌≢◌, ◌∙◌, ℕ, zero, suc, ◌+◌, ◌<◌, ◌≤◌, ◌⊎◌, ⊎_elim, inl, inr, Bool, true, false, not, cond, eqb, eqb-true, ◌&&◌, Option, Some, None, List, [], ◌∷◌, ◌++◌, map, length, get_or, set, take, refl, ap, sym, subst, arith}
-use Rattle.std.specs.Prelude.{All, Contains, fold, filter, filter_map, unwrap_or, IsSome}
+use Rattle.std.specs.Prelude.{All, Contains, fold, filter, filter_map, unwrap_or, IsSome, Result, Ok, Err, OnOk, OnErr, is_err}
 use Rattle.std.specs.List.{range_with_len, enumerate_from, cons_option}
-use Rattle.std.specs.Option.{option_map, option_or}
+use Rattle.std.specs.Option.{ForSome, option_and_then, option_map, option_or}
 use Rattle.std.proofs.lemmas.Bool.{cases_eq, cases_lt, true≢false, and_parts, and_from, false_from_ne_true, eq-eqb, ne_eqb}
 use Rattle.std.proofs.lemmas.List.{ext_get_or, length-map, length-set, get_or-map, get_or_past, get_or_default, get_or-set_same, get_or-set_other}
-use Rattle.std.proofs.lemmas.List.Elements.{Contains-get_or, All-set}
+use Rattle.std.proofs.lemmas.List.Elements.{Contains-get_or, All-set, All-map, All-weaker, All-push}
 use Rattle.std.proofs.Math.ListN.{get_or-map as get_or-mapped}
 use Rattle.std.proofs.lemmas.List.FromFn.{get_or-map-range_with_len, length-map-range_with_len, get_or-enumerate_from, length-enumerate_from, get_or-range_with_len, length-range_with_len}
 use Rattle.lrc_time.specs.Time.{entry}
 use Rattle.lrc_page.specs.declared.size.Size.{Size}
 use Rattle.lrc_page.specs.declared.changes.Change.{Change}
+use Rattle.lrc_page.specs.Page.{words_of}
 use Rattle.lrc_page.specs.Changes.{changes_between}
 use Rattle.lrc_store.specs.declared.key.Key.{Key}
 use Rattle.lrc_store.specs.Interval.{IntervalRecord, index_of}
-use Rattle.lrc_store.specs.Store.{NoticeRecord, StoredRecord, StoreRecord, IsStore, interval_of, intervals_of, is_at, notice_with, stored_with, attached, added, unread, without_changes}
+use Rattle.lrc_store.specs.Store.{NoticeRecord, StoredRecord, StoreRecord, IsStore, interval_of, intervals_of, is_at, notice_at, notice_of, notice_with, stored_with, attached, added, unread, without_changes}
+use Rattle.lrc_store.proofs.Lookups.{notice_at-added, stored_at-added_other}
 use Rattle.lrc_store.proofs.Orders.{Contains-first, Contains-later, cases_Contains, none_Contains}
 use Rattle.lrc_store.proofs.Records.{notice_with-same, notice_with-other}
-use Rattle.lrc_store.proofs.Stores.{stored_with-other}
+use Rattle.lrc_store.proofs.Stores.{stored_with-other, intervals_of-added}
 use Rattle.lrc_table.specs.declared.slot.State.{State}
 use Rattle.lrc_table.specs.declared.slot.State.TheVariants.{Valid, Written, Invalid, Absent}
-use Rattle.lrc_table.specs.PageCopy.{PageCopy, IsWhole, fresh, is_written, pending_changes, closed}
+use Rattle.lrc_table.specs.PageCopy.{PageCopy, IsWhole, fresh, is_written, pending_changes, closed, without_twin}
 use Rattle.lrc_table.specs.Table.{Table, copy_at, with_each, written_pages}
-use Rattle.lrc_table.proofs.Copies.{is_written-says, pending-closed, whole-twin}
+use Rattle.lrc_table.proofs.Copies.{is_written-says, pending-closed, pending-untwinned, whole-twin}
 use Rattle.lrc_table.proofs.Tables.{contains-written}
 use Rattle.lrc_protocol.specs.Copy as copy
 use Rattle.lrc_protocol.specs.Copy.{Copy, absent}
@@ -308,3 +310,230 @@ module _ (kept : Kept) (stamp : List ℕ) where
       let below : index_of (interval_of there) ≤ entry kept.store.last there.node = counted kept is.store k d within in
       let same : entry kept.store.last there.node ≡ entry kept.store.last kept.me = ap (entry kept.store.last) node in
       absurd (omega (arith, index, below, same, next)))
+
+  entries-elsewhere : IsKept kept → entry stamp kept.me ≡ entry kept.store.last kept.me + 1
+      → map (stored_over after) kept.store.entries ≡ map (stored_over o) kept.store.entries
+  entries-elsewhere is next =
+      map-within (λ e. is_at kept.me (entry stamp kept.me) e ≡ false) (stored_over after) (stored_over o) kept.store.entries (old-entries is next)
+      (λ e not.
+      ap (λ (notices : List NoticeRecord). record e { notices = notices })
+      (map-alike (notice_over after e.node (index_of (interval_of e))) (notice_over o e.node (index_of (interval_of e))) e.notices
+      (λ n.
+      ap (λ found. record n { changes = option_or found n.changes })
+      (elsewhere is (record { node = e.node; index = index_of (interval_of e); page = n.page })
+      (λ there. true≢false (sym (and_from _ _ (eq-eqb _ _ there.0) (eq-eqb _ _ there.1)) ∙ not))))))
+
+  -- the interval with its changes
+  abbrev full : StoredRecord
+  full = record {
+    node = kept.me;
+    stamp = stamp;
+    notices = map (λ page. record { page = page; changes = Some (made kept.table page) }) (written_pages kept.table);
+  }
+
+  last-seen : IsKept kept → All (IsWhole kept.table.size) kept.table.copies → stored_over after (without_changes (interval_at kept stamp)) ≡ full
+  last-seen is whole =
+      let index = entry stamp kept.me in
+      let f : ℕ → Option (List Change) = λ page. after (record { node = kept.me; index = index; page = page }) in
+      stored-over_new after (interval_at kept stamp) f (λ page. refl)
+      ∙ ap (λ (notices : List NoticeRecord). record full { notices = notices })
+      (map-within (λ p. Contains (written_pages kept.table) p) (λ page. record { page = page; changes = option_or (f page) None })
+      (λ page. record { page = page; changes = Some (made kept.table page) }) (written_pages kept.table)
+      (λ k d within. Contains-get_or (written_pages kept.table) k d within)
+      (λ page there. ap (λ found. record { page = page; changes = option_or found None }) (here is whole page there)))
+
+  abbrev with_entries : List StoredRecord → StoreRecord
+  with_entries entries = record (added kept.store (interval_at kept stamp)) { entries = entries }
+
+  store-closed : IsKept kept → All (IsWhole kept.table.size) kept.table.copies → entry stamp kept.me ≡ entry kept.store.last kept.me + 1
+      → store_over after (added kept.store (interval_at kept stamp))
+      ≡ fold (with_own kept.me (entry stamp kept.me)) (added (seen kept).store (closed_interval kept.me stamp (seen kept))) (all_changes (seen kept))
+  store-closed is whole next =
+      let index = entry stamp kept.me in
+      let w = written_pages kept.table in
+      let es = map (stored_over o) kept.store.entries in
+      let changes = all_changes-seen kept in
+      let pages : map (λ (page : ℕ × List Change). page.0) (all_changes (seen kept)) ≡ w =
+      ap (map (λ (page : ℕ × List Change). page.0)) changes ∙ map-both (λ p. (p, made kept.table p)) (λ (page : ℕ × List Change). page.0) w ∙ same w in
+      let apart : All (λ e. is_at kept.me index e ≡ false) es =
+      All-map (λ e. is_at kept.me index e ≡ false) (stored_over o) kept.store.entries
+      (λ k d within. is_at-over o kept.me index (get_or kept.store.entries k d) ∙ old-entries is next k d within) in
+      ap with_entries
+      (map-append (stored_over after) kept.store.entries (without_changes (interval_at kept stamp) ∷ [])
+      ∙ ap (λ l. l ++ stored_over after (without_changes (interval_at kept stamp)) ∷ []) (entries-elsewhere is next)
+      ∙ ap (λ s. es ++ s ∷ []) (last-seen is whole)
+      ∙ sym (ap (λ notices. es ++ (record full { notices = notices }) ∷ []) (all-turned (made kept.table) w)))
+      ∙ sym (fold-own (made kept.table) (added kept.store (interval_at kept stamp)) kept.me index es (without_changes (interval_at kept stamp)) w apart
+      (and_from _ _ (eq-eqb kept.me kept.me refl) (eq-eqb index index refl)))
+      ∙ ap (fold (with_own kept.me index) (added (seen kept).store (interval_at kept stamp))) (sym changes)
+      ∙ ap (λ ps. fold (with_own kept.me index) (added (seen kept).store (record { node = kept.me; stamp = stamp; pages = ps })) (all_changes (seen kept))) (sym pages)
+    where
+      same : (w : List ℕ) → map (λ p. p) w ≡ w
+      same [] = refl
+      same (p ∷ ps) = ap (λ rest. p ∷ rest) (same ps)
+
+  copies-closed : (page : ℕ) → seen_copy (with_each kept.table closed) kept.since page ≡ copy.closed (seen_copy kept.table kept.since page)
+  copies-closed page =
+      ap (λ (c : PageCopy). seen_in c.state (get_or kept.since page []) c) (each page) ∙ by_state (copy_at kept.table page).state
+    where
+      by_state : (state : State)
+          → seen_in (closed (record (copy_at kept.table page) { state = state })).state (get_or kept.since page []) (closed (record (copy_at kept.table page) { state = state }))
+          ≡ copy.closed (seen_in state (get_or kept.since page []) (copy_at kept.table page))
+      by_state Valid = refl
+      by_state Written = refl
+      by_state Invalid = refl
+      by_state Absent = refl
+
+  bases-closed : map (λ (c : PageCopy). c.base) (map closed kept.table.copies) ≡ map (λ (c : PageCopy). c.base) kept.table.copies
+  bases-closed =
+      map-both closed (λ (c : PageCopy). c.base) kept.table.copies
+      ∙ map-alike (λ (c : PageCopy). (closed c).base) (λ (c : PageCopy). c.base) kept.table.copies (λ c. by_test c (is_written c.state))
+    where
+      by_test : (c : PageCopy) (b : Bool) → (cond b (record c { state = Valid }) c).base ≡ c.base
+      by_test c true = refl
+      by_test c false = refl
+
+  pub seen-closed : (n : NodeMemory) → node_seen kept ≡ n → IsKept kept → All (IsWhole kept.table.size) kept.table.copies
+      → entry stamp kept.me ≡ entry kept.store.last kept.me + 1
+      → node_seen (closed_at kept stamp) ≡ with_memory n (with_interval n.me stamp n.memory)
+  seen-closed n is sound whole next =
+      let now = with_each kept.table closed in
+      let count = length kept.table.copies in
+      let copies : map (seen_copy now kept.since) (range_with_len 0 (length now.copies)) ≡ map copy.closed (seen kept).copies =
+      ap (λ n. map (seen_copy now kept.since) (range_with_len 0 n)) (length-map kept.table.copies closed)
+      ∙ map-alike (seen_copy now kept.since) (λ p. copy.closed (seen_copy kept.table kept.since p)) (range_with_len 0 count) copies-closed
+      ∙ sym (map-both (seen_copy kept.table kept.since) copy.closed (range_with_len 0 count)) in
+      ap (λ s. with_memory (node_seen kept) (record (seen (closed_at kept stamp)) { store = s })) (store-closed sound whole next)
+      ∙ ap (λ cs. with_memory (node_seen kept) (record (seen (closed_at kept stamp)) { store = (with_interval kept.me stamp (seen kept)).store; copies = cs })) copies
+      ∙ ap (λ bs. with_memory (node_seen kept) (record (with_interval kept.me stamp (seen kept)) { bases = bs })) bases-closed
+      ∙ ap (λ (n : NodeMemory). with_memory n (with_interval n.me stamp n.memory)) is
+
+  pub unsized : (ps : List ℕ) → All (λ (n : NoticeRecord). ForSome n.changes (λ cs. All (λ c. c.offset < words_of kept.table.size) cs)) (map unread ps)
+  unsized ps = All-map (λ (n : NoticeRecord). ForSome n.changes (λ cs. All (λ c. c.offset < words_of kept.table.size) cs)) unread ps (λ k d within cs is. absurd (cc))
+
+  pub no_later : IsKept kept → (page : ℕ) → get_or kept.named page 0 ≤ entry kept.store.last kept.me
+  no_later is page =
+      ⊎_elim
+      (λ (within : page < length kept.named). is.passed page 0 within)
+      (λ (past : length kept.named ≤ page). omega (arith, get_or_past kept.named page 0 past))
+      (cases_lt page (length kept.named))
+
+  unmade-closed : IsKept kept → entry stamp kept.me ≡ entry kept.store.last kept.me + 1 → (page : ℕ) (changes : List Change)
+      → pending_changes (copy_at (with_each kept.table closed) page) ≡ Some changes
+      → notice_at (added kept.store (interval_at kept stamp)) (record { node = kept.me; index = get_or (closed_at kept stamp).named page 0; page = page })
+      ≡ Some (record { page = page; changes = None })
+  unmade-closed is next page changes pending = by_test (is_written (copy_at kept.table page).state) refl
+    where
+      by_test : (b : Bool) → is_written (copy_at kept.table page).state ≡ b
+          → notice_at (added kept.store (interval_at kept stamp)) (record { node = kept.me; index = get_or (closed_at kept stamp).named page 0; page = page })
+          ≡ Some (record { page = page; changes = None })
+      by_test true w =
+          let there = member page w in
+          let within : page < length kept.named = omega (arith, is.named, ((contains-written kept.table page).0 there).0) in
+          ap (λ i. notice_at (added kept.store (interval_at kept stamp)) (record { node = kept.me; index = i; page = page }))
+          (named-here (entry stamp kept.me) (written_pages kept.table) kept.named page within there)
+          ∙ notice_at-added kept.store (interval_at kept stamp) page is.store next there
+      by_test false w =
+          let before : pending_changes (copy_at kept.table page) ≡ Some changes =
+          sym (ap pending_changes (each page ∙ ap (λ b. cond b (record (copy_at kept.table page) { state = Valid }) (copy_at kept.table page)) w)) ∙ pending in
+          let low : get_or kept.named page 0 ≤ entry kept.store.last kept.me = no_later is page in
+          ap (λ i. notice_at (added kept.store (interval_at kept stamp)) (record { node = kept.me; index = i; page = page }))
+          (named-other (entry stamp kept.me) (written_pages kept.table) kept.named page
+          (λ there. true≢false (sym ((contains-written kept.table page).0 there).1 ∙ w)))
+          ∙ ap (option_and_then (notice_of page))
+          (stored_at-added_other kept.store (interval_at kept stamp) kept.me (get_or kept.named page 0)
+          (λ same. let index : get_or kept.named page 0 ≡ entry stamp kept.me = same.1 in absurd (omega (arith, index, low, next))))
+          ∙ is.unmade page changes before
+
+  pub kept-closed : IsKept kept → All (IsWhole kept.table.size) kept.table.copies → IsStore (added kept.store (interval_at kept stamp))
+      → length stamp ≡ length kept.store.last → entry stamp kept.me ≡ entry kept.store.last kept.me + 1 → IsKept (closed_at kept stamp)
+  kept-closed is whole sound long next =
+      let index = entry stamp kept.me in
+      let last = length-set kept.store.last kept.me index in
+      let count = length-map kept.table.copies closed in
+      let own : entry (set kept.store.last kept.me index) kept.me ≡ index = get_or-set_same kept.store.last kept.me index 0 is.me in record {
+        pages = is.pages ∙ sym count;
+        since = is.since ∙ sym count;
+        named = length-named index (written_pages kept.table) kept.named ∙ is.named ∙ sym count;
+        keepers = is.keepers ∙ sym count;
+        me = omega (arith, last, is.me);
+        times = All-weaker (λ (t : List ℕ). length t ≡ length kept.store.last) (λ (t : List ℕ). length t ≡ length (set kept.store.last kept.me index))
+            (λ t h. h ∙ sym last) kept.since is.times;
+        collected = is.collected ∙ sym last;
+        keeping = All-weaker (λ k. k < length kept.store.last) (λ k. k < length (set kept.store.last kept.me index)) (λ k h. omega (arith, last, h)) kept.keepers is.keeping;
+        makers = subst (All (λ (i : IntervalRecord). i.node < length (set kept.store.last kept.me index))) (sym (intervals_of-added kept.store (interval_at kept stamp)))
+            (All-push (λ (i : IntervalRecord). i.node < length (set kept.store.last kept.me index)) (intervals_of kept.store) (interval_at kept stamp)
+            (All-weaker (λ (i : IntervalRecord). i.node < length kept.store.last) (λ (i : IntervalRecord). i.node < length (set kept.store.last kept.me index))
+            (λ i h. omega (arith, last, h)) (intervals_of kept.store) is.makers)
+            (omega (arith, last, is.me)));
+        passed = all-named (λ i. i ≤ entry (set kept.store.last kept.me index) kept.me) index (written_pages kept.table) kept.named (omega (arith, own))
+            (All-weaker (λ i. i ≤ entry kept.store.last kept.me) (λ i. i ≤ entry (set kept.store.last kept.me index) kept.me)
+            (λ i h. omega (arith, own, next, h)) kept.named is.passed);
+        store = sound;
+        sized = All-push (AreSized kept.table.size) kept.store.entries (without_changes (interval_at kept stamp)) is.sized (unsized (written_pages kept.table));
+        unmade = λ page changes pending. unmade-closed is next page changes pending;
+      }
+
+-- ---- where the interval could not be stored
+
+pub kept-dropped : (kept : Kept) → IsKept kept → IsKept (record kept { table = with_each (with_each kept.table closed) without_twin })
+kept-dropped kept is =
+    let now = with_each (with_each kept.table closed) without_twin in
+    let count : length now.copies ≡ length kept.table.copies =
+    length-map (with_each kept.table closed).copies without_twin ∙ length-map kept.table.copies closed in record {
+      pages = is.pages ∙ sym count;
+      since = is.since ∙ sym count;
+      named = is.named ∙ sym count;
+      keepers = is.keepers ∙ sym count;
+      me = is.me;
+      times = is.times;
+      collected = is.collected;
+      keeping = is.keeping;
+      makers = is.makers;
+      passed = is.passed;
+      store = is.store;
+      sized = is.sized;
+      unmade = λ page changes pending.
+          let nothing : Some changes ≡ None =
+          sym pending
+          ∙ ap pending_changes (get_or-mapped without_twin (with_each kept.table closed).copies page (fresh []))
+          ∙ pending-untwinned (copy_at (with_each kept.table closed) page) in
+          absurd (cc);
+    }
+
+-- ---- after the calls
+
+pub told_ok : {X E : Type 0} {P : Type 0} (r : Result X E) → OnOk r P → is_err r ≡ false → P
+told_ok (Ok x) told fine = told
+told_ok (Err e) told fine = absurd (cc)
+
+pub told_err : {X E : Type 0} {P : Type 0} (r : Result X E) → OnErr r P → is_err r ≡ true → P
+told_err (Ok x) told bad = absurd (cc)
+told_err (Err e) told bad = told
+
+pub interval-is : (kept : Kept) (stamp copied w : List ℕ) (interval : IntervalRecord) → interval ≡ record { node = kept.me; stamp = copied; pages = w }
+    → copied ≡ stamp → w ≡ written_pages kept.table → interval ≡ interval_at kept stamp
+interval-is kept stamp copied w interval is copied_is w_is =
+    is
+    ∙ ap (λ s. record { node = kept.me; stamp = s; pages = w }) copied_is
+    ∙ ap (λ w. record { node = kept.me; stamp = stamp; pages = w }) w_is
+
+pub closed-is : (kept : Kept) (stamp named pages : List ℕ) (index : ℕ) (interval : IntervalRecord) (store : StoreRecord) (table : Table)
+    → interval ≡ interval_at kept stamp → store ≡ added kept.store interval → table ≡ with_each kept.table closed
+    → pages ≡ interval.pages → index ≡ index_of interval → named ≡ fold (named_with index) kept.named pages
+    → record kept { store = store; table = table; named = named } ≡ closed_at kept stamp
+closed-is kept stamp named pages index interval store table is store_is table_is pages_are index_is named_is =
+    let names : named ≡ (closed_at kept stamp).named =
+    named_is
+    ∙ ap (λ ps. fold (named_with index) kept.named ps) (pages_are ∙ ap (λ (i : IntervalRecord). i.pages) is)
+    ∙ ap (λ i. fold (named_with i) kept.named (written_pages kept.table)) (index_is ∙ ap index_of is) in
+    ap (λ s. record kept { store = s; table = table; named = named }) (store_is ∙ ap (added kept.store) is)
+    ∙ ap (λ t. record kept { store = added kept.store (interval_at kept stamp); table = t; named = named }) table_is
+    ∙ ap (λ ns. record kept { store = added kept.store (interval_at kept stamp); table = with_each kept.table closed; named = ns }) names
+
+pub written-below : (table : Table) (count : ℕ) (w : List ℕ) → w ≡ written_pages table → length table.copies ≡ count → All (λ page. page < count) w
+written-below table count w is long =
+    subst (All (λ page. page < count)) (sym is)
+    (λ k d within.
+    let inside = Contains-get_or (written_pages table) k d within in
+    omega (arith, ((contains-written table (get_or (written_pages table) k d)).0 inside).0, long))

@@ -9,3 +9,6 @@ pub mod Loops
 pub mod Mending
 pub mod Discards
 pub mod Closes
+pub mod Learns
+pub mod Attaches
+pub mod Needs

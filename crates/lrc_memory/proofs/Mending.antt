@@ -45,7 +45,7 @@ map-within P f g (x ∷ xs) all same =
     cc (same x (all 0 x (omega arith)), map-within P f g xs (λ k d within. all (suc k) d (omega arith)) same)
 
 -- of a page with nothing to make
-unmade-none : (kept : Kept) (page : ℕ) (key : Key) → key.page ≡ page → pending_changes (copy_at kept.table page) ≡ None
+pub unmade-none : (kept : Kept) (page : ℕ) (key : Key) → key.page ≡ page → pending_changes (copy_at kept.table page) ≡ None
     → unmade kept.me kept.named kept.table key ≡ None
 unmade-none kept page key same none =
     ap (λ found. cond (eqb key.node kept.me && eqb (get_or kept.named key.page 0) key.index) found None)

@@ -175,7 +175,7 @@ settled-seen kept page p within =
     (cases_eq p page)
 
 -- what is still to make: of the page nothing, of others as before
-unmade-here : (kept : Kept) (page : ℕ) (copy : PageCopy) (key : Key) → page < length kept.table.copies → key.page ≡ page
+pub unmade-here : (kept : Kept) (page : ℕ) (copy : PageCopy) (key : Key) → page < length kept.table.copies → key.page ≡ page
     → pending_changes copy ≡ None → unmade kept.me kept.named (with_copy kept.table page copy) key ≡ None
 unmade-here kept page copy key within same none =
     ap (λ p. cond (eqb key.node kept.me && eqb (get_or kept.named key.page 0) key.index) (pending_changes (copy_at (with_copy kept.table page copy) p)) None) same
@@ -211,7 +211,7 @@ unmade-other kept page key same apart =
     ∙ ap (λ (i : ℕ). record { node = kept.me; index = i; page = key.page }) (sym index)
     ∙ ap (λ (p : ℕ). record { node = kept.me; index = get_or kept.named p 0; page = p }) same)))
 
-unmade-on : (kept : Kept) (page : ℕ) → unmade kept.me kept.named kept.table (key_on kept page) ≡ pending_changes (copy_at kept.table page)
+pub unmade-on : (kept : Kept) (page : ℕ) → unmade kept.me kept.named kept.table (key_on kept page) ≡ pending_changes (copy_at kept.table page)
 unmade-on kept page =
     ap (λ b. cond (b && eqb (get_or kept.named page 0) (get_or kept.named page 0)) (pending_changes (copy_at kept.table page)) None) (eq-eqb kept.me kept.me refl)
     ∙ ap (λ b. cond b (pending_changes (copy_at kept.table page)) None) (eq-eqb (get_or kept.named page 0) (get_or kept.named page 0) refl)
@@ -273,7 +273,7 @@ sized-attached size store key changes fit all =
     by_test s here true = sized-notice size key.page changes s.notices fit here
     by_test s here false = here
 
-kept-store : (kept : Kept) (key : Key) (changes : List Change) → IsKept kept → All (λ c. c.offset < words_of kept.table.size) changes
+pub kept-store : (kept : Kept) (key : Key) (changes : List Change) → IsKept kept → All (λ c. c.offset < words_of kept.table.size) changes
     → ((page : ℕ) (cs : List Change) → pending_changes (copy_at kept.table page) ≡ Some cs → key_on kept page ≢ key)
     → IsKept (record kept { store = attached kept.store key changes })
 kept-store kept key changes is fit apart = record {
@@ -355,3 +355,10 @@ after-settle kept page named store table named_is table_is store_is =
 
 pub same-parts : (kept : Kept) (store : StoreRecord) (table : Table) → table ≡ kept.table → store ≡ kept.store → with_parts kept store table ≡ kept
 same-parts kept store table table_is store_is = ap (with_parts kept store) table_is ∙ ap (λ s. with_parts kept s kept.table) store_is
+
+pub last-settled : (kept : Kept) (page : ℕ) → length (settled_at kept page).store.last ≡ length kept.store.last
+last-settled kept page = by_found (pending_changes (copy_at kept.table page))
+  where
+    by_found : (found : Option (List Change)) → length (settled_store kept.store (key_on kept page) found).last ≡ length kept.store.last
+    by_found None = refl
+    by_found (Some changes) = refl

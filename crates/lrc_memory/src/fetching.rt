@@ -1,23 +1,27 @@
 // What a node gives to others, and takes from them.
 
-ghost use Rattle.std.specs.Prelude.{◌≡◌, ◌<◌, All, IfOk, OnOk, fold, length, true, []};
-ghost use Rattle.lrc_protocol.specs.Memory.{changes_or_none, copy_at, keeper_at};
-ghost use Rattle.lrc_protocol.specs.Fetch.{mended, need_of};
+ghost use Rattle.std.specs.Prelude.{◌≡◌, ◌<◌, Some, All, IfOk, OnOk, fold, length, true, []};
+ghost use Rattle.lrc_protocol.specs.Memory.{changes_or_none, copy_at, keeper_at, lacking};
+ghost use Rattle.lrc_protocol.specs.Fetch.{mended, need_of, unknown_of};
+ghost use Rattle.lrc_page.specs.Page.{words_of};
+ghost use Rattle.lrc_store.specs.Store.{notice_at, unread, attached};
 ghost use Rattle.lrc_protocol.specs.Take.{with_part};
 ghost use Rattle.lrc_table.specs.Table.{with_copy};
 ghost use Rattle.lrc_table.specs.Table as tables;
+ghost use Rattle.lrc_mail.specs.Need.{AreAskable};
 ghost use Rattle.lrc_mail.specs.Seen.{seen_base};
-ghost use Rattle.lrc_memory.specs.Steps.{begun_with, patched_with};
+ghost use Rattle.lrc_memory.specs.Steps.{base_in, begun_with, patched_with};
 ghost use Rattle.lrc_memory.specs.View.{AreSized, SameMemory, seen_in, with_memory};
 ghost use Rattle.lrc_memory.specs.Turns.{AreAwaited, is_mendable};
 
 use crate::memory::Memory;
+use crate::settle::settle_page;
 use lrc_mail::{Base, Need};
 use lrc_page::Changes;
 use lrc_store::{Key, Store};
 use lrc_table::{PageTable, State};
 use lrc_wire::Parts;
-use std::alloc::AllocError;
+use std::alloc::{AllocError, Global};
 
 impl Memory {
     /// What the node's own interval of this index changed in a page, for a reply. Nothing where no such changes are known.
@@ -28,7 +32,16 @@ impl Memory {
         ensures ok { OnOk result (self.new ≡ self.old) }
         ensures same { SameMemory self.old self.new }
     {
-        Err(AllocError)
+        settle_page(
+            &mut self.table,
+            &mut self.store,
+            self.me,
+            &self.named,
+            page,
+        )?;
+        let alloc = *self.named.allocator();
+        let node = self.me;
+        changes_or_none(alloc, &self.store, Key { node, index, page })
     }
 
     /// Stores what intervals of a maker changed in a page.
@@ -38,7 +51,22 @@ impl Memory {
             (record self.old.memory { store = fold (with_part maker page) self.old.memory.store parts.now })) }
         ensures same { SameMemory self.old self.new }
     {
-        Err(AllocError)
+        for part in parts.as_slice() {
+            let node = maker;
+            let index = part.index;
+            self.keep(Key { node, index, page }, part.changes.duplicate()?);
+        }
+        Ok(())
+    }
+
+    /// Keeps the changes of a stored notice of which none are known.
+    fn keep(&mut self, key: Key, changes: Changes)
+        requires awaited { notice_at self.old.memory.store key ≡ Some (unread key.page) }
+        requires sized { All (λ c. c.offset < words_of self.old.size) changes }
+        ensures kept { self.new ≡ with_memory self.old (record self.old.memory { store = attached self.old.memory.store key changes }) }
+        ensures same { SameMemory self.old self.new }
+    {
+        self.store.attach(key, changes);
     }
 
     /// What a page needs before it can be read: a base copy where its copy is absent, and the changes that its copy lacks,
@@ -48,8 +76,36 @@ impl Memory {
         ensures need { IfOk result (λ need. need ≡ need_of (length self.now.memory.store.last) self.now.memory page) }
         ensures keeper { keeper_at self.now.memory page < length self.now.memory.store.last }
     {
-        let _kept = self.keepers[usize::from(page)];
-        Err(AllocError)
+        let alloc = *self.named.allocator();
+        let missing = self.lacking(page)?;
+        let unknown = unknown_of(alloc, &self.store, &missing)?;
+        let _few = self.table.size();
+        let keeper = self.keepers[usize::from(page)];
+        let base = base_due(self.table.state(page), keeper);
+        Need::new(
+            alloc,
+            self.collected.nodes(),
+            page,
+            base,
+            missing,
+            &unknown,
+        )
+    }
+
+    /// The notices of a page that its copy lacks, in the order in which their changes are applied.
+    fn lacking(&self, page: u16) -> Result<Vec<Key>, AllocError>
+        requires { page < length self.now.memory.copies }
+        ensures keys { IfOk result (λ keys. keys.items ≡ lacking self.now.memory page) }
+        ensures askable { IfOk result (λ keys. AreAskable keys.items) }
+    {
+        match self.table.state(page) {
+            State::Invalid => {
+                let since = &self.since[usize::from(page)];
+                self.store.missing(page, since)
+            }
+            State::Absent => self.store.missing(page, &self.collected),
+            _ => Ok(Vec::new(*self.named.allocator())),
+        }
     }
 
     /// Repairs a page whose copy is not readable: what it lacks is applied to the base copy that came, or else to the
@@ -92,5 +148,38 @@ fn patch_all(table: &mut PageTable, store: &Store, page: u16, keys: &[Key])
         if let Some(changes) = store.changes(*key) {
             table.patch(page, changes);
         }
+    }
+}
+
+/// The changes of a key, and none where they are not known.
+fn changes_or_none(alloc: Global, store: &Store, key: Key) -> Result<Changes, AllocError>
+    ensures { IfOk result (λ changes. changes ≡ changes_or_none store.now key) }
+{
+    match store.changes(key) {
+        Some(changes) => changes.duplicate(),
+        None => Ok(Changes::empty(alloc)),
+    }
+}
+
+/// The keys of which no changes are known.
+fn unknown_of(alloc: Global, store: &Store, keys: &[Key]) -> Result<Vec<Key>, AllocError>
+    ensures { IfOk result (λ unknown. unknown.items ≡ unknown_of store.now keys.now) }
+{
+    let mut unknown = Vec::new(alloc);
+    for key in keys {
+        if store.changes(*key).is_none() {
+            unknown.push(*key)?;
+        }
+    }
+    Ok(unknown)
+}
+
+/// A base copy is due from the keeper where the copy is absent.
+fn base_due(state: State, keeper: u8) -> Base
+    ensures { seen_base result ≡ base_in state keeper }
+{
+    match state {
+        State::Absent => Base::Due(keeper),
+        State::Valid | State::Written | State::Invalid => Base::Unneeded,
     }
 }

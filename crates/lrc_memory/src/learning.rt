@@ -1,14 +1,18 @@
 // What a node knows of the intervals of all nodes.
 
-ghost use Rattle.std.specs.Prelude.{◌≡◌, ◌<◌, IfOk, OnOk, is_some, length};
+ghost use Rattle.std.specs.Prelude.{◌≡◌, ◌<◌, ◌+◌, IfOk, OnOk, is_some, length};
 ghost use Rattle.lrc_time.specs.Time.{entry};
 ghost use Rattle.lrc_store.specs.Store.{newer_of, notice_at};
 ghost use Rattle.lrc_protocol.specs.Memory.{learned};
+ghost use Rattle.lrc_store.specs.Interval.{index_of};
+ghost use Rattle.lrc_memory.specs.Steps.{invalidated_on, learned_one};
 ghost use Rattle.lrc_memory.specs.View.{SameMemory, with_memory};
-ghost use Rattle.lrc_memory.specs.Turns.{CanBeAdded};
+ghost use Rattle.lrc_memory.specs.Turns.{CanBeAdded, IsInRange};
 
 use crate::memory::Memory;
-use lrc_store::Intervals;
+use crate::settle::settle_page;
+use lrc_store::{Interval, Intervals};
+use lrc_table::State;
 use lrc_time::Time;
 use std::alloc::AllocError;
 
@@ -21,7 +25,47 @@ impl Memory {
         ensures ok { OnOk result (self.new ≡ with_memory self.old (learned before.now intervals.now self.old.memory)) }
         ensures same { SameMemory self.old self.new }
     {
-        Err(AllocError)
+        for interval in intervals.as_slice() {
+            self.learn_one(before, interval)?;
+        }
+        Ok(())
+    }
+
+    /// Learns one interval, which follows the last one added of its node.
+    fn learn_one(&mut self, before: &Time, interval: &Interval) -> Result<(), AllocError>
+        requires before { length before.now ≡ length self.old.memory.store.last }
+        requires in_range { IsInRange self.old.memory.store interval.now }
+        requires next { index_of interval.now ≡ entry self.old.memory.store.last interval.now.node + 1 }
+        ensures ok { OnOk result (self.new ≡ with_memory self.old (learned_one before.now self.old.memory interval.now)) }
+        ensures same { SameMemory self.old self.new }
+    {
+        self.store.add(interval)?;
+        for page in interval.pages.as_slice() {
+            self.invalidate(before, *page)?;
+        }
+        Ok(())
+    }
+
+    /// Makes a valid copy of a page invalid, at a time before the write of another node is known. Another copy stays.
+    fn invalidate(&mut self, before: &Time, page: u16) -> Result<(), AllocError>
+        requires before { length before.now ≡ length self.old.memory.store.last }
+        requires in_range { page < length self.old.memory.copies }
+        ensures ok { OnOk result (self.new ≡ with_memory self.old
+            (record self.old.memory { copies = invalidated_on before.now self.old.memory.copies page })) }
+        ensures same { SameMemory self.old self.new }
+    {
+        if let State::Valid = self.table.state(page) {
+            settle_page(
+                &mut self.table,
+                &mut self.store,
+                self.me,
+                &self.named,
+                page,
+            )?;
+            self.table.invalidate(page);
+            self.since[usize::from(page)] = before.copy();
+        }
+        Ok(())
     }
 
     /// The intervals that `upto` knows and `since` does not, ascending by node and index.

@@ -157,9 +157,9 @@ impl Memory {
 }
 
 /// Sets the index for each of these pages.
-fn name_pages(named: &mut [u32], pages: &[u16], index: u32)
-    requires { All (λ page. page < length named.old) pages.now }
-    ensures { named.new ≡ fold (λ named page. slice_set named page index) named.old pages.now }
+fn name_pages(named: &mut Vec<u32>, pages: &[u16], index: u32)
+    requires { All (λ page. page < length named.old.items) pages.now }
+    ensures { named.new.items ≡ fold (λ named page. slice_set named page index) named.old.items pages.now }
 {
     for page in pages {
         named[usize::from(*page)] = index;

@@ -4,6 +4,7 @@ pub mod Effects
 pub mod States
 pub mod CanRun
 pub mod Turns
+pub mod InRange
 pub mod Episodes
 pub mod Misses
 pub mod CanTake

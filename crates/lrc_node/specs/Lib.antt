@@ -8,3 +8,4 @@ pub mod Seen
 pub mod Fault
 pub mod Node
 pub mod Taking
+pub mod Ranges

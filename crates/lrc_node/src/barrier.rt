@@ -1,7 +1,9 @@
 // A node's part in barriers.
 
-ghost use Rattle.std.specs.Prelude.{◌≡◌, ◌⊎◌, ℕ, ◌<◌, ◌≤◌, IfOk, IfErr, IfSome, None, OnErr, Some, length};
-ghost use Rattle.lrc_barrier.specs.Barrier.{IsArrival};
+ghost use Rattle.std.specs.Prelude.{◌≡◌, ◌⊎◌, ℕ, ◌<◌, ◌≤◌, IfOk, IfErr, IfSome, None, OnErr, Some, length, false, option_map, unwrap_or};
+ghost use Rattle.lrc_barrier.specs.Barrier.{is_accepted, IsArrival};
+ghost use Rattle.lrc_barrier.specs.declared.arrival.Arrival.{Arrival as ArrivalRecord};
+ghost use Rattle.lrc_protocol.specs.Expected.{is_clean};
 ghost use Rattle.lrc_protocol.specs.Barrier.{arrive_step, clean_step, fresh_barrier, last_from, with_arrive};
 ghost use Rattle.lrc_protocol.specs.Mail.{MOST_NUMBER};
 ghost use Rattle.lrc_node.specs.Barrier.{arrival_taken, clean_taken, AreDepartures, IsOfNodes, SameBarrier};
@@ -84,6 +86,28 @@ impl Barrier {
         match &self.manager {
             Some(manager) => manager.last(from),
             None => 0,
+        }
+    }
+
+    /// Whether the manager is here and would accept a node's arrival at this episode.
+    pub(crate) fn accepts(&self, from: u8, episode: u32) -> bool
+        requires { IfSome self.now.manager (λ manager. from < length manager.last) }
+        ensures { (arrival : ArrivalRecord) → arrival.episode ≡ episode → result ≡ unwrap_or (option_map is_accepted (arrive_step self.now from arrival)) false }
+    {
+        match &self.manager {
+            Some(manager) => manager.accepts(from, episode),
+            None => false,
+        }
+    }
+
+    /// Whether the manager is here and would accept a node's Clean for this episode.
+    pub(crate) fn accepts_clean(&self, from: u8, episode: u32) -> bool
+        requires { IfSome self.now.manager (λ manager. from < length manager.last) }
+        ensures { result ≡ unwrap_or (option_map is_clean (clean_step self.now from episode)) false }
+    {
+        match &self.manager {
+            Some(manager) => manager.accepts_clean(from, episode),
+            None => false,
         }
     }
 

@@ -1,11 +1,12 @@
 // A node's clock, the tokens that it has or awaits, and the locks that it manages.
 
-ghost use Rattle.std.specs.Prelude.{◌≡◌, ◌<◌, ◌≤◌, IfOk, IfSome, IsTrue, length};
+ghost use Rattle.std.specs.Prelude.{◌≡◌, ℕ, ◌<◌, ◌≤◌, List, IfOk, IfSome, IsTrue, length};
 ghost use Rattle.lrc_time.specs.Time.{entry};
 ghost use Rattle.lrc_lock.specs.Held.{answer_of, asked, forwarded, grant_answer, granted, held_after, is_free, is_held, lock_at, pass_of, released, taken};
 ghost use Rattle.lrc_lock.specs.Lock.{IsPass};
 ghost use Rattle.lrc_lock.specs.Managed.{managed_after, requested, answer_of as request_answer};
 ghost use Rattle.lrc_lock.specs.declared.state.LockState.TheVariants.{Away};
+ghost use Rattle.lrc_protocol.specs.Expected.{is_taken};
 ghost use Rattle.lrc_protocol.specs.Locks.{fresh_locks, ticked, with_held, with_managed, with_time};
 ghost use Rattle.lrc_protocol.specs.Mail.{MOST_NUMBER};
 ghost use Rattle.lrc_node.specs.Clock.{IsClock, SameClock};
@@ -116,6 +117,14 @@ impl Clock {
     {
         let now = self.time.copy();
         self.held.release(lock, now)
+    }
+
+    /// Whether another node's request would be taken now, if it were forwarded to this one.
+    pub(crate) fn accepts(&self, lock: u8, asker: u8) -> bool
+        requires { lock < length self.now.held.locks }
+        ensures { (time : List ℕ) → result ≡ is_taken (forwarded self.now.held lock asker time) }
+    {
+        self.held.accepts(lock, asker)
     }
 
     /// Another node's request, with its time, is forwarded to this one. The pass is there if the token leaves at once.

@@ -1,0 +1,74 @@
+use Rattle.std.proofs.Common.{◌≡◌, ◌∙◌, ◌+◌, ◌<◌, ap, length, get_or, sym, subst, refl, [], true, false, arith}
+use Rattle.std.specs.Prelude.{All}
+use Rattle.std.proofs.lemmas.List.{length-map, get_or_default}
+use Rattle.lrc_time.specs.Time.{entry}
+use Rattle.lrc_store.specs.Interval.{IntervalRecord, index_of}
+use Rattle.lrc_store.specs.Store.{StoreRecord, IsStore, added}
+use Rattle.lrc_table.specs.PageCopy.{PageCopy, closed, fresh, without_twin}
+use Rattle.lrc_table.specs.Table.{Table, with_each}
+use Rattle.lrc_table.proofs.Tables.{closed-none}
+use Rattle.lrc_memory.specs.View.{Kept, NodeMemory, IsKept, node_seen}
+use Rattle.lrc_memory.proofs.Inside.{kept}
+use Rattle.lrc_memory.proofs.Closes.{closed_at, interval_at, told_ok, told_err, interval-is, closed-is, written-below, kept-dropped, kept-closed, seen-closed}
+use Rattle.lrc_memory.proofs.memory.Memory.close.Goals as goal
+
+pub add-requires-clause-pages : goal.add-requires-clause-pages
+add-requires-clause-pages c =
+    subst (All (λ page. page < c.self.inside.store.pages)) (sym (ap (λ (i : IntervalRecord). i.pages) c.new-interval.ensures))
+    (written-below c.self.inside.table c.self.inside.store.pages c.in_ok-pages.pages c.in_ok-pages.ensures.pages (sym c.self.invariant.pages))
+
+pub drop_twins-requires : goal.drop_twins-requires
+drop_twins-requires c = λ k d within written.
+    let table : c.close.new.self ≡ with_each c.self.inside.table closed = c.in_ok-pages.ensures.ok in
+    closed-none c.self.inside.table k
+    (ap (λ (t : Table). (get_or t.copies k (fresh [])).state) (sym table)
+    ∙ ap (λ (c : PageCopy). c.state) (get_or_default c.close.new.self.copies k (fresh []) d within) ∙ written)
+
+pub invariant_of-self-then-is_err : goal.invariant_of-self-then-is_err
+invariant_of-self-then-is_err c =
+    let k = kept c.self.inside in
+    let store : c.add.new.self ≡ c.self.inside.store = told_err c.add.result c.add.ensures.err (sym c.is_err.ensures.value ∙ c.if-is_err.true) in
+    let table = c.drop_twins.ensures ∙ ap (λ (t : Table). with_each t without_twin) c.in_ok-pages.ensures.ok in
+    subst IsKept
+    (sym (ap (λ (s : StoreRecord). record k { store = s; table = c.drop_twins.new.self }) store ∙ ap (λ (t : Table). record k { table = t }) table))
+    (kept-dropped k c.self.invariant)
+
+pub name_pages-requires : goal.name_pages-requires
+name_pages-requires c =
+    subst (All (λ page. page < length c.self.inside.named.items))
+    (sym (c.as_slice.ensures ∙ ap (λ (i : IntervalRecord). i.pages) (c.interval.view_is ∙ c.new-interval.ensures)))
+    (written-below c.self.inside.table (length c.self.inside.named.items) c.in_ok-pages.pages c.in_ok-pages.ensures.pages (sym c.self.invariant.named))
+
+done : (c : goal.After-drop-interval-inside-2)
+    → record (kept c.self.inside) { store = c.add.new.self; table = c.close.new.self; named = c.name_pages.new.named.items }
+    ≡ closed_at (kept c.self.inside) c.args.stamp.now
+done c =
+    let k = kept c.self.inside in
+    closed-is k c.args.stamp.now c.name_pages.new.named.items c.as_slice.result.now c.index.result c.new-interval.result c.add.new.self c.close.new.self
+    (interval-is k c.args.stamp.now c.copy.result c.in_ok-pages.pages c.new-interval.result c.new-interval.ensures c.copy.ensures c.in_ok-pages.ensures.pages)
+    (told_ok c.add.result c.add.ensures.ok (sym c.is_err.ensures.value ∙ c.if-is_err.false))
+    c.in_ok-pages.ensures.ok
+    (c.as_slice.ensures ∙ ap (λ (i : IntervalRecord). i.pages) c.interval.view_is)
+    c.index.ensures.index
+    c.name_pages.ensures
+
+next : (c : goal.After-drop-interval-inside-2)
+    → entry c.args.stamp.now c.self.inside.me ≡ entry c.self.inside.store.last c.self.inside.me + 1
+next c =
+    subst (λ (n : NodeMemory). entry c.args.stamp.now n.me ≡ entry n.memory.store.last n.me + 1) (sym c.self.view_is) c.requires.next
+
+pub invariant_of-self-2 : goal.invariant_of-self-2
+invariant_of-self-2 c =
+    let k = kept c.self.inside in
+    let interval = interval-is k c.args.stamp.now c.copy.result c.in_ok-pages.pages c.new-interval.result c.new-interval.ensures c.copy.ensures c.in_ok-pages.ensures.pages in
+    let store = told_ok c.add.result c.add.ensures.ok (sym c.is_err.ensures.value ∙ c.if-is_err.false) in
+    subst IsKept (sym (done c))
+    (kept-closed k c.args.stamp.now c.self.invariant c.size-whole.ensures.whole
+    (subst IsStore (store ∙ ap (added c.self.inside.store) interval) c.add.ensures.sound)
+    (c.requires.stamp ∙ sym (ap (λ (n : NodeMemory). length n.memory.store.last) c.self.view_is))
+    (next c))
+
+pub returns-clause-ok : goal.returns-clause-ok
+returns-clause-ok c =
+    ap node_seen (done c)
+    ∙ seen-closed (kept c.self.inside) c.args.stamp.now _ c.self.view_is c.self.invariant c.size-whole.ensures.whole (next c)

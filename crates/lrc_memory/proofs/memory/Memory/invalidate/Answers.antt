@@ -1,0 +1,64 @@
+use Rattle.std.proofs.Common.{◌≡◌, ◌∙◌, ◌<◌, ap, length, set, sym, subst, refl, arith}
+use Rattle.std.proofs.lemmas.List.{length-set}
+use Rattle.lrc_store.specs.Store.{StoreRecord}
+use Rattle.lrc_table.specs.declared.slot.State.TheVariants.{Valid}
+use Rattle.lrc_table.specs.Table.{Table, copy_at}
+use Rattle.lrc_memory.specs.View.{Kept, NodeMemory, IsKept, node_seen}
+use Rattle.lrc_memory.proofs.Inside.{kept}
+use Rattle.lrc_memory.proofs.Copies.{within-seen}
+use Rattle.lrc_memory.proofs.Learns.{asked-within, asked-closed, asked-quiet, kept-done, seen-done, stays-seen}
+use Rattle.lrc_memory.proofs.memory.Memory.invalidate.Goals as goal
+
+pub state-requires : goal.state-requires
+state-requires c = within-seen (kept c.self.inside) _ _ c.self.view_is c.requires.in_range
+
+pub settle_page-requires-clause-page : goal.settle_page-requires-clause-page
+settle_page-requires-clause-page c = within-seen (kept c.self.inside) _ _ c.self.view_is c.requires.in_range
+
+pub settle_page-requires-clause-named : goal.settle_page-requires-clause-named
+settle_page-requires-clause-named c =
+    omega (arith, ap length c.deref.ensures.value, c.self.invariant.named, within-seen (kept c.self.inside) _ _ c.self.view_is c.requires.in_range)
+
+pub invalidate-requires-clause-in_range : goal.invalidate-requires-clause-in_range
+invalidate-requires-clause-in_range c =
+    asked-within (kept c.self.inside) c.args.page c.settle_page.new.table (within-seen (kept c.self.inside) _ _ c.self.view_is c.requires.in_range)
+    (sym c.state.ensures ∙ c.in-Valid.is) c.in_ok-settle_page.ensures.table
+
+pub invalidate-requires-clause-closed : goal.invalidate-requires-clause-closed
+invalidate-requires-clause-closed c =
+    asked-closed (kept c.self.inside) c.args.page c.settle_page.new.table (within-seen (kept c.self.inside) _ _ c.self.view_is c.requires.in_range)
+    (sym c.state.ensures ∙ c.in-Valid.is) c.in_ok-settle_page.ensures.table
+
+pub invalidate-requires-clause-settled : goal.invalidate-requires-clause-settled
+invalidate-requires-clause-settled c =
+    asked-quiet (kept c.self.inside) c.args.page c.settle_page.new.table (within-seen (kept c.self.inside) _ _ c.self.view_is c.requires.in_range)
+    (sym c.state.ensures ∙ c.in-Valid.is) c.in_ok-settle_page.ensures.table
+
+pub index_mut-requires : goal.index_mut-requires
+index_mut-requires c =
+    omega (arith, c.from.ensures, c.self.invariant.since, within-seen (kept c.self.inside) _ _ c.self.view_is c.requires.in_range)
+
+pub invariant_of-self-in-Valid : goal.invariant_of-self-in-Valid
+invariant_of-self-in-Valid c =
+    let k = kept c.self.inside in
+    subst (λ p. IsKept (record k { store = c.settle_page.new.store; table = c.invalidate.new.self; since = set k.since p c.copy.result })) (sym c.from.ensures)
+    (kept-done k c.args.page c.args.before.now c.copy.result c.deref.result.now c.settle_page.new.store c.settle_page.new.table c.invalidate.new.self
+    (within-seen k _ _ c.self.view_is c.requires.in_range) (sym c.state.ensures ∙ c.in-Valid.is) c.deref.ensures.value
+    c.in_ok-settle_page.ensures.table c.in_ok-settle_page.ensures.store c.invalidate.ensures c.copy.ensures
+    c.self.invariant c.settle_page.ensures.sized
+    (c.requires.before ∙ sym (ap (λ (n : NodeMemory). length n.memory.store.last) c.self.view_is)))
+
+pub returns-in_ok-settle_page-clause-ok : goal.returns-in_ok-settle_page-clause-ok
+returns-in_ok-settle_page-clause-ok c =
+    let k = kept c.self.inside in
+    ap (λ p. node_seen (record k { store = c.settle_page.new.store; table = c.invalidate.new.self; since = set k.since p c.copy.result })) c.from.ensures
+    ∙ seen-done k c.args.page c.args.before.now c.copy.result c.deref.result.now c.settle_page.new.store c.settle_page.new.table c.invalidate.new.self
+    (within-seen k _ _ c.self.view_is c.requires.in_range) (sym c.state.ensures ∙ c.in-Valid.is) c.deref.ensures.value
+    c.in_ok-settle_page.ensures.table c.in_ok-settle_page.ensures.store c.invalidate.ensures c.copy.ensures
+    c.self.invariant c.settle_page.ensures.sized _ c.self.view_is
+
+pub returns-in_default-clause-ok : goal.returns-in_default-clause-ok
+returns-in_default-clause-ok c =
+    stays-seen (kept c.self.inside) _ c.args.page c.args.before.now c.self.view_is
+    (within-seen (kept c.self.inside) _ _ c.self.view_is c.requires.in_range)
+    (λ valid. c.in_default.not-Valid (c.state.ensures ∙ valid))

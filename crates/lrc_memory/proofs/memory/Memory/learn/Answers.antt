@@ -1,0 +1,58 @@
+use Rattle.std.proofs.Common.{◌≡◌, ◌∙◌, ◌+◌, ◌≤◌, List, drop, take, get_or, ap, length, sym, subst, refl, arith}
+use Rattle.std.specs.Prelude.{fold}
+use Rattle.std.proofs.lemmas.List.{take_all}
+use Rattle.std.proofs.lemmas.List.Sums.{fold_more}
+use Rattle.lrc_store.specs.Interval.{IntervalRecord}
+use Rattle.lrc_store.specs.Store.{StoreRecord}
+use Rattle.lrc_protocol.specs.Memory.{Memory}
+use Rattle.lrc_memory.specs.Steps.{learned_one}
+use Rattle.lrc_memory.specs.Turns.{CanBeAdded, IsInRange}
+use Rattle.lrc_memory.specs.View.{NodeMemory, SameMemory, with_memory}
+use Rattle.lrc_memory.proofs.Learns.{can-at, can-go_on, head-next, learned-all, same-same, same-trans}
+use Rattle.lrc_memory.proofs.memory.Memory.learn.Goals as goal
+
+pub loop-interval-init : goal.loop-interval-init
+loop-interval-init c = record {
+  so_far = refl;
+  rest = subst (CanBeAdded c.args.self.now.memory.store) (sym c.as_slice-interval-items.ensures.all) c.requires.intervals;
+  same = same-same c.args.self.now;
+}
+
+pub learn_one-requires : goal.learn_one-requires
+learn_one-requires c =
+    let k = c.loop-interval.interval-index in
+    let item = c.interval-item.result in
+    let items = c.as_slice-interval-items.result.now in
+    let can = can-at c.loop-interval.self.memory.store items k item c.loop-interval-test.true c.interval-item.is c.loop-interval.invariant.rest in record {
+      before = c.requires.before ∙ sym c.loop-interval.invariant.same.nodes;
+      in_range = can.in_range 0 item (omega arith);
+      next = head-next c.loop-interval.self.memory.store item (drop (k + 1) items) can;
+    }
+
+pub loop-interval-preserved : goal.loop-interval-preserved
+loop-interval-preserved c =
+    let before = c.args.before.now in
+    let n = c.args.self.now in
+    let k = c.loop-interval.interval-index in
+    let item = c.interval-item.result in
+    let items = c.as_slice-interval-items.result.now in
+    let can = can-at c.loop-interval.self.memory.store items k item c.loop-interval-test.true c.interval-item.is c.loop-interval.invariant.rest in record {
+      so_far = c.in_ok-learn_one.ensures.ok
+          ∙ ap (λ (m : NodeMemory). with_memory m (learned_one before m.memory item)) c.loop-interval.invariant.so_far
+          ∙ ap (λ (m : Memory). with_memory n m)
+            (ap (learned_one before (fold (learned_one before) n.memory (take k items))) c.interval-item.is
+            ∙ sym (fold_more (learned_one before) n.memory items k item c.loop-interval-test.true));
+      rest = subst (λ (m : NodeMemory). CanBeAdded m.memory.store (drop (k + 1) items)) (sym c.in_ok-learn_one.ensures.ok)
+          (can-go_on c.loop-interval.self.memory.store item (drop (k + 1) items) can);
+      same = same-trans n c.loop-interval.self c.learn_one.new.self c.loop-interval.invariant.same c.learn_one.ensures.same;
+    }
+
+pub returns-clause-ok : goal.returns-clause-ok
+returns-clause-ok c =
+    let before = c.args.before.now in
+    let n = c.args.self.now in
+    let items = c.as_slice-interval-items.result.now in
+    c.loop-interval.invariant.so_far
+    ∙ ap (λ (is : List IntervalRecord). with_memory n (fold (learned_one before) n.memory is))
+      (take_all c.loop-interval.interval-index items c.loop-interval-test.false ∙ c.as_slice-interval-items.ensures.all)
+    ∙ ap (λ (m : Memory). with_memory n m) (learned-all before c.args.intervals.now n.memory)
