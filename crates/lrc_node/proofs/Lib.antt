@@ -6,3 +6,5 @@ pub mod CanRun
 pub mod Turns
 pub mod InRange
 pub mod Episodes
+pub mod Logging
+pub mod Takes

@@ -8,3 +8,5 @@ pub mod Seen
 pub mod Fault
 pub mod Node
 pub mod Ranges
+pub mod Taken
+pub mod Logged
