@@ -21,6 +21,7 @@ use Rattle.lrc_local.proofs.Tokened.{come_to}
 use Rattle.lrc_local.proofs.Always.{can_be_added, ranged_at, exact_at, quiet_at}
 use Rattle.lrc_memory.specs.Turns.{CanBeAdded, IsInRange}
 use Rattle.lrc_node.specs.Text.{asked_in}
+use Rattle.lrc_node.specs.Taken.{IsTaking}
 use Rattle.lrc_node.specs.Taking.{CanDiscard, CanTake}
 use Rattle.std.specs.Prelude.{AllPairs, map}
 use Rattle.std.proofs.lemmas.List.{length-map, get_or-map}
@@ -169,33 +170,41 @@ apart_pairs needs h = λ i j d before within same.
     omega arith
 
 -- a node that is reached can take what it expects
-pub can_take : (node : Node) → IsReached node → (from number : ℕ) (message : Message) → is_expected node from message ≡ true
-    → CanTake (record node { mail = with_taken from number node.mail }) from message
-can_take node r from number (LockRequest m) e = ltb-true _ _ (and_parts _ _ (and_parts _ _ e).0).0
-can_take node r from number (LockForward m) e =
+pub can_take : (node : Node) → IsReached node → (from sender number : ℕ) (message : Message) → is_expected node from message ≡ true
+    → CanTake (record node { mail = with_taken sender number node.mail }) from message
+can_take node r from sender number (LockRequest m) e = ltb-true _ _ (and_parts _ _ (and_parts _ _ e).0).0
+can_take node r from sender number (LockForward m) e =
     let a = and_parts _ _ (and_parts _ _ (and_parts _ _ e).0).0 in
     let b = and_parts _ _ a.0 in
     (ltb-true _ _ b.0, ltb-true _ _ b.1, eqb-true _ _ a.1)
-can_take node r from number (LockGrant m) e =
+can_take node r from sender number (LockGrant m) e =
     let a = and_parts _ _ e in
     let b = and_parts _ _ a.0 in
     (ltb-true _ _ b.0, granted_asked node r m.lock b.1, news_time node m.time m.intervals a.1, learnable_added node r m.time m.intervals a.1)
-can_take node r from number (Arrive m) e = arriving node from m (and_parts _ _ e).1
-can_take node r from number (Depart m) e =
+can_take node r from sender number (Arrive m) e = arriving node from m (and_parts _ _ e).1
+can_take node r from sender number (Depart m) e =
     let a = and_parts _ _ e in
     let waits = (and_parts _ _ (and_parts _ _ (and_parts _ _ a.0).0).0).1 in
     (departing_asked node r waits, news_time node m.time m.intervals a.1, learnable_added node r m.time m.intervals a.1)
-can_take node r from number (Clean episode) e = tt
-can_take node r from number (Discard episode) e =
+can_take node r from sender number (Clean episode) e = tt
+can_take node r from sender number (Discard episode) e =
     let d = can_discard node r (and_parts _ _ (and_parts _ _ e).0).1 in
     record { next = d.next; closed = d.closed; time = d.time }
-can_take node r from number (ChangesRequest m) e = below_copies node r m.page (and_parts _ _ e).0
-can_take node r from number (ChangesReply m) e = 
+can_take node r from sender number (ChangesRequest m) e = below_copies node r m.page (and_parts _ _ e).0
+can_take node r from sender number (ChangesReply m) e = 
     (awaited_at node r from m e,
-     whatever_mail (with_parts from m node) (with_taken from number node.mail) (with_needs (with_changes m.page from) node.mail.wait) (changes_go_on node r from m e))
-can_take node r from number (PageRequest page) e = below_copies node r page (and_parts _ _ (and_parts _ _ e).0).0
-can_take node r from number (PageReply m) e =
+     whatever_mail (with_parts from m node) (with_taken sender number node.mail) (with_needs (with_changes m.page from) node.mail.wait) (changes_go_on node r from m e))
+can_take node r from sender number (PageRequest page) e = below_copies node r page (and_parts _ _ (and_parts _ _ e).0).0
+can_take node r from sender number (PageReply m) e =
     let a = and_parts _ _ e in
     (apart_pairs (needs_of node.mail.wait) (ascends-pairs (map (λ (need : Need). need.page) (needs_of node.mail.wait)) (needed_at node r).apart),
-     whatever_mail node (with_taken from number node.mail) (with_needs (with_page m.page m.values) node.mail.wait)
+     whatever_mail node (with_taken sender number node.mail) (with_needs (with_page m.page m.values) node.mail.wait)
      (page_goes_on node r from m.page m.values (eqb-true _ _ (and_parts _ _ a.0).1) a.1))
+
+-- a node that has just taken the number of a message can take the message
+pub taking_can : (node : Node) (from : ℕ) (message : Message) → IsTaking node from message → CanTake node from message
+taking_can node from message is =
+    subst (λ n. CanTake n from message) (sym is.now) (can_take is.before is.reached from is.envelope.from is.envelope.number message is.expected)
+
+pub taking_from : (node : Node) (from : ℕ) (message : Message) → IsTaking node from message → from < node.setting.nodes
+taking_from node from message is = subst (λ (n : Node). from < n.setting.nodes) (sym is.now) is.one_of_them

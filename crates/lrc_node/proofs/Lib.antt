@@ -9,3 +9,5 @@ pub mod Episodes
 pub mod Misses
 pub mod CanTake
 pub mod Replied
+pub mod Logging
+pub mod Takes

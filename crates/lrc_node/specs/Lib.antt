@@ -9,3 +9,5 @@ pub mod Fault
 pub mod Node
 pub mod Taking
 pub mod Ranges
+pub mod Taken
+pub mod Logged

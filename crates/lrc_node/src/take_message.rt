@@ -3,6 +3,7 @@
 ghost use Rattle.std.specs.Prelude.{◌≡◌, ◌<◌, IfOk};
 ghost use Rattle.lrc_protocol.specs.Take.{take_effect};
 ghost use Rattle.lrc_node.specs.State.{seen_effect, AreFor};
+ghost use Rattle.lrc_node.specs.Taken.{IsTaking};
 ghost use Rattle.lrc_node.specs.Taking.{CanTake};
 
 use crate::state::State;
@@ -11,8 +12,21 @@ use lrc_wire::Message;
 use std::alloc::AllocError;
 
 impl State<'_> {
-    /// Does what a message says that the node expects.
+    /// Does what a message from a node asks for, which was expected and whose number is taken.
     pub(crate) fn take_message(
+        &mut self,
+        from: u8,
+        message: &Message,
+    ) -> Result<Effect, AllocError>
+        requires { IsTaking self.old from message.now }
+        ensures effect { IfOk result (λ effect. take_effect self.old from message.now ≡ seen_effect effect self.new) }
+        ensures to { IfOk result (λ effect. AreFor self.new.setting.nodes effect.letters.items) }
+    {
+        self.do_message(from, message)
+    }
+
+    /// Does what a message asks for, by its kind.
+    fn do_message(
         &mut self,
         from: u8,
         message: &Message,
