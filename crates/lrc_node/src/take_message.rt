@@ -46,7 +46,7 @@ impl State<'_> {
             Message::Discard(_) => self.take_discard(),
             Message::ChangesRequest(m) => self.take_changes_request(from, m),
             Message::ChangesReply(m) => self.take_changes(from, m),
-            Message::PageRequest(m) => self.take_page_request(from, m.page),
+            Message::PageRequest(m) => self.take_page_request(from, m),
             Message::PageReply(m) => self.take_page(m),
         }
     }
