@@ -1,23 +1,23 @@
 -- What changes that come do to what is seen.
-use Rattle.std.proofs.Common.{◌≡◌, ◌≢◌, ◌∙◌, ℕ, suc, ◌+◌, ◌<◌, ◌≤◌, Option, Some, None, List, [], ◌∷◌, map, length, get_or, take, refl, ap, sym, subst, arith}
-use Rattle.std.specs.Prelude.{All, AllPairs, fold, unwrap_or, Result, Ok, Err, IfOk, OnOk}
+use Rattle.std.proofs.Common.{◌≡◌, ◌∙◌, ℕ, suc, ◌<◌, Option, Some, None, List, [], ◌∷◌, length, get_or, take, refl, ap, sym, arith}
+use Rattle.std.specs.Prelude.{All, fold, unwrap_or, Result, Ok, Err, IfOk, OnOk}
 use Rattle.std.proofs.lemmas.List.{get_or-take, get_or_default, length-take-le}
-use Rattle.std.specs.Option.{option_and_then, option_map, option_or}
+use Rattle.std.specs.Option.{option_map, option_or}
 use Rattle.lrc_page.specs.Page.{words_of}
 use Rattle.lrc_page.specs.declared.changes.Change.{Change}
 use Rattle.lrc_store.specs.declared.key.Key.{Key}
 use Rattle.lrc_store.specs.Store.{NoticeRecord, StoreRecord, notice_at, unread, attached}
 use Rattle.lrc_store.proofs.Lookups.{notice_at-attached_other}
-use Rattle.lrc_table.specs.PageCopy.{pending_changes, settled}
+use Rattle.lrc_table.specs.PageCopy.{settled}
 use Rattle.lrc_table.proofs.Copies.{pending-settled}
 use Rattle.lrc_protocol.specs.Memory.{changes_or_none}
 use Rattle.lrc_memory.proofs.Mending.{changes-over}
 use Rattle.lrc_table.specs.Table.{copy_at}
 use Rattle.lrc_wire.specs.Records.{IndexedChangesRecord, AreParts}
 use Rattle.lrc_protocol.specs.Take.{with_part}
-use Rattle.lrc_memory.specs.View.{Kept, NodeMemory, IsKept, seen, node_seen, unmade, store_over, with_memory}
+use Rattle.lrc_memory.specs.View.{Kept, NodeMemory, IsKept, seen, node_seen, unmade, with_memory}
 use Rattle.lrc_memory.proofs.Overlays.{notice_at-over, notice_seen, over-attached}
-use Rattle.lrc_memory.proofs.Settling.{key_on, kept-store, unmade-on, unmade-here, settled_at, seen-settled}
+use Rattle.lrc_memory.proofs.Settling.{kept-store, unmade-on, unmade-here, settled_at, seen-settled}
 
 -- a notice that is seen without changes has none from elsewhere, and none of its own
 module _ (kept : Kept) (key : Key) (wanted : notice_at (seen kept).store key ≡ Some (unread key.page)) where

@@ -1,21 +1,20 @@
 -- What a close does to what is seen.
-use Rattle.std.proofs.Common.{◌≡◌, ◌≢◌, ◌∙◌, ℕ, zero, suc, ◌+◌, ◌<◌, ◌≤◌, ◌⊎◌, ⊎_elim, inl, inr, Bool, true, false, not, cond, eqb, eqb-true, ◌&&◌, Option, Some, None, List, [], ◌∷◌, ◌++◌, map, length, get_or, set, take, refl, ap, sym, subst, arith}
+use Rattle.std.proofs.Common.{◌≡◌, ◌∙◌, ℕ, ◌+◌, ◌<◌, ◌≤◌, ⊎_elim, Bool, true, false, not, cond, eqb, eqb-true, ◌&&◌, Option, Some, None, List, [], ◌∷◌, ◌++◌, map, length, get_or, set, refl, ap, sym, subst, arith}
 use Rattle.std.specs.Prelude.{All, Contains, fold, filter, filter_map, unwrap_or, IsSome, Result, Ok, Err, OnOk, OnErr, is_err}
 use Rattle.std.specs.List.{range_with_len, enumerate_from, cons_option}
 use Rattle.std.specs.Option.{ForSome, option_and_then, option_map, option_or}
-use Rattle.std.proofs.lemmas.Bool.{cases_eq, cases_lt, true≢false, and_parts, and_from, false_from_ne_true, eq-eqb, ne_eqb}
-use Rattle.std.proofs.lemmas.List.{ext_get_or, length-map, length-set, get_or-map, get_or_past, get_or_default, get_or-set_same, get_or-set_other}
+use Rattle.std.proofs.lemmas.Bool.{cases_eq, cases_lt, true≢false, and_parts, and_from, false_from_ne_true, eq-eqb}
+use Rattle.std.proofs.lemmas.List.{ext_get_or, length-map, length-set, get_or_past, get_or-set_same, get_or-set_other}
 use Rattle.std.proofs.lemmas.List.Elements.{Contains-get_or, All-set, All-map, All-weaker, All-push}
 use Rattle.std.proofs.Math.ListN.{get_or-map as get_or-mapped}
-use Rattle.std.proofs.lemmas.List.FromFn.{get_or-map-range_with_len, length-map-range_with_len, get_or-enumerate_from, length-enumerate_from, get_or-range_with_len, length-range_with_len}
+use Rattle.std.proofs.lemmas.List.FromFn.{get_or-map-range_with_len, length-map-range_with_len, get_or-enumerate_from, length-enumerate_from}
 use Rattle.lrc_time.specs.Time.{entry}
-use Rattle.lrc_page.specs.declared.size.Size.{Size}
 use Rattle.lrc_page.specs.declared.changes.Change.{Change}
 use Rattle.lrc_page.specs.Page.{words_of}
 use Rattle.lrc_page.specs.Changes.{changes_between}
 use Rattle.lrc_store.specs.declared.key.Key.{Key}
 use Rattle.lrc_store.specs.Interval.{IntervalRecord, index_of}
-use Rattle.lrc_store.specs.Store.{NoticeRecord, StoredRecord, StoreRecord, IsStore, interval_of, intervals_of, is_at, notice_at, notice_of, notice_with, stored_with, attached, added, unread, without_changes}
+use Rattle.lrc_store.specs.Store.{NoticeRecord, StoredRecord, StoreRecord, IsStore, interval_of, intervals_of, is_at, notice_at, notice_of, notice_with, stored_with, added, unread, without_changes}
 use Rattle.lrc_store.proofs.Lookups.{notice_at-added, stored_at-added_other}
 use Rattle.lrc_store.proofs.Orders.{Contains-first, Contains-later, cases_Contains, none_Contains}
 use Rattle.lrc_store.proofs.Records.{notice_with-same, notice_with-other}
@@ -287,7 +286,7 @@ module _ (kept : Kept) (stamp : List ℕ) where
       ap (λ b. cond (b && eqb (get_or (closed_at kept stamp).named page 0) (entry stamp kept.me)) (pending_changes (copy_at (with_each kept.table closed) page)) None)
       (eq-eqb kept.me kept.me refl)
       ∙ ap (λ b. cond b (pending_changes (copy_at (with_each kept.table closed) page)) None)
-        (eq-eqb _ _ (named-here (entry stamp kept.me) (written_pages kept.table) kept.named page (omega (arith, is.named, facts.0)) there))
+      (eq-eqb _ _ (named-here (entry stamp kept.me) (written_pages kept.table) kept.named page (omega (arith, is.named, facts.0)) there))
       ∙ ap pending_changes (each page)
       ∙ by_twin copy.twin refl written (whole-twin kept.table.size copy (whole page (fresh []) facts.0) written)
     where

@@ -1,13 +1,12 @@
 -- The copies of the pages as they are seen.
-use Rattle.std.proofs.Common.{◌≡◌, ◌≢◌, ◌∙◌, ℕ, ◌+◌, ◌<◌, ◌≤◌, Bool, true, false, cond, Option, Some, None, List, [], ◌∷◌, ◌++◌, map, length, get_or, set, refl, ap, sym, arith}
-use Rattle.std.specs.List.{range_with_len}
+use Rattle.std.proofs.Common.{◌≡◌, ◌∙◌, ℕ, ◌<◌, cond, Option, Some, None, List, [], length, get_or, refl, ap, sym, arith}
 use Rattle.std.proofs.lemmas.List.{get_or-map}
 use Rattle.std.proofs.lemmas.List.FromFn.{get_or-map-range_with_len, length-map-range_with_len}
 use Rattle.lrc_table.specs.declared.slot.State.{State}
 use Rattle.lrc_table.specs.declared.slot.State.TheVariants.{Valid, Written, Invalid, Absent}
 use Rattle.lrc_page.specs.Place.{page_of, offset_of}
 use Rattle.lrc_table.specs.PageCopy.{PageCopy, is_readable as may_read, read_at, fresh}
-use Rattle.lrc_table.specs.Table.{Table, copy_at as copy_in}
+use Rattle.lrc_table.specs.Table.{copy_at as copy_in}
 use Rattle.lrc_protocol.specs.Copy.{Copy, absent, is_readable, values_of}
 use Rattle.lrc_protocol.specs.Memory.{copy_at, value_at, base_at}
 use Rattle.lrc_memory.specs.View.{Kept, NodeMemory, seen, node_seen, seen_in, seen_copy}

@@ -1,30 +1,28 @@
 -- What a collection does to what is seen.
-use Rattle.std.proofs.Common.{◌≡◌, ◌≢◌, ◌∙◌, ℕ, suc, ◌+◌, ◌<◌, ◌≤◌, ◌⊎◌, ⊎_elim, inl, inr, Bool, true, false, not, cond, eqb, eqb-true, ◌&&◌, Option, Some, None, List, [], ◌∷◌, map, length, get_or, set, refl, ap, sym, subst, arith}
+use Rattle.std.proofs.Common.{◌≡◌, ◌≢◌, ◌∙◌, ℕ, suc, ◌<◌, ◌≤◌, ⊎_elim, Bool, true, false, not, cond, eqb, ◌&&◌, Option, Some, None, List, [], ◌∷◌, map, length, get_or, refl, ap, sym, subst, arith}
 use Rattle.std.specs.Prelude.{All, filter, nat_le}
 use Rattle.std.specs.List.{range_with_len, enumerate_from}
-use Rattle.std.specs.Option.{option_map, option_or}
-use Rattle.std.proofs.lemmas.Bool.{cases_eq, cases_lt, true≢false, and_parts, false_from_ne_true, ne_eqb, le-leb}
+use Rattle.std.specs.Option.{option_or}
+use Rattle.std.proofs.lemmas.Bool.{cases_lt, true≢false, ne_eqb, le-leb}
 use Rattle.std.proofs.lemmas.List.{ext_get_or, length-map, get_or-map, get_or_past}
 use Rattle.std.proofs.lemmas.List.Elements.{All-filter, filter_passes}
 use Rattle.std.proofs.lemmas.List.FromFn.{get_or-map-range_with_len, length-map-range_with_len, get_or-enumerate_from, length-enumerate_from, get_or-range_with_len, length-range_with_len}
-use Rattle.lrc_time.specs.Time.{entry, knows}
-use Rattle.lrc_page.specs.declared.size.Size.{Size}
+use Rattle.lrc_time.specs.Time.{entry}
 use Rattle.lrc_page.specs.declared.changes.Change.{Change}
-use Rattle.lrc_page.specs.Changes.{changes_between}
 use Rattle.lrc_store.specs.declared.key.Key.{Key}
 use Rattle.lrc_store.specs.Interval.{IntervalRecord, index_of}
 use Rattle.lrc_store.specs.Store.{NoticeRecord, StoredRecord, StoreRecord, IsStore, interval_of, intervals_of, discarded, is_covered}
 use Rattle.lrc_store.proofs.Stores.{IsStore-discarded, intervals_of-discarded}
 use Rattle.lrc_table.specs.declared.slot.State.{State}
 use Rattle.lrc_table.specs.declared.slot.State.TheVariants.{Valid, Written, Invalid, Absent}
-use Rattle.lrc_table.specs.PageCopy.{PageCopy, fresh, is_valid, pending_changes, without_twin, without_base, dropped}
+use Rattle.lrc_table.specs.PageCopy.{PageCopy, fresh, pending_changes, without_twin, without_base, dropped}
 use Rattle.lrc_table.specs.Table.{Table, copy_at, with_each}
 use Rattle.lrc_protocol.specs.Copy as copy
 use Rattle.lrc_protocol.specs.Memory as memory
 use Rattle.lrc_memory.specs.View.{Kept, NodeMemory, AreSized, IsKept, SameMemory, seen, node_seen, seen_in, seen_copy, unmade, notice_over, stored_over, store_over, with_memory}
 use Rattle.lrc_memory.specs.Steps.{kept_base, without_bases}
 use Rattle.lrc_memory.specs.Turns.{IsClosed}
-use Rattle.lrc_memory.proofs.Overlays.{map-alike, map-both, over-discarded}
+use Rattle.lrc_memory.proofs.Overlays.{map-both, over-discarded}
 use Rattle.lrc_memory.proofs.Copies.{copy-seen, length-seen}
 use Rattle.lrc_memory.proofs.Mending.{map-within}
 
@@ -108,6 +106,7 @@ module _ (kept : Kept) where
       by_state Written = refl
       by_state Invalid = refl
       by_state Absent = refl
+
       either : (b : Bool) (state : State)
           → pending_changes (cond b (clean page) (without_base (clean page))) ≡ None
       either true state = by_state (clean page).state
@@ -121,17 +120,19 @@ module _ (kept : Kept) where
     where
       by_state : (state : State) → state ≢ Written
           → seen_in (dropped (without_twin (record (copy_at kept.table page) { state = state }))).state (get_or kept.since page [])
-            (dropped (without_twin (record (copy_at kept.table page) { state = state })))
+          (dropped (without_twin (record (copy_at kept.table page) { state = state })))
           ≡ copy.dropped (seen_in state (get_or kept.since page []) (copy_at kept.table page))
       by_state Valid not = refl
       by_state Written not = absurd (not refl)
       by_state Invalid not = refl
       by_state Absent not = refl
+
       bare : (c : PageCopy) (state : State) → seen_in state (get_or kept.since page []) (without_base c) ≡ seen_in state (get_or kept.since page []) c
       bare c Valid = refl
       bare c Written = refl
       bare c Invalid = refl
       bare c Absent = refl
+
       either : (b : Bool) (state : State) → (copy_at kept.table page).state ≢ Written
           → seen_in (cond b (clean page) (without_base (clean page))).state (get_or kept.since page []) (cond b (clean page) (without_base (clean page)))
           ≡ copy.dropped (seen_in (copy_at kept.table page).state (get_or kept.since page []) (copy_at kept.table page))
@@ -140,7 +141,7 @@ module _ (kept : Kept) where
 
   bases-swept : map (λ (c : PageCopy). c.base) (swept kept).copies
       ≡ map (λ (place : ℕ × Option (List ℕ)). cond (eqb (get_or kept.keepers place.0 0) kept.me) place.1 None)
-        (enumerate_from 0 (map (λ (c : PageCopy). c.base) kept.table.copies))
+      (enumerate_from 0 (map (λ (c : PageCopy). c.base) kept.table.copies))
   bases-swept =
       let bases = map (λ (c : PageCopy). c.base) kept.table.copies in
       let n = length kept.table.copies in
@@ -156,7 +157,7 @@ module _ (kept : Kept) where
       ∙ ap (λ (c : PageCopy). c.base) (swept-at p within)
       ∙ either (eqb (get_or kept.keepers p 0) kept.me) p
       ∙ ap (λ b. cond (eqb (get_or kept.keepers p 0) kept.me) b None)
-        (sym (get_or-map (λ (c : PageCopy). c.base) kept.table.copies p (fresh []) None within))
+      (sym (get_or-map (λ (c : PageCopy). c.base) kept.table.copies p (fresh []) None within))
       ∙ sym (ap f (get_or-enumerate_from 0 bases p (0, None) (omega (arith, long, within)) ∙ ap (λ k. (k, get_or bases p None)) (omega arith)))
       ∙ sym (get_or-map f (enumerate_from 0 bases) p (0, None) None (omega (arith, places, within))))
     where

@@ -1,17 +1,15 @@
 -- What a node learns, interval by interval.
-use Rattle.std.proofs.Common.{◌≡◌, ◌≢◌, ◌∙◌, ℕ, zero, suc, ◌+◌, ◌<◌, ◌≤◌, ◌⊎◌, ⊎_elim, inl, inr, Bool, true, false, not, cond, eqb, eqb-true, ◌&&◌, ◌||◌, Option, Some, None, List, [], ◌∷◌, ◌++◌, map, length, get_or, set, take, drop, refl, ap, sym, subst, arith}
-use Rattle.std.specs.Prelude.{All, Contains, fold, filter, Result, Ok, Err, OnOk, OnErr}
+use Rattle.std.proofs.Common.{◌≡◌, ◌≢◌, ◌∙◌, ℕ, suc, ◌+◌, ◌<◌, ◌≤◌, ⊎_elim, Bool, true, false, not, cond, eqb, eqb-true, ◌||◌, Option, Some, None, List, [], ◌∷◌, map, length, get_or, set, drop, refl, ap, sym, subst, arith}
+use Rattle.std.specs.Prelude.{All, fold, filter}
 use Rattle.std.specs.List.{range_with_len, enumerate_from, list_any}
 use Rattle.std.specs.Option.{ForSome, option_and_then}
-use Rattle.std.proofs.lemmas.Bool.{cases_eq, cases_lt, true≢false, and_parts, false_from_ne_true, eq-eqb, ne_eqb}
-use Rattle.std.proofs.lemmas.List.{ext_get_or, length-map, length-set, get_or-map, get_or_past, get_or_default, get_or-set_same, get_or-set_other, set-get_or}
+use Rattle.std.proofs.lemmas.Bool.{cases_eq, true≢false, and_parts, false_from_ne_true, eq-eqb}
+use Rattle.std.proofs.lemmas.List.{ext_get_or, length-map, length-set, get_or-map, get_or-set_same, get_or-set_other, set-get_or}
 use Rattle.std.proofs.lemmas.List.Elements.{All-set, All-weaker, All-push}
 use Rattle.std.proofs.lemmas.List.FromFn.{get_or-enumerate_from, length-enumerate_from}
 use Rattle.std.proofs.Math.Seq.{map-set_same, drop-cons}
 use Rattle.lrc_time.specs.Time.{entry}
 use Rattle.lrc_page.specs.Page.{words_of}
-use Rattle.lrc_page.specs.declared.changes.Change.{Change}
-use Rattle.lrc_store.specs.declared.key.Key.{Key}
 use Rattle.lrc_store.specs.Interval.{IntervalRecord, index_of}
 use Rattle.lrc_store.specs.Store.{StoreRecord, IsStore, intervals_of, notice_of, added, without_changes}
 use Rattle.lrc_store.proofs.Lookups.{stored_at-added_other}
@@ -32,8 +30,8 @@ use Rattle.lrc_memory.specs.View.{Kept, NodeMemory, AreSized, IsKept, SameMemory
 use Rattle.lrc_memory.specs.Turns.{CanBeAdded, IsInRange}
 use Rattle.lrc_memory.specs.Steps.{invalidated_on, learned_one}
 use Rattle.lrc_memory.proofs.Overlays.{over-alike, over-added}
-use Rattle.lrc_memory.proofs.Copies.{copy-seen, within-seen, length-seen}
-use Rattle.lrc_memory.proofs.Settling.{settled_at, changed, set_copies, unmade-changed, kept-changed, kept-settled, seen-settled, with_parts, after-settle, last-settled}
+use Rattle.lrc_memory.proofs.Copies.{copy-seen, length-seen}
+use Rattle.lrc_memory.proofs.Settling.{settled_at, set_copies, unmade-changed, kept-changed, kept-settled, seen-settled, after-settle, last-settled}
 use Rattle.lrc_memory.proofs.Closes.{no_later, unsized}
 use Rattle.lrc_memory.proofs.Writes.{nothing-settled, quiet-settled}
 
@@ -99,7 +97,7 @@ module _ (before : List ℕ) where
     where
       either : (rest first : Bool)
           → cond rest (copy.invalidated before (cond first (copy.invalidated before (get_or m.copies p absent)) (get_or m.copies p absent)))
-            (cond first (copy.invalidated before (get_or m.copies p absent)) (get_or m.copies p absent))
+          (cond first (copy.invalidated before (get_or m.copies p absent)) (get_or m.copies p absent))
           ≡ cond (first || rest) (copy.invalidated before (get_or m.copies p absent)) (get_or m.copies p absent)
       either true true = twice before (get_or m.copies p absent)
       either true false = refl

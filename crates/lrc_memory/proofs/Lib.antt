@@ -12,3 +12,4 @@ pub mod Closes
 pub mod Learns
 pub mod Attaches
 pub mod Needs
+pub mod Keepers

@@ -1,10 +1,10 @@
 -- Steps of the loops.
-use Rattle.std.proofs.Common.{◌≡◌, ◌≢◌, ◌∙◌, ℕ, suc, ◌+◌, ◌<◌, ◌≤◌, ◌⊎◌, ⊎_elim, inl, inr, Bool, true, false, cond, eqb, eqb-true, Option, Some, None, List, [], ◌∷◌, map, length, get_or, set, take, refl, ap, sym, subst, arith}
+use Rattle.std.proofs.Common.{◌≡◌, ◌≢◌, ◌∙◌, ℕ, suc, ◌+◌, ◌<◌, ◌≤◌, ◌⊎◌, ⊎_elim, inl, inr, Bool, true, false, cond, eqb, Option, Some, None, List, [], ◌∷◌, map, length, get_or, take, refl, ap, sym, subst, arith}
 use Rattle.std.specs.Prelude.{All, fold, unwrap_or}
 use Rattle.std.specs.List.{range_with_len, find}
 use Rattle.std.specs.Option.{ForSome, option_and_then}
-use Rattle.std.proofs.lemmas.Bool.{cases_eq, true≢false, eq-eqb, ne_eqb}
-use Rattle.std.proofs.lemmas.List.{ext_get_or, length-set, length-map, get_or-map, take-map, get_or_default, set-set, set-get_or}
+use Rattle.std.proofs.lemmas.Bool.{cases_eq, eq-eqb, ne_eqb}
+use Rattle.std.proofs.lemmas.List.{ext_get_or, length-set, length-map, get_or-map, take-map, set-set, set-get_or}
 use Rattle.std.proofs.lemmas.List.Sums.{fold_more}
 use Rattle.std.proofs.lemmas.List.FromFn.{get_or-map-range_with_len, length-map-range_with_len}
 use Rattle.lrc_page.specs.declared.changes.Change.{Change}
@@ -13,8 +13,7 @@ use Rattle.lrc_page.specs.Page.{words_of}
 use Rattle.lrc_page.specs.Changes.{applied}
 use Rattle.lrc_page.proofs.ChangeLists.{applied-nil}
 use Rattle.lrc_store.specs.declared.key.Key.{Key}
-use Rattle.lrc_store.specs.Store.{NoticeRecord, StoredRecord, StoreRecord, notice_at, notice_of, stored_at, changes_at, is_at}
-use Rattle.lrc_table.specs.declared.slot.State.{State}
+use Rattle.lrc_store.specs.Store.{NoticeRecord, StoredRecord, StoreRecord, notice_of, stored_at, changes_at, is_at}
 use Rattle.lrc_table.specs.PageCopy.{PageCopy, fresh, without_base, patched}
 use Rattle.lrc_table.specs.Table.{Table, copy_at, with_copy}
 use Rattle.lrc_table.proofs.Tables.{copy_at-with_copy, copy_at-with_copy_other}

@@ -1,9 +1,8 @@
 -- What a repair does to what is seen.
-use Rattle.std.proofs.Common.{◌≡◌, ◌≢◌, ◌∙◌, ℕ, suc, ◌+◌, ◌<◌, ◌⊎◌, ⊎_elim, inl, inr, Bool, true, false, cond, eqb, eqb-true, ◌&&◌, Option, Some, None, List, [], ◌∷◌, map, length, get_or, set, refl, ap, sym, subst, arith}
+use Rattle.std.proofs.Common.{◌≡◌, ◌∙◌, ℕ, suc, ◌<◌, ◌⊎◌, ⊎_elim, inl, inr, Bool, true, false, cond, eqb, ◌&&◌, Option, Some, None, List, [], ◌∷◌, map, length, get_or, refl, ap, sym, arith}
 use Rattle.std.specs.Prelude.{All, fold, unwrap_or}
 use Rattle.std.specs.Option.{option_and_then, option_map, option_or}
-use Rattle.std.proofs.lemmas.List.{length-set, set-set}
-use Rattle.lrc_page.specs.declared.size.Size.{Size}
+use Rattle.std.proofs.lemmas.List.{set-set}
 use Rattle.lrc_page.specs.declared.changes.Change.{Change}
 use Rattle.lrc_page.specs.Changes.{applied, changes_between}
 use Rattle.lrc_store.specs.declared.key.Key.{Key}
@@ -16,13 +15,12 @@ use Rattle.lrc_table.proofs.Tables.{copy_at-with_copy}
 use Rattle.lrc_protocol.specs.Copy as copy
 use Rattle.lrc_protocol.specs.Memory.{changes_or_none}
 use Rattle.lrc_protocol.specs.Memory as memory
-use Rattle.lrc_protocol.specs.Fetch.{Base, Need, unneeded, due, come, mended, first_values}
-use Rattle.lrc_memory.specs.View.{Kept, NodeMemory, IsKept, seen, node_seen, seen_in, seen_copy, unmade, store_over, with_memory}
+use Rattle.lrc_protocol.specs.Fetch.{Base, unneeded, due, come, first_values}
+use Rattle.lrc_memory.specs.View.{Kept, NodeMemory, IsKept, seen, node_seen, seen_in, unmade, store_over, with_memory}
 use Rattle.lrc_memory.specs.Turns.{is_mendable}
 use Rattle.lrc_memory.specs.Steps.{begun_with, patched_with}
 use Rattle.lrc_memory.proofs.Overlays.{notice_at-over, notice_seen}
-use Rattle.lrc_memory.proofs.Copies.{copy-seen, within-seen}
-use Rattle.lrc_memory.proofs.Quiet.{with_table}
+use Rattle.lrc_memory.proofs.Copies.{copy-seen}
 use Rattle.lrc_memory.proofs.Settling.{changed, kept-changed, seen-changed}
 
 -- ---- known changes
@@ -144,7 +142,7 @@ module _ (kept : Kept) (page : ℕ) (base : Base) (missing : List Key) where
       → All (λ (key : Key). key.page ≡ page) missing
       → node_seen (changed kept page done)
       ≡ with_memory (node_seen kept) (memory.with_copy (seen kept) page
-        (copy.valid (memory.repaired (seen kept).store (first_values (memory.copy_at (seen kept) page) base) missing)))
+      (copy.valid (memory.repaired (seen kept).store (first_values (memory.copy_at (seen kept) page) base) missing)))
   seen-mended within whole fit of_page =
       seen-changed kept page done within (nothing-before fit) (nothing-after (whole page (fresh []) within) fit) base-after
       ∙ ap (λ vs. with_memory (node_seen kept) (memory.with_copy (seen kept) page (copy.valid vs)))

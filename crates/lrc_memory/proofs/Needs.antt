@@ -1,23 +1,22 @@
 -- What a page needs, as it is seen.
-use Rattle.std.proofs.Common.{◌≡◌, ◌≢◌, ◌∙◌, ℕ, suc, ◌+◌, ◌<◌, ◌≤◌, Bool, true, false, cond, Option, Some, None, List, [], ◌∷◌, ◌++◌, map, length, get_or, take, refl, ap, sym, subst, arith}
-use Rattle.std.specs.Prelude.{All, filter, is_none}
+use Rattle.std.proofs.Common.{◌≡◌, ◌≢◌, ◌∙◌, ℕ, suc, ◌<◌, cond, Option, None, List, [], ◌∷◌, map, length, get_or, refl, ap, sym, subst, arith}
+use Rattle.std.specs.Prelude.{All, is_none}
 use Rattle.std.proofs.lemmas.List.Elements.{All-map}
 use Rattle.lrc_page.specs.declared.changes.Change.{Change}
 use Rattle.lrc_store.specs.declared.key.Key.{Key}
 use Rattle.lrc_store.specs.Interval.{IntervalRecord, by_weight}
 use Rattle.lrc_store.specs.Order.{ascending_part}
-use Rattle.lrc_store.specs.Store.{StoreRecord, intervals_of, key_of, is_missing, missing_of, changes_at}
+use Rattle.lrc_store.specs.Store.{intervals_of, key_of, is_missing, missing_of, changes_at}
 use Rattle.lrc_table.specs.declared.slot.State.{State}
 use Rattle.lrc_table.specs.declared.slot.State.TheVariants.{Valid, Written, Invalid, Absent}
-use Rattle.lrc_table.specs.PageCopy.{PageCopy, pending_changes}
-use Rattle.lrc_table.specs.Table.{Table, copy_at}
-use Rattle.lrc_protocol.specs.Copy as copy
+use Rattle.lrc_table.specs.PageCopy.{pending_changes}
+use Rattle.lrc_table.specs.Table.{copy_at}
 use Rattle.lrc_protocol.specs.Memory.{lacking, lacking_in, keeper_at}
 use Rattle.lrc_protocol.specs.Fetch.{Base, Need, base_of, asked_of, unknown_of, need_of}
 use Rattle.lrc_memory.specs.Steps.{base_in}
 use Rattle.lrc_memory.proofs.Mending.{changes-over, unmade-none}
 use Rattle.lrc_protocol.specs.Memory as memory
-use Rattle.lrc_memory.specs.View.{Kept, NodeMemory, IsKept, seen, node_seen, seen_in, seen_copy, unmade}
+use Rattle.lrc_memory.specs.View.{Kept, NodeMemory, seen, node_seen, seen_in, unmade}
 use Rattle.lrc_memory.proofs.Overlays.{intervals-over}
 use Rattle.lrc_memory.proofs.Copies.{copy-seen}
 
@@ -63,7 +62,7 @@ unknown-seen kept page (key ∷ keys) of none =
     changes-over (unmade kept.me kept.named kept.table) kept.store key (unmade-none kept page key (of 0 key (omega arith)) none) in
     ap (λ (found : Option (List Change)). cond (is_none found) (key ∷ unknown_of kept.store keys) (unknown_of kept.store keys)) (sym same)
     ∙ ap (λ (rest : List Key). cond (is_none (changes_at (seen kept).store key)) (key ∷ rest) rest)
-      (unknown-seen kept page keys (λ k d within. of (suc k) d (omega arith)) none)
+    (unknown-seen kept page keys (λ k d within. of (suc k) d (omega arith)) none)
 
 of-page : (page : ℕ) (intervals : List IntervalRecord) → All (λ (key : Key). key.page ≡ page) (map (key_of page) intervals)
 of-page page intervals = All-map (λ (key : Key). key.page ≡ page) (key_of page) intervals (λ k d within. refl)
@@ -116,7 +115,15 @@ need-made kept n page nodes keeper missing unknown base need is within nodes_are
     need_is
     ∙ ap (λ (b : Base). record { page = page; base = b; asked = asked_of nodes unknown; missing = missing }) the_base
     ∙ ap (λ (ks : List Key). record { page = page; base = base_of (keeper_at n.memory page) (memory.copy_at n.memory page); asked = asked_of nodes ks; missing = missing }) all_unknown
-    ∙ ap (λ k. record { page = page; base = base_of (keeper_at n.memory page) (memory.copy_at n.memory page);
-        asked = asked_of k (unknown_of n.memory.store (lacking n.memory page)); missing = missing }) nodes_are
-    ∙ ap (λ (ks : List Key). record { page = page; base = base_of (keeper_at n.memory page) (memory.copy_at n.memory page);
-        asked = asked_of (length n.memory.store.last) (unknown_of n.memory.store (lacking n.memory page)); missing = ks }) missing_are
+    ∙ ap (λ k. record {
+      page = page;
+      base = base_of (keeper_at n.memory page) (memory.copy_at n.memory page);
+      asked = asked_of k (unknown_of n.memory.store (lacking n.memory page));
+      missing = missing;
+    }) nodes_are
+    ∙ ap (λ (ks : List Key). record {
+      page = page;
+      base = base_of (keeper_at n.memory page) (memory.copy_at n.memory page);
+      asked = asked_of (length n.memory.store.last) (unknown_of n.memory.store (lacking n.memory page));
+      missing = ks;
+    }) missing_are

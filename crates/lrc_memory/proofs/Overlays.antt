@@ -1,13 +1,12 @@
 -- A store seen with changes from elsewhere has the same intervals and notices.
-use Rattle.std.proofs.Common.{◌≡◌, ◌≢◌, ◌∙◌, ℕ, ◌+◌, ◌<◌, Bool, true, false, cond, eqb, eqb-true, ◌&&◌, Option, Some, None, List, [], ◌∷◌, ◌++◌, map, length, refl, ap, sym, arith}
+use Rattle.std.proofs.Common.{◌≡◌, ◌≢◌, ◌∙◌, ℕ, Bool, true, false, cond, eqb, eqb-true, ◌&&◌, Option, Some, None, List, [], ◌∷◌, ◌++◌, map, refl, ap, sym}
 use Rattle.std.specs.Prelude.{filter, not}
-use Rattle.std.specs.List.{find}
 use Rattle.std.specs.Option.{option_and_then, option_map, option_or}
-use Rattle.std.proofs.lemmas.Bool.{true≢false, and_parts, and_from, false_from_ne_true, eq-eqb, ne_eqb}
+use Rattle.std.proofs.lemmas.Bool.{true≢false, and_parts, and_from, eq-eqb}
 use Rattle.lrc_page.specs.declared.changes.Change.{Change}
 use Rattle.lrc_store.specs.declared.key.Key.{Key}
 use Rattle.lrc_store.specs.Interval.{IntervalRecord, index_of}
-use Rattle.lrc_store.specs.Store.{NoticeRecord, StoredRecord, StoreRecord, interval_of, intervals_of, is_at, stored_at, stored_with, notice_of, notice_at, notice_with, changes_at, attached, added, discarded, without_changes, unread, is_covered}
+use Rattle.lrc_store.specs.Store.{NoticeRecord, StoredRecord, StoreRecord, interval_of, intervals_of, is_at, stored_at, stored_with, notice_of, notice_at, notice_with, attached, added, discarded, without_changes, unread, is_covered}
 use Rattle.lrc_store.proofs.Lookups.{find-map, passes-find}
 use Rattle.lrc_store.proofs.Records.{interval_of-without_changes, notice_with-other, notice_with-same}
 use Rattle.lrc_store.proofs.Stores.{interval_of-stored_with}
@@ -73,6 +72,7 @@ module _ (o : Key → Option (List Change)) where
           ∙ ap (λ (i : ℕ). record { node = key.node; index = i; page = notice.page }) index
           ∙ ap (λ (p : ℕ). record { node = key.node; index = key.index; page = p }) page in
           ap (λ (k : Key). Some (record notice { changes = option_or (o k) notice.changes })) same
+
       by_found : (found : Option StoredRecord) → stored_at store.entries key.node key.index ≡ found
           → option_and_then (notice_of key.page) (option_map (stored_over o) found)
           ≡ option_map (notice_seen key) (option_and_then (notice_of key.page) found)
@@ -128,7 +128,7 @@ module _ (o other : Key → Option (List Change)) where
           let shown : stored_with key changes stored ≡ record stored { notices = map (notice_with key.page changes) stored.notices } =
           ap (λ b. cond b (record stored { notices = map (notice_with key.page changes) stored.notices }) stored) at in
           let made : map (notice_over other key.node key.index) (map (notice_with key.page changes) stored.notices)
-              ≡ map (notice_over o key.node key.index) stored.notices =
+          ≡ map (notice_over o key.node key.index) stored.notices =
           map-both (notice_with key.page changes) (notice_over other key.node key.index) stored.notices
           ∙ map-alike (λ n. notice_over other key.node key.index (notice_with key.page changes n)) (notice_over o key.node key.index) stored.notices
           (λ n. notice-settled key changes n elsewhere none here) in
@@ -200,7 +200,7 @@ module _ (o : Key → Option (List Change)) where
           let seen : stored_with key changes over ≡ record over { notices = map (notice_with key.page changes) over.notices } =
           ap (λ b. cond b (record over { notices = map (notice_with key.page changes) over.notices }) over) (is_at-over o key.node key.index stored ∙ at) in
           let made : map (notice_over o key.node key.index) (map (notice_with key.page changes) stored.notices)
-              ≡ map (notice_with key.page changes) (map (notice_over o key.node key.index) stored.notices) =
+          ≡ map (notice_with key.page changes) (map (notice_over o key.node key.index) stored.notices) =
           map-both (notice_with key.page changes) (notice_over o key.node key.index) stored.notices
           ∙ map-alike (λ n. notice_over o key.node key.index (notice_with key.page changes n))
           (λ n. notice_with key.page changes (notice_over o key.node key.index n)) stored.notices

@@ -1,21 +1,17 @@
 -- Changes of the page table that leave what is still to make.
-use Rattle.std.proofs.Common.{◌≡◌, ◌≢◌, ◌∙◌, ℕ, ◌+◌, ◌<◌, ◌⊎◌, ⊎_elim, inl, inr, Bool, true, false, cond, eqb, eqb-true, ◌&&◌, Option, Some, None, List, [], ◌∷◌, map, length, get_or, set, refl, ap, sym, subst, arith}
-use Rattle.std.specs.Prelude.{All, Result, Ok, Err, OnOk, OnErr, IfOk}
-use Rattle.std.specs.List.{range_with_len, enumerate_from}
-use Rattle.std.proofs.lemmas.Bool.{cases_eq, true≢false}
-use Rattle.std.proofs.lemmas.List.{ext_get_or, length-set, length-map, get_or-map, map-set}
-use Rattle.std.proofs.lemmas.List.FromFn.{get_or-map-range_with_len, length-map-range_with_len, get_or-enumerate_from, length-enumerate_from}
+use Rattle.std.proofs.Common.{◌≡◌, ◌∙◌, ℕ, ◌<◌, ⊎_elim, true, cond, eqb, ◌&&◌, Some, None, [], map, length, get_or, set, refl, ap, sym, subst}
+use Rattle.std.specs.Prelude.{Result, Ok, Err, OnOk, OnErr}
+use Rattle.std.proofs.lemmas.Bool.{cases_eq}
+use Rattle.std.proofs.lemmas.List.{length-set, map-set}
 use Rattle.lrc_page.specs.declared.size.Size.{Size}
-use Rattle.lrc_store.specs.declared.key.Key.{Key}
 use Rattle.lrc_table.specs.declared.slot.State.{State}
 use Rattle.lrc_table.specs.declared.slot.State.TheVariants.{Valid, Written, Invalid, Absent}
-use Rattle.lrc_table.specs.PageCopy.{PageCopy, fresh, pending_changes, with_base, without_base}
+use Rattle.lrc_table.specs.PageCopy.{PageCopy, pending_changes, with_base}
 use Rattle.lrc_table.specs.Table.{Table, copy_at, with_copy}
 use Rattle.lrc_table.proofs.Tables.{copy_at-with_copy, copy_at-with_copy_other}
 use Rattle.lrc_protocol.specs.Copy as copy
 use Rattle.lrc_protocol.specs.Memory as memory
 use Rattle.lrc_memory.specs.View.{Kept, NodeMemory, IsKept, seen, node_seen, seen_in, seen_copy, unmade, store_over, with_memory}
-use Rattle.lrc_memory.specs.Steps.{kept_base, without_bases}
 use Rattle.lrc_memory.proofs.Overlays.{over-alike}
 use Rattle.lrc_memory.proofs.Copies.{copy-seen, within-seen}
 use Rattle.lrc_memory.proofs.Settling.{same_copies}

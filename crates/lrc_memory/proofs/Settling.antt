@@ -1,10 +1,10 @@
 -- What a change of one copy does to what is seen.
-use Rattle.std.proofs.Common.{◌≡◌, ◌≢◌, ◌∙◌, ℕ, ◌+◌, ◌<◌, ◌⊎◌, Bool, true, false, cond, eqb, eqb-true, ◌&&◌, Option, Some, None, List, [], ◌∷◌, ◌++◌, map, length, get_or, set, refl, ap, sym, subst, ⊎_elim, inl, inr, arith}
+use Rattle.std.proofs.Common.{◌≡◌, ◌≢◌, ◌∙◌, ℕ, ◌<◌, Bool, true, false, cond, eqb, eqb-true, ◌&&◌, Option, Some, None, List, [], map, length, get_or, set, refl, ap, sym, subst, ⊎_elim, arith}
 use Rattle.std.specs.Prelude.{All}
 use Rattle.std.specs.List.{range_with_len}
 use Rattle.std.specs.Option.{ForSome, option_map}
-use Rattle.std.proofs.lemmas.Bool.{true≢false, and_parts, cases_eq, eq-eqb, ne_eqb, false_from_ne_true}
-use Rattle.std.proofs.lemmas.List.{ext_get_or, length-set, get_or-set_same, get_or-set_other, map-set}
+use Rattle.std.proofs.lemmas.Bool.{and_parts, cases_eq, eq-eqb, false_from_ne_true}
+use Rattle.std.proofs.lemmas.List.{ext_get_or, length-set, get_or-set_same, get_or-set_other}
 use Rattle.std.proofs.Math.Seq.{map-set_same}
 use Rattle.std.proofs.lemmas.List.Elements.{All-map, All-weaker}
 use Rattle.std.proofs.lemmas.List.FromFn.{get_or-map-range_with_len, length-map-range_with_len}
@@ -15,7 +15,7 @@ use Rattle.lrc_page.specs.Changes.{changes_between}
 use Rattle.lrc_page.proofs.ChangeLists.{IsDifference, each-between}
 use Rattle.lrc_store.specs.declared.key.Key.{Key}
 use Rattle.lrc_store.specs.Interval.{IntervalRecord}
-use Rattle.lrc_store.specs.Store.{NoticeRecord, StoredRecord, StoreRecord, notice_at, notice_with, stored_with, attached, is_at}
+use Rattle.lrc_store.specs.Store.{NoticeRecord, StoredRecord, StoreRecord, notice_with, stored_with, attached, is_at}
 use Rattle.lrc_store.proofs.Lookups.{notice_at-attached_other}
 use Rattle.lrc_store.proofs.Stores.{IsStore-attached, intervals_of-attached}
 use Rattle.lrc_table.specs.declared.slot.State.{State}
@@ -27,7 +27,7 @@ use Rattle.lrc_table.proofs.Copies.{copy_of, pending-settled}
 use Rattle.lrc_protocol.specs.Copy.{Copy, absent}
 use Rattle.lrc_protocol.specs.Memory.{Memory}
 use Rattle.lrc_protocol.specs.Memory as memory
-use Rattle.lrc_memory.specs.View.{Kept, NodeMemory, AreSized, IsKept, SameMemory, seen, node_seen, seen_in, seen_copy, unmade, settled_store, store_over, with_memory}
+use Rattle.lrc_memory.specs.View.{Kept, AreSized, IsKept, seen, node_seen, seen_in, seen_copy, unmade, settled_store, store_over, with_memory}
 use Rattle.lrc_memory.proofs.Overlays.{map-alike, over-alike, over-settled}
 
 -- ---- lists of copies

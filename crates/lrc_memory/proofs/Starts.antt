@@ -1,5 +1,5 @@
 -- A node's memory at the start.
-use Rattle.std.proofs.Common.{◌≡◌, ◌∙◌, ℕ, suc, zero, ◌<◌, List, [], ◌∷◌, Option, None, map, length, get_or, replicate, refl, ap, sym, arith}
+use Rattle.std.proofs.Common.{◌≡◌, ◌∙◌, ℕ, suc, zero, ◌<◌, List, [], ◌∷◌, map, length, get_or, replicate, refl, ap, sym, arith}
 use Rattle.std.specs.List.{range_with_len}
 use Rattle.std.proofs.lemmas.List.{ext_get_or, get_or-replicate, length-replicate}
 use Rattle.std.proofs.lemmas.List.FromFn.{get_or-map-range_with_len, length-map-range_with_len}
@@ -9,10 +9,10 @@ use Rattle.lrc_page.specs.Place.{pages_of}
 use Rattle.lrc_time.specs.Time.{zeros}
 use Rattle.lrc_store.specs.Store.{StoreRecord, empty_store}
 use Rattle.lrc_table.specs.PageCopy.{PageCopy, fresh}
-use Rattle.lrc_table.specs.Table.{Table, copy_at, fresh_table}
-use Rattle.lrc_protocol.specs.Copy.{Copy, valid, absent}
-use Rattle.lrc_protocol.specs.Memory.{Memory, fresh_memory}
-use Rattle.lrc_memory.specs.View.{Kept, NodeMemory, seen, seen_in, seen_copy, node_seen}
+use Rattle.lrc_table.specs.Table.{Table, fresh_table}
+use Rattle.lrc_protocol.specs.Copy.{valid, absent}
+use Rattle.lrc_protocol.specs.Memory.{fresh_memory}
+use Rattle.lrc_memory.specs.View.{NodeMemory, seen_in, seen_copy, node_seen}
 
 map-replicate : {X Y : Type 0} (f : X → Y) (n : ℕ) (x : X) → map f (replicate n x) ≡ replicate n (f x)
 map-replicate f zero x = refl

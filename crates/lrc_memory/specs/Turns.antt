@@ -1,5 +1,5 @@
 -- What the calls on a node's memory ask of what they are given.
-use Rattle.std.specs.Prelude.{ℕ, ◌≡◌, ◌<◌, ◌+◌, ◌==◌, Bool, true, false, Option, Some, None, List, length, All}
+use Rattle.std.specs.Prelude.{ℕ, ◌≡◌, ◌<◌, ◌+◌, ◌==◌, Bool, true, false, Some, None, List, length, All}
 use Rattle.std.specs.List.{range_with_len}
 use Rattle.lrc_time.specs.Time.{entry}
 use Rattle.lrc_store.specs.Interval.{IntervalRecord}

@@ -1,18 +1,21 @@
 // Base copies, their keepers, and collections.
 
-ghost use Rattle.std.specs.Prelude.{◌≡◌, ◌<◌, ◌≤◌, IfOk, OnOk, MatchOption, Some, None, length, true};
+ghost use Rattle.std.specs.Prelude.{◌≡◌, ◌<◌, ◌≤◌, ◌==◌, ◌&&◌, filter, slice_index, IfOk, OnOk, MatchOption, Some, None, length, true};
 ghost use Rattle.lrc_time.specs.Time.{entry};
 ghost use Rattle.lrc_protocol.specs.Copy.{is_readable, changes_of};
-ghost use Rattle.lrc_protocol.specs.Memory.{copy_at, with_base, base_at, kept_pages, with_keepers, collected_at};
+ghost use Rattle.lrc_protocol.specs.Memory.{copy_at, with_base, base_at, kept_pages, with_keepers, collected_at, is_named};
+ghost use Rattle.std.specs.List.{range_with_len};
+ghost use Rattle.lrc_store.specs.Store.{intervals_of};
 ghost use Rattle.lrc_memory.specs.Steps.{without_bases};
 ghost use Rattle.lrc_memory.specs.View.{SameMemory, with_memory};
 ghost use Rattle.lrc_memory.specs.Turns.{IsClosed};
 
 use crate::memory::Memory;
-use lrc_page::{Page, Pages};
+use lrc_page::{MOST_PAGES, Page, Pages};
+use lrc_store::Store;
 use lrc_table::PageTable;
 use lrc_time::Time;
-use std::alloc::AllocError;
+use std::alloc::{AllocError, Global};
 
 impl Memory {
     /// The base copy of a page, if one is kept here.
@@ -35,7 +38,8 @@ impl Memory {
     pub fn kept_pages(&self) -> Result<Pages, AllocError>
         ensures pages { IfOk result (λ pages. pages ≡ kept_pages self.now.me self.now.memory) }
     {
-        Err(AllocError)
+        let _few = self.table.size();
+        kept_pages(*self.named.allocator(), &self.store, self.me, &self.keepers)
     }
 
     /// Keeps the values of a valid copy as the base copy of its page.
@@ -77,4 +81,27 @@ fn drop_bases(table: &mut PageTable, me: u8, keepers: &[u8])
             table.drop_base(page as u16);
         }
     }
+}
+
+/// The pages that this node keeps and that an interval names, ascending.
+fn kept_pages(alloc: Global, store: &Store, me: u8, keepers: &[u8]) -> Result<Pages, AllocError>
+    requires { length keepers.now ≤ MOST_PAGES }
+    ensures { IfOk result (λ pages. pages ≡ filter (λ page. is_named (intervals_of store.now) page && (slice_index keepers.now page == me))
+        (range_with_len 0 (length keepers.now))) }
+{
+    let mut pages = Pages::empty(alloc);
+    for page in 0..keepers.len() as u16 {
+        if is_kept(store, me, keepers, page) {
+            pages.push(page)?;
+        }
+    }
+    Ok(pages)
+}
+
+/// Whether this node keeps the page and an interval names it.
+fn is_kept(store: &Store, me: u8, keepers: &[u8], page: u16) -> bool
+    requires { page < length keepers.now }
+    ensures { result ≡ (is_named (intervals_of store.now) page && (slice_index keepers.now page == me)) }
+{
+    store.first_on_page(page).is_some() && keepers[usize::from(page)] == me
 }

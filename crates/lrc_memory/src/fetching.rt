@@ -32,13 +32,7 @@ impl Memory {
         ensures ok { OnOk result (self.new ≡ self.old) }
         ensures same { SameMemory self.old self.new }
     {
-        settle_page(
-            &mut self.table,
-            &mut self.store,
-            self.me,
-            &self.named,
-            page,
-        )?;
+        settle_page(&mut self.table, &mut self.store, self.me, &self.named, page)?;
         let alloc = *self.named.allocator();
         let node = self.me;
         changes_or_none(alloc, &self.store, Key { node, index, page })
@@ -82,14 +76,7 @@ impl Memory {
         let _few = self.table.size();
         let keeper = self.keepers[usize::from(page)];
         let base = base_due(self.table.state(page), keeper);
-        Need::new(
-            alloc,
-            self.collected.nodes(),
-            page,
-            base,
-            missing,
-            &unknown,
-        )
+        Need::new(alloc, self.collected.nodes(), page, base, missing, &unknown)
     }
 
     /// The notices of a page that its copy lacks, in the order in which their changes are applied.

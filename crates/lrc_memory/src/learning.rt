@@ -55,13 +55,7 @@ impl Memory {
         ensures same { SameMemory self.old self.new }
     {
         if let State::Valid = self.table.state(page) {
-            settle_page(
-                &mut self.table,
-                &mut self.store,
-                self.me,
-                &self.named,
-                page,
-            )?;
+            settle_page(&mut self.table, &mut self.store, self.me, &self.named, page)?;
             self.table.invalidate(page);
             self.since[usize::from(page)] = before.copy();
         }

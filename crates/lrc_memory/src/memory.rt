@@ -57,13 +57,7 @@ impl Model for Memory {
 
 impl Memory {
     /// The memory of a node at the start, with this many nodes and words: every word is zero, and every copy valid.
-    pub fn new(
-        alloc: Global,
-        me: u8,
-        nodes: u8,
-        words: u32,
-        size: Size,
-    ) -> Result<Self, AllocError>
+    pub fn new(alloc: Global, me: u8, nodes: u8, words: u32, size: Size) -> Result<Self, AllocError>
         requires counted { me < nodes }
         requires few_nodes { nodes ≤ 16 }
         requires some { 1 ≤ words }
@@ -123,13 +117,7 @@ impl Memory {
         ensures same { SameMemory self.old self.new }
     {
         let page = page_of(word, self.table.size());
-        settle_page(
-            &mut self.table,
-            &mut self.store,
-            self.me,
-            &self.named,
-            page,
-        )?;
+        settle_page(&mut self.table, &mut self.store, self.me, &self.named, page)?;
         self.table.write(word, value)
     }
 
@@ -147,11 +135,7 @@ impl Memory {
             self.table.drop_twins();
             return Err(AllocError);
         }
-        name_pages(
-            &mut self.named,
-            interval.pages.as_slice(),
-            interval.index(),
-        );
+        name_pages(&mut self.named, interval.pages.as_slice(), interval.index());
         Ok(())
     }
 }

@@ -25,7 +25,7 @@ pub(crate) fn settle_page(
     requires named { page < length named.now }
     requires noticed { ForSome (pending_changes (copy_at table.old page))
         (λ changes. notice_at store.old (record { node = me; index = slice_index named.now page; page = page })
-            ≡ Some (record { page = page; changes = None })) }
+        ≡ Some (record { page = page; changes = None })) }
     ensures table { OnOk result (table.new ≡ with_copy table.old page (settled (copy_at table.old page))) }
     ensures store { OnOk result (store.new
         ≡ settled_store store.old (record { node = me; index = slice_index named.now page; page = page }) (pending_changes (copy_at table.old page))) }
@@ -37,7 +37,14 @@ pub(crate) fn settle_page(
     let _whole = table.size();
     if let Some(changes) = table.settle(page)? {
         let index = named[usize::from(page)];
-        store.attach(Key { node: me, index, page }, changes);
+        store.attach(
+            Key {
+                node: me,
+                index,
+                page,
+            },
+            changes,
+        );
     }
     Ok(())
 }

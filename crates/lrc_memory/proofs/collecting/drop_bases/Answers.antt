@@ -1,4 +1,4 @@
-use Rattle.std.proofs.Common.{◌≡◌, ◌<◌, ◌+◌, ap, length, sym, subst, arith}
+use Rattle.std.proofs.Common.{◌+◌, sym, subst, arith}
 use Rattle.lrc_table.specs.Table.{Table}
 use Rattle.lrc_memory.proofs.Loops.{IsDropped, drop_starts, drop_keeps, drop_drops, drop_ends}
 use Rattle.lrc_memory.proofs.collecting.drop_bases.Goals as goal

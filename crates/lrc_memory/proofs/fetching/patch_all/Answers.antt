@@ -1,4 +1,4 @@
-use Rattle.std.proofs.Common.{◌≡◌, ◌<◌, ◌∙◌, ◌+◌, List, [], Option, ap, length, get_or, take, sym, subst, arith, Bor}
+use Rattle.std.proofs.Common.{◌<◌, ◌∙◌, List, [], Option, ap, get_or, sym, subst, Bor}
 use Rattle.std.specs.Prelude.{All, unwrap_or}
 use Rattle.lrc_page.specs.declared.changes.Change.{Change}
 use Rattle.lrc_page.specs.declared.size.Size.{Size}
@@ -7,7 +7,6 @@ use Rattle.std.specs.Option.{option_copied}
 use Rattle.lrc_store.specs.declared.key.Key.{Key}
 use Rattle.lrc_table.specs.PageCopy.{patched}
 use Rattle.lrc_table.specs.Table.{Table, copy_at, with_copy}
-use Rattle.lrc_memory.specs.Steps.{patched_with}
 use Rattle.lrc_memory.proofs.Loops.{patch_more, patch_none, sized-known}
 use Rattle.lrc_memory.proofs.fetching.patch_all.Goals as goal
 use Rattle.lrc_memory.proofs.fetching.patch_all.Goals.{in-Some, in_default}

@@ -1,9 +1,8 @@
-use Rattle.std.proofs.Common.{◌≡◌, ◌∙◌, ◌<◌, ap, length, sym, subst, refl, arith}
-use Rattle.lrc_store.specs.Store.{StoreRecord}
-use Rattle.lrc_memory.specs.View.{Kept, NodeMemory, IsKept, node_seen}
+use Rattle.std.proofs.Common.{◌≡◌, ◌∙◌, ap, length, sym, subst, arith}
+use Rattle.lrc_memory.specs.View.{Kept, IsKept, node_seen}
 use Rattle.lrc_memory.proofs.Inside.{kept}
 use Rattle.lrc_memory.proofs.Copies.{within-seen}
-use Rattle.lrc_memory.proofs.Settling.{same-parts, after-settle, kept-settled, seen-settled}
+use Rattle.lrc_memory.proofs.Settling.{after-settle, kept-settled, seen-settled}
 use Rattle.lrc_memory.proofs.Attaches.{known-settled, part_key, ok_then, on_ok}
 use Rattle.lrc_protocol.specs.Memory.{changes_or_none}
 use Rattle.lrc_memory.proofs.memory.Memory.changes_of.Goals as goal
@@ -29,7 +28,7 @@ returns-clause-changes c =
     let parts = after-settle k c.args.page c.deref.result.now c.settle_page.new.store c.settle_page.new.table c.deref.ensures.value
     c.in_ok-settle_page.ensures.table c.in_ok-settle_page.ensures.store in
     let same : changes_or_none c.settle_page.new.store (part_key k.me c.args.page c.args.index)
-        ≡ changes_or_none c.args.self.now.memory.store (part_key c.args.self.now.me c.args.page c.args.index) =
+    ≡ changes_or_none c.args.self.now.memory.store (part_key c.args.self.now.me c.args.page c.args.index) =
     ap (λ (k : Kept). changes_or_none k.store (part_key k.me c.args.page c.args.index)) parts
     ∙ known-settled k _ c.args.page c.args.index c.self.view_is (within-seen k _ _ c.self.view_is c.requires) in
     ok_then c.changes_or_none.result c.changes_or_none.ensures (λ changes is. is ∙ same)

@@ -1,15 +1,15 @@
-use Rattle.std.proofs.Common.{◌≡◌, ◌∙◌, ◌+◌, ◌<◌, ap, length, get_or, sym, subst, refl, [], true, false, arith}
+use Rattle.std.proofs.Common.{◌≡◌, ◌∙◌, ◌+◌, ◌<◌, ap, length, get_or, sym, subst, []}
 use Rattle.std.specs.Prelude.{All}
-use Rattle.std.proofs.lemmas.List.{length-map, get_or_default}
+use Rattle.std.proofs.lemmas.List.{get_or_default}
 use Rattle.lrc_time.specs.Time.{entry}
-use Rattle.lrc_store.specs.Interval.{IntervalRecord, index_of}
+use Rattle.lrc_store.specs.Interval.{IntervalRecord}
 use Rattle.lrc_store.specs.Store.{StoreRecord, IsStore, added}
 use Rattle.lrc_table.specs.PageCopy.{PageCopy, closed, fresh, without_twin}
 use Rattle.lrc_table.specs.Table.{Table, with_each}
 use Rattle.lrc_table.proofs.Tables.{closed-none}
-use Rattle.lrc_memory.specs.View.{Kept, NodeMemory, IsKept, node_seen}
+use Rattle.lrc_memory.specs.View.{NodeMemory, IsKept, node_seen}
 use Rattle.lrc_memory.proofs.Inside.{kept}
-use Rattle.lrc_memory.proofs.Closes.{closed_at, interval_at, told_ok, told_err, interval-is, closed-is, written-below, kept-dropped, kept-closed, seen-closed}
+use Rattle.lrc_memory.proofs.Closes.{closed_at, told_ok, told_err, interval-is, closed-is, written-below, kept-dropped, kept-closed, seen-closed}
 use Rattle.lrc_memory.proofs.memory.Memory.close.Goals as goal
 
 pub add-requires-clause-pages : goal.add-requires-clause-pages

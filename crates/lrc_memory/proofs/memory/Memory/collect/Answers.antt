@@ -1,7 +1,7 @@
-use Rattle.std.proofs.Common.{◌≡◌, ◌∙◌, [], refl, ap, length, sym, subst, arith}
+use Rattle.std.proofs.Common.{◌≡◌, ◌∙◌, [], refl, ap, length, sym, subst}
 use Rattle.std.proofs.lemmas.List.{length-map, get_or_default}
 use Rattle.lrc_table.specs.PageCopy.{PageCopy, without_twin, dropped, fresh}
-use Rattle.lrc_table.specs.Table.{Table, with_each}
+use Rattle.lrc_table.specs.Table.{Table}
 use Rattle.lrc_memory.specs.View.{Kept, NodeMemory, IsKept, SameMemory, node_seen}
 use Rattle.lrc_memory.proofs.Inside.{kept}
 use Rattle.lrc_memory.proofs.Discards.{collected, collected-is, not-written, length-swept, kept-collected, seen-collected, same-seen}

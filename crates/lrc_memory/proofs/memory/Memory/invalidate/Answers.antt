@@ -1,9 +1,5 @@
-use Rattle.std.proofs.Common.{◌≡◌, ◌∙◌, ◌<◌, ap, length, set, sym, subst, refl, arith}
-use Rattle.std.proofs.lemmas.List.{length-set}
-use Rattle.lrc_store.specs.Store.{StoreRecord}
-use Rattle.lrc_table.specs.declared.slot.State.TheVariants.{Valid}
-use Rattle.lrc_table.specs.Table.{Table, copy_at}
-use Rattle.lrc_memory.specs.View.{Kept, NodeMemory, IsKept, node_seen}
+use Rattle.std.proofs.Common.{◌∙◌, ap, length, set, sym, subst, arith}
+use Rattle.lrc_memory.specs.View.{NodeMemory, IsKept, node_seen}
 use Rattle.lrc_memory.proofs.Inside.{kept}
 use Rattle.lrc_memory.proofs.Copies.{within-seen}
 use Rattle.lrc_memory.proofs.Learns.{asked-within, asked-closed, asked-quiet, kept-done, seen-done, stays-seen}

@@ -10,11 +10,11 @@ state-requires c = within-seen (kept c.self.inside) _ _ c.self.view_is c.require
 pub returns-in-Valid : goal.returns-in-Valid
 returns-in-Valid c =
     let k = kept c.self.inside in
-    let may : may_read c.state.result ≡ true = elim c.in-Valid.is [ | inl is ↦ ap may_read is | inr is ↦ ap may_read is ] in
+    let may : may_read c.state.result ≡ true = elim c.in-Valid.is [ inl is ↦ ap may_read is | inr is ↦ ap may_read is ] in
     sym (readable_as k _ _ c.self.view_is (within-seen k _ _ c.self.view_is c.requires) ∙ ap may_read (sym c.state.ensures) ∙ may)
 
 pub returns-in-Invalid : goal.returns-in-Invalid
 returns-in-Invalid c =
     let k = kept c.self.inside in
-    let may : may_read c.state.result ≡ false = elim c.in-Invalid.is [ | inl is ↦ ap may_read is | inr is ↦ ap may_read is ] in
+    let may : may_read c.state.result ≡ false = elim c.in-Invalid.is [ inl is ↦ ap may_read is | inr is ↦ ap may_read is ] in
     sym (readable_as k _ _ c.self.view_is (within-seen k _ _ c.self.view_is c.requires) ∙ ap may_read (sym c.state.ensures) ∙ may)

@@ -1,8 +1,8 @@
-use Rattle.std.proofs.Common.{◌≡◌, ◌<◌, ◌∙◌, ap, length, sym, subst, refl, arith}
+use Rattle.std.proofs.Common.{◌<◌, ◌∙◌, ap, sym, subst}
 use Rattle.std.specs.Prelude.{All}
 use Rattle.lrc_page.specs.Page.{words_of}
-use Rattle.lrc_store.specs.Store.{StoreRecord, notice_at, unread, attached}
-use Rattle.lrc_memory.specs.View.{Kept, NodeMemory, IsKept, node_seen}
+use Rattle.lrc_store.specs.Store.{StoreRecord, notice_at}
+use Rattle.lrc_memory.specs.View.{NodeMemory, IsKept, node_seen}
 use Rattle.lrc_memory.proofs.Inside.{kept}
 use Rattle.lrc_memory.proofs.Attaches.{bare-notice, kept-attached, seen-attached}
 use Rattle.lrc_memory.proofs.memory.Memory.keep.Goals as goal

@@ -1,6 +1,5 @@
-use Rattle.std.proofs.Common.{◌≡◌, ◌∙◌, ◌<◌, List, [], get_or, ap, length, sym, subst, refl, arith}
+use Rattle.std.proofs.Common.{◌≡◌, ◌∙◌, ◌<◌, [], get_or, ap, length, sym, arith}
 use Rattle.std.proofs.lemmas.List.{get_or_default}
-use Rattle.lrc_store.specs.declared.key.Key.{Key}
 use Rattle.lrc_store.specs.Store.{missing_of}
 use Rattle.lrc_mail.proofs.Askable.{missing-AreAskable}
 use Rattle.lrc_memory.proofs.Inside.{kept}
@@ -20,7 +19,7 @@ pub missing-requires : goal.missing-requires
 missing-requires c =
     ap length c.index-since.ensures
     ∙ c.self.invariant.times c.from.result c.index-since.result.now
-      (omega (arith, c.from.ensures, c.self.invariant.since, within-seen (kept c.self.inside) _ _ c.self.view_is c.requires))
+    (omega (arith, c.from.ensures, c.self.invariant.since, within-seen (kept c.self.inside) _ _ c.self.view_is c.requires))
 
 pub returns-in-Invalid-clause-keys : goal.returns-in-Invalid-clause-keys
 returns-in-Invalid-clause-keys c =

@@ -1,13 +1,12 @@
-use Rattle.std.proofs.Common.{◌≡◌, ◌∙◌, ◌+◌, ◌≤◌, List, drop, take, get_or, ap, length, sym, subst, refl, arith}
+use Rattle.std.proofs.Common.{◌∙◌, ◌+◌, List, drop, take, ap, sym, subst, refl, arith}
 use Rattle.std.specs.Prelude.{fold}
 use Rattle.std.proofs.lemmas.List.{take_all}
 use Rattle.std.proofs.lemmas.List.Sums.{fold_more}
 use Rattle.lrc_store.specs.Interval.{IntervalRecord}
-use Rattle.lrc_store.specs.Store.{StoreRecord}
 use Rattle.lrc_protocol.specs.Memory.{Memory}
 use Rattle.lrc_memory.specs.Steps.{learned_one}
-use Rattle.lrc_memory.specs.Turns.{CanBeAdded, IsInRange}
-use Rattle.lrc_memory.specs.View.{NodeMemory, SameMemory, with_memory}
+use Rattle.lrc_memory.specs.Turns.{CanBeAdded}
+use Rattle.lrc_memory.specs.View.{NodeMemory, with_memory}
 use Rattle.lrc_memory.proofs.Learns.{can-at, can-go_on, head-next, learned-all, same-same, same-trans}
 use Rattle.lrc_memory.proofs.memory.Memory.learn.Goals as goal
 
@@ -40,8 +39,8 @@ loop-interval-preserved c =
       so_far = c.in_ok-learn_one.ensures.ok
           ∙ ap (λ (m : NodeMemory). with_memory m (learned_one before m.memory item)) c.loop-interval.invariant.so_far
           ∙ ap (λ (m : Memory). with_memory n m)
-            (ap (learned_one before (fold (learned_one before) n.memory (take k items))) c.interval-item.is
-            ∙ sym (fold_more (learned_one before) n.memory items k item c.loop-interval-test.true));
+          (ap (learned_one before (fold (learned_one before) n.memory (take k items))) c.interval-item.is
+          ∙ sym (fold_more (learned_one before) n.memory items k item c.loop-interval-test.true));
       rest = subst (λ (m : NodeMemory). CanBeAdded m.memory.store (drop (k + 1) items)) (sym c.in_ok-learn_one.ensures.ok)
           (can-go_on c.loop-interval.self.memory.store item (drop (k + 1) items) can);
       same = same-trans n c.loop-interval.self c.learn_one.new.self c.loop-interval.invariant.same c.learn_one.ensures.same;
@@ -54,5 +53,5 @@ returns-clause-ok c =
     let items = c.as_slice-interval-items.result.now in
     c.loop-interval.invariant.so_far
     ∙ ap (λ (is : List IntervalRecord). with_memory n (fold (learned_one before) n.memory is))
-      (take_all c.loop-interval.interval-index items c.loop-interval-test.false ∙ c.as_slice-interval-items.ensures.all)
+    (take_all c.loop-interval.interval-index items c.loop-interval-test.false ∙ c.as_slice-interval-items.ensures.all)
     ∙ ap (λ (m : Memory). with_memory n m) (learned-all before c.args.intervals.now n.memory)

@@ -1,5 +1,5 @@
 use Rattle.std.proofs.Common.{◌≡◌, take, drop}
-use Rattle.std.specs.Prelude.{fold, length}
+use Rattle.std.specs.Prelude.{fold}
 use Rattle.lrc_memory.specs.View.{SameMemory, with_memory}
 use Rattle.lrc_memory.specs.Steps.{learned_one}
 use Rattle.lrc_memory.specs.Turns.{CanBeAdded}

@@ -1,12 +1,11 @@
-use Rattle.std.proofs.Common.{◌≡◌, ◌∙◌, ◌+◌, List, get_or, ap, length, sym, subst, refl, arith}
+use Rattle.std.proofs.Common.{◌≡◌, ◌∙◌, ◌+◌, List, get_or, ap, length, sym, subst, refl}
 use Rattle.std.proofs.lemmas.List.{length-set}
 use Rattle.std.proofs.lemmas.List.Sums.{fold_more}
 use Rattle.lrc_protocol.specs.Copy.{Copy}
 use Rattle.lrc_time.specs.Time.{entry}
 use Rattle.lrc_store.specs.Interval.{IntervalRecord, index_of}
 use Rattle.lrc_store.specs.Store.{StoreRecord, IsStore, added}
-use Rattle.lrc_memory.specs.Turns.{IsInRange}
-use Rattle.lrc_memory.specs.View.{Kept, NodeMemory, IsKept, SameMemory, node_seen, with_memory}
+use Rattle.lrc_memory.specs.View.{NodeMemory, IsKept, node_seen, with_memory}
 use Rattle.lrc_memory.specs.Steps.{invalidated_on}
 use Rattle.lrc_memory.proofs.Inside.{kept}
 use Rattle.lrc_memory.proofs.Learns.{kept-added, seen-added, in_range-seen, same-trans, page-within}
@@ -29,7 +28,7 @@ loop-page-init c =
     let store : c.add.new.self ≡ added k.store c.args.interval.now = c.in_ok-add.ensures.ok in record {
       so_far = ap (λ (s : StoreRecord). node_seen (record k { store = s })) store
           ∙ seen-added k c.args.interval.now c.self.invariant
-            (subst (λ (n : NodeMemory). index_of c.args.interval.now ≡ entry n.memory.store.last c.args.interval.now.node + 1) (sym c.self.view_is) c.requires.next)
+          (subst (λ (n : NodeMemory). index_of c.args.interval.now ≡ entry n.memory.store.last c.args.interval.now.node + 1) (sym c.self.view_is) c.requires.next)
           ∙ ap (λ (n : NodeMemory). with_memory n (record n.memory { store = added n.memory.store c.args.interval.now })) c.self.view_is;
       same = same-seen k (record k { store = c.add.new.self }) _ c.self.view_is refl refl refl
           (ap (λ (s : StoreRecord). length s.last) store ∙ length-set k.store.last c.args.interval.now.node (index_of c.args.interval.now));
@@ -48,8 +47,8 @@ loop-page-preserved c =
     let items = c.as_slice-page-items.result.now in record {
       so_far = c.in_ok-invalidate.ensures.ok
           ∙ ap (λ (m : NodeMemory). with_memory m (record m.memory { copies = invalidated_on before m.memory.copies (get_or items c.loop-page.page-index 0) }))
-            c.loop-page.invariant.so_far
+          c.loop-page.invariant.so_far
           ∙ ap (λ (cs : List Copy). with_memory n (record n.memory { store = added n.memory.store c.args.interval.now; copies = cs }))
-            (sym (fold_more (invalidated_on before) n.memory.copies items c.loop-page.page-index 0 c.loop-page-test.true));
+          (sym (fold_more (invalidated_on before) n.memory.copies items c.loop-page.page-index 0 c.loop-page-test.true));
       same = same-trans n c.loop-page.self c.invalidate.new.self c.loop-page.invariant.same c.invalidate.ensures.same;
     }

@@ -1,13 +1,13 @@
 use Rattle.std.proofs.Common.{◌≡◌, ◌<◌, ◌∙◌, List, true, ap, length, sym, subst, arith}
 use Rattle.std.specs.Prelude.{All}
 use Rattle.lrc_store.specs.declared.key.Key.{Key}
-use Rattle.lrc_table.specs.Table.{Table, copy_at}
+use Rattle.lrc_table.specs.Table.{Table}
 use Rattle.lrc_protocol.specs.Copy as copy
-use Rattle.lrc_protocol.specs.Fetch.{Base, first_values}
+use Rattle.lrc_protocol.specs.Fetch.{first_values}
 use Rattle.lrc_protocol.specs.Memory as memory
 use Rattle.lrc_mail.specs.Seen.{seen_base}
 use Rattle.lrc_memory.specs.Turns.{is_mendable}
-use Rattle.lrc_memory.specs.View.{NodeMemory, IsKept, seen_in, node_seen, with_memory}
+use Rattle.lrc_memory.specs.View.{NodeMemory, IsKept, node_seen, with_memory}
 use Rattle.lrc_memory.proofs.Inside.{kept}
 use Rattle.lrc_memory.proofs.Copies.{within-seen}
 use Rattle.lrc_memory.proofs.Mending.{fits-seen, kept-mended, seen-mended, table-mended}
@@ -64,10 +64,10 @@ returns-clause-mended c =
     ap (λ (t : Table). node_seen (with_table k t)) table
     ∙ seen-mended k c.page-page.result base missing within c.size-whole.ensures.whole (fits-seen k _ _ _ c.self.view_is within fit) of_page
     ∙ ap (λ (n : NodeMemory). with_memory n (memory.with_copy n.memory c.page-page.result
-      (copy.valid (memory.repaired n.memory.store (first_values (memory.copy_at n.memory c.page-page.result) base) missing)))) c.self.view_is
+    (copy.valid (memory.repaired n.memory.store (first_values (memory.copy_at n.memory c.page-page.result) base) missing)))) c.self.view_is
     ∙ ap (λ p. with_memory c.args.self.now (memory.with_copy c.args.self.now.memory p
-      (copy.valid (memory.repaired c.args.self.now.memory.store (first_values (memory.copy_at c.args.self.now.memory p) base) missing)))) page
+    (copy.valid (memory.repaired c.args.self.now.memory.store (first_values (memory.copy_at c.args.self.now.memory p) base) missing)))) page
     ∙ ap (λ b. with_memory c.args.self.now (memory.with_copy c.args.self.now.memory c.args.need.now.page
-      (copy.valid (memory.repaired c.args.self.now.memory.store (first_values (memory.copy_at c.args.self.now.memory c.args.need.now.page) b) missing)))) c.base.ensures
+    (copy.valid (memory.repaired c.args.self.now.memory.store (first_values (memory.copy_at c.args.self.now.memory c.args.need.now.page) b) missing)))) c.base.ensures
     ∙ ap (λ (keys : List Key). with_memory c.args.self.now (memory.with_copy c.args.self.now.memory c.args.need.now.page
-      (copy.valid (memory.repaired c.args.self.now.memory.store (first_values (memory.copy_at c.args.self.now.memory c.args.need.now.page) c.args.need.now.base) keys)))) c.missing.ensures
+    (copy.valid (memory.repaired c.args.self.now.memory.store (first_values (memory.copy_at c.args.self.now.memory c.args.need.now.page) c.args.need.now.base) keys)))) c.missing.ensures

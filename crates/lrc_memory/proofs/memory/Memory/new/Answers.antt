@@ -1,4 +1,4 @@
-use Rattle.std.proofs.Common.{◌≡◌, ◌∙◌, ap, sym, replicate}
+use Rattle.std.proofs.Common.{◌∙◌, ap, replicate}
 use Rattle.lrc_memory.proofs.Starts.{seen-new}
 use Rattle.lrc_memory.proofs.memory.Memory.new.Goals as goal
 

@@ -1,4 +1,4 @@
-use Rattle.std.proofs.Common.{◌≡◌, ap, ◌∙◌}
+use Rattle.std.proofs.Common.{ap, ◌∙◌}
 use Rattle.lrc_memory.specs.View.{NodeMemory}
 use Rattle.lrc_memory.proofs.Inside.{kept}
 use Rattle.lrc_memory.proofs.Copies.{word-seen, read-seen, read_as}

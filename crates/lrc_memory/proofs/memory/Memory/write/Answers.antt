@@ -1,6 +1,6 @@
 use Rattle.std.proofs.Common.{◌≡◌, ◌<◌, ◌∙◌, ap, length, subst, sym, arith}
 use Rattle.lrc_page.specs.Place.{page_of}
-use Rattle.lrc_memory.specs.View.{Kept, IsKept}
+use Rattle.lrc_memory.specs.View.{IsKept}
 use Rattle.lrc_memory.proofs.Inside.{kept}
 use Rattle.lrc_memory.proofs.Copies.{word-seen}
 use Rattle.lrc_memory.proofs.Settling.{same-parts}
