@@ -1,6 +1,6 @@
 // What a node knows of the intervals of all nodes.
 
-ghost use Rattle.std.specs.Prelude.{◌≡◌, ◌<◌, ◌+◌, IfOk, OnOk, is_some, length};
+ghost use Rattle.std.specs.Prelude.{All, ◌≡◌, ◌<◌, ◌+◌, IfOk, OnOk, is_some, length};
 ghost use Rattle.lrc_time.specs.Time.{entry};
 ghost use Rattle.lrc_store.specs.Store.{newer_of, notice_at};
 ghost use Rattle.lrc_protocol.specs.Memory.{learned};
@@ -66,7 +66,8 @@ impl Memory {
     pub fn newer(&self, since: &Time, upto: &Time) -> Result<Intervals, AllocError>
         requires since { length since.now ≡ length self.now.memory.store.last }
         requires upto { length upto.now ≡ length self.now.memory.store.last }
-        ensures { IfOk result (λ found. found ≡ newer_of self.now.memory.store since.now upto.now) }
+        ensures found { IfOk result (λ found. found ≡ newer_of self.now.memory.store since.now upto.now) }
+        ensures stamps { IfOk result (λ found. All (λ i. length i.stamp ≡ length self.now.memory.store.last) found) }
     {
         self.store.newer_than(since, upto)
     }

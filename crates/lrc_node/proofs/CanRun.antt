@@ -17,7 +17,7 @@ use Rattle.lrc_node.specs.Effects.{CanBegin, CanRun}
 use Rattle.lrc_node.proofs.Effects.{begins_asked}
 
 -- a word that the text accesses next is one of the memory's
-read_within : (node : Node) → IsReached node → (course : Course) (word : ℕ) (after : ℕ → Thread) → node.course ≡ course
+pub read_within : (node : Node) → IsReached node → (course : Course) (word : ℕ) (after : ℕ → Thread) → node.course ≡ course
     → next_in course ≡ Some (reads word after) → word < node.setting.words
 read_within node r (going thread) word after at e =
     let fine : IsFine thread (reads word after) = subst (IsFine thread) (same_Some _ _ e) (next_of-fine thread) in
@@ -25,7 +25,7 @@ read_within node r (going thread) word after at e =
 read_within node r (trapped cause) word after at e = cc
 read_within node r ended word after at e = cc
 
-write_within : (node : Node) → IsReached node → (course : Course) (word value : ℕ) (after : Thread) → node.course ≡ course
+pub write_within : (node : Node) → IsReached node → (course : Course) (word value : ℕ) (after : Thread) → node.course ≡ course
     → next_in course ≡ Some (writes word value after) → word < node.setting.words
 write_within node r (going thread) word value after at e =
     let fine : IsFine thread (writes word value after) = subst (IsFine thread) (same_Some _ _ e) (next_of-fine thread) in

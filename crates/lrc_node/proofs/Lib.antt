@@ -6,3 +6,8 @@ pub mod CanRun
 pub mod Turns
 pub mod InRange
 pub mod Episodes
+pub mod Misses
+pub mod CanTake
+pub mod Replied
+pub mod Logging
+pub mod Takes

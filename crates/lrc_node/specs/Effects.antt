@@ -1,5 +1,5 @@
 -- What a turn does, by what the text asks for.
-use Rattle.std.specs.Prelude.{ℕ, ◌≡◌, ◌+◌, ◌-◌, ◌<◌, ◌≤◌, true, false, IsTrue, Option, Some, [], length, option_map}
+use Rattle.std.specs.Prelude.{ℕ, ◌≡◌, ◌+◌, ◌-◌, ◌<◌, ◌≤◌, true, false, IsTrue, Option, Some, [], length, option_map, All, fold}
 use Rattle.lrc_time.specs.Time.{entry}
 use Rattle.lrc_lock.specs.Held.{lock_at, is_free, is_held}
 use Rattle.lrc_lock.specs.declared.state.LockState.TheVariants.{Away}
@@ -10,9 +10,14 @@ use Rattle.lrc_exec.specs.declared.machine.Ask.TheVariants.{Read, Write, Acquire
 use Rattle.lrc_protocol.specs.Copy.{is_readable}
 use Rattle.lrc_protocol.specs.Memory.{Memory, copy_at, value_at, with_word}
 use Rattle.lrc_protocol.specs.Locks.{next_time}
-use Rattle.lrc_protocol.specs.Node.{Node, Effect, begins, acts}
+use Rattle.lrc_memory.specs.Turns.{is_mendable}
+use Rattle.lrc_protocol.specs.Fetch.{Need, is_met}
+use Rattle.lrc_protocol.specs.Mail.{Wait, access}
+use Rattle.lrc_protocol.specs.Node.{Node, Effect, begins, acts, with_memory}
 use Rattle.lrc_protocol.specs.Run.{own_index, reaches, closing, acquire_at, release_at, arrive_at}
 use Rattle.lrc_exec.specs.Ask.{ask_of}
+use Rattle.lrc_wire.specs.Records.{ChangesReplyRecord}
+use Rattle.lrc_protocol.specs.Take.{with_part}
 use Rattle.lrc_protocol.specs.Turn.{Outcome, not_ready, worn}
 use Rattle.lrc_node.specs.declared.fault.NodeFault.{NodeFault}
 use Rattle.lrc_node.specs.declared.fault.NodeFault.TheVariants.{NotReady, Worn, NoMemory}
@@ -84,3 +89,26 @@ pub data RefusesRun : Outcome → NodeFault → Type 0 where
   unready : RefusesRun not_ready NotReady
   too_large : RefusesRun worn Worn
   without_memory : {outcome : Outcome} → RefusesRun outcome NoMemory
+
+-- a word that is accessed is one of the memory's, on this page
+abbrev pub AccessesPage : Node → ℕ → Option Ask → Type 0
+AccessesPage node page (Some (Read word)) = (word < node.setting.words) × (page_of word node.options.size ≡ page)
+AccessesPage node page (Some (Write word value)) = (word < node.setting.words) × (page_of word node.options.size ≡ page)
+AccessesPage node page _ = Unit {0}
+
+-- a page can be repaired for an access: it is one of the memory's, its base copy fits, its keys are of it, and the text's next
+-- access is on it
+pub record CanRepair (node : Node) (need : Need) : Type 0 where
+  pub page : need.page < length node.memory.copies
+  pub fit : is_mendable node.options.size (copy_at node.memory need.page) need.base ≡ true
+  pub of_page : All (λ key. key.page ≡ need.page) need.missing
+  pub next : AccessesPage node need.page (asked_in node.course)
+
+-- what is awaited of a page can be repaired once all has come
+abbrev pub CanGoOn : Node → Wait → Type 0
+CanGoOn node (access need) = is_met need ≡ true → CanRepair node need
+CanGoOn node _ = Unit {0}
+
+-- the node with the changes of a reply stored
+abbrev pub with_parts : ℕ → ChangesReplyRecord → Node → Node
+with_parts from m node = with_memory node (record node.memory { store = fold (with_part from m.page) node.memory.store m.parts })

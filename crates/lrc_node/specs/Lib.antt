@@ -7,4 +7,7 @@ pub mod State
 pub mod Seen
 pub mod Fault
 pub mod Node
+pub mod Taking
 pub mod Ranges
+pub mod Taken
+pub mod Logged

@@ -1,10 +1,10 @@
 //! One node of a run.
 
-ghost use Rattle.std.specs.Prelude.{◌≡◌, ◌<◌, ◌≤◌, IfErr, IfOk, None, Some, unwrap_or, option_map, false};
+ghost use Rattle.std.specs.Prelude.{◌≡◌, ◌<◌, ◌≤◌, IfErr, IfOk, None, Some, unwrap_or, option_map, false, ◌⊎◌, is_none};
 ghost use Rattle.lrc_protocol.specs.Node.{Node as NodeRecord, fresh_node};
-ghost use Rattle.lrc_protocol.specs.Turn.{done, is_ready, not_ready, run_turn};
+ghost use Rattle.lrc_protocol.specs.Turn.{done, is_ready, not_ready, run_turn, take_turn, unexpected};
 ghost use Rattle.lrc_node.specs.Node.{Answers, end_in};
-ghost use Rattle.lrc_node.specs.declared.fault.NodeFault.TheVariants.{Failed, NotReady};
+ghost use Rattle.lrc_node.specs.declared.fault.NodeFault.TheVariants.{Failed, NoMemory, NotReady, Unexpected};
 
 use crate::end::End;
 use crate::fault::NodeFault;
@@ -12,6 +12,7 @@ use crate::options::Options;
 use crate::state::State;
 use crate::turn::Turn;
 use lrc_exec::code::Code;
+use lrc_wire::Envelope;
 use std::alloc::{AllocError, Global};
 use std::marker::Model;
 
@@ -78,6 +79,41 @@ impl<'c> Node<'c> {
                 Err(fault)
             }
         }
+    }
+
+    /// Takes a message; a repeat of one that was taken is an empty turn. Refused, in this order: `Failed`; `Unexpected`,
+    /// with nothing changed, where the node doesn't expect the message; `Worn` where a number would be too large;
+    /// `NoMemory`, which may come before `Unexpected`. After the last two the node has failed.
+    pub fn take(&mut self, envelope: &Envelope) -> Result<Turn, NodeFault>
+        ensures failed { self.old ≡ None → (result ≡ Err Failed) × (self.new ≡ None) }
+        ensures done { (node : NodeRecord) → self.old ≡ Some node → IfOk result (λ turn. (after : NodeRecord) × (take_turn node envelope.now ≡ done turn after) × (self.new ≡ Some after)) }
+        ensures refused { (node : NodeRecord) → self.old ≡ Some node → IfErr result (λ fault. Answers (take_turn node envelope.now) node fault self.new) }
+        ensures unexpected { (node : NodeRecord) → self.old ≡ Some node → take_turn node envelope.now ≡ unexpected → (result ≡ Err Unexpected) ⊎ (result ≡ Err NoMemory) }
+    {
+        if self.failed {
+            return Err(NodeFault::Failed);
+        }
+        match self.state.take(envelope) {
+            Ok(turn) => Ok(turn),
+            Err(fault) => {
+                self.failed = fault.is_final();
+                Err(fault)
+            }
+        }
+    }
+
+    /// Whether the node has failed.
+    pub(crate) fn has_failed(&self) -> bool
+        ensures { result ≡ is_none self.now }
+    {
+        self.failed
+    }
+
+    /// The node fails: every later turn is refused.
+    pub(crate) fn fail(&mut self)
+        ensures { self.new ≡ None }
+    {
+        self.failed = true;
     }
 
     /// Whether the node would go on if it were named. A failed one would not.

@@ -1,20 +1,73 @@
 // Accesses: hits, and misses, at which a node fetches what it lacks.
 
-ghost use Rattle.std.specs.Prelude.{◌≡◌, ◌<◌, IfOk, length};
+ghost use Rattle.std.specs.Prelude.{◌≡◌, ◌<◌, All, IfOk, length, true, false};
+ghost use Rattle.lrc_memory.specs.Turns.{is_mendable};
+ghost use Rattle.lrc_protocol.specs.Fetch.{is_met, mended};
+ghost use Rattle.lrc_protocol.specs.Mail.{access, nothing};
+ghost use Rattle.lrc_protocol.specs.Memory.{copy_at};
+ghost use Rattle.lrc_protocol.specs.Node.{acts, waiting, with_memory};
 ghost use Rattle.lrc_protocol.specs.Run.{reaches};
+ghost use Rattle.lrc_protocol.specs.Waits.{waits_or_goes_on};
+ghost use Rattle.lrc_node.specs.Effects.{AccessesPage};
 ghost use Rattle.lrc_node.specs.State.{seen_effect, AreFor};
+ghost use Rattle.lrc_node.specs.Text.{asked_in};
 
 use crate::state::State;
 use crate::turn::Effect;
+use lrc_mail::{Letter, Need, Wait};
 use std::alloc::AllocError;
 
 impl State<'_> {
-    /// Makes the access that comes next, of this page, at once where its copy may be read.
+    /// Makes the access that comes next, of this page, at once where its copy may be read. At a miss the node asks for what
+    /// the page needs and waits, or where nothing has to be asked repairs the page and goes on.
     pub(crate) fn reach(&mut self, page: u16) -> Result<Effect, AllocError>
-        requires { page < length self.old.memory.copies }
+        requires page { page < length self.old.memory.copies }
+        requires next { AccessesPage self.old page (asked_in self.old.course) }
         ensures effect { IfOk result (λ effect. reaches self.old page ≡ seen_effect effect self.new) }
         ensures to { IfOk result (λ effect. AreFor self.new.setting.nodes effect.letters.items) }
     {
-        Err(AllocError)
+        if self.memory.is_readable(page) {
+            return self.act(Vec::new(self.alloc));
+        }
+        let need = self.memory.need(page)?;
+        let letters = need.requests(self.alloc)?;
+        if need.is_met() {
+            self.repair(&need, letters)
+        } else {
+            Ok(self.await_access(need, letters))
+        }
+    }
+
+    /// Repairs a page for which all has come, and makes the access that comes next.
+    pub(crate) fn repair(
+        &mut self,
+        need: &Need,
+        letters: Vec<Letter>,
+    ) -> Result<Effect, AllocError>
+        requires page { need.now.page < length self.old.memory.copies }
+        requires fit { is_mendable self.old.options.size (copy_at self.old.memory need.now.page) need.now.base ≡ true }
+        requires of_page { All (λ key. key.page ≡ need.now.page) need.now.missing }
+        requires next { AccessesPage self.old need.now.page (asked_in self.old.course) }
+        ensures effect { IfOk result (λ effect. acts letters.items (waiting nothing (with_memory self.old (mended self.old.memory need.now))) ≡ seen_effect effect self.new) }
+        ensures letters { IfOk result (λ effect. effect.letters ≡ letters) }
+        ensures setting { self.new.setting ≡ self.old.setting }
+    {
+        self.memory.mend(need);
+        self.mail.wait_for(Wait::Nothing);
+        self.act(letters)
+    }
+
+    /// Sends the requests for a page, and waits.
+    pub(crate) fn await_access(&mut self, need: Need, letters: Vec<Letter>) -> Effect
+        requires { is_met need ≡ false }
+        ensures effect { waits_or_goes_on letters.items self.old (access need) ≡ seen_effect result self.new }
+        ensures letters { result.letters ≡ letters }
+        ensures setting { self.new.setting ≡ self.old.setting }
+    {
+        self.mail.wait_for(Wait::Access(need));
+        Effect {
+            deed: None,
+            letters,
+        }
     }
 }

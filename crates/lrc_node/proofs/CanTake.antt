@@ -1,0 +1,210 @@
+-- A node that is reached can take what it expects.
+use Rattle.std.proofs.Common.{◌≡◌, ◌≢◌, ℕ, ◌<◌, ◌≤◌, ◌+◌, Bool, true, false, List, [], get_or, length, refl, sym, ◌∙◌, ap, subst, arith}
+use Rattle.std.specs.Prelude.{Option, Some, None, option_map, All, ◌&&◌, ◌==◌, nat_lt, nat_le}
+use Rattle.std.specs.List.{list_all}
+use Rattle.std.proofs.lemmas.Bool.{and_parts, ltb-true, eqb-true}
+use Rattle.std.proofs.lemmas.Option.{same_Some}
+use Rattle.lrc_time.specs.Time.{entry}
+use Rattle.lrc_exec.specs.declared.machine.Ask.{Ask}
+use Rattle.lrc_exec.specs.declared.machine.Ask.TheVariants.{Acquire, Barrier}
+use Rattle.lrc_exec.specs.Ask.{ask_of}
+use Rattle.lrc_exec.specs.Meaning.{Thread, Next, quiet, prints, reads, writes, acquires, releases, arrives, departs, traps, ends}
+use Rattle.lrc_store.specs.Interval.{IntervalRecord}
+use Rattle.lrc_protocol.specs.Mail.{Wait, Collection, nothing, grant, departure, access, upkeep, discard, awaits_grant, awaits_departure, awaits_discard}
+use Rattle.lrc_protocol.specs.Node.{Node}
+use Rattle.lrc_protocol.specs.Expected.{is_learnable}
+use Rattle.lrc_invariants.specs.Waiting.{next_in, acquiring, is_departing, FixesNext}
+use Rattle.lrc_local.specs.Reached.{IsReached}
+use Rattle.lrc_local.specs.Ranges.{InRange, CollectsAt}
+use Rattle.lrc_local.specs.Waits.{IsQuiet}
+use Rattle.lrc_local.proofs.Tokened.{come_to}
+use Rattle.lrc_local.proofs.Always.{can_be_added, ranged_at, exact_at, quiet_at}
+use Rattle.lrc_memory.specs.Turns.{CanBeAdded, IsInRange}
+use Rattle.lrc_node.specs.Text.{asked_in}
+use Rattle.lrc_node.specs.Taken.{IsTaking}
+use Rattle.lrc_node.specs.Taking.{CanDiscard, CanTake}
+use Rattle.std.specs.Prelude.{AllPairs, map}
+use Rattle.std.proofs.lemmas.List.{length-map, get_or-map}
+use Rattle.lrc_wire.specs.Records.{ArriveRecord}
+use Rattle.lrc_wire.specs.declared.message.Message.{Message}
+use Rattle.lrc_wire.specs.declared.message.Message.TheVariants.{LockRequest, LockForward, LockGrant, Arrive, Depart, Clean, Discard, ChangesRequest, ChangesReply, PageRequest, PageReply}
+use Rattle.lrc_barrier.specs.Barrier.{IsArrival}
+use Rattle.lrc_protocol.specs.Fetch.{Need}
+use Rattle.lrc_protocol.specs.Mail.{with_taken, needs_of}
+use Rattle.lrc_protocol.specs.Expected.{is_expected, is_page, is_interval, are_arriving}
+use Rattle.lrc_local.proofs.Tests.{each_passes}
+use Rattle.lrc_local.proofs.Awaited.{ascends-pairs}
+use Rattle.lrc_local.proofs.Always.{awaited_at, needed_at}
+use Rattle.lrc_node.specs.Barrier.{arrival_in}
+use Rattle.lrc_node.proofs.Replied.{changes_go_on, page_goes_on, whatever_mail}
+use Rattle.lrc_protocol.specs.Waits.{with_needs}
+use Rattle.lrc_protocol.specs.Fetch.{with_changes, with_page}
+use Rattle.lrc_node.specs.Effects.{with_parts}
+
+-- ---- what is awaited, and what the text asks for then
+
+fits_next : (node : Node) → IsReached node → FixesNext node.mail.wait (next_in node.course)
+fits_next node r = (come_to node r).tokened.fits
+
+acquires_asked : (o : Option Next) (lock : ℕ) → acquiring o ≡ Some lock → option_map ask_of o ≡ Some (Acquire lock)
+acquires_asked None lock e = cc
+acquires_asked (Some (quiet after)) lock e = cc
+acquires_asked (Some (prints value after)) lock e = cc
+acquires_asked (Some (reads word after)) lock e = cc
+acquires_asked (Some (writes word value after)) lock e = cc
+acquires_asked (Some (acquires other after)) lock e = let same : other ≡ lock = same_Some _ _ e in ap (λ l. Some (Acquire l)) same
+acquires_asked (Some (releases other after)) lock e = cc
+acquires_asked (Some (arrives after)) lock e = cc
+acquires_asked (Some (departs after)) lock e = cc
+acquires_asked (Some (traps cause)) lock e = cc
+acquires_asked (Some ends) lock e = cc
+
+departs_asked : (o : Option Next) → is_departing o ≡ true → option_map ask_of o ≡ Some Barrier
+departs_asked None e = cc
+departs_asked (Some (quiet after)) e = cc
+departs_asked (Some (prints value after)) e = cc
+departs_asked (Some (reads word after)) e = cc
+departs_asked (Some (writes word value after)) e = cc
+departs_asked (Some (acquires lock after)) e = cc
+departs_asked (Some (releases lock after)) e = cc
+departs_asked (Some (arrives after)) e = cc
+departs_asked (Some (departs after)) e = refl
+departs_asked (Some (traps cause)) e = cc
+departs_asked (Some ends) e = cc
+
+grant_next : (wait : Wait) (o : Option Next) (lock : ℕ) → awaits_grant lock wait ≡ true → FixesNext wait o → option_map ask_of o ≡ Some (Acquire lock)
+grant_next nothing o lock e f = cc
+grant_next (grant other) o lock e f = acquires_asked o lock (f ∙ ap Some (eqb-true other lock e))
+grant_next departure o lock e f = cc
+grant_next (access need) o lock e f = cc
+grant_next (upkeep collection needs) o lock e f = cc
+grant_next (discard collection) o lock e f = cc
+
+pub granted_asked : (node : Node) → IsReached node → (lock : ℕ) → awaits_grant lock node.mail.wait ≡ true → asked_in node.course ≡ Some (Acquire lock)
+granted_asked node r lock e = grant_next node.mail.wait (next_in node.course) lock e (fits_next node r)
+
+departure_next : (wait : Wait) (o : Option Next) → awaits_departure wait ≡ true → FixesNext wait o → option_map ask_of o ≡ Some Barrier
+departure_next nothing o e f = cc
+departure_next (grant other) o e f = cc
+departure_next departure o e f = departs_asked o f
+departure_next (access need) o e f = cc
+departure_next (upkeep collection needs) o e f = cc
+departure_next (discard collection) o e f = cc
+
+pub departing_asked : (node : Node) → IsReached node → awaits_departure node.mail.wait ≡ true → asked_in node.course ≡ Some Barrier
+departing_asked node r e = departure_next node.mail.wait (next_in node.course) e (fits_next node r)
+
+discard_next : (wait : Wait) (o : Option Next) → awaits_discard wait ≡ true → FixesNext wait o → option_map ask_of o ≡ Some Barrier
+discard_next nothing o e f = cc
+discard_next (grant other) o e f = cc
+discard_next departure o e f = cc
+discard_next (access need) o e f = cc
+discard_next (upkeep collection needs) o e f = cc
+discard_next (discard collection) o e f = departs_asked o f
+
+-- ---- news
+
+pub learnable_added : (node : Node) → IsReached node → (time : List ℕ) (intervals : List IntervalRecord) → is_learnable node time intervals ≡ true
+    → CanBeAdded node.memory.store intervals
+learnable_added node r time intervals e =
+    let added = can_be_added node time intervals r e in
+    let ranges = (ranged_at node r).memory in
+    record {
+      in_range = λ k d within.
+          let it = added.0 k d within in
+          record {
+            node = rw ranges.store_nodes it.node;
+            stamp = it.stamp ∙ sym ranges.store_nodes;
+            pages = rw ranges.store_pages it.named;
+          };
+      next = added.1;
+    }
+
+-- ---- the word to discard
+
+closed_at : (node : Node) → (wait : Wait) → awaits_discard wait ≡ true → IsQuiet wait node.memory → IsQuiet (discard (record { time = []; kept = [] })) node.memory
+closed_at node nothing e q = cc
+closed_at node (grant lock) e q = cc
+closed_at node departure e q = cc
+closed_at node (access need) e q = cc
+closed_at node (upkeep collection needs) e q = cc
+closed_at node (discard collection) e q = q
+
+pub can_discard : (node : Node) → IsReached node → awaits_discard node.mail.wait ≡ true → CanDiscard node
+can_discard node r e = record {
+  next = discard_next node.mail.wait (next_in node.course) e (fits_next node r);
+  closed = closed_at node node.mail.wait e (quiet_at node r);
+  time = λ collection at.
+      let present : collection.time ≡ node.locks.time = subst (CollectsAt node.locks.time) at (ranged_at node r).present in
+      (ap length present ∙ (ranged_at node r).time,
+       let same : entry node.memory.store.last node.setting.me ≡ entry collection.time node.setting.me =
+           ap (λ t. entry t node.setting.me) ((exact_at node r).last ∙ sym present) in
+       omega arith);
+}
+
+-- ---- by kind
+
+news_time : (node : Node) (time : List ℕ) (intervals : List IntervalRecord) → is_learnable node time intervals ≡ true → length time ≡ node.setting.nodes
+news_time node time intervals e = eqb-true _ _ (and_parts _ _ (and_parts _ _ (and_parts _ _ (and_parts _ _ e).0).0).0).0
+
+arriving : (node : Node) (from : ℕ) (m : ArriveRecord) → are_arriving node from m.time m.intervals ≡ true → IsArrival node.setting.nodes from (arrival_in m)
+arriving node from m e =
+    let own = and_parts _ _ (and_parts _ _ e).0 in
+    let news = and_parts _ _ (and_parts _ _ own.0).0 in
+    record {
+      counted = eqb-true _ _ news.0;
+      own = each_passes (λ (i : IntervalRecord). i.node == from) (λ (i : IntervalRecord). i.node ≡ from) (λ i t. eqb-true i.node from t) m.intervals own.1;
+      stamps = each_passes (is_interval node) (λ (i : IntervalRecord). length i.stamp ≡ node.setting.nodes)
+          (λ i t. eqb-true _ _ (and_parts _ _ (and_parts _ _ t).0).1) m.intervals news.1;
+    }
+
+below_copies : (node : Node) → IsReached node → (page : ℕ) → is_page node page ≡ true → page < length node.memory.copies
+below_copies node r page e = subst (λ n. page < n) (sym (ranged_at node r).memory.copies) (ltb-true page _ e)
+
+apart_pairs : (needs : List Need) → AllPairs (λ (a b : ℕ). a < b) (map (λ (need : Need). need.page) needs) → AllPairs (λ (a b : Need). a.page ≢ b.page) needs
+apart_pairs needs h = λ i j d before within same.
+    let pages : List ℕ = map (λ (need : Need). need.page) needs in
+    let lt : get_or pages i d.page < get_or pages j d.page = h i j d.page before (rw length-map within) in
+    let at_i : get_or pages i d.page ≡ (get_or needs i d).page = get_or-map (λ (need : Need). need.page) needs i d d.page (omega arith) in
+    let at_j : get_or pages j d.page ≡ (get_or needs j d).page = get_or-map (λ (need : Need). need.page) needs j d d.page within in
+    omega arith
+
+-- a node that is reached can take what it expects
+pub can_take : (node : Node) → IsReached node → (from sender number : ℕ) (message : Message) → is_expected node from message ≡ true
+    → CanTake (record node { mail = with_taken sender number node.mail }) from message
+can_take node r from sender number (LockRequest m) e = ltb-true _ _ (and_parts _ _ (and_parts _ _ e).0).0
+can_take node r from sender number (LockForward m) e =
+    let a = and_parts _ _ (and_parts _ _ (and_parts _ _ e).0).0 in
+    let b = and_parts _ _ a.0 in
+    (ltb-true _ _ b.0, ltb-true _ _ b.1, eqb-true _ _ a.1)
+can_take node r from sender number (LockGrant m) e =
+    let a = and_parts _ _ e in
+    let b = and_parts _ _ a.0 in
+    (ltb-true _ _ b.0, granted_asked node r m.lock b.1, news_time node m.time m.intervals a.1, learnable_added node r m.time m.intervals a.1)
+can_take node r from sender number (Arrive m) e = arriving node from m (and_parts _ _ e).1
+can_take node r from sender number (Depart m) e =
+    let a = and_parts _ _ e in
+    let waits = (and_parts _ _ (and_parts _ _ (and_parts _ _ a.0).0).0).1 in
+    (departing_asked node r waits, news_time node m.time m.intervals a.1, learnable_added node r m.time m.intervals a.1)
+can_take node r from sender number (Clean episode) e = tt
+can_take node r from sender number (Discard episode) e =
+    let d = can_discard node r (and_parts _ _ (and_parts _ _ e).0).1 in
+    record { next = d.next; closed = d.closed; time = d.time }
+can_take node r from sender number (ChangesRequest m) e = below_copies node r m.page (and_parts _ _ e).0
+can_take node r from sender number (ChangesReply m) e = 
+    (awaited_at node r from m e,
+     whatever_mail (with_parts from m node) (with_taken sender number node.mail) (with_needs (with_changes m.page from) node.mail.wait) (changes_go_on node r from m e))
+can_take node r from sender number (PageRequest page) e = below_copies node r page (and_parts _ _ (and_parts _ _ e).0).0
+can_take node r from sender number (PageReply m) e =
+    let a = and_parts _ _ e in
+    (apart_pairs (needs_of node.mail.wait) (ascends-pairs (map (λ (need : Need). need.page) (needs_of node.mail.wait)) (needed_at node r).apart),
+     whatever_mail node (with_taken sender number node.mail) (with_needs (with_page m.page m.values) node.mail.wait)
+     (page_goes_on node r from m.page m.values (eqb-true _ _ (and_parts _ _ a.0).1) a.1))
+
+-- a node that has just taken the number of a message can take the message
+pub taking_can : (node : Node) (from : ℕ) (message : Message) → IsTaking node from message → CanTake node from message
+taking_can node from message is =
+    subst (λ n. CanTake n from message) (sym is.now) (can_take is.before is.reached from is.envelope.from is.envelope.number message is.expected)
+
+pub taking_from : (node : Node) (from : ℕ) (message : Message) → IsTaking node from message → from < node.setting.nodes
+taking_from node from message is = subst (λ (n : Node). from < n.setting.nodes) (sym is.now) is.one_of_them

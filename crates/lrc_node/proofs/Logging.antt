@@ -1,0 +1,98 @@
+-- What comes of an input to a node with its log.
+use Rattle.std.proofs.Common.{◌≡◌, ℕ, Bool, true, false, Option, Some, None, List, [], ◌∷◌, ◌++◌, Result, Ok, Err, refl, sym, ap, ◌∙◌, subst}
+use Rattle.std.specs.Prelude.{is_some, nat_le, if◌then◌else◌, IfOk, IfErr, MatchResult}
+use Rattle.lrc_protocol.specs.Node.{Node}
+use Rattle.lrc_protocol.specs.Turn.{TurnRecord, Outcome, done, not_ready, unexpected, worn}
+use Rattle.lrc_protocol.specs.Log.{Input, EntryRecord, Logged, Logging, logged, refused, too_large, logging, entered, next_stamp, MOST_STAMP}
+use Rattle.lrc_node.specs.declared.fault.NodeFault.{NodeFault}
+use Rattle.lrc_node.specs.declared.fault.NodeFault.TheVariants.{Failed, NotReady, Unexpected, Worn, NoMemory}
+use Rattle.lrc_node.specs.Fault.{is_final}
+use Rattle.lrc_node.specs.Node.{Answers, unready, unawaited, too_large as too_large_answer, without_memory}
+use Rattle.lrc_node.specs.Logged.{LoggedNode, Logs, Enters, sound}
+
+-- a refusal of the node is one of the node with its log
+pub logs_refused : (l : Logged) (input : Input) (stamp : ℕ) (o : Outcome) (fault : NodeFault) (new : Option Node) → Answers o l.node fault new
+    → Logs l (logging input stamp l.log o) (record { node = new; log = l.log }) (Err fault)
+logs_refused l input stamp _ _ _ unready = (refl, refl)
+logs_refused l input stamp _ _ _ unawaited = (refl, refl)
+logs_refused l input stamp _ _ _ too_large_answer = refl
+logs_refused l input stamp _ _ _ without_memory = tt
+
+-- a node that fails is gone
+pub fails_refused : (node : Node) (o : Outcome) (fault : NodeFault) (new : Option Node) → Answers o node fault new → is_final fault ≡ true → new ≡ None
+fails_refused node _ _ _ unready e = cc
+fails_refused node _ _ _ unawaited e = cc
+fails_refused node _ _ _ too_large_answer e = refl
+fails_refused node _ _ _ without_memory e = refl
+
+-- a turn with its stamp
+enters_with : (l : Logged) (input : Input) (came : ℕ) (turn : TurnRecord) (after : Node) (new : LoggedNode) (b : Bool) → b ≡ true
+    → new ≡ record { node = Some after; log = l.log ++ record { input = input; stamp = next_stamp l.log came; turn = turn } ∷ [] }
+    → Logs l (let entry : EntryRecord = record { input = input; stamp = next_stamp l.log came; turn = turn } in
+    if b then logged entry (record { node = after; log = l.log ++ entry ∷ [] }) else too_large) new (Ok tt)
+enters_with l input came turn after new true e is =
+    let entry : EntryRecord = record { input = input; stamp = next_stamp l.log came; turn = turn } in
+    (entry, record { node = after; log = l.log ++ entry ∷ [] }, refl, is)
+enters_with l input came turn after new false e is = cc
+
+enters_without : (l : Logged) (input : Input) (came : ℕ) (turn : TurnRecord) (after : Node) (b : Bool) → b ≡ false
+    → (let entry : EntryRecord = record { input = input; stamp = next_stamp l.log came; turn = turn } in
+    if b then logged entry (record { node = after; log = l.log ++ entry ∷ [] }) else too_large) ≡ too_large
+enters_without l input came turn after true e = cc
+enters_without l input came turn after false e = refl
+
+pub logs_entered : (l : Logged) (input : Input) (came : ℕ) (turn : TurnRecord) (after : Node) (new : LoggedNode) (result : Result (Unit {0}) NodeFault)
+    → Enters (record { node = Some after; log = l.log }) input came turn new result
+    → Logs l (logging input (next_stamp l.log came) l.log (done turn after)) new result
+logs_entered l input came turn after new (Ok tt) h = enters_with l input came turn after new (nat_le (next_stamp l.log came) MOST_STAMP) h.0 h.1
+logs_entered l input came turn after new (Err Worn) h = enters_without l input came turn after (nat_le (next_stamp l.log came) MOST_STAMP) h.0
+logs_entered l input came turn after new (Err NoMemory) h = tt
+logs_entered l input came turn after new (Err Failed) h = absurd h
+logs_entered l input came turn after new (Err NotReady) h = absurd h
+logs_entered l input came turn after new (Err Unexpected) h = absurd h
+
+-- a node that is there
+pub some_of : {X : Type 0} (o : Option X) → is_some o ≡ true → (x : X) × (o ≡ Some x)
+some_of None e = cc
+some_of (Some x) e = (x, refl)
+
+-- ---- a call, whatever the node answers
+
+-- what the node answered, and what was made of it
+pub logs_settled : (l : Logged) (input : Input) (came : ℕ) (o : Outcome) (mid new : LoggedNode) (r : Result TurnRecord NodeFault) (result : Result (Unit {0}) NodeFault)
+    → mid.log ≡ l.log
+    → IfOk r (λ turn. (after : Node) × (o ≡ done turn after) × (mid.node ≡ Some after))
+    → IfErr r (λ fault. Answers o l.node fault mid.node)
+    → MatchResult r (λ turn. Enters mid input came turn new result) (λ fault. (result ≡ Err fault) × (new ≡ mid))
+    → Logs l (logging input (next_stamp l.log came) l.log o) new result
+logs_settled l input came o mid new (Ok turn) result same made refuses settled =
+    subst (λ (o : Outcome). Logs l (logging input (next_stamp l.log came) l.log o) new result) (sym made.1)
+    (logs_entered l input came turn made.0 new result
+    (subst (λ (m : LoggedNode). Enters m input came turn new result)
+    (ap (λ (n : Option Node). let m : LoggedNode = record { node = n; log = mid.log } in m) made.2
+    ∙ ap (λ (g : List EntryRecord). let m : LoggedNode = record { node = Some made.0; log = g } in m) same) settled))
+logs_settled l input came o mid new (Err fault) result same made refuses settled =
+    subst (λ (r : Result (Unit {0}) NodeFault). Logs l (logging input (next_stamp l.log came) l.log o) new r) (sym settled.0)
+    (subst (λ (m : LoggedNode). Logs l (logging input (next_stamp l.log came) l.log o) m (Err fault))
+    (sym (settled.1 ∙ ap (λ (g : List EntryRecord). let m : LoggedNode = record { node = mid.node; log = g } in m) same))
+    (logs_refused l input (next_stamp l.log came) o fault mid.node refuses))
+
+-- a final fault leaves no node
+gone : (mid : LoggedNode) (log : List EntryRecord) (input : Input) (came : ℕ) (turn : TurnRecord) (new : LoggedNode) (result : Result (Unit {0}) NodeFault) → mid.log ≡ log
+    → Enters mid input came turn new result → IfErr result (λ fault. is_final fault ≡ true → new ≡ record { node = None; log = log })
+gone mid log input came turn new (Ok tt) same h = tt
+gone mid log input came turn new (Err Worn) same h = λ e. h.1 ∙ ap (λ (g : List EntryRecord). let m : LoggedNode = record { node = None; log = g } in m) same
+gone mid log input came turn new (Err NoMemory) same h = λ e. h ∙ ap (λ (g : List EntryRecord). let m : LoggedNode = record { node = None; log = g } in m) same
+gone mid log input came turn new (Err Failed) same h = absurd h
+gone mid log input came turn new (Err NotReady) same h = absurd h
+gone mid log input came turn new (Err Unexpected) same h = absurd h
+
+pub fails_settled : (node : Node) (log : List EntryRecord) (input : Input) (came : ℕ) (o : Outcome) (mid new : LoggedNode) (r : Result TurnRecord NodeFault) (result : Result (Unit {0}) NodeFault)
+    → mid.log ≡ log → IfErr r (λ fault. Answers o node fault mid.node)
+    → MatchResult r (λ turn. Enters mid input came turn new result) (λ fault. (result ≡ Err fault) × (new ≡ mid))
+    → IfErr result (λ fault. is_final fault ≡ true → new ≡ record { node = None; log = log })
+fails_settled node log input came o mid new (Ok turn) result same refuses settled = gone mid log input came turn new result same settled
+fails_settled node log input came o mid new (Err fault) result same refuses settled =
+    subst (λ (r : Result (Unit {0}) NodeFault). IfErr r (λ f. is_final f ≡ true → new ≡ record { node = None; log = log })) (sym settled.0)
+    (λ e. settled.1 ∙ ap (λ (g : List EntryRecord). let m : LoggedNode = record { node = mid.node; log = g } in m) same
+    ∙ ap (λ (n : Option Node). let m : LoggedNode = record { node = n; log = log } in m) (fails_refused node o fault mid.node refuses e))

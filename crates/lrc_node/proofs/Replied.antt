@@ -1,0 +1,118 @@
+-- A node that awaits changes or a base copy can repair its page once they have come.
+use Rattle.std.proofs.Common.{◌≡◌, ℕ, ◌<◌, Bool, true, false, List, [], ◌∷◌, length, map, fold, refl, sym, ◌∙◌, ap, subst, eq-eqb}
+use Rattle.std.specs.Prelude.{Option, Some, None, option_map, All, not, ◌&&◌, ◌==◌}
+use Rattle.std.specs.List.{list_any}
+use Rattle.std.proofs.lemmas.Bool.{and_parts, eqb-true}
+use Rattle.std.proofs.lemmas.List.Elements.{All-head}
+use Rattle.std.proofs.lemmas.Option.{same_Some}
+use Rattle.lrc_page.specs.declared.size.Size.{Size}
+use Rattle.lrc_page.specs.Page.{words_of}
+use Rattle.lrc_page.specs.Place.{page_of, pages_of}
+use Rattle.lrc_exec.specs.declared.machine.Ask.{Ask}
+use Rattle.lrc_exec.specs.Ask.{ask_of}
+use Rattle.lrc_exec.specs.Meaning.{Thread, Next, quiet, prints, reads, writes, acquires, releases, arrives, departs, traps, ends}
+use Rattle.lrc_store.specs.declared.key.Key.{Key}
+use Rattle.lrc_wire.specs.Records.{IndexedChangesRecord, ChangesReplyRecord}
+use Rattle.lrc_memory.specs.Turns.{is_mendable}
+use Rattle.lrc_protocol.specs.Copy.{Copy, valid, written, invalid, absent}
+use Rattle.lrc_protocol.specs.Memory.{Memory, copy_at, lacking}
+use Rattle.lrc_protocol.specs.Fetch.{Base, unneeded, due, come, Need, is_due, is_met, with_changes, with_page, awaits_page}
+use Rattle.lrc_protocol.specs.Mail.{Mail, Wait, nothing, grant, departure, access, upkeep, discard, needs_of}
+use Rattle.lrc_protocol.specs.Node.{Node, with_memory}
+use Rattle.lrc_protocol.specs.Expected.{is_changes_reply}
+use Rattle.lrc_protocol.specs.Take.{with_part}
+use Rattle.lrc_protocol.specs.Waits.{with_needs}
+use Rattle.lrc_invariants.specs.Waiting.{next_in}
+use Rattle.lrc_local.specs.Reached.{IsReached}
+use Rattle.lrc_local.specs.Needs.{FitsBase, FitsNeed, page_next, ReachesFor}
+use Rattle.lrc_local.proofs.Always.{needed_at, reaching_at, ranged_at, is_store_at}
+use Rattle.lrc_local.proofs.Change.{Reply, reply, view_of, pages_in}
+use Rattle.lrc_local.proofs.Needed.{changed_page, sent_page}
+use Rattle.lrc_local.proofs.Replies.{changes-fit, page-fits, asked-exactly}
+use Rattle.lrc_node.specs.Text.{asked_in}
+use Rattle.lrc_node.specs.Effects.{AccessesPage, CanRepair, CanGoOn, with_parts}
+use Rattle.lrc_node.proofs.CanRun.{read_within, write_within}
+use Rattle.lrc_node.proofs.Misses.{lacking_of_page}
+
+fits_met : (size : Size) (nodes : ℕ) (copy : Copy) (base : Base) → FitsBase nodes (words_of size) copy base → is_due base ≡ false
+    → is_mendable size copy base ≡ true
+fits_met size nodes (valid values) base f d = absurd f
+fits_met size nodes (written values twin) base f d = absurd f
+fits_met size nodes (invalid values since) unneeded f d = refl
+fits_met size nodes (invalid values since) (due keeper) f d = absurd f
+fits_met size nodes (invalid values since) (come others) f d = absurd f
+fits_met size nodes absent unneeded f d = absurd f
+fits_met size nodes absent (due keeper) f d = cc
+fits_met size nodes absent (come values) f d = eq-eqb (length values) (words_of size) f
+
+not_true : (b : Bool) → not b ≡ true → b ≡ false
+not_true true e = cc
+not_true false e = refl
+
+accesses : (node : Node) → IsReached node → (page : ℕ) (o : Option Next) → next_in node.course ≡ o → page_next node.options.size o ≡ Some page
+    → AccessesPage node page (option_map ask_of o)
+accesses node r page None at e = tt
+accesses node r page (Some (quiet after)) at e = tt
+accesses node r page (Some (prints value after)) at e = tt
+accesses node r page (Some (reads word after)) at e = (read_within node r node.course word after refl at, same_Some _ _ e)
+accesses node r page (Some (writes word value after)) at e = (write_within node r node.course word value after refl at, same_Some _ _ e)
+accesses node r page (Some (acquires lock after)) at e = tt
+accesses node r page (Some (releases lock after)) at e = tt
+accesses node r page (Some (arrives after)) at e = tt
+accesses node r page (Some (departs after)) at e = tt
+accesses node r page (Some (traps cause)) at e = tt
+accesses node r page (Some ends) at e = tt
+
+repairable : (node : Node) → IsReached node → (memory : Memory) (need : Need) → memory.copies ≡ node.memory.copies
+    → FitsNeed node.setting.nodes (pages_of node.setting.words node.options.size) (words_of node.options.size) memory need
+    → page_next node.options.size (next_in node.course) ≡ Some need.page → is_met need ≡ true → CanRepair (with_memory node memory) need
+repairable node r memory need same fits next met = record {
+  page = subst (λ n. need.page < n) (sym (ap length same ∙ (ranged_at node r).memory.copies)) fits.in_range;
+  fit = fits_met node.options.size node.setting.nodes (copy_at memory need.page) need.base fits.base (not_true (is_due need.base) (and_parts _ _ met).0);
+  of_page = subst (All (λ (key : Key). key.page ≡ need.page)) (sym fits.missing) (lacking_of_page memory need.page);
+  next = accesses node r need.page (next_in node.course) refl next;
+}
+
+goes_on_access : (node : Node) → IsReached node → (memory : Memory) (change : Need → Need) → memory.copies ≡ node.memory.copies
+    → ((need : Need) → (change need).page ≡ need.page) → (wait : Wait) → ReachesFor node.options.size (next_in node.course) wait
+    → All (FitsNeed node.setting.nodes (pages_of node.setting.words node.options.size) (words_of node.options.size) memory) (map change (needs_of wait))
+    → CanGoOn (with_memory node memory) (with_needs change wait)
+goes_on_access node r memory change same keeps nothing next fits = tt
+goes_on_access node r memory change same keeps (grant lock) next fits = tt
+goes_on_access node r memory change same keeps departure next fits = tt
+goes_on_access node r memory change same keeps (access need) next fits = λ met.
+    repairable node r memory (change need) same (All-head (FitsNeed node.setting.nodes (pages_of node.setting.words node.options.size) (words_of node.options.size) memory) (change need) [] fits) (next ∙ ap Some (sym (keeps need))) met
+goes_on_access node r memory change same keeps (upkeep collection needs) next fits = tt
+goes_on_access node r memory change same keeps (discard collection) next fits = tt
+
+-- once changes have come
+pub changes_go_on : (node : Node) → IsReached node → (from : ℕ) (m : ChangesReplyRecord) → is_changes_reply node from m ≡ true
+    → CanGoOn (with_parts from m node) (with_needs (with_changes m.page from) node.mail.wait)
+changes_go_on node r from m e =
+    let it : Reply (view_of node) from m = reply node from m e in
+    let nodes = node.setting.nodes in
+    let pages = pages_of node.setting.words node.options.size in
+    let words = words_of node.options.size in
+    let fits = (needed_at node r).each in
+    let asked = asked-exactly nodes pages words node.memory (needs_of node.mail.wait) m.page from
+        (map (λ (part : IndexedChangesRecord). part.index) m.parts) fits it.asked in
+    goes_on_access node r (record node.memory { store = fold (with_part from m.page) node.memory.store m.parts }) (with_changes m.page from) refl
+    (changed_page m.page from) node.mail.wait (reaching_at node r)
+    (changes-fit nodes pages words node.memory from m.page m.parts (is_store_at node r) asked (needs_of node.mail.wait) fits)
+
+-- once a base copy has come
+pub page_goes_on : (node : Node) → IsReached node → (from page : ℕ) (values : List ℕ) → length values ≡ words_of node.options.size
+    → list_any (awaits_page page from) (needs_of node.mail.wait) ≡ true → CanGoOn node (with_needs (with_page page values) node.mail.wait)
+page_goes_on node r from page values long e =
+    goes_on_access node r node.memory (with_page page values) refl (sent_page page values) node.mail.wait (reaching_at node r)
+    (page-fits node.setting.nodes (pages_of node.setting.words node.options.size) (words_of node.options.size) node.memory (needs_of node.mail.wait)
+    page from values (needed_at node r).each e long)
+
+-- what else is in its mail makes no difference
+pub whatever_mail : (node : Node) (mail : Mail) (wait : Wait) → CanGoOn node wait → CanGoOn (record node { mail = mail }) wait
+whatever_mail node mail nothing h = tt
+whatever_mail node mail (grant lock) h = tt
+whatever_mail node mail departure h = tt
+whatever_mail node mail (access need) h = λ met. let can = h met in record { page = can.page; fit = can.fit; of_page = can.of_page; next = can.next }
+whatever_mail node mail (upkeep collection needs) h = tt
+whatever_mail node mail (discard collection) h = tt

@@ -1,0 +1,61 @@
+-- What comes of a message that is taken.
+use Rattle.std.proofs.Common.{◌≡◌, ℕ, Bool, true, false, cond, ◌&&◌, ◌⊎◌, inl, inr, ⊎_elim, Some, None, refl, sym, ap, ◌∙◌, subst}
+use Rattle.std.specs.Prelude.{if◌then◌else◌, Result, Ok, Err, IfErr}
+use Rattle.lrc_wire.specs.Envelope.{EnvelopeRecord}
+use Rattle.lrc_local.specs.Reached.{IsReached}
+use Rattle.lrc_protocol.specs.Expected.{is_expected}
+use Rattle.lrc_protocol.specs.Node.{Node}
+use Rattle.lrc_protocol.specs.Take.{take_effect}
+use Rattle.lrc_protocol.specs.Turn.{Outcome, done, unexpected, worn, empty_turn, take_turn, take_anew, taking, turn_of, is_addressed, is_repeat}
+use Rattle.lrc_node.specs.declared.fault.NodeFault.{NodeFault}
+use Rattle.lrc_node.specs.declared.fault.NodeFault.TheVariants.{Unexpected, Worn, NoMemory}
+use Rattle.lrc_node.specs.Fault.{is_final}
+use Rattle.lrc_node.specs.Taken.{RefusesTake, unawaited, too_large, without_memory}
+use Rattle.lrc_node.specs.Node.{Answers, unawaited as answers_unawaited, too_large as answers_too_large, without_memory as answers_without_memory}
+
+-- the outcome by what is tested
+pub unaddressed : (node : Node) (envelope : EnvelopeRecord) → is_addressed node envelope ≡ false → take_turn node envelope ≡ unexpected
+unaddressed node envelope e =
+    ap (λ (b : Bool). if b then (if is_repeat node envelope then done empty_turn node else take_anew node envelope) else unexpected) e
+
+pub addressed : (node : Node) (envelope : EnvelopeRecord) → is_addressed node envelope ≡ true → is_repeat node envelope ≡ false → take_turn node envelope ≡ take_anew node envelope
+addressed node envelope e new =
+    ap (λ (b : Bool). if b then (if is_repeat node envelope then done empty_turn node else take_anew node envelope) else unexpected) e
+    ∙ ap (λ (b : Bool). if b then done empty_turn node else take_anew node envelope) new
+
+pub repeated : (node : Node) (envelope : EnvelopeRecord) → is_addressed node envelope ≡ true → is_repeat node envelope ≡ true → take_turn node envelope ≡ done empty_turn node
+repeated node envelope e old =
+    ap (λ (b : Bool). if b then (if is_repeat node envelope then done empty_turn node else take_anew node envelope) else unexpected) e
+    ∙ ap (λ (b : Bool). if b then done empty_turn node else take_anew node envelope) old
+
+pub anew : (node : Node) (envelope : EnvelopeRecord) (b : Bool) → is_expected node envelope.from envelope.message ≡ b
+    → take_anew node envelope ≡ (if b then turn_of (take_effect (taking node envelope) envelope.from envelope.message) else unexpected)
+anew node envelope b e =
+    ap (λ (b : Bool). if b then turn_of (take_effect (taking node envelope) envelope.from envelope.message) else unexpected) e
+
+-- why an expected message is not taken
+pub refuses_anew : (outcome : Outcome) (node after : Node) (fault : NodeFault) → ((fault ≡ Worn) × (outcome ≡ worn)) ⊎ (fault ≡ NoMemory)
+    → RefusesTake outcome node fault after
+refuses_anew outcome node after fault h =
+    ⊎_elim
+    (λ w. subst (λ (f : NodeFault). RefusesTake outcome node f after) (sym w.0) (subst (λ (o : Outcome). RefusesTake o node Worn after) (sym w.1) too_large))
+    (λ m. subst (λ (f : NodeFault). RefusesTake outcome node f after) (sym m) without_memory) h
+
+-- with the fault that is answered the node is as it was, or it has failed
+pub answers_take : {outcome : Outcome} {fault : NodeFault} (node after : Node) → RefusesTake outcome node fault after
+    → Answers outcome node fault (cond (is_final fault) None (Some after))
+answers_take _ _ unawaited = answers_unawaited
+answers_take _ _ too_large = answers_too_large
+answers_take _ _ without_memory = answers_without_memory
+
+-- a node that goes on is as it was
+pub reached_take : {outcome : Outcome} {fault : NodeFault} (node after : Node) → RefusesTake outcome node fault after
+    → IsReached node → is_final fault ≡ false → IsReached after
+reached_take _ _ unawaited r e = r
+reached_take _ _ too_large r e = cc
+reached_take _ _ without_memory r e = cc
+
+-- what holds of an error for a weaker reason
+pub weaker : {A : Type 0} (r : Result A NodeFault) (P Q : NodeFault → Type 0) → ((fault : NodeFault) → P fault → Q fault) → IfErr r P → IfErr r Q
+weaker (Ok x) P Q h p = tt
+weaker (Err fault) P Q h p = h fault p

@@ -1,0 +1,54 @@
+-- A node with its log, as contracts see it.
+use Rattle.std.specs.Prelude.{◌≡◌, ℕ, true, false, nat_le, Option, Some, None, is_some, List, [], ◌∷◌, ◌++◌, Result, Ok, Err}
+use Rattle.lrc_protocol.specs.Node.{Node}
+use Rattle.lrc_protocol.specs.Log.{Input, run, taken, EntryRecord, Logged, Logging, logged, refused, too_large, logs, next_stamp, MOST_STAMP}
+use Rattle.lrc_protocol.specs.Turn.{TurnRecord}
+use Rattle.lrc_node.specs.declared.fault.NodeFault.{NodeFault}
+use Rattle.lrc_node.specs.declared.fault.NodeFault.TheVariants.{Failed, NotReady, Unexpected, Worn, NoMemory}
+use Rattle.lrc_node.specs.declared.logged.Input.{Input as Given}
+use Rattle.lrc_node.specs.declared.logged.Input.TheVariants.{Run, Taken}
+
+-- a node, none once it has failed, and its log
+pub record LoggedNode : Type 0 where
+  pub node : Option Node
+  pub log : List EntryRecord
+
+-- a node that has not failed, with its log
+abbrev pub sound : Logged → LoggedNode
+sound l = record { node = Some l.node; log = l.log }
+
+-- what makes a turn, as the protocol has it
+abbrev pub seen_input : Given → Input
+seen_input Run = run
+seen_input (Taken envelope) = taken envelope
+
+-- What comes of an input to a node that has not failed: the turn is logged; or it is refused and nothing changes; or a
+-- number is too large, or no memory is left, and the node has failed.
+abbrev pub Logs : Logged → Logging → LoggedNode → Result (Unit {0}) NodeFault → Type 0
+Logs l outcome new (Ok done) = (entry : EntryRecord) × (after : Logged) × (outcome ≡ logged entry after) × (new ≡ sound after)
+Logs l outcome new (Err NotReady) = (outcome ≡ refused) × (new ≡ sound l)
+Logs l outcome new (Err Unexpected) = (outcome ≡ refused) × (new ≡ sound l)
+Logs l outcome new (Err Worn) = outcome ≡ too_large
+Logs l outcome new (Err NoMemory) = Unit {0}
+Logs l outcome new (Err Failed) = ⊥
+
+abbrev pub LogsTo : LoggedNode → Input → ℕ → LoggedNode → Result (Unit {0}) NodeFault → Type 0
+LogsTo old input came new result = (l : Logged) → old ≡ sound l → Logs l (logs l input came) new result
+
+-- ---- the steps of a call
+
+-- room is made in the log; or the node has failed, or fails
+abbrev pub MakesRoom : LoggedNode → LoggedNode → Result (Unit {0}) NodeFault → Type 0
+MakesRoom old new (Ok done) = (is_some old.node ≡ true) × (new ≡ old)
+MakesRoom old new (Err Failed) = (old.node ≡ None) × (new ≡ old)
+MakesRoom old new (Err NoMemory) = (is_some old.node ≡ true) × (new ≡ record { node = None; log = old.log })
+MakesRoom old new (Err fault) = ⊥
+
+-- a turn is entered with its stamp, or the stamp would be too large or no memory is left, and the node fails
+abbrev pub Enters : LoggedNode → Input → ℕ → TurnRecord → LoggedNode → Result (Unit {0}) NodeFault → Type 0
+Enters old input came turn new (Ok done) =
+    (nat_le (next_stamp old.log came) MOST_STAMP ≡ true)
+    × (new ≡ record { node = old.node; log = old.log ++ record { input = input; stamp = next_stamp old.log came; turn = turn } ∷ [] })
+Enters old input came turn new (Err Worn) = (nat_le (next_stamp old.log came) MOST_STAMP ≡ false) × (new ≡ record { node = None; log = old.log })
+Enters old input came turn new (Err NoMemory) = new ≡ record { node = None; log = old.log }
+Enters old input came turn new (Err fault) = ⊥

@@ -1,0 +1,44 @@
+-- What a node has where it takes a message that it expects.
+use Rattle.std.specs.Prelude.{ℕ, ◌≡◌, ◌≢◌, ◌<◌, ◌≤◌, Some, AllPairs, length}
+use Rattle.lrc_time.specs.Time.{entry}
+use Rattle.lrc_exec.specs.declared.machine.Ask.TheVariants.{Acquire, Barrier}
+use Rattle.lrc_wire.specs.declared.message.Message.{Message}
+use Rattle.lrc_wire.specs.declared.message.Message.TheVariants.{LockRequest, LockForward, LockGrant, Arrive, Depart, Clean, Discard, ChangesRequest, ChangesReply, PageRequest, PageReply}
+use Rattle.lrc_barrier.specs.Barrier.{IsArrival}
+use Rattle.lrc_memory.specs.Turns.{AreAwaited, CanBeAdded, IsClosed}
+use Rattle.lrc_protocol.specs.Fetch.{with_changes, with_page}
+use Rattle.lrc_protocol.specs.Mail.{Collection, discard, needs_of}
+use Rattle.lrc_protocol.specs.Node.{Node}
+use Rattle.lrc_protocol.specs.Waits.{with_needs}
+use Rattle.lrc_node.specs.Barrier.{arrival_in}
+use Rattle.lrc_node.specs.Effects.{CanGoOn, with_parts}
+use Rattle.lrc_node.specs.Text.{asked_in}
+
+-- a node that waits for the word to discard has nothing written, and collects up to a time that covers its own intervals
+pub record CanDiscard (node : Node) : Type 0 where
+  pub next : asked_in node.course ≡ Some Barrier
+  pub closed : IsClosed node.memory
+  pub time : (collection : Collection) → node.mail.wait ≡ discard collection
+      → (length collection.time ≡ node.setting.nodes)
+      × (entry node.memory.store.last node.setting.me ≤ entry collection.time node.setting.me)
+
+abbrev pub CanTake : Node → ℕ → Message → Type 0
+CanTake node from (LockRequest m) = m.lock < node.setting.locks
+CanTake node from (LockForward m) =
+    (m.lock < node.setting.locks) × (m.asker < node.setting.nodes) × (length m.time ≡ node.setting.nodes)
+CanTake node from (LockGrant m) =
+    (m.lock < node.setting.locks) × (asked_in node.course ≡ Some (Acquire m.lock)) × (length m.time ≡ node.setting.nodes)
+    × CanBeAdded node.memory.store m.intervals
+CanTake node from (Arrive m) = IsArrival node.setting.nodes from (arrival_in m)
+CanTake node from (Depart m) =
+    (asked_in node.course ≡ Some Barrier) × (length m.time ≡ node.setting.nodes) × CanBeAdded node.memory.store m.intervals
+CanTake node from (Clean episode) = Unit {0}
+CanTake node from (Discard episode) = CanDiscard node
+CanTake node from (ChangesRequest m) = m.page < length node.memory.copies
+CanTake node from (ChangesReply m) =
+    AreAwaited node.options.size node.memory.store from m.page m.parts
+    × CanGoOn (with_parts from m node) (with_needs (with_changes m.page from) node.mail.wait)
+CanTake node from (PageRequest page) = page < length node.memory.copies
+CanTake node from (PageReply m) =
+    AllPairs (λ a b. a.page ≢ b.page) (needs_of node.mail.wait)
+    × CanGoOn node (with_needs (with_page m.page m.values) node.mail.wait)

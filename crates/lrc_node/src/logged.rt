@@ -1,0 +1,185 @@
+// A node with its log.
+
+ghost use Rattle.std.specs.Prelude.{◌≡◌, ◌≢◌, ◌⊎◌, ◌<◌, ◌≤◌, Err, IfErr, IfOk, MatchResult, None, Some, [], true};
+ghost use Rattle.lrc_protocol.specs.Log as log;
+ghost use Rattle.lrc_protocol.specs.Node.{fresh_node};
+ghost use Rattle.lrc_protocol.specs.Turn.{is_ready};
+ghost use Rattle.lrc_node.specs.Fault.{is_final};
+ghost use Rattle.lrc_node.specs.Logged.{Enters, LogsTo, MakesRoom, seen_input, sound};
+ghost use Rattle.lrc_node.specs.Text.{end_of};
+ghost use Rattle.lrc_node.specs.declared.fault.NodeFault.TheVariants.{Failed, NoMemory, NotReady, Unexpected};
+
+use crate::end::End;
+use crate::fault::NodeFault;
+use crate::node::Node;
+use crate::options::Options;
+use crate::turn::Turn;
+use lrc_exec::code::Code;
+use lrc_wire::Envelope;
+use std::alloc::{AllocError, Global};
+use std::marker::Model;
+
+/// What makes a turn.
+#[derive(Drop)]
+pub enum Input {
+    /// The node is named.
+    Run,
+    /// A message is delivered.
+    Taken(Envelope),
+}
+
+/// An input, the stamp of its turn, and the turn.
+#[derive(Drop)]
+pub struct Entry {
+    pub input: Input,
+    pub stamp: u64,
+    pub turn: Turn,
+}
+
+impl Model for Entry {
+    ghost use Rattle.lrc_protocol.specs.Log.{EntryRecord};
+
+    ghost Value = { EntryRecord };
+
+    ghost use Rattle.lrc_node.specs.Logged.{seen_input};
+
+    ghost view = { λ e. record { input = seen_input e.input; stamp = e.stamp; turn = e.turn } };
+}
+
+/// A node with its log: the turns that it made, with their stamps. A turn's stamp is one more than the greater of the
+/// node's last one and of that of the turn that sent the message. A refused call adds nothing.
+#[derive(Drop)]
+pub struct Logged<'c> {
+    node: Node<'c>,
+    stamp: u64,
+    log: Vec<Entry>,
+}
+
+impl<'c> Model for Logged<'c> {
+    ghost use Rattle.std.specs.Prelude.{◌≡◌};
+    ghost use Rattle.std.specs.Coded.{codes};
+    ghost use Rattle.lrc_lang.specs.contracts.program.Statement as statement;
+    ghost use Rattle.lrc_protocol.specs.Log.{last_stamp};
+    ghost use Rattle.lrc_node.specs.Logged.{LoggedNode};
+
+    ghost Value = { LoggedNode };
+
+    ghost coded = { Prim.hlevel (codes, statement.the_row.coded) };
+
+    ghost view = { λ l. record { node = l.node; log = l.log.items } };
+
+    ghost invariant = { λ l. l.stamp ≡ last_stamp l.log.items };
+}
+
+impl<'c> Logged<'c> {
+    /// Node `me` of `nodes`, at most 16, at the beginning of a program.
+    pub fn new(
+        alloc: Global,
+        code: &'c Code<'_>,
+        me: u8,
+        nodes: u8,
+        options: &Options,
+    ) -> Result<Logged<'c>, AllocError>
+        requires here { me < nodes }
+        requires few { nodes ≤ 16 }
+        ensures { IfOk result (λ logged. logged ≡ record { node = Some (fresh_node code.now nodes options.now me); log = [] }) }
+    {
+        Ok(Logged {
+            node: Node::new(alloc, code, me, nodes, options)?,
+            stamp: 0,
+            log: Vec::new(alloc),
+        })
+    }
+
+    /// The node goes on by itself. `Failed` and `NotReady` change nothing; after `Worn` and `NoMemory` the node has
+    /// failed. There is no memory for the log before it is looked whether the node is ready.
+    pub fn run(&mut self) -> Result<(), NodeFault>
+        ensures logs { LogsTo self.old log.run 0 self.new result }
+        ensures failed { self.old.node ≡ None → (result ≡ Err Failed) × (self.new ≡ self.old) }
+        ensures fails { IfErr result (λ fault. is_final fault ≡ true → self.new ≡ record { node = None; log = self.old.log }) }
+    {
+        self.make_room()?;
+        let outcome = self.node.run();
+        self.settle(Input::Run, 0, outcome)
+    }
+
+    /// The node takes a message, which came with the stamp of the turn that sent it. `Failed` and `Unexpected` change
+    /// nothing; after `Worn` and `NoMemory` the node has failed.
+    pub fn take(&mut self, envelope: Envelope, stamp: u64) -> Result<(), NodeFault>
+        ensures logs { LogsTo self.old (log.taken envelope) stamp self.new result }
+        ensures failed { self.old.node ≡ None → (result ≡ Err Failed) × (self.new ≡ self.old) }
+        ensures fails { IfErr result (λ fault. is_final fault ≡ true → self.new ≡ record { node = None; log = self.old.log }) }
+    {
+        self.make_room()?;
+        let outcome = self.node.take(&envelope);
+        self.settle(Input::Taken(envelope), stamp, outcome)
+    }
+
+    /// Makes room in the log for one turn more. Without memory the node fails.
+    fn make_room(&mut self) -> Result<(), NodeFault>
+        ensures { MakesRoom self.old self.new result }
+    {
+        if self.node.has_failed() {
+            return Err(NodeFault::Failed);
+        }
+        if self.log.reserve(1).is_err() {
+            self.node.fail();
+            return Err(NodeFault::NoMemory);
+        }
+        Ok(())
+    }
+
+    /// Adds a turn that was made; a refusal adds nothing.
+    fn settle(
+        &mut self,
+        input: Input,
+        came: u64,
+        outcome: Result<Turn, NodeFault>,
+    ) -> Result<(), NodeFault>
+        ensures { MatchResult outcome
+            (λ turn. Enters self.old (seen_input input) came turn self.new result)
+            (λ fault. (result ≡ Err fault) × (self.new ≡ self.old)) }
+    {
+        match outcome {
+            Ok(turn) => self.enter(input, came, turn),
+            Err(fault) => Err(fault),
+        }
+    }
+
+    /// Adds a turn with its stamp. Where the stamp would be too large the node fails.
+    fn enter(&mut self, input: Input, came: u64, turn: Turn) -> Result<(), NodeFault>
+        ensures { Enters self.old (seen_input input) came turn self.new result }
+    {
+        let Some(stamp) = self.stamp.max(came).checked_add(1) else {
+            self.node.fail();
+            return Err(NodeFault::Worn);
+        };
+        if self.log.push(Entry { input, stamp, turn }).is_err() {
+            self.node.fail();
+            return Err(NodeFault::NoMemory);
+        }
+        self.stamp = stamp;
+        Ok(())
+    }
+
+    /// Whether the node would go on if it were named.
+    pub fn ready(&self) -> bool
+        ensures { (l : log.Logged) → self.now ≡ sound l → result ≡ is_ready l.node }
+    {
+        self.node.ready()
+    }
+
+    /// How the node ended.
+    pub fn end(&self) -> End
+        ensures { (l : log.Logged) → self.now ≡ sound l → result ≡ end_of l.node.course }
+    {
+        self.node.end()
+    }
+
+    /// The turns so far, with their stamps.
+    pub fn log(&self) -> &[Entry]
+        ensures { result.now ≡ self.now.log }
+    {
+        self.log.as_slice()
+    }
+}

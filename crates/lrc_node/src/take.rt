@@ -1,0 +1,72 @@
+// How a node takes a message.
+
+ghost use Rattle.std.specs.Prelude.{◌≡◌, ◌⊎◌, ◌<◌, true, false, IfErr, IfOk, Err};
+ghost use Rattle.lrc_local.specs.Reached.{IsReached};
+ghost use Rattle.lrc_protocol.specs.Expected.{is_expected};
+ghost use Rattle.lrc_protocol.specs.Take.{take_effect};
+ghost use Rattle.lrc_protocol.specs.Turn.{done, is_addressed, is_repeat, take_turn, taking, turn_of, unexpected, worn};
+ghost use Rattle.lrc_node.specs.Taken.{RefusesTake};
+ghost use Rattle.lrc_node.specs.declared.fault.NodeFault.TheVariants.{NoMemory, Unexpected, Worn};
+
+use crate::fault::NodeFault;
+use crate::state::State;
+use crate::turn::Turn;
+use lrc_wire::Envelope;
+
+impl State<'_> {
+    /// Takes a message. A repeat of one that was taken is an empty turn. `Unexpected`, with nothing changed, where the
+    /// message is for another node, from none, or not expected; `Worn` where a number would be too large; `NoMemory`,
+    /// which may come before the test of what is expected.
+    pub(crate) fn take(&mut self, envelope: &Envelope) -> Result<Turn, NodeFault>
+        requires { IsReached self.old }
+        ensures done { IfOk result (λ turn. take_turn self.old envelope.now ≡ done turn self.new) }
+        ensures refused { IfErr result (λ fault. RefusesTake (take_turn self.old envelope.now) self.old fault self.new) }
+        ensures unexpected { take_turn self.old envelope.now ≡ unexpected → (result ≡ Err Unexpected) ⊎ (result ≡ Err NoMemory) }
+    {
+        let from = envelope.from;
+        if !self.is_addressed(envelope) {
+            return Err(NodeFault::Unexpected);
+        }
+        if self.is_repeat(envelope) {
+            return Ok(Turn {
+                act: None,
+                out: Vec::new(self.alloc),
+            });
+        }
+        match self.expects(from, &envelope.message) {
+            Ok(true) => self.take_anew(envelope),
+            Ok(false) => Err(NodeFault::Unexpected),
+            Err(_) => Err(NodeFault::NoMemory),
+        }
+    }
+
+    /// Whether a message is for this node, and from one of the nodes.
+    fn is_addressed(&self, envelope: &Envelope) -> bool
+        ensures addressed { result ≡ is_addressed self.now envelope.now }
+        ensures from { result ≡ true → envelope.now.from < self.now.setting.nodes }
+    {
+        envelope.to == self.me && envelope.from < self.nodes
+    }
+
+    /// Whether a message from one of the nodes was taken here before.
+    fn is_repeat(&self, envelope: &Envelope) -> bool
+        requires { envelope.now.from < self.now.setting.nodes }
+        ensures { result ≡ is_repeat self.now envelope.now }
+    {
+        self.mail.was_taken(envelope.from, envelope.number)
+    }
+
+    /// Takes a message that is expected and was not taken before.
+    fn take_anew(&mut self, envelope: &Envelope) -> Result<Turn, NodeFault>
+        requires reached { IsReached self.old }
+        requires from { envelope.now.from < self.old.setting.nodes }
+        requires anew { is_repeat self.old envelope.now ≡ false }
+        requires expected { is_expected self.old envelope.now.from envelope.now.message ≡ true }
+        ensures done { IfOk result (λ turn. turn_of (take_effect (taking self.old envelope.now) envelope.now.from envelope.now.message) ≡ done turn self.new) }
+        ensures refused { IfErr result (λ fault. ((fault ≡ Worn) × (turn_of (take_effect (taking self.old envelope.now) envelope.now.from envelope.now.message) ≡ worn)) ⊎ (fault ≡ NoMemory)) }
+    {
+        self.mail.note_taken(envelope.from, envelope.number)?;
+        let effect = self.take_message(envelope.from, &envelope.message)?;
+        self.send(effect)
+    }
+}

@@ -1,0 +1,53 @@
+// What a node does with a message that it expects.
+
+ghost use Rattle.std.specs.Prelude.{◌≡◌, ◌<◌, IfOk};
+ghost use Rattle.lrc_protocol.specs.Take.{take_effect};
+ghost use Rattle.lrc_node.specs.State.{seen_effect, AreFor};
+ghost use Rattle.lrc_node.specs.Taken.{IsTaking};
+ghost use Rattle.lrc_node.specs.Taking.{CanTake};
+
+use crate::state::State;
+use crate::turn::Effect;
+use lrc_wire::Message;
+use std::alloc::AllocError;
+
+impl State<'_> {
+    /// Does what a message from a node asks for, which was expected and whose number is taken.
+    pub(crate) fn take_message(
+        &mut self,
+        from: u8,
+        message: &Message,
+    ) -> Result<Effect, AllocError>
+        requires { IsTaking self.old from message.now }
+        ensures effect { IfOk result (λ effect. take_effect self.old from message.now ≡ seen_effect effect self.new) }
+        ensures to { IfOk result (λ effect. AreFor self.new.setting.nodes effect.letters.items) }
+    {
+        self.do_message(from, message)
+    }
+
+    /// Does what a message asks for, by its kind.
+    fn do_message(
+        &mut self,
+        from: u8,
+        message: &Message,
+    ) -> Result<Effect, AllocError>
+        requires from { from < self.old.setting.nodes }
+        requires can { CanTake self.old from message.now }
+        ensures effect { IfOk result (λ effect. take_effect self.old from message.now ≡ seen_effect effect self.new) }
+        ensures to { IfOk result (λ effect. AreFor self.new.setting.nodes effect.letters.items) }
+    {
+        match message {
+            Message::LockRequest(m) => self.take_request(from, m),
+            Message::LockForward(m) => self.take_forward(m),
+            Message::LockGrant(m) => self.take_grant(m),
+            Message::Arrive(m) => self.take_arrival(from, m),
+            Message::Depart(m) => self.take_departure(m.collect, &m.news),
+            Message::Clean(m) => self.take_clean(from, m.episode),
+            Message::Discard(_) => self.take_discard(),
+            Message::ChangesRequest(m) => self.take_changes_request(from, m),
+            Message::ChangesReply(m) => self.take_changes(from, m),
+            Message::PageRequest(m) => self.take_page_request(from, m),
+            Message::PageReply(m) => self.take_page(m),
+        }
+    }
+}
