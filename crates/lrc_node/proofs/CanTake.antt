@@ -135,11 +135,12 @@ can_discard node r e = record {
   next = discard_next node.mail.wait (next_in node.course) e (fits_next node r);
   closed = closed_at node node.mail.wait e (quiet_at node r);
   time = λ collection at.
-      let present : collection.time ≡ node.locks.time = subst (CollectsAt node.locks.time) at (ranged_at node r).present in
-      (ap length present ∙ (ranged_at node r).time,
-       let same : entry node.memory.store.last node.setting.me ≡ entry collection.time node.setting.me =
-           ap (λ t. entry t node.setting.me) ((exact_at node r).last ∙ sym present) in
-       omega arith);
+      let present : collection.time ≡ node.locks.time = subst (CollectsAt node.locks.time) at (ranged_at node r).present in (
+        ap length present ∙ (ranged_at node r).time,
+        let same : entry node.memory.store.last node.setting.me ≡ entry collection.time node.setting.me =
+            ap (λ t. entry t node.setting.me) ((exact_at node r).last ∙ sym present) in
+            omega arith,
+      );
 }
 
 -- ---- by kind
@@ -191,15 +192,17 @@ can_take node r from sender number (Discard episode) e =
     let d = can_discard node r (and_parts _ _ (and_parts _ _ e).0).1 in
     record { next = d.next; closed = d.closed; time = d.time }
 can_take node r from sender number (ChangesRequest m) e = below_copies node r m.page (and_parts _ _ e).0
-can_take node r from sender number (ChangesReply m) e = 
-    (awaited_at node r from m e,
-     whatever_mail (with_parts from m node) (with_taken sender number node.mail) (with_needs (with_changes m.page from) node.mail.wait) (changes_go_on node r from m e))
+can_take node r from sender number (ChangesReply m) e = (
+  awaited_at node r from m e,
+  whatever_mail (with_parts from m node) (with_taken sender number node.mail) (with_needs (with_changes m.page from) node.mail.wait) (changes_go_on node r from m e),
+)
 can_take node r from sender number (PageRequest page) e = below_copies node r page (and_parts _ _ (and_parts _ _ e).0).0
 can_take node r from sender number (PageReply m) e =
-    let a = and_parts _ _ e in
-    (apart_pairs (needs_of node.mail.wait) (ascends-pairs (map (λ (need : Need). need.page) (needs_of node.mail.wait)) (needed_at node r).apart),
-     whatever_mail node (with_taken sender number node.mail) (with_needs (with_page m.page m.values) node.mail.wait)
-     (page_goes_on node r from m.page m.values (eqb-true _ _ (and_parts _ _ a.0).1) a.1))
+    let a = and_parts _ _ e in (
+      apart_pairs (needs_of node.mail.wait) (ascends-pairs (map (λ (need : Need). need.page) (needs_of node.mail.wait)) (needed_at node r).apart),
+      whatever_mail node (with_taken sender number node.mail) (with_needs (with_page m.page m.values) node.mail.wait)
+          (page_goes_on node r from m.page m.values (eqb-true _ _ (and_parts _ _ a.0).1) a.1),
+    )
 
 -- a node that has just taken the number of a message can take the message
 pub taking_can : (node : Node) (from : ℕ) (message : Message) → IsTaking node from message → CanTake node from message

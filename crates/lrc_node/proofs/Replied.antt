@@ -95,7 +95,7 @@ changes_go_on node r from m e =
     let words = words_of node.options.size in
     let fits = (needed_at node r).each in
     let asked = asked-exactly nodes pages words node.memory (needs_of node.mail.wait) m.page from
-        (map (λ (part : IndexedChangesRecord). part.index) m.parts) fits it.asked in
+    (map (λ (part : IndexedChangesRecord). part.index) m.parts) fits it.asked in
     goes_on_access node r (record node.memory { store = fold (with_part from m.page) node.memory.store m.parts }) (with_changes m.page from) refl
     (changed_page m.page from) node.mail.wait (reaching_at node r)
     (changes-fit nodes pages words node.memory from m.page m.parts (is_store_at node r) asked (needs_of node.mail.wait) fits)
