@@ -1,18 +1,21 @@
 -- A node's memory at the start.
-use Rattle.std.proofs.Common.{◌≡◌, ◌∙◌, ℕ, suc, zero, ◌<◌, List, [], ◌∷◌, map, length, get_or, replicate, refl, ap, sym, arith}
+use Rattle.std.proofs.Common.{◌≡◌, ◌∙◌, ℕ, suc, zero, ◌<◌, List, [], ◌∷◌, map, length, get_or, replicate, refl, ap, sym, subst, arith, rules, Some, None, inl, inr, ◌≤◌}
 use Rattle.std.specs.List.{range_with_len}
-use Rattle.std.proofs.lemmas.List.{ext_get_or, get_or-replicate, length-replicate}
+use Rattle.std.proofs.lemmas.List.{ext_get_or, get_or_past, get_or-replicate, length-replicate}
 use Rattle.std.proofs.lemmas.List.FromFn.{get_or-map-range_with_len, length-map-range_with_len}
+use Rattle.std.proofs.lemmas.Bool.{cases_lt}
+use Rattle.std.proofs.lemmas.List.Elements.{All-replicate}
+use Rattle.lrc_page.specs.declared.changes.Change.{Change}
 use Rattle.lrc_page.specs.declared.size.Size.{Size}
 use Rattle.lrc_page.specs.Page.{zero_page}
 use Rattle.lrc_page.specs.Place.{pages_of}
-use Rattle.lrc_time.specs.Time.{zeros}
+use Rattle.lrc_time.specs.Time.{zeros, entry}
 use Rattle.lrc_store.specs.Store.{StoreRecord, empty_store}
-use Rattle.lrc_table.specs.PageCopy.{PageCopy, fresh}
-use Rattle.lrc_table.specs.Table.{Table, fresh_table}
+use Rattle.lrc_table.specs.PageCopy.{PageCopy, fresh, pending_changes}
+use Rattle.lrc_table.specs.Table.{Table, fresh_table, copy_at}
 use Rattle.lrc_protocol.specs.Copy.{valid, absent}
 use Rattle.lrc_protocol.specs.Memory.{fresh_memory}
-use Rattle.lrc_memory.specs.View.{NodeMemory, seen_in, seen_copy, node_seen}
+use Rattle.lrc_memory.specs.View.{NodeMemory, Kept, IsKept, seen_in, seen_copy, node_seen}
 
 map-replicate : {X Y : Type 0} (f : X → Y) (n : ℕ) (x : X) → map f (replicate n x) ≡ replicate n (f x)
 map-replicate f zero x = refl
@@ -81,3 +84,64 @@ seen-new me nodes words pages size since named store table keepers collected sto
     ∙ ap (λ collected. seen_of me since named (empty_store nodes (pages_of words size)) (fresh_table words size)
     (replicate (pages_of words size) 0) collected) collected_is
     ∙ seen-start me nodes words size since named
+
+-- at the start no page has changes to make
+untwinned : (words : ℕ) (size : Size) (page : ℕ) (changes : List Change) → pending_changes (copy_at (fresh_table words size) page) ≡ Some changes → ⊥
+untwinned words size page changes e = elim (cases_lt page (pages_of words size)) [
+  | inl within ↦
+      let is = get_or-replicate (pages_of words size) page (fresh (zero_page size)) (fresh []) within in
+      let x : None ≡ Some changes = sym (ap pending_changes is) ∙ e in cc
+  | inr past ↦
+      let is = get_or_past (replicate (pages_of words size) (fresh (zero_page size))) page (fresh []) (omega (arith, past, length-replicate (pages_of words size) (fresh (zero_page size)))) in
+      let x : None ≡ Some changes = sym (ap pending_changes is) ∙ e in cc
+]
+
+-- what is kept at the start holds together
+kept-start : (me nodes words : ℕ) (size : Size) → me < nodes
+    → IsKept (record {
+      me = me;
+      store = empty_store nodes (pages_of words size);
+      table = fresh_table words size;
+      since = replicate (pages_of words size) (zeros nodes);
+      named = replicate (pages_of words size) 0;
+      keepers = replicate (pages_of words size) 0;
+      collected = zeros nodes;
+    })
+kept-start me nodes words size here =
+    let pages = pages_of words size in
+    let copies = length-replicate pages (fresh (zero_page size)) in
+    let entries : length (zeros nodes) ≡ nodes = length-replicate nodes 0 in
+    record {
+      pages = sym copies;
+      since = length-replicate pages (zeros nodes) ∙ sym copies;
+      named = length-replicate pages 0 ∙ sym copies;
+      keepers = length-replicate pages 0 ∙ sym copies;
+      me = omega (arith, entries, here);
+      times = All-replicate (λ time. length time ≡ length (zeros nodes)) pages (zeros nodes) refl;
+      collected = refl;
+      keeping = All-replicate (λ keeper. keeper < length (zeros nodes)) pages 0 (omega (arith, entries, here));
+      makers = λ k d within. absurd (omega (arith, within));
+      passed = All-replicate (λ index. index ≤ entry (zeros nodes) me) pages 0 (omega arith);
+      store = record {
+        stamps = λ k d within. absurd (omega (arith, within));
+        pages = λ k d within. absurd (omega (arith, within));
+        counted = λ k d within. absurd (omega (arith, within));
+        ascending = search rules;
+      };
+      sized = λ k d within. absurd (omega (arith, within));
+      unmade = λ page changes e. absurd (untwinned words size page changes e);
+    }
+
+abbrev kept_of : ℕ → List (List ℕ) → List ℕ → StoreRecord → Table → List ℕ → List ℕ → Kept
+kept_of me since named store table keepers collected =
+    record { me = me; store = store; table = table; since = since; named = named; keepers = keepers; collected = collected }
+
+pub kept-new : (me nodes words pages : ℕ) (size : Size) (since : List (List ℕ)) (named : List ℕ) (store : StoreRecord) (table : Table)
+    (keepers collected : List ℕ) → store ≡ empty_store nodes pages → table ≡ fresh_table words size → since ≡ replicate pages (zeros nodes)
+    → named ≡ replicate pages 0 → keepers ≡ replicate pages 0 → collected ≡ zeros nodes → pages ≡ pages_of words size → me < nodes
+    → IsKept (record { me = me; store = store; table = table; since = since; named = named; keepers = keepers; collected = collected })
+kept-new me nodes words pages size since named store table keepers collected store_is table_is since_is named_is keepers_are collected_is pages_are here =
+    let whole : kept_of me since named store table keepers collected
+    ≡ kept_of me (replicate (pages_of words size) (zeros nodes)) (replicate (pages_of words size) 0) (empty_store nodes (pages_of words size))
+    (fresh_table words size) (replicate (pages_of words size) 0) (zeros nodes) = cc (store_is, table_is, since_is, named_is, keepers_are, collected_is, pages_are) in
+    subst IsKept (sym whole) (kept-start me nodes words size here)
