@@ -1,25 +1,23 @@
 -- A node that is reached can take what it expects.
-use Rattle.std.proofs.Common.{◌≡◌, ◌≢◌, ℕ, ◌<◌, ◌≤◌, ◌+◌, Bool, true, false, List, [], get_or, length, refl, sym, ◌∙◌, ap, subst, arith}
-use Rattle.std.specs.Prelude.{Option, Some, None, option_map, All, ◌&&◌, ◌==◌, nat_lt, nat_le}
-use Rattle.std.specs.List.{list_all}
+use Rattle.std.proofs.Common.{◌≡◌, ◌≢◌, ℕ, ◌<◌, true, List, [], get_or, length, refl, sym, ◌∙◌, ap, subst, arith}
+use Rattle.std.specs.Prelude.{Option, Some, None, option_map, ◌==◌}
 use Rattle.std.proofs.lemmas.Bool.{and_parts, ltb-true, eqb-true}
 use Rattle.std.proofs.lemmas.Option.{same_Some}
 use Rattle.lrc_time.specs.Time.{entry}
-use Rattle.lrc_exec.specs.declared.machine.Ask.{Ask}
 use Rattle.lrc_exec.specs.declared.machine.Ask.TheVariants.{Acquire, Barrier}
 use Rattle.lrc_exec.specs.Ask.{ask_of}
-use Rattle.lrc_exec.specs.Meaning.{Thread, Next, quiet, prints, reads, writes, acquires, releases, arrives, departs, traps, ends}
+use Rattle.lrc_exec.specs.Meaning.{Next, quiet, prints, reads, writes, acquires, releases, arrives, departs, traps, ends}
 use Rattle.lrc_store.specs.Interval.{IntervalRecord}
-use Rattle.lrc_protocol.specs.Mail.{Wait, Collection, nothing, grant, departure, access, upkeep, discard, awaits_grant, awaits_departure, awaits_discard}
+use Rattle.lrc_protocol.specs.Mail.{Wait, nothing, grant, departure, access, upkeep, discard, awaits_grant, awaits_departure, awaits_discard}
 use Rattle.lrc_protocol.specs.Node.{Node}
 use Rattle.lrc_protocol.specs.Expected.{is_learnable}
 use Rattle.lrc_invariants.specs.Waiting.{next_in, acquiring, is_departing, FixesNext}
 use Rattle.lrc_local.specs.Reached.{IsReached}
-use Rattle.lrc_local.specs.Ranges.{InRange, CollectsAt}
+use Rattle.lrc_local.specs.Ranges.{CollectsAt}
 use Rattle.lrc_local.specs.Waits.{IsQuiet}
 use Rattle.lrc_local.proofs.Tokened.{come_to}
 use Rattle.lrc_local.proofs.Always.{can_be_added, ranged_at, exact_at, quiet_at}
-use Rattle.lrc_memory.specs.Turns.{CanBeAdded, IsInRange}
+use Rattle.lrc_memory.specs.Turns.{CanBeAdded}
 use Rattle.lrc_node.specs.Text.{asked_in}
 use Rattle.lrc_node.specs.Taken.{IsTaking}
 use Rattle.lrc_node.specs.Taking.{CanDiscard, CanTake}
@@ -135,11 +133,12 @@ can_discard node r e = record {
   next = discard_next node.mail.wait (next_in node.course) e (fits_next node r);
   closed = closed_at node node.mail.wait e (quiet_at node r);
   time = λ collection at.
-      let present : collection.time ≡ node.locks.time = subst (CollectsAt node.locks.time) at (ranged_at node r).present in
-      (ap length present ∙ (ranged_at node r).time,
-       let same : entry node.memory.store.last node.setting.me ≡ entry collection.time node.setting.me =
-           ap (λ t. entry t node.setting.me) ((exact_at node r).last ∙ sym present) in
-       omega arith);
+      let present : collection.time ≡ node.locks.time = subst (CollectsAt node.locks.time) at (ranged_at node r).present in (
+        ap length present ∙ (ranged_at node r).time,
+        let same : entry node.memory.store.last node.setting.me ≡ entry collection.time node.setting.me =
+            ap (λ t. entry t node.setting.me) ((exact_at node r).last ∙ sym present) in
+            omega arith,
+      );
 }
 
 -- ---- by kind
@@ -191,15 +190,17 @@ can_take node r from sender number (Discard episode) e =
     let d = can_discard node r (and_parts _ _ (and_parts _ _ e).0).1 in
     record { next = d.next; closed = d.closed; time = d.time }
 can_take node r from sender number (ChangesRequest m) e = below_copies node r m.page (and_parts _ _ e).0
-can_take node r from sender number (ChangesReply m) e = 
-    (awaited_at node r from m e,
-     whatever_mail (with_parts from m node) (with_taken sender number node.mail) (with_needs (with_changes m.page from) node.mail.wait) (changes_go_on node r from m e))
+can_take node r from sender number (ChangesReply m) e = (
+  awaited_at node r from m e,
+  whatever_mail (with_parts from m node) (with_taken sender number node.mail) (with_needs (with_changes m.page from) node.mail.wait) (changes_go_on node r from m e),
+)
 can_take node r from sender number (PageRequest page) e = below_copies node r page (and_parts _ _ (and_parts _ _ e).0).0
 can_take node r from sender number (PageReply m) e =
-    let a = and_parts _ _ e in
-    (apart_pairs (needs_of node.mail.wait) (ascends-pairs (map (λ (need : Need). need.page) (needs_of node.mail.wait)) (needed_at node r).apart),
-     whatever_mail node (with_taken sender number node.mail) (with_needs (with_page m.page m.values) node.mail.wait)
-     (page_goes_on node r from m.page m.values (eqb-true _ _ (and_parts _ _ a.0).1) a.1))
+    let a = and_parts _ _ e in (
+      apart_pairs (needs_of node.mail.wait) (ascends-pairs (map (λ (need : Need). need.page) (needs_of node.mail.wait)) (needed_at node r).apart),
+      whatever_mail node (with_taken sender number node.mail) (with_needs (with_page m.page m.values) node.mail.wait)
+          (page_goes_on node r from m.page m.values (eqb-true _ _ (and_parts _ _ a.0).1) a.1),
+    )
 
 -- a node that has just taken the number of a message can take the message
 pub taking_can : (node : Node) (from : ℕ) (message : Message) → IsTaking node from message → CanTake node from message

@@ -39,11 +39,7 @@ impl State<'_> {
     }
 
     /// Repairs a page for which all has come, and makes the access that comes next.
-    pub(crate) fn repair(
-        &mut self,
-        need: &Need,
-        letters: Vec<Letter>,
-    ) -> Result<Effect, AllocError>
+    pub(crate) fn repair(&mut self, need: &Need, letters: Vec<Letter>) -> Result<Effect, AllocError>
         requires page { need.now.page < length self.old.memory.copies }
         requires fit { is_mendable self.old.options.size (copy_at self.old.memory need.now.page) need.now.base ≡ true }
         requires of_page { All (λ key. key.page ≡ need.now.page) need.now.missing }

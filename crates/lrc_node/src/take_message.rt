@@ -13,11 +13,7 @@ use std::alloc::AllocError;
 
 impl State<'_> {
     /// Does what a message from a node asks for, which was expected and whose number is taken.
-    pub(crate) fn take_message(
-        &mut self,
-        from: u8,
-        message: &Message,
-    ) -> Result<Effect, AllocError>
+    pub(crate) fn take_message(&mut self, from: u8, message: &Message) -> Result<Effect, AllocError>
         requires { IsTaking self.old from message.now }
         ensures effect { IfOk result (λ effect. take_effect self.old from message.now ≡ seen_effect effect self.new) }
         ensures to { IfOk result (λ effect. AreFor self.new.setting.nodes effect.letters.items) }
@@ -26,11 +22,7 @@ impl State<'_> {
     }
 
     /// Does what a message asks for, by its kind.
-    fn do_message(
-        &mut self,
-        from: u8,
-        message: &Message,
-    ) -> Result<Effect, AllocError>
+    fn do_message(&mut self, from: u8, message: &Message) -> Result<Effect, AllocError>
         requires from { from < self.old.setting.nodes }
         requires can { CanTake self.old from message.now }
         ensures effect { IfOk result (λ effect. take_effect self.old from message.now ≡ seen_effect effect self.new) }
