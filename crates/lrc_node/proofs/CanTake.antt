@@ -1,25 +1,23 @@
 -- A node that is reached can take what it expects.
-use Rattle.std.proofs.Common.{◌≡◌, ◌≢◌, ℕ, ◌<◌, ◌≤◌, ◌+◌, Bool, true, false, List, [], get_or, length, refl, sym, ◌∙◌, ap, subst, arith}
-use Rattle.std.specs.Prelude.{Option, Some, None, option_map, All, ◌&&◌, ◌==◌, nat_lt, nat_le}
-use Rattle.std.specs.List.{list_all}
+use Rattle.std.proofs.Common.{◌≡◌, ◌≢◌, ℕ, ◌<◌, true, List, [], get_or, length, refl, sym, ◌∙◌, ap, subst, arith}
+use Rattle.std.specs.Prelude.{Option, Some, None, option_map, ◌==◌}
 use Rattle.std.proofs.lemmas.Bool.{and_parts, ltb-true, eqb-true}
 use Rattle.std.proofs.lemmas.Option.{same_Some}
 use Rattle.lrc_time.specs.Time.{entry}
-use Rattle.lrc_exec.specs.declared.machine.Ask.{Ask}
 use Rattle.lrc_exec.specs.declared.machine.Ask.TheVariants.{Acquire, Barrier}
 use Rattle.lrc_exec.specs.Ask.{ask_of}
-use Rattle.lrc_exec.specs.Meaning.{Thread, Next, quiet, prints, reads, writes, acquires, releases, arrives, departs, traps, ends}
+use Rattle.lrc_exec.specs.Meaning.{Next, quiet, prints, reads, writes, acquires, releases, arrives, departs, traps, ends}
 use Rattle.lrc_store.specs.Interval.{IntervalRecord}
-use Rattle.lrc_protocol.specs.Mail.{Wait, Collection, nothing, grant, departure, access, upkeep, discard, awaits_grant, awaits_departure, awaits_discard}
+use Rattle.lrc_protocol.specs.Mail.{Wait, nothing, grant, departure, access, upkeep, discard, awaits_grant, awaits_departure, awaits_discard}
 use Rattle.lrc_protocol.specs.Node.{Node}
 use Rattle.lrc_protocol.specs.Expected.{is_learnable}
 use Rattle.lrc_invariants.specs.Waiting.{next_in, acquiring, is_departing, FixesNext}
 use Rattle.lrc_local.specs.Reached.{IsReached}
-use Rattle.lrc_local.specs.Ranges.{InRange, CollectsAt}
+use Rattle.lrc_local.specs.Ranges.{CollectsAt}
 use Rattle.lrc_local.specs.Waits.{IsQuiet}
 use Rattle.lrc_local.proofs.Tokened.{come_to}
 use Rattle.lrc_local.proofs.Always.{can_be_added, ranged_at, exact_at, quiet_at}
-use Rattle.lrc_memory.specs.Turns.{CanBeAdded, IsInRange}
+use Rattle.lrc_memory.specs.Turns.{CanBeAdded}
 use Rattle.lrc_node.specs.Text.{asked_in}
 use Rattle.lrc_node.specs.Taken.{IsTaking}
 use Rattle.lrc_node.specs.Taking.{CanDiscard, CanTake}

@@ -11,3 +11,4 @@ pub mod CanTake
 pub mod Replied
 pub mod Logging
 pub mod Takes
+pub mod Requests

@@ -2,13 +2,13 @@
 use Rattle.std.proofs.Common.{◌≡◌, ℕ, Bool, true, false, Option, Some, None, List, [], ◌∷◌, ◌++◌, Result, Ok, Err, refl, sym, ap, ◌∙◌, subst}
 use Rattle.std.specs.Prelude.{is_some, nat_le, if◌then◌else◌, IfOk, IfErr, MatchResult}
 use Rattle.lrc_protocol.specs.Node.{Node}
-use Rattle.lrc_protocol.specs.Turn.{TurnRecord, Outcome, done, not_ready, unexpected, worn}
-use Rattle.lrc_protocol.specs.Log.{Input, EntryRecord, Logged, Logging, logged, refused, too_large, logging, entered, next_stamp, MOST_STAMP}
+use Rattle.lrc_protocol.specs.Turn.{TurnRecord, Outcome, done}
+use Rattle.lrc_protocol.specs.Log.{Input, EntryRecord, Logged, logged, too_large, logging, next_stamp, MOST_STAMP}
 use Rattle.lrc_node.specs.declared.fault.NodeFault.{NodeFault}
 use Rattle.lrc_node.specs.declared.fault.NodeFault.TheVariants.{Failed, NotReady, Unexpected, Worn, NoMemory}
 use Rattle.lrc_node.specs.Fault.{is_final}
 use Rattle.lrc_node.specs.Node.{Answers, unready, unawaited, too_large as too_large_answer, without_memory}
-use Rattle.lrc_node.specs.Logged.{LoggedNode, Logs, Enters, sound}
+use Rattle.lrc_node.specs.Logged.{LoggedNode, Logs, Enters}
 
 -- a refusal of the node is one of the node with its log
 pub logs_refused : (l : Logged) (input : Input) (stamp : ℕ) (o : Outcome) (fault : NodeFault) (new : Option Node) → Answers o l.node fault new

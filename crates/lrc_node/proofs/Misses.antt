@@ -1,11 +1,10 @@
 -- Misses: what a page needs, and that it can be read once it is repaired.
-use Rattle.std.proofs.Common.{◌≡◌, ℕ, ◌<◌, Bool, true, false, List, [], length, map, refl, sym, ◌∙◌, ap, subst}
-use Rattle.std.specs.Prelude.{Option, Some, None, All, not, ◌&&◌, if◌then◌else◌, slice_set, slice_index_or}
-use Rattle.std.proofs.lemmas.Bool.{and_parts, true≢false}
+use Rattle.std.proofs.Common.{◌≡◌, ℕ, ◌<◌, Bool, true, false, List, [], length, refl, sym, ◌∙◌, ap}
+use Rattle.std.specs.Prelude.{Option, Some, None, All, not, if◌then◌else◌}
+use Rattle.std.proofs.lemmas.Bool.{and_parts}
 use Rattle.std.proofs.lemmas.List.{get_or-set_same}
 use Rattle.std.proofs.lemmas.List.Elements.{All-map, All-nil}
 use Rattle.lrc_page.specs.declared.size.Size.{Size}
-use Rattle.lrc_page.specs.Place.{page_of}
 use Rattle.lrc_exec.specs.declared.machine.Ask.{Ask}
 use Rattle.lrc_exec.specs.declared.machine.Ask.TheVariants.{Quiet, Print, Read, Write, Acquire, Release, Barrier, Trap, End}
 use Rattle.lrc_store.specs.declared.key.Key.{Key}

@@ -1,21 +1,20 @@
 -- A node that awaits changes or a base copy can repair its page once they have come.
-use Rattle.std.proofs.Common.{◌≡◌, ℕ, ◌<◌, Bool, true, false, List, [], ◌∷◌, length, map, fold, refl, sym, ◌∙◌, ap, subst, eq-eqb}
-use Rattle.std.specs.Prelude.{Option, Some, None, option_map, All, not, ◌&&◌, ◌==◌}
+use Rattle.std.proofs.Common.{◌≡◌, ℕ, ◌<◌, Bool, true, false, List, [], length, map, fold, refl, sym, ◌∙◌, ap, subst, eq-eqb}
+use Rattle.std.specs.Prelude.{Option, Some, None, option_map, All, not}
 use Rattle.std.specs.List.{list_any}
-use Rattle.std.proofs.lemmas.Bool.{and_parts, eqb-true}
+use Rattle.std.proofs.lemmas.Bool.{and_parts}
 use Rattle.std.proofs.lemmas.List.Elements.{All-head}
 use Rattle.std.proofs.lemmas.Option.{same_Some}
 use Rattle.lrc_page.specs.declared.size.Size.{Size}
 use Rattle.lrc_page.specs.Page.{words_of}
-use Rattle.lrc_page.specs.Place.{page_of, pages_of}
-use Rattle.lrc_exec.specs.declared.machine.Ask.{Ask}
+use Rattle.lrc_page.specs.Place.{pages_of}
 use Rattle.lrc_exec.specs.Ask.{ask_of}
-use Rattle.lrc_exec.specs.Meaning.{Thread, Next, quiet, prints, reads, writes, acquires, releases, arrives, departs, traps, ends}
+use Rattle.lrc_exec.specs.Meaning.{Next, quiet, prints, reads, writes, acquires, releases, arrives, departs, traps, ends}
 use Rattle.lrc_store.specs.declared.key.Key.{Key}
 use Rattle.lrc_wire.specs.Records.{IndexedChangesRecord, ChangesReplyRecord}
 use Rattle.lrc_memory.specs.Turns.{is_mendable}
 use Rattle.lrc_protocol.specs.Copy.{Copy, valid, written, invalid, absent}
-use Rattle.lrc_protocol.specs.Memory.{Memory, copy_at, lacking}
+use Rattle.lrc_protocol.specs.Memory.{Memory, copy_at}
 use Rattle.lrc_protocol.specs.Fetch.{Base, unneeded, due, come, Need, is_due, is_met, with_changes, with_page, awaits_page}
 use Rattle.lrc_protocol.specs.Mail.{Mail, Wait, nothing, grant, departure, access, upkeep, discard, needs_of}
 use Rattle.lrc_protocol.specs.Node.{Node, with_memory}
@@ -26,10 +25,9 @@ use Rattle.lrc_invariants.specs.Waiting.{next_in}
 use Rattle.lrc_local.specs.Reached.{IsReached}
 use Rattle.lrc_local.specs.Needs.{FitsBase, FitsNeed, page_next, ReachesFor}
 use Rattle.lrc_local.proofs.Always.{needed_at, reaching_at, ranged_at, is_store_at}
-use Rattle.lrc_local.proofs.Change.{Reply, reply, view_of, pages_in}
+use Rattle.lrc_local.proofs.Change.{Reply, reply, view_of}
 use Rattle.lrc_local.proofs.Needed.{changed_page, sent_page}
 use Rattle.lrc_local.proofs.Replies.{changes-fit, page-fits, asked-exactly}
-use Rattle.lrc_node.specs.Text.{asked_in}
 use Rattle.lrc_node.specs.Effects.{AccessesPage, CanRepair, CanGoOn, with_parts}
 use Rattle.lrc_node.proofs.CanRun.{read_within, write_within}
 use Rattle.lrc_node.proofs.Misses.{lacking_of_page}

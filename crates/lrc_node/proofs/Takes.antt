@@ -1,5 +1,5 @@
 -- What comes of a message that is taken.
-use Rattle.std.proofs.Common.{◌≡◌, ℕ, Bool, true, false, cond, ◌&&◌, ◌⊎◌, inl, inr, ⊎_elim, Some, None, refl, sym, ap, ◌∙◌, subst}
+use Rattle.std.proofs.Common.{◌≡◌, Bool, true, false, cond, ◌⊎◌, ⊎_elim, Some, None, sym, ap, ◌∙◌, subst}
 use Rattle.std.specs.Prelude.{if◌then◌else◌, Result, Ok, Err, IfErr}
 use Rattle.lrc_wire.specs.Envelope.{EnvelopeRecord}
 use Rattle.lrc_local.specs.Reached.{IsReached}
@@ -8,7 +8,7 @@ use Rattle.lrc_protocol.specs.Node.{Node}
 use Rattle.lrc_protocol.specs.Take.{take_effect}
 use Rattle.lrc_protocol.specs.Turn.{Outcome, done, unexpected, worn, empty_turn, take_turn, take_anew, taking, turn_of, is_addressed, is_repeat}
 use Rattle.lrc_node.specs.declared.fault.NodeFault.{NodeFault}
-use Rattle.lrc_node.specs.declared.fault.NodeFault.TheVariants.{Unexpected, Worn, NoMemory}
+use Rattle.lrc_node.specs.declared.fault.NodeFault.TheVariants.{Worn, NoMemory}
 use Rattle.lrc_node.specs.Fault.{is_final}
 use Rattle.lrc_node.specs.Taken.{RefusesTake, unawaited, too_large, without_memory}
 use Rattle.lrc_node.specs.Node.{Answers, unawaited as answers_unawaited, too_large as answers_too_large, without_memory as answers_without_memory}

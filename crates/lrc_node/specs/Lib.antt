@@ -11,3 +11,4 @@ pub mod Taking
 pub mod Ranges
 pub mod Taken
 pub mod Logged
+pub mod Requests

@@ -1,17 +1,47 @@
 // What a node gives to others that ask for it.
 
-ghost use Rattle.std.specs.Prelude.{◌≡◌, ◌<◌, ◌∷◌, [], IfOk, length};
+ghost use Rattle.std.specs.Prelude.{◌≡◌, ◌<◌, ◌∷◌, [], IfOk, OnOk, length, map};
 ghost use Rattle.lrc_protocol.specs.Letters.{changes_reply_to};
 ghost use Rattle.lrc_protocol.specs.Memory.{base_at};
 ghost use Rattle.lrc_protocol.specs.Node.{sends};
 ghost use Rattle.lrc_protocol.specs.Take.{page_reply_by};
+ghost use Rattle.lrc_memory.specs.View.{SameMemory};
+ghost use Rattle.lrc_node.specs.Requests.{part_in};
 ghost use Rattle.lrc_node.specs.State.{seen_effect, AreFor};
 
 use crate::letters::one;
 use crate::state::State;
 use crate::turn::Effect;
-use lrc_wire::{ChangesRequest, Message, PageReply, PageRequest};
-use std::alloc::AllocError;
+use lrc_memory::Memory;
+use lrc_wire::{
+    ChangesReply, ChangesRequest, IndexedChanges, Indices, Message, PageReply, PageRequest, Parts,
+};
+use std::alloc::{AllocError, Global};
+
+/// What a node's own intervals changed in a page.
+fn parts_of(
+    alloc: Global,
+    memory: &mut Memory,
+    page: u16,
+    indices: &Indices,
+) -> Result<Parts, AllocError>
+    requires { page < length memory.old.memory.copies }
+    ensures parts { IfOk result (λ parts. parts ≡ map (part_in memory.old page) indices.now) }
+    ensures memory { OnOk result (memory.new ≡ memory.old) }
+    ensures same { SameMemory memory.old memory.new }
+{
+    let mut parts = Vec::new(alloc);
+    let asked = indices.as_slice();
+    for index in asked {
+        let changes = memory.changes_of(page, *index)?;
+        let _ascending = changes.len();
+        parts.push(IndexedChanges {
+            index: *index,
+            changes,
+        })?;
+    }
+    Ok(Parts::from_ascending(parts))
+}
 
 impl State<'_> {
     /// A node asks for changes that this one's intervals made.
@@ -25,7 +55,14 @@ impl State<'_> {
         ensures effect { IfOk result (λ effect. sends (changes_reply_to self.old from request.now.page request.now.indices ∷ []) self.old ≡ seen_effect effect self.new) }
         ensures to { IfOk result (λ effect. AreFor self.new.setting.nodes effect.letters.items) }
     {
-        Err(AllocError)
+        let page = request.page;
+        let parts = parts_of(self.alloc, &mut self.memory, page, &request.indices)?;
+        let reply = Message::ChangesReply(ChangesReply { page, parts });
+        let letters = one(self.alloc, from, reply)?;
+        Ok(Effect {
+            deed: None,
+            letters,
+        })
     }
 
     /// A node asks for the base copy of a page.

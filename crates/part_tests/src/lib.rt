@@ -18,6 +18,8 @@ mod locks;
 #[cfg(test)]
 mod messages;
 #[cfg(test)]
+mod nodes;
+#[cfg(test)]
 mod pages;
 #[cfg(test)]
 mod posts;

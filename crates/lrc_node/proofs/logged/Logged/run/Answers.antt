@@ -1,7 +1,6 @@
-use Rattle.std.proofs.Common.{◌≡◌, Option, Some, None, List, sym, ap, ◌∙◌, subst}
-use Rattle.lrc_protocol.specs.Node.{Node}
+use Rattle.std.proofs.Common.{◌≡◌, Some, ap, ◌∙◌}
 use Rattle.lrc_protocol.specs.Turn.{run_turn}
-use Rattle.lrc_protocol.specs.Log.{Logged, EntryRecord, run, taken}
+use Rattle.lrc_protocol.specs.Log.{run}
 use Rattle.lrc_node.specs.Logged.{LoggedNode, sound}
 use Rattle.lrc_node.proofs.Logging.{logs_settled, fails_settled, some_of}
 use Rattle.lrc_node.proofs.logged.Logged.run.Goals as goal

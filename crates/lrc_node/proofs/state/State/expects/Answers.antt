@@ -1,4 +1,4 @@
-use Rattle.std.proofs.Common.{◌≡◌, Bool, Result, IfOk, sym, ap, ◌∙◌, subst}
+use Rattle.std.proofs.Common.{◌≡◌, IfOk, sym, ap, ◌∙◌, subst}
 use Rattle.lrc_wire.specs.declared.message.Message.{Message}
 use Rattle.lrc_protocol.specs.Expected.{is_expected}
 use Rattle.lrc_node.proofs.state.State.expects.Goals as goal

@@ -1,4 +1,4 @@
-use Rattle.std.proofs.Common.{◌≡◌, sym, subst}
+use Rattle.std.proofs.Common.{sym, subst}
 use Rattle.lrc_wire.specs.Records.{ChangesReplyRecord}
 use Rattle.lrc_memory.specs.Turns.{AreAwaited}
 use Rattle.lrc_protocol.specs.Node.{Node}

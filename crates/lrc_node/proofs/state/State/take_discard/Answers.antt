@@ -1,8 +1,7 @@
-use Rattle.std.proofs.Common.{◌≡◌, ◌≤◌, ℕ, List, length, sym, ◌∙◌, ap, subst}
+use Rattle.std.proofs.Common.{◌≡◌, ◌≤◌, length, sym, ◌∙◌, ap, subst}
 use Rattle.lrc_time.specs.Time.{entry}
-use Rattle.lrc_protocol.specs.Mail.{Collection, Wait, discard}
+use Rattle.lrc_protocol.specs.Mail.{Collection, discard}
 use Rattle.lrc_protocol.specs.Node.{Node}
-use Rattle.lrc_node.specs.Seen.{node_of}
 use Rattle.lrc_node.proofs.state.State.take_discard.Goals as goal
 
 pub collect-requires-clause-time : goal.collect-requires-clause-time
