@@ -1,9 +1,9 @@
 // One node's mailbox.
 
-ghost use Rattle.std.specs.Prelude.{◌≡◌, [], ◌∷◌, true, false, IfOk, IfErr, IfSome, IsErrAnd, OnErr, OnOk, All, IsTrue};
+ghost use Rattle.std.specs.Prelude.{◌≡◌, [], ◌∷◌, true, false, IfOk, IfErr, IfSome, IsErrAnd, OnErr, OnOk, All, IsTrue, ◌↔◌};
 ghost use Rattle.lrc_post.specs.declared.fault.PostFault.TheVariants.{Closed, NoMemory};
 ghost use Rattle.lrc_post.specs.Mailbox.{with_puts, IsCutShort, Gives};
-ghost use Rattle.lrc_post.specs.Wires.{IsLegal};
+ghost use Rattle.lrc_post.specs.Wires.{IsLegal, in_flight};
 
 use crate::fault::{PostFault, Unput};
 use crate::parcel::{Parcel, Wire};
@@ -150,7 +150,9 @@ impl Mailbox {
     }
 
     /// Whether its owner would wait for a parcel: it is open and none is in flight.
-    pub(crate) fn is_quiet(&self) -> bool {
+    pub(crate) fn is_quiet(&self) -> bool
+        ensures { IsTrue result ↔ ((self.now.closed ≡ false) × (in_flight self.now.picker self.now.history ≡ [])) }
+    {
         !self.closed && self.flight.is_empty()
     }
 

@@ -1,6 +1,7 @@
 // The post between the threads of a run: each node's mailbox under a lock of its own.
 
-ghost use Rattle.std.specs.Prelude.{◌≡◌, IfOk, IfErr, IfSome};
+ghost use Rattle.std.specs.Prelude.{◌≡◌, ◌≤◌, [], IfOk, IfErr, IfSome, length};
+ghost use Rattle.std.specs.Vec.{vec_capacity};
 ghost use Rattle.lrc_post.specs.Post.{IsHandedBack};
 
 use crate::fault::{PostFault, Unput};
@@ -26,11 +27,18 @@ pub struct Post {
     desks: Vec<Desk>,
     wires: Vec<Mailbox>,
     idle: AtomicUsize,
+    nodes: u8,
+    picker: Picker,
+    alloc: Global,
+    ghost empty: { wires.items ≡ [] },
+    ghost room: { nodes ≤ vec_capacity wires },
 }
 
 impl Post {
     /// A post of this many nodes, each with an empty mailbox that is open.
-    pub fn new(alloc: Global, nodes: u8, picker: Picker) -> Result<Self, AllocError> {
+    pub fn new(alloc: Global, nodes: u8, picker: Picker) -> Result<Self, AllocError>
+        ensures { IfOk result (λ post. post.nodes ≡ nodes) }
+    {
         let mut desks = Vec::new(alloc);
         for owner in 0..nodes {
             desks.push(Desk {
@@ -42,6 +50,9 @@ impl Post {
             desks,
             wires: Vec::with_capacity(alloc, usize::from(nodes))?,
             idle: AtomicUsize::new(usize::from(nodes)),
+            nodes,
+            picker,
+            alloc,
         })
     }
 
@@ -111,10 +122,26 @@ impl Post {
     }
 
     /// The mailboxes, one for each node, with all that was put and taken. It takes no memory.
-    pub fn into_wires(self) -> Wires {
+    #[tactic(auto, using(crate::proofs::Mailboxes::wires_more, crate::proofs::Mailboxes::no_wires))]
+    pub fn into_wires(self) -> Wires
+        ensures { length result ≡ self.nodes }
+    {
         let mut mailboxes = self.wires;
-        for desk in self.desks {
-            let _ = mailboxes.push(desk.mailbox.into_inner());
+        let mut desks = self.desks.into_iter();
+        for owner in 0..self.nodes {
+            let mailbox = match desks.next() {
+                Some(desk) => own_or_empty(
+                    desk.mailbox.into_inner(),
+                    owner,
+                    self.picker,
+                    self.alloc,
+                ),
+                None => Mailbox::new(owner, self.picker, self.alloc),
+            };
+            let _ = mailbox.history();
+            let Ok(()) = mailboxes.push(mailbox) else {
+                unreachable!()
+            };
         }
         Wires { mailboxes }
     }
@@ -141,5 +168,16 @@ impl Post {
         if self.idle.fetch_sub(1, Ordering::SeqCst) == 1 {
             self.close(rt);
         }
+    }
+}
+
+// A node's mailbox, which a lock gave back. That it is this node's is known of no lock, so it is looked at.
+fn own_or_empty(mailbox: Mailbox, owner: u8, picker: Picker, alloc: Global) -> Mailbox
+    ensures { result.owner ≡ owner }
+{
+    if mailbox.owner() == owner {
+        mailbox
+    } else {
+        Mailbox::new(owner, picker, alloc)
     }
 }
