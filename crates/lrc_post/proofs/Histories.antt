@@ -16,13 +16,13 @@ use Rattle.lrc_post.proofs.Dues.{same_due, next_due, next_given}
 
 -- ---- one entry more
 
-get_front : (history : List Wire) (wire : Wire) (i : ℕ) → i < length history
+pub get_front : {A : Type 0} (history : List A) (wire : A) (i : ℕ) → i < length history
     → slice_get (history ++ wire ∷ []) i ≡ slice_get history i
 get_front [] wire i below = absurd (omega (arith, below))
 get_front (w ∷ ws) wire zero below = refl
 get_front (w ∷ ws) wire (suc i) below = get_front ws wire i (omega (arith, below))
 
-get_last : (history : List Wire) (wire : Wire) → slice_get (history ++ wire ∷ []) (length history) ≡ Some wire
+pub get_last : {A : Type 0} (history : List A) (wire : A) → slice_get (history ++ wire ∷ []) (length history) ≡ Some wire
 get_last [] wire = refl
 get_last (w ∷ ws) wire = get_last ws wire
 

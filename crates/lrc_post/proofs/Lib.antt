@@ -1,3 +1,4 @@
 pub mod Dues
 pub mod Histories
+pub mod Mailboxes
 pub mod Puts

@@ -1,2 +1,3 @@
 pub mod Wires
 pub mod Mailbox
+pub mod Post

@@ -6,8 +6,12 @@
 mod fault;
 mod mailbox;
 mod parcel;
+mod post;
 mod queue;
+mod wires;
 
 pub use fault::{PostFault, Unput};
 pub use mailbox::Mailbox;
 pub use parcel::{Parcel, Wire};
+pub use post::Post;
+pub use wires::Wires;

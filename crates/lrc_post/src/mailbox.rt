@@ -1,9 +1,9 @@
 // One node's mailbox.
 
-ghost use Rattle.std.specs.Prelude.{◌≡◌, [], ◌∷◌, true, false, IfOk, IfErr, IsErrAnd, OnErr, OnOk, All, IsTrue};
+ghost use Rattle.std.specs.Prelude.{◌≡◌, [], ◌∷◌, true, false, IfOk, IfErr, IfSome, IsErrAnd, OnErr, OnOk, All, IsTrue, ◌↔◌};
 ghost use Rattle.lrc_post.specs.declared.fault.PostFault.TheVariants.{Closed, NoMemory};
 ghost use Rattle.lrc_post.specs.Mailbox.{with_puts, IsCutShort, Gives};
-ghost use Rattle.lrc_post.specs.Wires.{IsLegal};
+ghost use Rattle.lrc_post.specs.Wires.{IsLegal, in_flight};
 
 use crate::fault::{PostFault, Unput};
 use crate::parcel::{Parcel, Wire};
@@ -119,6 +119,46 @@ impl Mailbox {
         ensures legal { IsLegal self.now.owner self.now.history }
     {
         self.history.as_slice()
+    }
+
+    /// Gives the next parcel to a node, as `give` does where it is the owner. Any other node is given none.
+    pub(crate) fn give_to(&mut self, me: u8) -> Result<Option<Parcel>, PostFault>
+        ensures mine { IfOk result (λ parcel. IfSome parcel (λ p. p.to ≡ me)) }
+        ensures given { self.old.owner ≡ me → IfOk result (λ parcel. Gives self.old parcel self.new) }
+        ensures err { OnErr result (self.new ≡ self.old) }
+    {
+        if self.owner() == me {
+            self.give()
+        } else {
+            Ok(None)
+        }
+    }
+
+    /// Puts one parcel, as `put_all` does. One that is for another node is refused with `Closed`.
+    pub(crate) fn put_own(&mut self, from: u8, parcel: Parcel) -> Result<(), (PostFault, Parcel)>
+        ensures ok { OnOk result (self.new ≡ with_puts self.old from (parcel ∷ [])) }
+        ensures err { OnErr result (self.new ≡ self.old) }
+        ensures back { IfErr result (λ refused. refused.1 ≡ parcel) }
+    {
+        if self.closed || parcel.to != self.owner {
+            return Err((PostFault::Closed, parcel));
+        }
+        match self.put(from, parcel) {
+            Ok(()) => Ok(()),
+            Err(refused) => Err((PostFault::NoMemory, refused)),
+        }
+    }
+
+    /// Whether its owner would wait for a parcel: it is open and none is in flight.
+    pub(crate) fn is_quiet(&self) -> bool
+        ensures { IsTrue result ↔ ((self.now.closed ≡ false) × (in_flight self.now.picker self.now.history ≡ [])) }
+    {
+        !self.closed && self.flight.is_empty()
+    }
+
+    /// Whether the parcel that is given next was given before, as with `Twice` after the first of its two takes.
+    pub(crate) fn is_halfway(&self) -> bool {
+        self.picker == Picker::Twice && self.flight.len() % 2 == 1
     }
 
     // Puts parcels in order, until memory is wanted: then those that were not put come back.

@@ -1,0 +1,37 @@
+-- A list of mailboxes, and one mailbox more.
+use Rattle.std.proofs.Common.{◌≡◌, ℕ, ◌+◌, ◌<◌, ◌∙◌, List, [], ◌∷◌, ◌++◌, length, sym, ap, subst, ⊎_elim, arith, length-append}
+use Rattle.std.specs.Prelude.{slice_get}
+use Rattle.std.proofs.lemmas.Bool.{cases_eq}
+use Rattle.std.proofs.lemmas.Option.{slice_get_within, same_Some}
+use Rattle.lrc_post.specs.Wires.{IsLegal}
+use Rattle.lrc_post.specs.Mailbox.{MailboxRecord}
+use Rattle.lrc_post.specs.Post.{AreWires}
+use Rattle.lrc_post.proofs.Histories.{get_front, get_last}
+
+-- no mailboxes
+pub no_wires : AreWires []
+no_wires place mailbox at = absurd (omega (arith, slice_get_within [] place mailbox at))
+
+-- the mailbox of the next node more
+pub wires_more : (mailboxes : List MailboxRecord) (more : MailboxRecord) → AreWires mailboxes → more.owner ≡ length mailboxes
+    → IsLegal more.owner more.history → AreWires (mailboxes ++ more ∷ [])
+wires_more mailboxes more before owner legal place mailbox at =
+    let within : place < length mailboxes + 1 =
+    omega (arith, slice_get_within (mailboxes ++ more ∷ []) place mailbox at, length-append mailboxes (more ∷ [])) in
+    ⊎_elim
+    (λ (here : place ≡ length mailboxes).
+    let same : more ≡ mailbox =
+    same_Some more mailbox (sym (get_last mailboxes more) ∙ ap (slice_get (mailboxes ++ more ∷ [])) (sym here) ∙ at) in
+    subst (λ (m : MailboxRecord). (m.owner ≡ place) × IsLegal m.owner m.history) same (owner ∙ sym here, legal))
+    (λ (other : place ≡ length mailboxes → ⊥).
+    let below : place < length mailboxes = omega (arith, within, other) in
+    before place mailbox (sym (get_front mailboxes more place below) ∙ at))
+    (cases_eq place (length mailboxes))
+
+-- the same, with the lists that a push takes and leaves
+pub wires_push : (n : ℕ) (before after : List MailboxRecord) (more : MailboxRecord) → after ≡ before ++ more ∷ [] → length before ≡ n
+    → AreWires before → more.owner ≡ n → IsLegal more.owner more.history → (length after ≡ n + 1) × AreWires after
+wires_push n before after more is count kept owner legal = (
+  omega (arith, ap length is, length-append before (more ∷ []), count),
+  subst AreWires (sym is) (wires_more before more kept (owner ∙ sym count) legal),
+)

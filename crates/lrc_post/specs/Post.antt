@@ -1,0 +1,18 @@
+-- What the post does beyond one mailbox.
+use Rattle.std.specs.Prelude.{◌≡◌, ℕ, List, ◌∷◌, ◌++◌, slice_get, Some}
+use Rattle.lrc_post.specs.declared.parcel.Parcel.{Parcel}
+use Rattle.lrc_post.specs.Wires.{IsLegal}
+use Rattle.lrc_post.specs.Mailbox.{MailboxRecord}
+
+-- those before a parcel that was refused are gone; that one and all after it were handed back, in order
+pub record IsHandedBack (parcels back : List Parcel) : Type 0 where
+  pub put : List Parcel
+  pub refused : Parcel
+  pub rest : List Parcel
+  pub handed_back : back ≡ refused ∷ rest
+  pub all : parcels ≡ put ++ back
+
+-- one mailbox for each node, from 0 up, each with a legal history
+abbrev pub AreWires : List MailboxRecord → Type 0
+AreWires mailboxes = (place : ℕ) (mailbox : MailboxRecord) → slice_get mailboxes place ≡ Some mailbox
+    → (mailbox.owner ≡ place) × IsLegal mailbox.owner mailbox.history

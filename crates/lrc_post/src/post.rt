@@ -1,0 +1,183 @@
+// The post between the threads of a run: each node's mailbox under a lock of its own.
+
+ghost use Rattle.std.specs.Prelude.{◌≡◌, ◌≤◌, [], IfOk, IfErr, IfSome, length};
+ghost use Rattle.std.specs.Vec.{vec_capacity};
+ghost use Rattle.lrc_post.specs.Post.{IsHandedBack};
+
+use crate::fault::{PostFault, Unput};
+use crate::mailbox::Mailbox;
+use crate::parcel::Parcel;
+use crate::wires::Wires;
+use lrc_wire::Picker;
+use std::alloc::{AllocError, Global};
+use std::sync::atomic::{AtomicUsize, Ordering};
+use std::sync::{Condvar, Mutex, Wait};
+
+/// One node's mailbox under its lock, and what its owner waits on.
+#[derive(Drop)]
+struct Desk {
+    mailbox: Mutex<Mailbox>,
+    arrived: Condvar,
+}
+
+/// A mailbox for each node, from 0 up, for nodes that run on threads of their own. It closes by itself when every node
+/// waits and no parcel is in flight, for then nothing can happen any more.
+#[derive(Drop)]
+pub struct Post {
+    desks: Vec<Desk>,
+    wires: Vec<Mailbox>,
+    idle: AtomicUsize,
+    nodes: u8,
+    picker: Picker,
+    alloc: Global,
+    ghost empty: { wires.items ≡ [] },
+    ghost room: { nodes ≤ vec_capacity wires },
+}
+
+impl Post {
+    /// A post of this many nodes, each with an empty mailbox that is open.
+    pub fn new(alloc: Global, nodes: u8, picker: Picker) -> Result<Self, AllocError>
+        ensures { IfOk result (λ post. post.nodes ≡ nodes) }
+    {
+        let mut desks = Vec::new(alloc);
+        for owner in 0..nodes {
+            desks.push(Desk {
+                mailbox: Mutex::new(Mailbox::new(owner, picker, alloc)),
+                arrived: Condvar::new(),
+            })?;
+        }
+        Ok(Post {
+            desks,
+            wires: Vec::with_capacity(alloc, usize::from(nodes))?,
+            idle: AtomicUsize::new(usize::from(nodes)),
+            nodes,
+            picker,
+            alloc,
+        })
+    }
+
+    /// Puts parcels, in order, each into the mailbox of its `to`. The first that is refused comes back with all after
+    /// it, and those before it stand: `Closed` where that mailbox is closed or there is none, or `NoMemory`.
+    pub fn put_all<R: Wait>(&self, rt: &R, from: u8, mut parcels: Vec<Parcel>) -> Result<(), Unput>
+        ensures back { IfErr result (λ u. IsHandedBack parcels.items u.parcels.items) }
+    {
+        parcels.reverse();
+        while let Some(parcel) = parcels.pop() {
+            if let Err((fault, refused)) = self.put(rt, from, parcel) {
+                let Ok(()) = parcels.push(refused) else {
+                    unreachable!()
+                };
+                parcels.reverse();
+                return Err(Unput { fault, parcels });
+            }
+        }
+        Ok(())
+    }
+
+    /// The next parcel for a node, or none where none is in flight for it or its mailbox is closed. For want of memory
+    /// its mailbox stays as it was.
+    pub fn poll<R: Wait>(&self, rt: &R, me: u8) -> Result<Option<Parcel>, PostFault>
+        ensures mine { IfOk result (λ parcel. IfSome parcel (λ p. p.to ≡ me)) }
+    {
+        let Some(desk) = self.desks.get(usize::from(me)) else {
+            return Ok(None);
+        };
+        let mut mailbox = desk.mailbox.lock(rt);
+        let parcel = mailbox.give_to(me)?;
+        let stays = mailbox.is_halfway();
+        drop(mailbox);
+        if parcel.is_some() && !stays {
+            self.settle(rt);
+        }
+        Ok(parcel)
+    }
+
+    /// As `poll`, but waits until a parcel is there or the mailbox is closed. There is none only where it is closed.
+    pub fn take<R: Wait>(&self, rt: &R, me: u8) -> Result<Option<Parcel>, PostFault>
+        ensures mine { IfOk result (λ parcel. IfSome parcel (λ p. p.to ≡ me)) }
+    {
+        let Some(desk) = self.desks.get(usize::from(me)) else {
+            return Ok(None);
+        };
+        if !desk.mailbox.lock(rt).is_quiet() {
+            return self.poll(rt, me);
+        }
+        self.settle(rt);
+        let mut mailbox = desk
+            .arrived
+            .wait_while(rt, desk.mailbox.lock(rt), |mailbox| mailbox.is_quiet());
+        let parcel = mailbox.give_to(me)?;
+        if parcel.is_some() && mailbox.is_halfway() {
+            self.idle.fetch_add(1, Ordering::SeqCst);
+        }
+        Ok(parcel)
+    }
+
+    /// Closes all mailboxes, one after another, and wakes the nodes that wait. What was put and taken stays.
+    pub fn close<R: Wait>(&self, rt: &R) {
+        for desk in &self.desks {
+            desk.mailbox.lock(rt).close();
+            desk.arrived.notify_all();
+        }
+    }
+
+    /// The mailboxes, one for each node, with all that was put and taken. It takes no memory.
+    #[tactic(auto, using(crate::proofs::Mailboxes::wires_more, crate::proofs::Mailboxes::no_wires))]
+    pub fn into_wires(self) -> Wires
+        ensures { length result ≡ self.nodes }
+    {
+        let mut mailboxes = self.wires;
+        let mut desks = self.desks.into_iter();
+        for owner in 0..self.nodes {
+            let mailbox = match desks.next() {
+                Some(desk) => own_or_empty(
+                    desk.mailbox.into_inner(),
+                    owner,
+                    self.picker,
+                    self.alloc,
+                ),
+                None => Mailbox::new(owner, self.picker, self.alloc),
+            };
+            let _ = mailbox.history();
+            let Ok(()) = mailboxes.push(mailbox) else {
+                unreachable!()
+            };
+        }
+        Wires { mailboxes }
+    }
+
+    // Puts one parcel and wakes its owner.
+    fn put<R: Wait>(&self, rt: &R, from: u8, parcel: Parcel) -> Result<(), (PostFault, Parcel)>
+        ensures back { IfErr result (λ refused. refused.1 ≡ parcel) }
+    {
+        let Some(desk) = self.desks.get(usize::from(parcel.to)) else {
+            return Err((PostFault::Closed, parcel));
+        };
+        self.idle.fetch_add(1, Ordering::SeqCst);
+        let put = desk.mailbox.lock(rt).put_own(from, parcel);
+        if put.is_ok() {
+            desk.arrived.notify_one();
+        } else {
+            self.settle(rt);
+        }
+        put
+    }
+
+    // Takes one away from the idle count. Whoever brings it to 0 closes the post, and holds no lock meanwhile.
+    fn settle<R: Wait>(&self, rt: &R) {
+        if self.idle.fetch_sub(1, Ordering::SeqCst) == 1 {
+            self.close(rt);
+        }
+    }
+}
+
+// A node's mailbox, which a lock gave back. That it is this node's is known of no lock, so it is looked at.
+fn own_or_empty(mailbox: Mailbox, owner: u8, picker: Picker, alloc: Global) -> Mailbox
+    ensures { result.owner ≡ owner }
+{
+    if mailbox.owner() == owner {
+        mailbox
+    } else {
+        Mailbox::new(owner, picker, alloc)
+    }
+}
