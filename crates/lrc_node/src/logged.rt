@@ -182,4 +182,11 @@ impl<'c> Logged<'c> {
     {
         self.log.as_slice()
     }
+
+    /// The turns with their stamps, once the run is over. Takes no memory.
+    pub fn into_log(self) -> Vec<Entry>
+        ensures { result.items ≡ self.entry.log }
+    {
+        self.log
+    }
 }

@@ -1,0 +1,6 @@
+pub mod Worlds
+pub mod Turned
+pub mod Lists
+pub mod Played
+pub mod Marks
+pub mod Events

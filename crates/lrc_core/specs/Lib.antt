@@ -1,0 +1,3 @@
+pub mod Range
+pub mod Report
+pub mod World

@@ -1,0 +1,56 @@
+// What a run answers.
+
+ghost use Rattle.std.specs.Prelude.{◌≡◌};
+ghost use Rattle.lrc_core.specs.declared.report.SimFault.TheVariants.{NoMemory};
+
+use lrc_node::{End, Entry};
+use lrc_trace::act::Act;
+use std::alloc::{AllocError, AllocFailed};
+use thiserror::Error;
+
+/// How many statements a node may begin at most.
+pub const MOST_STEPS: u32 = 1_000_000;
+
+/// What came of a run.
+#[derive(Drop)]
+pub struct Report {
+    /// What the nodes did, in order.
+    pub acts: Vec<Act>,
+    /// How each node ended, from node 0 up.
+    pub ends: Vec<End>,
+    /// The turns of each node with their stamps, from node 0 up.
+    pub logs: Vec<Vec<Entry>>,
+}
+
+/// Why there is no report.
+#[derive(Clone, Copy, Debug, PartialEq, Eq, Error)]
+pub enum SimFault {
+    /// The number of nodes is not 1 to 16.
+    #[error("number of nodes out of range")]
+    BadNodes,
+    /// The number of steps is not 1 to 1,000,000.
+    #[error("number of steps out of range")]
+    BadSteps,
+    /// A message number, an interval's index, a stamp or the length of a message would pass its limit.
+    #[error("message numbers used up")]
+    Worn,
+    /// Memory ran out.
+    #[error("out of memory")]
+    NoMemory,
+}
+
+impl From<AllocError> for SimFault {
+    ghost from_gives = { λ _ e. e ≡ NoMemory };
+
+    fn from(_: AllocError) -> Self {
+        SimFault::NoMemory
+    }
+}
+
+impl<T: Drop> From<AllocFailed<T>> for SimFault {
+    ghost from_gives = { λ _ e. e ≡ NoMemory };
+
+    fn from(_: AllocFailed<T>) -> Self {
+        SimFault::NoMemory
+    }
+}
