@@ -63,7 +63,8 @@ own-least page i [] = refl
 own-least page i (p ∷ ps) = either (eqb p page) (list_any (λ named. eqb named page) ps) (own-least page i ps)
   where
     either : (here later : Bool) → least (nodes_on page (map (λ p. key_of p i) ps)) ≡ cond later (Some i.node) None
-        → least (map (λ (key : Key). key.node) (cond here (key_of p i ∷ filter (on_page page) (map (λ p. key_of p i) ps)) (filter (on_page page) (map (λ p. key_of p i) ps))))
+        → least (map (λ (key : Key). key.node)
+        (cond here (key_of p i ∷ filter (on_page page) (map (λ p. key_of p i) ps)) (filter (on_page page) (map (λ p. key_of p i) ps))))
         ≡ cond (here || later) (Some i.node) None
     either false later is = is
     either true false is = ap (joined (Some i.node)) is

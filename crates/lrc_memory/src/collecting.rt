@@ -1,6 +1,7 @@
 // Base copies, their keepers, and collections.
 
-ghost use Rattle.std.specs.Prelude.{◌≡◌, ◌<◌, ◌≤◌, ◌==◌, ◌&&◌, filter, map, min, option_map, unwrap_or, slice_index, IfOk, OnOk, MatchOption, Some, None, length, true};
+ghost use Rattle.std.specs.Prelude.{◌≡◌, ◌<◌, ◌≤◌, ◌==◌, ◌&&◌, filter, slice_index, IfOk, OnOk, MatchOption, Some, None, length, true};
+ghost use Rattle.std.specs.Prelude.{map, min, option_map, unwrap_or};
 ghost use Rattle.lrc_time.specs.Time.{entry};
 ghost use Rattle.lrc_protocol.specs.Copy.{is_readable, changes_of};
 ghost use Rattle.lrc_protocol.specs.Memory.{copy_at, with_base, base_at, kept_pages, with_keepers, collected_at, is_named, least, namers_of};
