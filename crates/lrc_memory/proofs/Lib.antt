@@ -13,3 +13,5 @@ pub mod Learns
 pub mod Attaches
 pub mod Needs
 pub mod Keepers
+pub mod Lowest
+pub mod Renewed

@@ -1,10 +1,11 @@
 // Base copies, their keepers, and collections.
 
 ghost use Rattle.std.specs.Prelude.{◌≡◌, ◌<◌, ◌≤◌, ◌==◌, ◌&&◌, filter, slice_index, IfOk, OnOk, MatchOption, Some, None, length, true};
+ghost use Rattle.std.specs.Prelude.{map, min, option_map, unwrap_or};
 ghost use Rattle.lrc_time.specs.Time.{entry};
 ghost use Rattle.lrc_protocol.specs.Copy.{is_readable, changes_of};
-ghost use Rattle.lrc_protocol.specs.Memory.{copy_at, with_base, base_at, kept_pages, with_keepers, collected_at, is_named};
-ghost use Rattle.std.specs.List.{range_with_len};
+ghost use Rattle.lrc_protocol.specs.Memory.{copy_at, with_base, base_at, kept_pages, with_keepers, collected_at, is_named, least, namers_of};
+ghost use Rattle.std.specs.List.{enumerate_from, range_with_len};
 ghost use Rattle.lrc_store.specs.Store.{intervals_of};
 ghost use Rattle.lrc_memory.specs.Steps.{without_bases};
 ghost use Rattle.lrc_memory.specs.View.{SameMemory, with_memory};
@@ -31,7 +32,9 @@ impl Memory {
         ensures ok { OnOk result (self.new ≡ with_memory self.old (with_keepers self.old.memory)) }
         ensures same { SameMemory self.old self.new }
     {
-        Err(AllocError)
+        let _few = self.table.size();
+        take_keepers(&self.store, &mut self.keepers);
+        Ok(())
     }
 
     /// The pages that this node keeps and that were named since the last collection, ascending.
@@ -80,6 +83,44 @@ fn drop_bases(table: &mut PageTable, me: u8, keepers: &[u8])
         if *keeper != me {
             table.drop_base(page as u16);
         }
+    }
+}
+
+/// Each page that an interval names gets the lowest node of those that name it as its keeper.
+fn take_keepers(store: &Store, keepers: &mut Vec<u8>)
+    requires { length keepers.old.items ≤ MOST_PAGES }
+    ensures { keepers.new.items
+        ≡ map (λ place. unwrap_or (least (namers_of store.now place.0)) place.1) (enumerate_from 0 keepers.old.items) }
+{
+    for page in 0..keepers.len() as u16 {
+        if let Some(node) = lowest_namer(store, page) {
+            keepers[usize::from(page)] = node;
+        }
+    }
+}
+
+/// The lowest node that named the page, found along the page's list.
+fn lowest_namer(store: &Store, page: u16) -> Option<u8>
+    ensures { result ≡ least (namers_of store.now page) }
+{
+    let mut lowest = None;
+    let mut next = store.first_on_page(page);
+    while let Some(at) = next {
+        if let Some(key) = store.key(at) {
+            lowest = Some(lower(lowest, key.node));
+        }
+        next = store.next_on_page(at);
+    }
+    lowest
+}
+
+/// The lower of two nodes, where the first may be missing.
+fn lower(first: Option<u8>, second: u8) -> u8
+    ensures { result ≡ unwrap_or (option_map (min second) first) second }
+{
+    match first {
+        Some(node) if node < second => node,
+        _ => second,
     }
 }
 
