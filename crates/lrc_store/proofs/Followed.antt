@@ -4,7 +4,7 @@ use Rattle.std.proofs.lemmas.List.{take_more, take_all, length-take-le, reverse-
 use Rattle.lrc_store.specs.Lists.{Follows, head_of, link_of, list_of, places_from}
 use Rattle.lrc_store.proofs.Chained.{last_at-push_here, last_at-push_other, reach, reach-taken}
 
-places_from-push : (key start : ℕ) (xs : List ℕ) (x : ℕ)
+pub places_from-push : (key start : ℕ) (xs : List ℕ) (x : ℕ)
     → places_from key start (xs ++ x ∷ []) ≡ places_from key start xs ++ cond (eqb x key) ((start + length xs) ∷ []) []
 places_from-push key start [] x = ap (λ n. cond (eqb x key) (n ∷ []) []) (omega arith)
 places_from-push key start (y ∷ ys) x =

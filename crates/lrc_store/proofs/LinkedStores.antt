@@ -1,25 +1,56 @@
 -- What changes leave true of the links of a store.
-use Rattle.std.proofs.Common.{◌≡◌, ℕ, zero, suc, ◌+◌, ◌<◌, ◌∙◌, Bool, true, false, not, ◌&&◌, ◌||◌, cond, eqb, eqb-true, List, [], ◌∷◌, ◌++◌, length, get_or, map, refl, ap, sym, subst, arith}
-use Rattle.std.specs.List.{All, filter, flat_map, list_any}
+use Rattle.std.proofs.Common.{◌≡◌, ℕ, zero, suc, ◌+◌, ◌<◌, ◌∙◌, Bool, true, false, not, ◌&&◌, ◌||◌, cond, eqb, eqb-true, List, [], ◌∷◌, ◌++◌, length, get_or, set, map, refl, ap, sym, subst, arith, ◌≤◌}
+use Rattle.std.specs.List.{All, AllPairs, filter, flat_map, list_any}
 use Rattle.std.proofs.lemmas.Bool.{ne_eqb}
 use Rattle.std.proofs.lemmas.Grind.{flat_map-append}
-use Rattle.std.proofs.lemmas.List.{get_or-map, length-map, length-set, map-append, map_push, append-nil}
+use Rattle.std.proofs.lemmas.List.{get_or-map, get_or-set_other, length-map, length-set, map-append, map_push, append-nil}
 use Rattle.std.proofs.lemmas.List.Concat.{flat_map-cons}
 use Rattle.std.proofs.lemmas.List.Elements.{All-append, All-filter, All-head, All-tail, All-push, filter-append}
 use Rattle.lrc_time.specs.Time.{entry, knows}
 use Rattle.lrc_page.specs.declared.changes.Change.{Change}
 use Rattle.lrc_page.specs.Pages.{IsRising}
+use Rattle.lrc_time.proofs.Times.{entry-set_same}
 use Rattle.lrc_store.specs.declared.key.Key.{Key}
 use Rattle.lrc_store.specs.Chains.{ChainsRecord}
+use Rattle.lrc_store.specs.Nodes.{NodesRecord, AreStarts}
 use Rattle.lrc_store.specs.Interval.{IntervalRecord, IsInterval, index_of}
 use Rattle.std.specs.Option.{option_map}
 use Rattle.std.specs.List.{slice_get}
 use Rattle.std.proofs.lemmas.Option.{slice_get-map}
-use Rattle.lrc_store.specs.Lists.{key_at, keys_of, notices_of, pages_noted}
+use Rattle.lrc_store.specs.Lists.{KnowsTheFirst, key_at, keys_of, knows_notice, notices_of, pages_noted, places_from}
 use Rattle.lrc_store.specs.Links.{IsLinkedUp, is_unknown_on, page_named, ranked, ranked_of, ranked_pages}
 use Rattle.lrc_store.specs.Store.{StoreRecord, added, attached, discarded, interval_of, intervals_of, is_covered, is_missing, key_of}
 use Rattle.lrc_store.proofs.Orders.{map-map}
+use Rattle.lrc_store.proofs.Walks.{IsKnownFirst}
+use Rattle.lrc_store.proofs.Filtered.{filter-flat_map}
+use Rattle.lrc_store.specs.Rows.{HasNoGaps}
+use Rattle.lrc_store.proofs.Rowed.{HasNoGaps-push, HasNoGaps-filter, places_from-filter}
+use Rattle.lrc_store.proofs.Starts.{count_of, AreStarts-push}
 use Rattle.lrc_store.proofs.Stores.{IsStore-added, IsStore-attached, IsStore-discarded, intervals_of-added, intervals_of-attached, intervals_of-discarded}
+
+-- ---- how many notices there are
+
+keys_of_ranked : (interval : IntervalRecord) (pages : List ℕ)
+    → map (λ notice. notice.1) (map (λ page. ranked page interval) pages) ≡ map (λ page. key_of page interval) pages
+keys_of_ranked interval [] = refl
+keys_of_ranked interval (page ∷ pages) = ap (λ (l : List Key). key_of page interval ∷ l) (keys_of_ranked interval pages)
+
+keys_of_all : (intervals : List IntervalRecord) → map (λ notice. notice.1) (ranked_of intervals) ≡ flat_map keys_of intervals
+keys_of_all [] = refl
+keys_of_all (i ∷ is) =
+    ap (map (λ (notice : ℕ × Key). notice.1)) (flat_map-cons ranked_pages i is)
+    ∙ map-append (λ (notice : ℕ × Key). notice.1) (ranked_pages i) (ranked_of is)
+    ∙ ap (λ (l : List Key). l ++ map (λ (notice : ℕ × Key). notice.1) (ranked_of is)) (keys_of_ranked i i.pages)
+    ∙ ap (λ (l : List Key). keys_of i ++ l) (keys_of_all is)
+    ∙ sym (flat_map-cons keys_of i is)
+
+-- as many as the intervals have pages
+pub count_of-noted : (intervals : List IntervalRecord) (notices : List (ℕ × Key)) → notices ≡ ranked_of intervals
+    → length notices ≡ count_of intervals
+count_of-noted intervals notices noted =
+    ap length noted
+    ∙ sym (length-map (ranked_of intervals) (λ (notice : ℕ × Key). notice.1))
+    ∙ ap length (keys_of_all intervals)
 
 -- ---- an interval more
 
@@ -35,16 +66,17 @@ pages_of_ranked : (interval : IntervalRecord) (pages : List ℕ)
 pages_of_ranked interval [] = refl
 pages_of_ranked interval (page ∷ pages) = ap (λ (l : List ℕ). page ∷ l) (pages_of_ranked interval pages)
 
-pub IsLinkedUp-added : (store : StoreRecord) (by_node by_page by_node' by_page' : ChainsRecord)
-    (notices notices' : List (ℕ × Key)) (interval : IntervalRecord) → IsLinkedUp store by_node by_page notices
-    → IsInterval interval → length interval.stamp ≡ length store.last → All (λ page. page < store.pages) interval.pages
+pub IsLinkedUp-added : (store : StoreRecord) (by_node by_node' : NodesRecord) (by_page by_page' : ChainsRecord)
+    (notices notices' : List (ℕ × Key)) (interval : IntervalRecord) (start : ℕ)
+    → IsLinkedUp store by_node by_page notices → IsInterval interval → length interval.stamp ≡ length store.last → All (λ page. page < store.pages) interval.pages
     → index_of interval ≡ entry store.last interval.node + 1
     → by_node'.keys ≡ by_node.keys ++ interval.node ∷ [] → by_node'.lists ≡ by_node.lists
+    → by_node'.starts ≡ by_node.starts ++ start ∷ [] → start ≡ length by_page.keys
     → by_page'.keys ≡ by_page.keys ++ interval.pages → by_page'.lists ≡ by_page.lists
     → notices' ≡ notices ++ ranked_pages interval
     → IsLinkedUp (added store interval) by_node' by_page' notices'
-IsLinkedUp-added store by_node by_page by_node' by_page' notices notices' interval linked is stamp pages next
-    node_keys node_lists page_keys page_lists noted =
+IsLinkedUp-added store by_node by_node' by_page by_page' notices notices' interval start linked is stamp pages next
+    node_keys node_lists node_starts begins page_keys page_lists noted =
     let all = intervals_of store in
     let same : intervals_of (added store interval) ≡ all ++ interval ∷ [] = intervals_of-added store interval in
     record {
@@ -54,6 +86,14 @@ IsLinkedUp-added store by_node by_page by_node' by_page' notices notices' interv
           ∙ sym (map_push (λ (i : IntervalRecord). i.node) all interval)
           ∙ ap (map (λ (i : IntervalRecord). i.node)) (sym same);
       node_lists = node_lists ∙ linked.node_lists ∙ sym (length-set store.last interval.node (index_of interval));
+      gapless = subst (HasNoGaps (set store.last interval.node (index_of interval))) (sym same)
+          (HasNoGaps-push store.last (set store.last interval.node (index_of interval)) all interval linked.gapless next
+          (entry-set_same store.last interval.node (index_of interval) (omega (arith, is.counted, stamp)))
+          (λ n other. get_or-set_other store.last interval.node n (index_of interval) 0 other));
+      starts = subst (λ (l : List ℕ). AreStarts l (intervals_of (added store interval))) (sym node_starts)
+          (subst (AreStarts (by_node.starts ++ start ∷ [])) (sym same)
+          (AreStarts-push by_node.starts all interval start linked.starts
+          (begins ∙ ap length linked.pages ∙ length-map notices page_named ∙ count_of-noted all notices linked.noted)));
       noted = noted ∙ ap (λ (l : List (ℕ × Key)). l ++ ranked_pages interval) linked.noted
           ∙ sym (ranked_of-push all interval) ∙ ap ranked_of (sym same);
       pages = page_keys ∙ ap (λ (l : List ℕ). l ++ interval.pages) linked.pages
@@ -64,7 +104,7 @@ IsLinkedUp-added store by_node by_page by_node' by_page' notices notices' interv
 
 -- ---- changes come
 
-pub IsLinkedUp-attached : (store : StoreRecord) (by_node by_page : ChainsRecord) (notices : List (ℕ × Key)) (key : Key)
+pub IsLinkedUp-attached : (store : StoreRecord) (by_node : NodesRecord) (by_page : ChainsRecord) (notices : List (ℕ × Key)) (key : Key)
     (changes : List Change) → IsLinkedUp store by_node by_page notices
     → IsLinkedUp (attached store key changes) by_node by_page notices
 IsLinkedUp-attached store by_node by_page notices key changes linked =
@@ -74,6 +114,8 @@ IsLinkedUp-attached store by_node by_page notices key changes linked =
       intervals = subst (All IsInterval) same linked.intervals;
       nodes = linked.nodes ∙ ap (map (λ (i : IntervalRecord). i.node)) same;
       node_lists = linked.node_lists;
+      gapless = subst (HasNoGaps store.last) same linked.gapless;
+      starts = subst (AreStarts by_node.starts) same linked.starts;
       noted = linked.noted ∙ ap ranked_of same;
       pages = linked.pages;
       page_lists = linked.page_lists;
@@ -85,42 +127,30 @@ IsLinkedUp-attached store by_node by_page notices key changes linked =
 abbrev pub stays : List ℕ → ℕ × Key → Bool
 stays time notice = not (knows time notice.1.node notice.1.index)
 
--- notices that all pass or all fail
-all_or_none : (test : ℕ × Key → Bool) (interval : IntervalRecord) (b : Bool) (pages : List ℕ)
-    → ((page : ℕ) → test (ranked page interval) ≡ b)
-    → filter test (map (λ page. ranked page interval) pages) ≡ cond b (map (λ page. ranked page interval) pages) []
-all_or_none test interval true [] is = refl
-all_or_none test interval false [] is = refl
-all_or_none test interval true (page ∷ pages) is =
-    ap (λ v. cond v (ranked page interval ∷ filter test (map (λ p. ranked p interval) pages)) (filter test (map (λ p. ranked p interval) pages))) (is page)
-    ∙ ap (λ (l : List (ℕ × Key)). ranked page interval ∷ l) (all_or_none test interval true pages is)
-all_or_none test interval false (page ∷ pages) is =
-    ap (λ v. cond v (ranked page interval ∷ filter test (map (λ p. ranked p interval) pages)) (filter test (map (λ p. ranked p interval) pages))) (is page)
-    ∙ all_or_none test interval false pages is
+ranked_stay : (time : List ℕ) (interval : IntervalRecord) → All (λ notice. stays time notice ≡ not (is_covered time interval)) (ranked_pages interval)
+ranked_stay time interval = λ k d within.
+    let inside : k < length interval.pages = omega (arith, within, length-map interval.pages (λ page. ranked page interval)) in
+    ap (stays time) (get_or-map (λ page. ranked page interval) interval.pages k 0 d inside)
 
 ranked_of-filter : (time : List ℕ) (intervals : List IntervalRecord)
     → filter (stays time) (ranked_of intervals) ≡ ranked_of (filter (λ i. not (is_covered time i)) intervals)
-ranked_of-filter time [] = refl
-ranked_of-filter time (i ∷ is) =
-    ap (filter (stays time)) (flat_map-cons ranked_pages i is)
-    ∙ filter-append (stays time) (ranked_pages i) (ranked_of is)
-    ∙ ap (λ (l : List (ℕ × Key)). l ++ filter (stays time) (ranked_of is))
-    (all_or_none (stays time) i (not (is_covered time i)) i.pages (λ page. refl))
-    ∙ ap (λ (l : List (ℕ × Key)). cond (not (is_covered time i)) (ranked_pages i) [] ++ l) (ranked_of-filter time is)
-    ∙ by_test (not (is_covered time i)) (filter (λ j. not (is_covered time j)) is)
-  where
-    by_test : (b : Bool) (rest : List IntervalRecord)
-        → cond b (ranked_pages i) [] ++ ranked_of rest ≡ ranked_of (cond b (i ∷ rest) rest)
-    by_test true rest = sym (flat_map-cons ranked_pages i rest)
-    by_test false rest = refl
+ranked_of-filter time intervals = filter-flat_map ranked_pages (λ i. not (is_covered time i)) (stays time) (ranked_stay time) intervals
 
-pub IsLinkedUp-discarded : (store : StoreRecord) (by_node by_page by_node' by_page' : ChainsRecord)
+-- the notices that are left are those of the intervals that are left
+pub noted-discarded : (store : StoreRecord) (notices notices' : List (ℕ × Key)) (time : List ℕ) → notices ≡ ranked_of (intervals_of store)
+    → notices' ≡ filter (stays time) notices → notices' ≡ ranked_of (intervals_of (discarded store time))
+noted-discarded store notices notices' time noted left =
+    left ∙ ap (filter (stays time)) noted ∙ ranked_of-filter time (intervals_of store)
+    ∙ ap ranked_of (sym (intervals_of-discarded store time))
+
+pub IsLinkedUp-discarded : (store : StoreRecord) (by_node by_node' : NodesRecord) (by_page by_page' : ChainsRecord)
     (notices notices' : List (ℕ × Key)) (time : List ℕ) → IsLinkedUp store by_node by_page notices
     → by_node'.keys ≡ map (λ stored. stored.node) (discarded store time).entries → by_node'.lists ≡ by_node.lists
+    → AreStarts by_node'.starts (intervals_of (discarded store time))
     → notices' ≡ filter (stays time) notices
     → by_page'.keys ≡ map page_named notices' → by_page'.lists ≡ by_page.lists
     → IsLinkedUp (discarded store time) by_node' by_page' notices'
-IsLinkedUp-discarded store by_node by_page by_node' by_page' notices notices' time linked node_keys node_lists noted page_keys page_lists =
+IsLinkedUp-discarded store by_node by_node' by_page by_page' notices notices' time linked node_keys node_lists node_starts noted page_keys page_lists =
     let all = intervals_of store in
     let same : intervals_of (discarded store time) ≡ filter (λ i. not (is_covered time i)) all = intervals_of-discarded store time in
     record {
@@ -128,13 +158,15 @@ IsLinkedUp-discarded store by_node by_page by_node' by_page' notices notices' ti
       intervals = subst (All IsInterval) (sym same) (All-filter (λ i. not (is_covered time i)) IsInterval all linked.intervals);
       nodes = node_keys ∙ sym (map-map interval_of (λ (i : IntervalRecord). i.node) (discarded store time).entries);
       node_lists = node_lists ∙ linked.node_lists;
-      noted = noted ∙ ap (filter (stays time)) linked.noted ∙ ranked_of-filter time all ∙ ap ranked_of (sym same);
+      gapless = subst (HasNoGaps store.last) (sym same) (HasNoGaps-filter store.last time all linked.gapless linked.sound.ascending);
+      starts = node_starts;
+      noted = noted-discarded store notices notices' time linked.noted noted;
       pages = page_keys;
       page_lists = page_lists ∙ linked.page_lists;
     }
 
 -- every node of a store has a list
-pub nodes_in_range : (store : StoreRecord) (by_node by_page : ChainsRecord) (notices : List (ℕ × Key))
+pub nodes_in_range : (store : StoreRecord) (by_node : NodesRecord) (by_page : ChainsRecord) (notices : List (ℕ × Key))
     → IsLinkedUp store by_node by_page notices → All (λ stored. stored.node < by_node.lists) store.entries
 nodes_in_range store by_node by_page notices linked k d within =
     let all = intervals_of store in
@@ -144,6 +176,18 @@ nodes_in_range store by_node by_page notices linked k d within =
     let long = linked.sound.stamps k (interval_of d) inside in
     let node : (get_or all k (interval_of d)).node ≡ (get_or store.entries k d).node = ap (λ (i : IntervalRecord). i.node) here in
     omega (arith, counted, long, node, linked.node_lists)
+
+-- no node has more intervals than it had
+pub fewer_left : (store : StoreRecord) (by_node : NodesRecord) (by_page : ChainsRecord) (notices : List (ℕ × Key)) (time : List ℕ)
+    → IsLinkedUp store by_node by_page notices → (node : ℕ)
+    → length (places_from node 0 (map (λ stored. stored.node) (discarded store time).entries)) ≤ length (places_from node 0 by_node.keys)
+fewer_left store by_node by_page notices time linked node =
+    let left : map (λ stored. stored.node) (discarded store time).entries
+    ≡ map (λ (i : IntervalRecord). i.node) (filter (λ i. not (is_covered time i)) (intervals_of store)) =
+    sym (map-map interval_of (λ (i : IntervalRecord). i.node) (discarded store time).entries)
+    ∙ ap (map (λ (i : IntervalRecord). i.node)) (intervals_of-discarded store time) in
+    let fewer = places_from-filter node (λ i. not (is_covered time i)) (intervals_of store) in
+    omega (arith, fewer, ap (λ (l : List ℕ). length (places_from node 0 l)) left, ap (λ (l : List ℕ). length (places_from node 0 l)) linked.nodes)
 
 ranked_pages-in_range : (interval : IntervalRecord) (most : ℕ) (pages : List ℕ) → All (λ page. page < most) pages
     → All (λ notice. notice.1.page < most) (map (λ page. ranked page interval) pages)
@@ -163,7 +207,7 @@ ranked_of-in_range most (i ∷ is) below =
     (ranked_of-in_range most is (All-tail (λ j. All (λ page. page < most) j.pages) i is below)))
 
 -- every page of a store's notices has a list
-pub pages_in_range : (store : StoreRecord) (by_node by_page : ChainsRecord) (notices : List (ℕ × Key))
+pub pages_in_range : (store : StoreRecord) (by_node : NodesRecord) (by_page : ChainsRecord) (notices : List (ℕ × Key))
     → IsLinkedUp store by_node by_page notices → All (λ notice. notice.1.page < by_page.lists) notices
 pages_in_range store by_node by_page notices linked =
     subst (λ most. All (λ notice. notice.1.page < most) notices) (sym linked.page_lists)
@@ -232,26 +276,12 @@ unknown_is_missing page since (i ∷ is) are =
 
 -- ---- what the links run through
 
-keys_of_ranked : (interval : IntervalRecord) (pages : List ℕ)
-    → map (λ notice. notice.1) (map (λ page. ranked page interval) pages) ≡ map (λ page. key_of page interval) pages
-keys_of_ranked interval [] = refl
-keys_of_ranked interval (page ∷ pages) = ap (λ (l : List Key). key_of page interval ∷ l) (keys_of_ranked interval pages)
-
-keys_of_all : (intervals : List IntervalRecord) → map (λ notice. notice.1) (ranked_of intervals) ≡ flat_map keys_of intervals
-keys_of_all [] = refl
-keys_of_all (i ∷ is) =
-    ap (map (λ (notice : ℕ × Key). notice.1)) (flat_map-cons ranked_pages i is)
-    ∙ map-append (λ (notice : ℕ × Key). notice.1) (ranked_pages i) (ranked_of is)
-    ∙ ap (λ (l : List Key). l ++ map (λ (notice : ℕ × Key). notice.1) (ranked_of is)) (keys_of_ranked i i.pages)
-    ∙ ap (λ (l : List Key). keys_of i ++ l) (keys_of_all is)
-    ∙ sym (flat_map-cons keys_of i is)
-
-pub noted_keys : (store : StoreRecord) (by_node by_page : ChainsRecord) (notices : List (ℕ × Key))
+pub noted_keys : (store : StoreRecord) (by_node : NodesRecord) (by_page : ChainsRecord) (notices : List (ℕ × Key))
     → IsLinkedUp store by_node by_page notices → map (λ notice. notice.1) notices ≡ notices_of store
 noted_keys store by_node by_page notices linked =
     ap (map (λ (notice : ℕ × Key). notice.1)) linked.noted ∙ keys_of_all (intervals_of store)
 
-pub noted_pages : (store : StoreRecord) (by_node by_page : ChainsRecord) (notices : List (ℕ × Key))
+pub noted_pages : (store : StoreRecord) (by_node : NodesRecord) (by_page : ChainsRecord) (notices : List (ℕ × Key))
     → IsLinkedUp store by_node by_page notices → by_page.keys ≡ pages_noted store
 noted_pages store by_node by_page notices linked =
     linked.pages
@@ -259,8 +289,22 @@ noted_pages store by_node by_page notices linked =
     ∙ ap (map (λ (key : Key). key.page)) (noted_keys store by_node by_page notices linked)
 
 -- the key of a notice
-pub key_at-noted : (store : StoreRecord) (by_node by_page : ChainsRecord) (notices : List (ℕ × Key)) (at : ℕ)
+pub key_at-noted : (store : StoreRecord) (by_node : NodesRecord) (by_page : ChainsRecord) (notices : List (ℕ × Key)) (at : ℕ)
     → IsLinkedUp store by_node by_page notices → key_at store at ≡ option_map (λ notice. notice.1) (slice_get notices at)
 key_at-noted store by_node by_page notices at linked =
     ap (λ (l : List Key). slice_get l at) (sym (noted_keys store by_node by_page notices linked))
     ∙ slice_get-map (λ (notice : ℕ × Key). notice.1) notices at
+
+-- what a time knows was added first, among the notices as they stand
+pub known_first : (store : StoreRecord) (by_node : NodesRecord) (by_page : ChainsRecord) (notices : List (ℕ × Key)) (page : ℕ) (since : List ℕ)
+    → IsLinkedUp store by_node by_page notices → KnowsTheFirst store page since → IsKnownFirst page since notices
+known_first store by_node by_page notices page since linked first = λ i j d less within.
+    let keys = map (λ (notice : ℕ × Key). notice.1) notices in
+    let same : keys ≡ notices_of store = noted_keys store by_node by_page notices linked in
+    let inside : j < length keys = omega (arith, within, length-map notices (λ (notice : ℕ × Key). notice.1)) in
+    let a : get_or keys i d.1 ≡ (get_or notices i d).1 = get_or-map (λ (notice : ℕ × Key). notice.1) notices i d d.1 (omega (arith, less, within)) in
+    let b : get_or keys j d.1 ≡ (get_or notices j d).1 = get_or-map (λ (notice : ℕ × Key). notice.1) notices j d d.1 within in
+    let kept = subst (AllPairs (λ earlier later. earlier.page ≡ page → later.page ≡ page → knows_notice since later ≡ true → knows_notice since earlier ≡ true)) (sym same) first in
+    λ earlier_on later_on known.
+    ap (knows_notice since) (sym a)
+    ∙ kept i j d.1 less inside (ap (λ (k : Key). k.page) a ∙ earlier_on) (ap (λ (k : Key). k.page) b ∙ later_on) (ap (knows_notice since) b ∙ known)

@@ -6,6 +6,7 @@ use Rattle.std.proofs.lemmas.Bool.{and_parts, and_from, cases_eq, eq-eqb, lt-ltb
 use Rattle.std.proofs.lemmas.List.Elements.{All-append, All-contains, All-head, All-tail, All-weaker, Contains-append_cases, Contains-append_left, Contains-append_right, filter_passes}
 use Rattle.std.proofs.lemmas.List.Kept.{AllPairs-cons, AllPairs-filter}
 use Rattle.lrc_store.specs.Chains.{ChainsRecord}
+use Rattle.lrc_store.specs.Nodes.{NodesRecord}
 use Rattle.lrc_store.specs.declared.key.Key.{Key}
 use Rattle.lrc_store.specs.Interval.{IntervalRecord, by_node, index_of}
 use Rattle.lrc_store.specs.Links.{IsLinkedUp, is_newer_of}
@@ -94,7 +95,7 @@ module _ (since upto : List ℕ) (intervals : List IntervalRecord) where
       (omega (arith, below node i d i_in, of_node node j e j_in)))
 
 -- the newer intervals of all nodes are what is newer
-pub IsNewer-by_nodes : (store : StoreRecord) (by_node by_page : ChainsRecord) (notices : List (ℕ × Key)) (since upto : List ℕ)
+pub IsNewer-by_nodes : (store : StoreRecord) (by_node : NodesRecord) (by_page : ChainsRecord) (notices : List (ℕ × Key)) (since upto : List ℕ)
     → IsLinkedUp store by_node by_page notices
     → IsNewer store since upto (by_nodes since upto (intervals_of store) (length store.last))
 IsNewer-by_nodes store by_node by_page notices since upto linked =
@@ -111,7 +112,7 @@ IsNewer-by_nodes store by_node by_page notices since upto linked =
     }
 
 -- what was found, node by node, is what is newer
-pub IsNewer-found : (store same : StoreRecord) (by_node by_page : ChainsRecord) (notices : List (ℕ × Key)) (since upto : List ℕ)
+pub IsNewer-found : (store same : StoreRecord) (by_node : NodesRecord) (by_page : ChainsRecord) (notices : List (ℕ × Key)) (since upto : List ℕ)
     (nodes : ℕ) (found : List IntervalRecord) → IsLinkedUp store by_node by_page notices → store ≡ same → nodes ≡ length store.last
     → found ≡ by_nodes since upto (intervals_of same) nodes → IsNewer same since upto found
 IsNewer-found store same by_node by_page notices since upto nodes found linked is count by =

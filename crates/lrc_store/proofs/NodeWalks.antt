@@ -12,7 +12,7 @@ use Rattle.lrc_store.specs.Store.{is_newer}
 use Rattle.lrc_store.proofs.Chained.{Reaches, reaches, picked_more, last_at-map}
 
 -- a filter that nothing passes
-filter_of_none : {X : Type 0} (test : X → Bool) (xs : List X) → All (λ x. test x ≡ false) xs → filter test xs ≡ []
+pub filter_of_none : {X : Type 0} (test : X → Bool) (xs : List X) → All (λ x. test x ≡ false) xs → filter test xs ≡ []
 filter_of_none test [] fails = refl
 filter_of_none test (x ∷ xs) fails =
     ap (λ b. cond b (x ∷ filter test xs) (filter test xs)) (All-head (λ y. test y ≡ false) x xs fails)

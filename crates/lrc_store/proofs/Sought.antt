@@ -1,97 +1,61 @@
--- A search along a node's list for the interval of an index.
-use Rattle.std.proofs.Common.{◌≡◌, ℕ, ◌<◌, ◌≤◌, ◌∙◌, Bool, true, false, ◌&&◌, ◌||◌, cond, eqb, eqb-true, Option, None, Some, List, [], ◌∷◌, length, get_or, map, take, refl, ap, sym, subst, arith}
-use Rattle.std.specs.List.{AllPairs, filter, list_any, position}
-use Rattle.std.specs.Option.{is_some}
-use Rattle.std.proofs.lemmas.Bool.{true≢false}
-use Rattle.std.proofs.lemmas.List.{get_or-map, take-map, take_all, append-nil}
+-- The interval of a node and an index is where its node's list has it.
+use Rattle.std.proofs.Common.{◌≡◌, ℕ, ◌+◌, ◌-◌, ◌<◌, ◌≤◌, ◌∙◌, true, eqb, eqb-true, Option, None, Some, List, length, get_or, map, drop, refl, ap, sym, subst, arith}
+use Rattle.std.specs.List.{AllPairs, Contains, position, slice_get}
+use Rattle.std.proofs.lemmas.Bool.{and_parts, true≢false}
+use Rattle.std.proofs.lemmas.List.{get_or-map, length-map}
 use Rattle.std.proofs.lemmas.List.Quantifiers.{position-Some}
-use Rattle.lrc_store.specs.Chains.{last_at}
+use Rattle.std.proofs.lemmas.Option.{get_or_from_slice_get, slice_get_within}
+use Rattle.lrc_time.specs.Time.{entry}
 use Rattle.lrc_store.specs.Interval.{IntervalRecord, index_of}
+use Rattle.lrc_store.specs.Lists.{list_of}
+use Rattle.lrc_store.specs.Rows.{HasNoGaps, count_of_node}
 use Rattle.lrc_store.specs.Store.{StoredRecord, interval_of, is_at}
-use Rattle.lrc_store.proofs.Chained.{Reaches, reaches, picked_more, last_at-map}
-use Rattle.lrc_store.proofs.Orders.{map-map}
-use Rattle.lrc_store.proofs.Places.{fails-position_none, list_any-position}
+use Rattle.lrc_store.proofs.ListPlaces.{list_of-exactly}
+use Rattle.lrc_store.proofs.Places.{fails-position_none}
+use Rattle.lrc_store.proofs.Rowed.{HasNoGaps-at, found_from_last}
 use Rattle.lrc_store.proofs.Stores.{once}
 
--- where nothing passes there is no first place
-any_none : {X : Type 0} (p : X → Bool) (xs : List X) → filter p xs ≡ [] → list_any p xs ≡ false
-any_none p [] none = refl
-any_none p (x ∷ xs) none = by_test (any_none p xs) (p x) none
-  where
-    by_test : (filter p xs ≡ [] → list_any p xs ≡ false) → (b : Bool) → cond b (x ∷ filter p xs) (filter p xs) ≡ []
-        → (b || list_any p xs) ≡ false
-    by_test rest true none = absurd (cc)
-    by_test rest false none = rest none
-
-none_of : (r : Option ℕ) → is_some r ≡ false → r ≡ None
-none_of None is = refl
-none_of (Some k) is = absurd (true≢false is)
-
-pub position-filter_none : {X : Type 0} (p : X → Bool) (xs : List X) → filter p xs ≡ [] → position p xs ≡ None
-position-filter_none p xs none = none_of (position p xs) (sym (list_any-position p xs) ∙ any_none p xs none)
-
-abbrev pub no_entry : StoredRecord
-no_entry = record { node = 0; stamp = []; notices = [] }
+-- what is in a list of places is a place
+pub listed_within : (keys : List ℕ) (key back at : ℕ) → slice_get (list_of keys key) back ≡ Some at → at < length keys
+listed_within keys key back at is =
+    let there : Contains (list_of keys key) at =
+    (back, slice_get_within (list_of keys key) back at is, get_or_from_slice_get (list_of keys key) back at at is) in
+    ((list_of-exactly keys key at).0 there).0
 
 module _ (node index : ℕ) (entries : List StoredRecord) where
-  abbrev of_node : StoredRecord → Bool
-  of_node stored = eqb stored.node node
+  -- the interval stands in its node's list as far behind the last as its index says
+  pub sought_there : (last keys : List ℕ) (at : ℕ) (d : StoredRecord) → keys ≡ map (λ i. i.node) (map interval_of entries)
+      → HasNoGaps last (map interval_of entries) → at < length entries → is_at node index (get_or entries at d) ≡ true
+      → (index ≤ entry last node) × (slice_get (list_of keys node) (entry last node - index) ≡ Some at)
+  sought_there last keys at d linked gapless within is =
+      let all = map interval_of entries in
+      let i = interval_of (get_or entries at d) in
+      let inside : at < length all = omega (arith, within, length-map entries interval_of) in
+      let here : get_or all at (interval_of d) ≡ i = get_or-map interval_of entries at d (interval_of d) within in
+      let parts = and_parts (eqb i.node node) (eqb (index_of i) index) is in
+      let of_node : (get_or all at (interval_of d)).node ≡ node = ap (λ (j : IntervalRecord). j.node) here ∙ eqb-true i.node node parts.0 in
+      let of_index : index_of (get_or all at (interval_of d)) ≡ index = ap index_of here ∙ eqb-true (index_of i) index parts.1 in
+      let count = count_of_node node (drop (at + 1) all) in
+      let sum : index_of (get_or all at (interval_of d)) + count ≡ entry last node =
+      subst (λ n. index_of (get_or all at (interval_of d)) + count_of_node n (drop (at + 1) all) ≡ entry last n) of_node
+      (HasNoGaps-at last all at (interval_of d) gapless inside) in
+      let behind : slice_get (list_of keys node) count ≡ Some at =
+      ap (λ (l : List ℕ). slice_get (list_of l node) count) linked
+      ∙ subst (λ n. slice_get (list_of (map (λ j. j.node) all) n) (count_of_node n (drop (at + 1) all)) ≡ Some at) of_node
+      (found_from_last all at (interval_of d) inside) in
+      let back : entry last node - index ≡ count = omega (arith, sum, of_index) in
+      (omega (arith, sum, of_index), ap (slice_get (list_of keys node)) back ∙ behind)
 
-  narrow : (stored : StoredRecord) → of_node stored ≡ false → is_at node index stored ≡ false
-  narrow stored fails = ap (λ b. b && eqb (index_of (interval_of stored)) index) fails
-
-  -- the search stands at an entry of the node's list, and nothing after it is what is sought
-  abbrev pub IsSought : Option ℕ → Type 0
-  IsSought next =
-      (bound : ℕ) × (bound ≤ length entries)
-      × Reaches of_node (is_at node index) entries bound next
-      × (filter (is_at node index) entries ≡ filter (is_at node index) (take bound entries))
-
-  pub sought_starts : (keys : List ℕ) (next : Option ℕ) → keys ≡ map (λ i. i.node) (map interval_of entries)
-      → next ≡ last_at (λ other. eqb other node) keys → IsSought next
-  sought_starts keys next linked is =
-      let whole : take (length entries) entries ≡ entries = take_all (length entries) entries (omega arith) in
-      let nodes : keys ≡ map (λ (s : StoredRecord). s.node) entries = linked ∙ map-map interval_of (λ (i : IntervalRecord). i.node) entries in
-      let first : next ≡ last_at of_node (take (length entries) entries) =
-      is ∙ ap (last_at (λ other. eqb other node)) nodes ∙ last_at-map (λ other. eqb other node) (λ (s : StoredRecord). s.node) entries
-      ∙ ap (last_at of_node) (sym whole) in (
-        length entries,
-        omega arith,
-        subst (Reaches of_node (is_at node index) entries (length entries)) (sym first)
-            (reaches of_node (is_at node index) narrow entries no_entry (length entries) (omega arith)),
-        ap (filter (is_at node index)) (sym whole),
-      )
-
-  pub sought_within : (at : ℕ) → IsSought (Some at) → at < length entries
-  sought_within at sought = omega (arith, sought.2.0, sought.1)
-
-  pub sought_on : (at : ℕ) (keys : List ℕ) (next : Option ℕ) (d : StoredRecord) → IsSought (Some at)
-      → keys ≡ map (λ i. i.node) (map interval_of entries)
-      → next ≡ last_at (λ other. eqb other (get_or keys at 0)) (take at keys)
-      → is_at node index (get_or entries at d) ≡ false → IsSought next
-  sought_on at keys next d sought linked is_next is =
-      let within = sought_within at sought in
-      let nodes : keys ≡ map (λ (s : StoredRecord). s.node) entries = linked ∙ map-map interval_of (λ (i : IntervalRecord). i.node) entries in
-      let key : get_or keys at 0 ≡ node =
-      ap (λ (l : List ℕ). get_or l at 0) nodes ∙ get_or-map (λ (s : StoredRecord). s.node) entries at d 0 within
-      ∙ eqb-true _ _ (sought.2.1 d) in
-      let here : next ≡ last_at of_node (take at entries) =
-      is_next ∙ ap (λ k. last_at (λ other. eqb other k) (take at keys)) key
-      ∙ ap (λ (l : List ℕ). last_at (λ other. eqb other node) (take at l)) nodes
-      ∙ ap (last_at (λ other. eqb other node)) (take-map (λ (s : StoredRecord). s.node) at entries)
-      ∙ last_at-map (λ other. eqb other node) (λ (s : StoredRecord). s.node) (take at entries) in (
-        at,
-        omega (arith, within),
-        subst (Reaches of_node (is_at node index) entries at) (sym here)
-            (reaches of_node (is_at node index) narrow entries d at (omega (arith, within))),
-        sought.3 ∙ sought.2.2
-            ∙ picked_more of_node (is_at node index) narrow entries d at false within is
-            ∙ append-nil (filter (is_at node index) (take at entries)),
-      )
-
-  -- at the end there is none
-  pub sought_ends : IsSought None → position (is_at node index) entries ≡ None
-  sought_ends sought = position-filter_none (is_at node index) entries (sought.3 ∙ sought.2)
+  -- where no interval has the node and the index there is no place
+  pub sought_nowhere : (d : StoredRecord) → ((at : ℕ) → at < length entries → is_at node index (get_or entries at d) ≡ true → ⊥)
+      → position (is_at node index) entries ≡ None
+  sought_nowhere d never = by_found (position (is_at node index) entries) refl
+    where
+      by_found : (r : Option ℕ) → position (is_at node index) entries ≡ r → position (is_at node index) entries ≡ None
+      by_found None is = is
+      by_found (Some k) is =
+          let passed = position-Some (is_at node index) entries k d is in
+          absurd (never k passed.0 passed.1)
 
   -- there is just one place
   pub sought_found : AllPairs (λ a b. a.node ≡ b.node → index_of a < index_of b) (map interval_of entries)

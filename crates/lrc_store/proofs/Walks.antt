@@ -1,11 +1,13 @@
 -- What a walk along a page's list has gathered.
-use Rattle.std.proofs.Common.{◌≡◌, ℕ, ◌+◌, ◌<◌, ◌≤◌, ◌∙◌, Bool, true, false, not, ◌&&◌, cond, eqb, eqb-true, Option, None, Some, List, [], ◌∷◌, ◌++◌, length, get_or, map, take, reverse, ap, sym, subst, arith}
-use Rattle.std.specs.List.{filter}
-use Rattle.std.proofs.lemmas.List.{get_or-map, take-map, take_all, reverse-append, append-nil, append_assoc}
+use Rattle.std.proofs.Common.{◌≡◌, ℕ, ◌+◌, ◌<◌, ◌≤◌, ◌∙◌, Bool, true, false, not, ◌&&◌, cond, eqb, eqb-true, Option, None, Some, List, [], ◌∷◌, ◌++◌, length, get_or, map, take, reverse, refl, ap, sym, subst, arith}
+use Rattle.std.specs.List.{AllPairs, filter}
+use Rattle.std.proofs.lemmas.List.{get_or-map, get_or-take, get_or_default, length-take-le, take-map, take_all, reverse-append, append-nil, append_assoc}
 use Rattle.lrc_time.specs.Time.{knows}
 use Rattle.lrc_store.specs.declared.key.Key.{Key}
 use Rattle.lrc_store.specs.Chains.{last_at}
 use Rattle.lrc_store.specs.Links.{page_named, is_unknown_on}
+use Rattle.lrc_store.specs.Lists.{knows_notice}
+use Rattle.lrc_store.proofs.NodeWalks.{filter_of_none}
 use Rattle.lrc_store.proofs.Chained.{Reaches, reaches, picked_more, last_at-map}
 
 abbrev none : ℕ × Key
@@ -22,32 +24,29 @@ module _ (page : ℕ) (since : List ℕ) (notices : List (ℕ × Key)) where
   abbrev pub IsWalked : Option ℕ → List (ℕ × Key) → Type 0
   IsWalked next found =
       (bound : ℕ) × (bound ≤ length notices)
-      × (next ≡ last_at on_page (take bound notices))
+      × Reaches on_page (is_unknown_on page since) notices bound next
       × (filter (is_unknown_on page since) notices ≡ filter (is_unknown_on page since) (take bound notices) ++ reverse found)
-
-  reached : (next : Option ℕ) (found : List (ℕ × Key)) (walked : IsWalked next found)
-      → Reaches on_page (is_unknown_on page since) notices walked.0 next
-  reached next found walked =
-      subst (Reaches on_page (is_unknown_on page since) notices walked.0) (sym walked.2)
-      (reaches on_page (is_unknown_on page since) narrow notices none walked.0 walked.1)
 
   pub walk_starts : (keys : List ℕ) (next : Option ℕ) → keys ≡ map page_named notices
       → next ≡ last_at (λ other. eqb other page) keys → IsWalked next []
   walk_starts keys next linked is =
-      let whole : take (length notices) notices ≡ notices = take_all (length notices) notices (omega arith) in (
+      let whole : take (length notices) notices ≡ notices = take_all (length notices) notices (omega arith) in
+      let first : next ≡ last_at on_page (take (length notices) notices) =
+      is ∙ ap (last_at (λ other. eqb other page)) linked ∙ last_at-map (λ other. eqb other page) page_named notices
+      ∙ ap (last_at on_page) (sym whole) in (
         length notices,
         omega arith,
-        is ∙ ap (last_at (λ other. eqb other page)) linked ∙ last_at-map (λ other. eqb other page) page_named notices
-            ∙ ap (last_at on_page) (sym whole),
+        subst (Reaches on_page (is_unknown_on page since) notices (length notices)) (sym first)
+            (reaches on_page (is_unknown_on page since) narrow notices none (length notices) (omega arith)),
         sym (append-nil (filter (is_unknown_on page since) notices))
             ∙ ap (λ (l : List (ℕ × Key)). filter (is_unknown_on page since) l ++ []) (sym whole),
       )
 
   pub walk_within : (at : ℕ) (found : List (ℕ × Key)) → IsWalked (Some at) found → at < length notices
-  walk_within at found walked = let r = reached (Some at) found walked in omega (arith, r.0, walked.1)
+  walk_within at found walked = omega (arith, walked.2.0, walked.1)
 
   here : (at : ℕ) (found : List (ℕ × Key)) → IsWalked (Some at) found → (d : ℕ × Key) → page_named (get_or notices at d) ≡ page
-  here at found walked d = eqb-true _ _ ((reached (Some at) found walked).1 d)
+  here at found walked d = eqb-true _ _ (walked.2.1 d)
 
   -- what was gathered with the entry where the walk stands
   gathered : (at : ℕ) (found more : List (ℕ × Key)) (known : Bool) → IsWalked (Some at) found → (d : ℕ × Key)
@@ -56,12 +55,11 @@ module _ (page : ℕ) (since : List ℕ) (notices : List (ℕ × Key)) where
       → filter (is_unknown_on page since) notices ≡ filter (is_unknown_on page since) (take at notices) ++ reverse more
   gathered at found more known walked d is_known is_more =
       let q = is_unknown_on page since in
-      let r = reached (Some at) found walked in
       let n = get_or notices at d in
-      let test : q n ≡ not known = ap (λ b. b && not (knows since n.1.node n.1.index)) (r.1 d) ∙ ap not is_known in
+      let test : q n ≡ not known = ap (λ b. b && not (knows since n.1.node n.1.index)) (walked.2.1 d) ∙ ap not is_known in
       let step : filter q (take (at + 1) notices) ≡ filter q (take at notices) ++ cond (not known) (n ∷ []) [] =
-      picked_more on_page q narrow notices d at (not known) (omega (arith, r.0, walked.1)) test in
-      walked.3 ∙ ap (λ (l : List (ℕ × Key)). l ++ reverse found) (r.2 ∙ step)
+      picked_more on_page q narrow notices d at (not known) (walk_within at found walked) test in
+      walked.3 ∙ ap (λ (l : List (ℕ × Key)). l ++ reverse found) (walked.2.2 ∙ step)
       ∙ append_assoc (filter q (take at notices)) (cond (not known) (n ∷ []) []) (reverse found)
       ∙ ap (λ (l : List (ℕ × Key)). filter q (take at notices) ++ l) (turned known n ∙ ap reverse (sym is_more))
     where
@@ -77,16 +75,48 @@ module _ (page : ℕ) (since : List ℕ) (notices : List (ℕ × Key)) where
   walk_goes_on at found more known keys next d walked linked is_next is_known is_more =
       let within = walk_within at found walked in
       let key : get_or keys at 0 ≡ page =
-      ap (λ (l : List ℕ). get_or l at 0) linked ∙ get_or-map page_named notices at d 0 within ∙ here at found walked d in (
+      ap (λ (l : List ℕ). get_or l at 0) linked ∙ get_or-map page_named notices at d 0 within ∙ here at found walked d in
+      let last : next ≡ last_at on_page (take at notices) =
+      is_next ∙ ap (λ k. last_at (λ other. eqb other k) (take at keys)) key
+      ∙ ap (λ (l : List ℕ). last_at (λ other. eqb other page) (take at l)) linked
+      ∙ ap (last_at (λ other. eqb other page)) (take-map page_named at notices)
+      ∙ last_at-map (λ other. eqb other page) page_named (take at notices) in (
         at,
         omega (arith, within),
-        is_next ∙ ap (λ k. last_at (λ other. eqb other k) (take at keys)) key
-            ∙ ap (λ (l : List ℕ). last_at (λ other. eqb other page) (take at l)) linked
-            ∙ ap (last_at (λ other. eqb other page)) (take-map page_named at notices)
-            ∙ last_at-map (λ other. eqb other page) page_named (take at notices),
+        subst (Reaches on_page (is_unknown_on page since) notices at) (sym last)
+            (reaches on_page (is_unknown_on page since) narrow notices none at (omega (arith, within))),
         gathered at found more known walked d is_known is_more,
       )
 
+  -- what the time knows was added first
+  abbrev pub IsKnownFirst : Type 0
+  IsKnownFirst = AllPairs (λ a b. page_named a ≡ page → page_named b ≡ page → knows_notice since b.1 ≡ true → knows_notice since a.1 ≡ true) notices
+
+  -- a notice before one that is known is not unknown
+  older : (at k : ℕ) (d : ℕ × Key) → IsKnownFirst → at < length notices → k < at → page_named (get_or notices at d) ≡ page
+      → knows_notice since (get_or notices at d).1 ≡ true → (b : Bool) → on_page (get_or notices k d) ≡ b
+      → is_unknown_on page since (get_or notices k d) ≡ false
+  older at k d first within less there known false fails = narrow (get_or notices k d) fails
+  older at k d first within less there known true same =
+      let n = get_or notices k d in
+      ap (λ b. b && not (knows_notice since n.1)) same
+      ∙ ap not (first k at d less within (eqb-true _ _ same) there known)
+
+  -- at a notice that is known the walk is over
+  pub walk_stops : (at : ℕ) (found : List (ℕ × Key)) (d : ℕ × Key) → IsWalked (Some at) found → IsKnownFirst
+      → knows_notice since (get_or notices at d).1 ≡ true → IsWalked None found
+  walk_stops at found d walked first known =
+      let within = walk_within at found walked in
+      let all_known : filter (is_unknown_on page since) (take at notices) ≡ [] =
+      filter_of_none (is_unknown_on page since) (take at notices)
+      (λ k d' inside.
+      let less : k < at = omega (arith, inside, length-take-le at notices (omega (arith, within))) in
+      let same : get_or (take at notices) k d' ≡ get_or notices k d =
+      get_or-take at notices k d' less ∙ get_or_default notices k d' d (omega (arith, less, within)) in
+      ap (is_unknown_on page since) same
+      ∙ older at k d first within less (here at found walked d) known (on_page (get_or notices k d)) refl) in
+      (at, omega (arith, within), all_known, gathered at found found true walked d known (sym (append-nil found)))
+
   pub walk_ends : (found : List (ℕ × Key)) → IsWalked None found → filter (is_unknown_on page since) notices ≡ reverse found
   walk_ends found walked =
-      walked.3 ∙ ap (λ (l : List (ℕ × Key)). l ++ reverse found) (reached None found walked)
+      walked.3 ∙ ap (λ (l : List (ℕ × Key)). l ++ reverse found) walked.2

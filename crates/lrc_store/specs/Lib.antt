@@ -3,5 +3,7 @@ pub mod Interval
 pub mod Linked
 pub mod Links
 pub mod Lists
+pub mod Nodes
 pub mod Order
+pub mod Rows
 pub mod Store

@@ -4,6 +4,8 @@ use Rattle.lrc_time.specs.Time.{knows, weight_of}
 use Rattle.lrc_store.specs.declared.key.Key.{Key}
 use Rattle.lrc_store.specs.Chains.{ChainsRecord}
 use Rattle.lrc_store.specs.Interval.{IntervalRecord, IsInterval}
+use Rattle.lrc_store.specs.Nodes.{NodesRecord, AreStarts}
+use Rattle.lrc_store.specs.Rows.{HasNoGaps}
 use Rattle.lrc_store.specs.Store.{StoreRecord, IsStore, intervals_of, is_newer, key_of}
 
 -- an interval's notice of a page
@@ -31,11 +33,13 @@ abbrev pub is_newer_of : ℕ → List ℕ → List ℕ → IntervalRecord → Bo
 is_newer_of node since upto interval = (interval.node == node) && is_newer since upto interval
 
 -- the links of a store: they run through its intervals by node, and through their notices by page
-pub record IsLinkedUp (store : StoreRecord) (by_node by_page : ChainsRecord) (notices : List (ℕ × Key)) : Type 0 where
+pub record IsLinkedUp (store : StoreRecord) (by_node : NodesRecord) (by_page : ChainsRecord) (notices : List (ℕ × Key)) : Type 0 where
   pub sound : IsStore store
   pub intervals : All IsInterval (intervals_of store)
   pub nodes : by_node.keys ≡ map (λ interval. interval.node) (intervals_of store)
   pub node_lists : by_node.lists ≡ length store.last
+  pub gapless : HasNoGaps store.last (intervals_of store)
+  pub starts : AreStarts by_node.starts (intervals_of store)
   pub noted : notices ≡ ranked_of (intervals_of store)
   pub pages : by_page.keys ≡ map page_named notices
   pub page_lists : by_page.lists ≡ store.pages

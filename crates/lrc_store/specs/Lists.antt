@@ -1,5 +1,6 @@
 -- The lists that run through a store. A link is a place in the order of adding, and each list is followed from the newest.
-use Rattle.std.specs.Prelude.{◌≡◌, ℕ, ◌+◌, ◌==◌, Option, None, Some, option_map, List, [], ◌∷◌, map, flat_map, take, reverse, slice_get, slice_index, if◌then◌else◌}
+use Rattle.std.specs.Prelude.{◌≡◌, ℕ, zero, suc, ◌+◌, ◌==◌, ◌&&◌, Bool, Option, None, Some, option_and_then, option_map, List, [], ◌∷◌, length, map, flat_map, take, reverse, slice_get, slice_index, AllPairs, IsTrue, if◌then◌else◌}
+use Rattle.lrc_time.specs.Time.{knows}
 use Rattle.lrc_store.specs.declared.key.Key.{Key}
 use Rattle.lrc_store.specs.Chains.{last_at}
 use Rattle.lrc_store.specs.Interval.{IntervalRecord, index_of}
@@ -46,6 +47,49 @@ first_on_page_of store page = head_of (pages_noted store) page
 
 abbrev pub next_on_page_of : StoreRecord → ℕ → Option ℕ
 next_on_page_of store at = link_of (pages_noted store) at
+
+-- ---- the notices of an interval
+
+-- so many places from this one on
+abbrev pub counted_from : ℕ → ℕ → List ℕ
+counted_from start zero = []
+counted_from start (suc n) = start ∷ counted_from (start + 1) n
+
+-- the places of an interval's notices, of which the first stands at this place
+abbrev pub places_in : ℕ → Option IntervalRecord → List ℕ
+places_in start None = []
+places_in start (Some interval) = counted_from start (length interval.pages)
+
+-- the places of the notices of an interval, by page: they come after those of the intervals added before it
+abbrev pub notices_in : StoreRecord → ℕ → List ℕ
+notices_in store at = places_in (length (flat_map keys_of (take at (intervals_of store)))) (slice_get (intervals_of store) at)
+
+-- two notices are of one interval
+abbrev pub is_of_one : Key → Key → Bool
+is_of_one a b = (a.node == b.node) && (a.index == b.index)
+
+-- the first notice of an interval, and the one after a notice that is of the same interval
+abbrev pub first_notice_of : StoreRecord → ℕ → Option ℕ
+first_notice_of store at = slice_get (notices_in store at) 0
+
+abbrev pub next_in_interval_of : StoreRecord → ℕ → Option ℕ
+next_in_interval_of store at =
+    option_and_then
+    (λ key. option_and_then (λ next. if is_of_one key next then Some (at + 1) else None) (key_at store (at + 1)))
+    (key_at store at)
+
+-- ---- what a time knows of a page
+
+-- the time knows the notice's interval
+abbrev pub knows_notice : List ℕ → Key → Bool
+knows_notice time key = knows time key.node key.index
+
+-- of a page's notices the time knows those that were added first: where it knows one, it knows each that was added before
+abbrev pub KnowsTheFirst : StoreRecord → ℕ → List ℕ → Type 0
+KnowsTheFirst store page since =
+    AllPairs
+    (λ earlier later. earlier.page ≡ page → later.page ≡ page → IsTrue (knows_notice since later) → IsTrue (knows_notice since earlier))
+    (notices_of store)
 
 -- ---- the lists
 

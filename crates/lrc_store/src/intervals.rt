@@ -36,7 +36,7 @@ impl PartialEq for Intervals {
         ensures eq { result ≡ pointwise same_interval self.now other.now }
         ensures same { IsTrue result ↔ (self.now ≡ other.now) }
     {
-        self.list.as_slice() == other.list.as_slice()
+        self.as_slice() == other.as_slice()
     }
 }
 
@@ -108,7 +108,8 @@ impl Intervals {
         ensures all { result.items ≡ self }
         ensures ascending { AllPairs (λ a b. IsTrue (by_node a b)) self }
     {
-        self.list
+        let Intervals { list } = self;
+        list
     }
 
     /// Equal intervals of their own.

@@ -1,11 +1,11 @@
 // What always holds of stores. Each function is a law: its clauses are the statement, and there is nothing to do.
 
-ghost use Rattle.std.specs.Prelude.{◌≡◌, ◌≢◌, ◌+◌, ◌++◌, ◌∷◌, ◌<◌, ◌↔◌, ℕ, AllPairs, Contains, IsTrue, List, None, Some, filter, length, not, slice_index, []};
+ghost use Rattle.std.specs.Prelude.{◌≡◌, ◌≢◌, ◌+◌, ◌++◌, ◌∷◌, ◌<◌, ◌↔◌, ℕ, All, AllPairs, Contains, IsTrue, List, None, Some, filter, length, map, not, slice_get, slice_index, []};
 ghost use Rattle.lrc_time.specs.Time.{Covers, entry};
 ghost use Rattle.lrc_page.specs.declared.changes.Change.{Change};
 ghost use Rattle.lrc_store.specs.declared.key.Key.{Key};
 ghost use Rattle.lrc_store.specs.Interval.{IntervalRecord, by_weight, index_of};
-ghost use Rattle.lrc_store.specs.Lists.{Follows, before_of, first_on_page_of, list_of, newest_of, next_on_page_of, nodes_of, pages_noted};
+ghost use Rattle.lrc_store.specs.Lists.{Follows, KnowsTheFirst, before_of, first_notice_of, first_on_page_of, key_at, keys_of, knows_notice, list_of, newest_of, next_in_interval_of, next_on_page_of, nodes_of, notices_in, notices_of, pages_noted};
 ghost use Rattle.lrc_store.specs.Store.{StoreRecord, IsMissing, IsNewer, IsStore, added, attached, discarded, is_covered, intervals_of, key_of, missing_of, newer_of, notice_at, stored_at, unread, without_changes};
 
 /// An interval that follows the last one of its node gets an entry of its own, with notices without changes. All others
@@ -67,11 +67,40 @@ pub fn links_run_through_the_lists()
         → Follows (next_on_page_of store) (first_on_page_of store page) (list_of (pages_noted store) page) }
 {}
 
+/// Following the links of an interval ends, and gives its notices, one for each of its pages, in the order of the pages.
+pub fn links_run_through_each_interval()
+    ensures follows { (store : StoreRecord) (at : ℕ) → IsStore store
+        → Follows (next_in_interval_of store) (first_notice_of store at) (notices_in store at) }
+    ensures keys { (store : StoreRecord) (at : ℕ) (interval : IntervalRecord) → slice_get (intervals_of store) at ≡ Some interval
+        → map (key_at store) (notices_in store at) ≡ map Some (keys_of interval) }
+    ensures once { (store : StoreRecord) (at : ℕ) → AllPairs (λ a b. a < b) (notices_in store at) }
+{}
+
 /// A list has exactly the places of its key, newest first, each once.
 pub fn lists_have_exactly_their_places()
     ensures exactly { (keys : List ℕ) (key place : ℕ)
         → Contains (list_of keys key) place ↔ ((place < length keys) × (slice_index keys place ≡ key)) }
     ensures newest_first { (keys : List ℕ) (key : ℕ) → AllPairs (λ a b. b < a) (list_of keys key) }
+{}
+
+/// When a time knows the first notices of a page, as `missing_until_known` asks. So it is with the last indices of the
+/// store itself, and with a time that knows none of them; and it stays so where an interval is added that the time does
+/// not know, as is the next of its node where the last indices cover the time; where changes come; and where intervals are
+/// taken out. So a node that remembers with a page a time that its store's last indices once were has it ever after.
+pub fn what_was_known_was_added_first()
+    ensures last { (store : StoreRecord) (page : ℕ) → IsStore store → KnowsTheFirst store page store.last }
+    ensures none { (store : StoreRecord) (page : ℕ) (since : List ℕ)
+        → All (λ key. IsTrue (not (knows_notice since key))) (notices_of store) → KnowsTheFirst store page since }
+    ensures added { (store : StoreRecord) (interval : IntervalRecord) (page : ℕ) (since : List ℕ)
+        → KnowsTheFirst store page since → IsTrue (not (is_covered since interval))
+        → KnowsTheFirst (added store interval) page since }
+    ensures next { (store : StoreRecord) (interval : IntervalRecord) (page : ℕ) (since : List ℕ)
+        → KnowsTheFirst store page since → Covers store.last since → index_of interval ≡ entry store.last interval.node + 1
+        → KnowsTheFirst (added store interval) page since }
+    ensures attached { (store : StoreRecord) (key : Key) (changes : List Change) (page : ℕ) (since : List ℕ)
+        → KnowsTheFirst store page since → KnowsTheFirst (attached store key changes) page since }
+    ensures discarded { (store : StoreRecord) (time : List ℕ) (page : ℕ) (since : List ℕ)
+        → KnowsTheFirst store page since → KnowsTheFirst (discarded store time) page since }
 {}
 
 /// What is taken out is just what the time knows.

@@ -10,6 +10,8 @@ pub mod laws;
 mod link;
 mod links;
 mod lists;
+mod nodes;
+mod row;
 pub mod store;
 mod stored;
 

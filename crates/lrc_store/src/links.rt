@@ -1,37 +1,45 @@
 // What links the intervals and the notices of a store.
 
-ghost use Rattle.std.specs.Prelude.{◌≡◌, ◌<◌, ◌≤◌, ◌+◌, All, AllPairs, IfOk, OnErr, OnOk, [], ◌∷◌, ◌++◌, filter, length, map, not, position, vec_capacity, vec_len};
+ghost use Rattle.std.specs.Prelude.{◌≡◌, ◌<◌, ◌≤◌, ◌+◌, ℕ, All, AllPairs, IfOk, IsTrue, OnErr, OnOk, [], ◌∷◌, ◌++◌, filter, flat_map, length, map, not, position, vec_capacity, vec_len};
 ghost use Rattle.lrc_time.specs.Time.{knows};
 ghost use Rattle.lrc_store.specs.Interval.{index_of};
+ghost use Rattle.lrc_store.specs.Lists.{keys_of, knows_notice, places_from};
+ghost use Rattle.lrc_store.specs.Nodes.{AreStarts};
+ghost use Rattle.lrc_store.specs.Rows.{HasNoGaps, HasRoom};
 ghost use Rattle.lrc_store.specs.Links.{page_named, ranked_pages, is_newer_of, is_unknown_on};
 ghost use Rattle.lrc_store.specs.Store.{interval_of, is_at};
 
 use crate::chains::{Chains, MOST_ENTRIES};
 use crate::interval::Interval;
 use crate::key::Key;
+use crate::nodes::Nodes;
 use crate::stored::Stored;
 use lrc_time::Time;
 use std::alloc::{AllocError, Global};
 
-/// Makes room for an interval with this many notices. An error changes nothing.
+/// Makes room for an interval of a node with this many notices. An error changes nothing.
 pub(crate) fn make_room(
-    by_node: &mut Chains,
+    by_node: &mut Nodes,
     by_page: &mut Chains,
     notices: &mut Vec<(u64, Key)>,
+    node: u16,
     more: usize,
 ) -> Result<(), AllocError>
+    requires { node < by_node.old.lists }
     ensures node_keys { by_node.new.keys ≡ by_node.old.keys }
     ensures node_lists { by_node.new.lists ≡ by_node.old.lists }
+    ensures node_starts { by_node.new.starts ≡ by_node.old.starts }
     ensures page_keys { by_page.new.keys ≡ by_page.old.keys }
     ensures page_lists { by_page.new.lists ≡ by_page.old.lists }
     ensures notices { notices.new.items ≡ notices.old.items }
     ensures node_room { OnOk result (length by_node.old.keys < by_node.new.room) }
     ensures node_few { OnOk result (length by_node.old.keys < MOST_ENTRIES) }
+    ensures node_row { OnOk result (HasRoom by_node.new.rows by_node.old.keys node) }
     ensures page_room { OnOk result (length by_page.old.keys + more ≤ by_page.new.room) }
     ensures page_few { OnOk result (length by_page.old.keys + more ≤ MOST_ENTRIES) }
     ensures room { OnOk result (vec_len notices.old + more ≤ vec_capacity notices.new) }
 {
-    by_node.reserve(1)?;
+    by_node.reserve(node)?;
     by_page.reserve(more)?;
     notices.reserve(more)
 }
@@ -63,16 +71,22 @@ pub(crate) fn add_notices(notices: &mut Vec<(u64, Key)>, by_page: &mut Chains, i
 }
 
 /// Links the intervals again, fewer than there were.
-pub(crate) fn link_nodes(by_node: &mut Chains, entries: &[Stored])
+pub(crate) fn link_nodes(by_node: &mut Nodes, entries: &[Stored])
     requires in_range { All (λ stored. stored.node < by_node.old.lists) entries.now }
     requires fewer { length entries.now ≤ length by_node.old.keys }
+    requires fewer_of_each { (node : ℕ) → length (places_from node 0 (map (λ stored. stored.node) entries.now))
+        ≤ length (places_from node 0 by_node.old.keys) }
+    requires few { length (flat_map keys_of (map interval_of entries.now)) ≤ MOST_ENTRIES }
     ensures keys { by_node.new.keys ≡ map (λ stored. stored.node) entries.now }
+    ensures starts { AreStarts by_node.new.starts (map interval_of entries.now) }
     ensures lists { by_node.new.lists ≡ by_node.old.lists }
 {
     let _room = by_node.len();
     by_node.clear();
+    let mut start = 0;
     for stored in entries {
-        by_node.push(u16::from(stored.node()));
+        by_node.push(u16::from(stored.node()), start as u32);
+        start += stored.len();
     }
 }
 
@@ -82,6 +96,7 @@ pub(crate) fn link_pages(by_page: &mut Chains, notices: &[(u64, Key)])
     requires fewer { length notices.now ≤ length by_page.old.keys }
     ensures keys { by_page.new.keys ≡ map page_named notices.now }
     ensures lists { by_page.new.lists ≡ by_page.old.lists }
+    ensures few { length notices.now ≤ MOST_ENTRIES }
 {
     let _room = by_page.len();
     by_page.clear();
@@ -114,12 +129,40 @@ pub(crate) fn unknown_on(
     Ok(found)
 }
 
+/// The same where the time knows what was added first: the walk ends at the first notice that it knows.
+pub(crate) fn unknown_until_known(
+    alloc: Global,
+    notices: &[(u64, Key)],
+    by_page: &Chains,
+    page: u16,
+    since: &Time,
+) -> Result<Vec<(u64, Key)>, AllocError>
+    requires linked { by_page.now.keys ≡ map page_named notices.now }
+    requires first { AllPairs (λ earlier later. page_named earlier ≡ page → page_named later ≡ page
+        → IsTrue (knows_notice since.now later.1) → IsTrue (knows_notice since.now earlier.1)) notices.now }
+    ensures { IfOk result (λ found. found.items ≡ filter (is_unknown_on page since.now) notices.now) }
+{
+    let mut found = Vec::new(alloc);
+    let mut next = by_page.first(page);
+    while let Some(at) = next {
+        let (weight, key) = notices[at as usize];
+        if is_known(since, key.node, key.index) {
+            next = None;
+        } else {
+            found.push((weight, key))?;
+            next = by_page.next(at);
+        }
+    }
+    found.reverse();
+    Ok(found)
+}
+
 /// The intervals of a node that `upto` knows and `since` does not, oldest first, found along the node's list. The walk
 /// ends at the first that `since` knows.
 pub(crate) fn newer_of_node(
     alloc: Global,
     entries: &[Stored],
-    by_node: &Chains,
+    by_node: &Nodes,
     node: u8,
     since: &Time,
     upto: &Time,
@@ -146,21 +189,34 @@ pub(crate) fn newer_of_node(
     Ok(found)
 }
 
-/// Where the interval of this node and index stands, found along the node's list.
-pub(crate) fn place_of(entries: &[Stored], by_node: &Chains, node: u8, index: u32) -> Option<usize>
+/// Where the interval of this node and index stands, counted back from the last of its node.
+pub(crate) fn place_of(
+    entries: &[Stored],
+    by_node: &Nodes,
+    last: &Time,
+    node: u8,
+    index: u32,
+) -> Option<usize>
     requires linked { by_node.now.keys ≡ map (λ interval. interval.node) (map interval_of entries.now) }
+    requires nodes { by_node.now.lists ≡ length last.now }
+    requires in_range { All (λ stored. stored.node < length last.now) entries.now }
     requires ascending { AllPairs (λ a b. a.node ≡ b.node → index_of a < index_of b) (map interval_of entries.now) }
+    requires gapless { HasNoGaps last.now (map interval_of entries.now) }
     ensures { result ≡ position (is_at node index) entries.now }
 {
-    let mut next = by_node.first(u16::from(node));
-    while let Some(at) = next {
-        let place = at as usize;
-        if entries[place].is_at(node, index) {
-            return Some(place);
-        }
-        next = by_node.next(at);
+    if node >= last.nodes() {
+        return None;
     }
-    None
+    let newest = last.at(node);
+    if index > newest {
+        return None;
+    }
+    let place = by_node.from_newest(u16::from(node), newest - index)? as usize;
+    if entries[place].is_at(node, index) {
+        Some(place)
+    } else {
+        None
+    }
 }
 
 /// Whether the time knows the interval of this node and index. Of a node that it does not count it knows none.

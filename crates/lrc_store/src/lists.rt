@@ -1,8 +1,9 @@
 // The lists that run through a store.
 
-ghost use Rattle.std.specs.Prelude.{◌≡◌, ◌<◌, length, None, Some, option_and_then};
+ghost use Rattle.std.specs.Prelude.{◌≡◌, ◌<◌, length, slice_get, None, Some, option_and_then};
 ghost use Rattle.std.specs.Option.{ForSome, option_copied};
-ghost use Rattle.lrc_store.specs.Lists.{interval_at, key_at, newest_of, before_of, first_on_page_of, next_on_page_of, notices_of};
+ghost use Rattle.lrc_page.specs.Pages.{IsRising};
+ghost use Rattle.lrc_store.specs.Lists.{interval_at, key_at, newest_of, before_of, first_notice_of, next_in_interval_of, first_on_page_of, next_on_page_of, notices_of};
 ghost use Rattle.lrc_store.specs.Store.{attached, changes_at, intervals_of, notice_at};
 
 use crate::key::Key;
@@ -28,6 +29,39 @@ impl Store {
     {
         let place = self.by_node.next(at.place)?;
         Some(IntervalAt { place })
+    }
+
+    /// The first notice of an interval, in the order of pages.
+    pub fn first_notice(&self, at: IntervalAt) -> Option<NoticeAt>
+        requires { at < length (intervals_of self.now) }
+        ensures first { result ≡ first_notice_of self.now at }
+        ensures in_use { ForSome result (λ notice. notice < length (notices_of self.now)) }
+        ensures ascending { ForSome (slice_get (intervals_of self.now) at) (λ interval. IsRising interval.pages) }
+    {
+        if self.entries[at.place as usize].len() == 0 {
+            return None;
+        }
+        let place = self.by_node.start(at.place);
+        Some(NoticeAt { place })
+    }
+
+    /// The notice of the same interval that comes after this one, in the order of pages.
+    pub fn next_in_interval(&self, at: NoticeAt) -> Option<NoticeAt>
+        requires { at < length (notices_of self.now) }
+        ensures next { result ≡ next_in_interval_of self.now at }
+        ensures in_use { ForSome result (λ notice. notice < length (notices_of self.now)) }
+    {
+        let _few = self.by_page.len();
+        let here = self.key(at)?;
+        let after = NoticeAt {
+            place: at.place + 1,
+        };
+        let key = self.key(after)?;
+        if here.is_of_one_with(key) {
+            Some(after)
+        } else {
+            None
+        }
     }
 
     /// The notice of a page that was added last.

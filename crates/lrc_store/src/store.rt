@@ -1,8 +1,10 @@
 // The intervals that a node knows.
 
-ghost use Rattle.std.specs.Prelude.{◌≡◌, ◌+◌, ◌<◌, ◌≤◌, ◌↔◌, All, IfOk, IsTrue, OnErr, OnOk, length, map, []};
+ghost use Rattle.std.specs.Prelude.{◌≡◌, ◌+◌, ◌<◌, ◌≤◌, ◌↔◌, ℕ, All, IfOk, IsTrue, List, OnErr, OnOk, filter, length, map, []};
 ghost use Rattle.std.specs.Option.{option_copied};
 ghost use Rattle.lrc_time.specs.Time.{entry};
+ghost use Rattle.lrc_store.specs.Links.{ranked};
+ghost use Rattle.lrc_store.specs.Store.{StoreRecord, IsMissing, IsStore, intervals_of, is_missing};
 
 use crate::chains::Chains;
 use crate::interval::Interval;
@@ -10,7 +12,9 @@ use crate::intervals::Intervals;
 use crate::key::Key;
 use crate::links::{
     add_notices, is_known, link_nodes, link_pages, make_room, newer_of_node, place_of, unknown_on,
+    unknown_until_known,
 };
+use crate::nodes::Nodes;
 use crate::stored::Stored;
 use lrc_page::{Changes, MOST_PAGES};
 use lrc_time::Time;
@@ -20,13 +24,15 @@ use std::marker::Model;
 /// The intervals that a node knows, each with its write notices, and the changes that came for some of these.
 ///
 /// Intervals and notices stand in the order of adding, each linked to the one before it of its node, or of its page. What
-/// is newer or missing is found along these lists; a look-up by key takes time linear in the number of intervals.
+/// is newer or missing is found along these lists. An interval is found by its node and its index at once, since no
+/// index is left out between a node's oldest interval and its newest; its notice of a page by halving. `add` and `attach`
+/// cost what they add, and `discard` costs what there is.
 #[derive(Drop)]
 pub struct Store {
     pages: u16,
     last: Time,
     pub(crate) entries: Vec<Stored>,
-    pub(crate) by_node: Chains,
+    pub(crate) by_node: Nodes,
     pub(crate) by_page: Chains,
     pub(crate) notices: Vec<(u64, Key)>,
 }
@@ -48,6 +54,7 @@ impl Store {
     ghost use Rattle.lrc_store.specs.Interval.{index_of};
     ghost use Rattle.lrc_store.specs.Store.{IsStore, empty_store, added, attached, discarded, notice_at, changes_at};
     ghost use Rattle.lrc_store.specs.Store.{IsMissing, IsNewer, missing_of, newer_of};
+    ghost use Rattle.lrc_store.specs.Lists.{KnowsTheFirst};
 
     /// A store that knows no interval, for this many nodes, 1 to 16, and pages, at most `MOST_PAGES`.
     pub fn new(alloc: Global, nodes: u8, pages: u16) -> Result<Self, AllocError>
@@ -60,7 +67,7 @@ impl Store {
             pages,
             last: Time::new(nodes),
             entries: Vec::new(alloc),
-            by_node: Chains::new(alloc, usize::from(nodes))?,
+            by_node: Nodes::new(alloc, usize::from(nodes))?,
             by_page: Chains::new(alloc, usize::from(pages))?,
             notices: Vec::new(alloc),
         })
@@ -82,11 +89,13 @@ impl Store {
             &mut self.by_node,
             &mut self.by_page,
             &mut self.notices,
+            u16::from(interval.node),
             more,
         )?;
         self.entries.push(stored)?;
+        let start = self.by_page.len() as u32;
         add_notices(&mut self.notices, &mut self.by_page, interval);
-        self.by_node.push(u16::from(interval.node));
+        self.by_node.push(u16::from(interval.node), start);
         self.last.raise(interval.node, interval.index());
         Ok(())
     }
@@ -118,7 +127,13 @@ impl Store {
     pub fn changes(&self, key: Key) -> Option<&Changes>
         ensures { option_copied result ≡ changes_at self.now key }
     {
-        let place = place_of(&self.entries, &self.by_node, key.node, key.index)?;
+        let place = place_of(
+            &self.entries,
+            &self.by_node,
+            &self.last,
+            key.node,
+            key.index,
+        )?;
         let stored = &self.entries[place];
         stored.changes(key.page)
     }
@@ -128,7 +143,13 @@ impl Store {
         requires { notice_at self.old key ≡ Some (record { page = key.page; changes = None }) }
         ensures { self.new ≡ attached self.old key changes }
     {
-        if let Some(place) = place_of(&self.entries, &self.by_node, key.node, key.index) {
+        if let Some(place) = place_of(
+            &self.entries,
+            &self.by_node,
+            &self.last,
+            key.node,
+            key.index,
+        ) {
             self.entries[place].attach(key.page, changes);
         }
     }
@@ -142,8 +163,8 @@ impl Store {
         self.entries.retain(|stored| !stored.is_known(time));
         self.notices
             .retain(|(_, key)| !is_known(time, key.node, key.index));
-        link_nodes(&mut self.by_node, &self.entries);
         link_pages(&mut self.by_page, &self.notices);
+        link_nodes(&mut self.by_node, &self.entries);
     }
 
     /// The intervals that `upto` knows and `since` does not, ascending by node and index.
@@ -170,10 +191,32 @@ impl Store {
         ensures value { IfOk result (λ found. found.items ≡ missing_of self.now page since.now) }
     {
         let alloc = *self.entries.allocator();
-        let mut found = unknown_on(alloc, &self.notices, &self.by_page, page, since)?;
-        found.sort_unstable();
-        keys_of(alloc, &found)
+        let found = unknown_on(alloc, &self.notices, &self.by_page, page, since)?;
+        keys_in_order(alloc, found)
     }
+
+    /// The same as `missing`, where `since` knows the first notices of the page in the order of adding. The walk along the
+    /// page's list ends at the newest notice that it knows. So it costs what is missing, however long the list is.
+    pub fn missing_until_known(&self, page: u16, since: &Time) -> Result<Vec<Key>, AllocError>
+        requires since { length since.now ≡ length self.now.last }
+        requires first { KnowsTheFirst self.now page since.now }
+        ensures missing { IfOk result (λ found. IsMissing self.now page since.now found.items) }
+        ensures value { IfOk result (λ found. found.items ≡ missing_of self.now page since.now) }
+    {
+        let alloc = *self.entries.allocator();
+        let found = unknown_until_known(alloc, &self.notices, &self.by_page, page, since)?;
+        keys_in_order(alloc, found)
+    }
+}
+
+/// The keys of what is missing, of whatever page and store, in the order in which changes are applied.
+fn keys_in_order(alloc: Global, mut found: Vec<(u64, Key)>) -> Result<Vec<Key>, AllocError>
+    ensures { IfOk result (λ keys. (store : StoreRecord) (page : ℕ) (since : List ℕ) → IsStore store
+        → found.items ≡ map (ranked page) (filter (is_missing page since) (intervals_of store))
+        → IsMissing store page since keys.items) }
+{
+    found.sort_unstable();
+    keys_of(alloc, &found)
 }
 
 /// The key of each pair.

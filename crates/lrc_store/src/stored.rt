@@ -1,6 +1,6 @@
 // One interval in a store.
 
-ghost use Rattle.std.specs.Prelude.{◌≡◌, ◌<◌, ◌==◌, All, IfOk, map, option_and_then, position};
+ghost use Rattle.std.specs.Prelude.{◌≡◌, ◌<◌, ◌==◌, All, IfOk, length, map, nat_lt, option_and_then, position};
 ghost use Rattle.std.specs.Option.{option_copied};
 ghost use Rattle.lrc_time.specs.Time.{knows};
 ghost use Rattle.lrc_page.specs.Pages.{IsRising};
@@ -97,6 +97,13 @@ impl Stored {
         self.stamp.at(self.node)
     }
 
+    /// How many notices the interval has.
+    pub(crate) fn len(&self) -> usize
+        ensures { result ≡ length self.now.notices }
+    {
+        self.notices.len()
+    }
+
     /// Whether this is the interval of this node and index.
     pub(crate) fn is_at(&self, node: u8, index: u32) -> bool
         ensures { result ≡ is_at node index self.now }
@@ -158,9 +165,20 @@ fn pages_of(alloc: Global, notices: &[Notice]) -> Result<Pages, AllocError>
     Ok(pages)
 }
 
-/// Where the notice of this page stands.
+/// Where the notice of this page stands among notices that ascend.
 fn place_of(notices: &[Notice], page: u16) -> Option<usize>
+    requires ascending { IsRising (map (λ notice. notice.page) notices.now) }
     ensures { result ≡ position (λ notice. notice.page == page) notices.now }
 {
-    notices.iter().position(|notice| notice.page == page)
+    let place = notices.partition_point(
+        |notice: &Notice| -> bool
+            ensures { result ≡ nat_lt notice.now.page page }
+        { notice.page < page },
+    );
+    let notice = notices.get(place)?;
+    if notice.page == page {
+        Some(place)
+    } else {
+        None
+    }
 }

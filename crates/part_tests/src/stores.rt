@@ -2,6 +2,7 @@
 
 ghost use Rattle.std.specs.Prelude.{◌≡◌, ◌<◌, ◌≤◌, ◌∷◌, All, IfOk, length, []};
 ghost use Rattle.lrc_time.specs.Time.{entry};
+ghost use Rattle.lrc_store.specs.Lists.{KnowsTheFirst};
 ghost use Rattle.lrc_store.specs.Store.{added, empty_store};
 
 use lrc_page::{Changes, Pages};
@@ -28,14 +29,14 @@ fn time_of(rt: &impl Abort, entries: [u32; 3]) -> Time
 }
 
 /// Page 0, page 1, both or none.
-fn pages_of(alloc: Global, zero: bool, one: bool) -> Result<Pages, AllocError>
+fn pages_of(alloc: Global, written: [bool; 2]) -> Result<Pages, AllocError>
     ensures { IfOk result (λ pages. All (λ page. page < 2) pages) }
 {
     let mut pages = Pages::empty(alloc);
-    if zero {
+    if written[0] {
         pages.push(0)?;
     }
-    if one {
+    if written[1] {
         pages.push(1)?;
     }
     Ok(pages)
@@ -45,23 +46,24 @@ fn key_of(node: u8, index: u32, page: u16) -> Key {
     Key { node, index, page }
 }
 
-/// Adds an interval with these pages.
+/// Adds an interval that wrote page 0, page 1, both or none.
 fn put(
     rt: &impl Abort,
+    alloc: Global,
     store: &mut Store,
     node: u8,
     stamp: [u32; 3],
-    pages: Pages,
+    written: [bool; 2],
 ) -> Result<(), AllocError>
     requires nodes { length store.old.last ≡ 3 }
     requires few { store.old.pages ≡ 2 }
     requires node { node < 3 }
-    requires in_range { All (λ page. page < 2) pages }
     ensures nodes { length store.new.last ≡ 3 }
     ensures few { store.new.pages ≡ 2 }
 {
     let stamp = time_of(rt, stamp);
     assert!(rt; stamp.at(node) >= 1);
+    let pages = pages_of(alloc, written)?;
     let interval = Interval::new(node, stamp, pages);
     assert!(rt; interval.index() - 1 == store.last(node));
     store.add(&interval)
@@ -73,9 +75,9 @@ fn worked(rt: &impl Abort, alloc: Global) -> Result<Store, AllocError>
     ensures few { IfOk result (λ store. store.pages ≡ 2) }
 {
     let mut store = Store::new(alloc, 3, 2)?;
-    put(rt, &mut store, 0, [1, 0, 0], pages_of(alloc, true, false)?)?;
-    put(rt, &mut store, 1, [0, 1, 0], pages_of(alloc, true, true)?)?;
-    put(rt, &mut store, 0, [2, 1, 0], pages_of(alloc, false, true)?)?;
+    put(rt, alloc, &mut store, 0, [1, 0, 0], [true, false])?;
+    put(rt, alloc, &mut store, 1, [0, 1, 0], [true, true])?;
+    put(rt, alloc, &mut store, 0, [2, 1, 0], [false, true])?;
     Ok(store)
 }
 
@@ -106,17 +108,122 @@ fn node_list(store: &Store, node: u8) -> [Option<(u8, u32)>; 2] {
     [store.interval(first), second]
 }
 
+/// The keys of the notices of an interval of a node, `back` intervals before its newest one, up to three.
+fn interval_list(store: &Store, node: u8, back: usize) -> [Option<Key>; 3] {
+    let mut interval = store.newest(node);
+    if back == 1
+        && let Some(newest) = interval
+    {
+        interval = store.before(newest);
+    }
+    let Some(interval) = interval else {
+        return [None, None, None];
+    };
+    let Some(first) = store.first_notice(interval) else {
+        return [None, None, None];
+    };
+    let Some(second) = store.next_in_interval(first) else {
+        return [store.key(first), None, None];
+    };
+    let third = match store.next_in_interval(second) {
+        Some(third) => store.key(third),
+        None => None,
+    };
+    [store.key(first), store.key(second), third]
+}
+
+/// The lists of both pages.
+fn page_lists(store: &Store) -> [[Option<Key>; 3]; 2] {
+    [page_list(store, 0), page_list(store, 1)]
+}
+
+/// The lists of the three nodes.
+fn node_lists(store: &Store) -> [[Option<(u8, u32)>; 2]; 3] {
+    [
+        node_list(store, 0),
+        node_list(store, 1),
+        node_list(store, 2),
+    ]
+}
+
+/// The lists of the newest interval of each node.
+fn interval_lists(store: &Store) -> [[Option<Key>; 3]; 3] {
+    [
+        interval_list(store, 0, 0),
+        interval_list(store, 1, 0),
+        interval_list(store, 2, 0),
+    ]
+}
+
+#[test]
+fn lists_run_through_the_worked_intervals(rt: HostRuntime) -> Result<(), Fail> {
+    let mut store = worked(&rt, rt.alloc())?;
+    let none = [None, None, None];
+    let of_node_0 = [Some(key_of(0, 2, 1)), None, None];
+    let of_node_1 = [Some(key_of(1, 1, 0)), Some(key_of(1, 1, 1)), None];
+    assert!(rt; interval_list(&store, 0, 1) == [Some(key_of(0, 1, 0)), None, None]);
+    assert!(rt; interval_lists(&store) == [of_node_0, of_node_1, none]);
+    let known = time_of(&rt, [1, 1, 0]);
+    store.discard(&known);
+    assert!(rt; interval_lists(&store) == [of_node_0, none, none]);
+    Ok(())
+}
+
+#[test]
+fn freed_places_are_used_again(rt: HostRuntime) -> Result<(), Fail> {
+    let alloc = rt.alloc();
+    let mut store = worked(&rt, alloc)?;
+    let known = time_of(&rt, [1, 1, 0]);
+    store.discard(&known);
+    put(&rt, alloc, &mut store, 2, [2, 1, 1], [false, false])?;
+    put(&rt, alloc, &mut store, 1, [2, 2, 1], [true, true])?;
+    let none = [None, None, None];
+    let of_node_0 = [Some(key_of(0, 2, 1)), None, None];
+    let of_node_1 = [Some(key_of(1, 2, 0)), Some(key_of(1, 2, 1)), None];
+    assert!(rt; interval_lists(&store) == [of_node_0, of_node_1, none]);
+    let of_page_0 = [Some(key_of(1, 2, 0)), None, None];
+    let of_page_1 = [Some(key_of(1, 2, 1)), Some(key_of(0, 2, 1)), None];
+    assert!(rt; page_lists(&store) == [of_page_0, of_page_1]);
+    assert!(rt;
+        node_lists(&store)
+            == [
+                [Some((0, 2)), None],
+                [Some((1, 2)), None],
+                [Some((2, 1)), None]
+            ]
+    );
+    Ok(())
+}
+
+#[test]
+fn discards_some_of_each_node(rt: HostRuntime) -> Result<(), Fail> {
+    let alloc = rt.alloc();
+    let mut store = worked(&rt, alloc)?;
+    put(&rt, alloc, &mut store, 1, [2, 2, 0], [true, false])?;
+    let known = time_of(&rt, [1, 1, 0]);
+    store.discard(&known);
+    assert!(rt; node_lists(&store) == [[Some((0, 2)), None], [Some((1, 2)), None], [None, None]]);
+    let of_page_0 = [Some(key_of(1, 2, 0)), None, None];
+    assert!(rt; page_lists(&store) == [of_page_0, [Some(key_of(0, 2, 1)), None, None]]);
+    Ok(())
+}
+
 #[test]
 fn lists_run_through_the_worked_store(rt: HostRuntime) -> Result<(), Fail> {
     let mut store = worked(&rt, rt.alloc())?;
-    assert!(rt; page_list(&store, 1) == [Some(key_of(0, 2, 1)), Some(key_of(1, 1, 1)), None]);
+    let of_page_1 = [Some(key_of(0, 2, 1)), Some(key_of(1, 1, 1)), None];
+    assert!(rt;
+        page_lists(&store)
+            == [
+                [Some(key_of(1, 1, 0)), Some(key_of(0, 1, 0)), None],
+                of_page_1
+            ]
+    );
     assert!(rt; node_list(&store, 0) == [Some((0, 2)), Some((0, 1))]);
     let known = time_of(&rt, [1, 1, 0]);
     store.discard(&known);
-    assert!(rt; page_list(&store, 0) == [None, None, None]);
-    assert!(rt; page_list(&store, 1) == [Some(key_of(0, 2, 1)), None, None]);
-    assert!(rt; node_list(&store, 0) == [Some((0, 2)), None]);
-    assert!(rt; node_list(&store, 1) == [None, None]);
+    assert!(rt; page_lists(&store) == [[None, None, None], [Some(key_of(0, 2, 1)), None, None]]);
+    assert!(rt; node_lists(&store) == [[Some((0, 2)), None], [None, None], [None, None]]);
     Ok(())
 }
 
@@ -169,8 +276,8 @@ fn what_is_discarded_is_gone(rt: HostRuntime) -> Result<(), Fail> {
 fn lighter_intervals_come_first(rt: HostRuntime) -> Result<(), Fail> {
     let alloc = rt.alloc();
     let mut store = Store::new(alloc, 3, 2)?;
-    put(&rt, &mut store, 0, [1, 0, 5], pages_of(alloc, true, false)?)?;
-    put(&rt, &mut store, 1, [0, 1, 0], pages_of(alloc, true, false)?)?;
+    put(&rt, alloc, &mut store, 0, [1, 0, 5], [true, false])?;
+    put(&rt, alloc, &mut store, 1, [0, 1, 0], [true, false])?;
     let zeros = time_of(&rt, [0, 0, 0]);
     let of_page_0 = store.missing(0, &zeros)?;
     assert!(rt; of_page_0.as_slice() == [key_of(1, 1, 0), key_of(0, 1, 0)].as_slice());
@@ -189,19 +296,6 @@ fn discards_nothing_and_everything(rt: HostRuntime) -> Result<(), Fail> {
     assert!(rt; (store.is_empty(), store.last(0), store.last(1)) == (true, 2, 1));
     assert!(rt; page_list(&store, 1) == [None, None, None]);
     assert!(rt; node_list(&store, 0) == [None, None]);
-    Ok(())
-}
-
-#[test]
-fn adds_again_after_a_discard(rt: HostRuntime) -> Result<(), Fail> {
-    let alloc = rt.alloc();
-    let mut store = worked(&rt, alloc)?;
-    let known = time_of(&rt, [1, 1, 0]);
-    store.discard(&known);
-    put(&rt, &mut store, 1, [1, 2, 0], pages_of(alloc, true, true)?)?;
-    assert!(rt; page_list(&store, 0) == [Some(key_of(1, 2, 0)), None, None]);
-    assert!(rt; page_list(&store, 1) == [Some(key_of(1, 2, 1)), Some(key_of(0, 2, 1)), None]);
-    assert!(rt; node_list(&store, 1) == [Some((1, 2)), None]);
     Ok(())
 }
 
@@ -252,6 +346,33 @@ fn one_written(alloc: Global) -> Result<Store, AllocError>
     let interval = Interval::new(0, stamp, pages);
     store.add(&interval)?;
     Ok(store)
+}
+
+/// Two intervals that wrote page 1, of nodes 0 and 1, and the time that knew all there was before the second came.
+fn known_and_new(alloc: Global) -> Result<(Store, Time), AllocError>
+    ensures nodes { IfOk result (λ both. length both.1 ≡ length both.0.last) }
+    ensures first { IfOk result (λ both. KnowsTheFirst both.0 1 both.1) }
+{
+    let mut store = one_written(alloc)?;
+    let mut since = Time::new(3);
+    since.raise(0, 1);
+    let mut stamp = Time::new(3);
+    stamp.raise(1, 1);
+    let mut pages = Pages::empty(alloc);
+    pages.push(1)?;
+    let interval = Interval::new(1, stamp, pages);
+    store.add(&interval)?;
+    Ok((store, since))
+}
+
+#[test]
+fn finds_what_is_missing_up_to_what_was_known(rt: HostRuntime) -> Result<(), Fail> {
+    let (store, since) = known_and_new(rt.alloc())?;
+    let found = store.missing_until_known(1, &since)?;
+    assert!(rt; found.as_slice() == [key_of(1, 1, 1)].as_slice());
+    let all = store.missing(1, &since)?;
+    assert!(rt; all.as_slice() == found.as_slice());
+    Ok(())
 }
 
 #[test]

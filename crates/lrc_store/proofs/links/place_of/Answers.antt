@@ -1,57 +1,86 @@
-use Rattle.std.proofs.Common.{◌<◌, ◌≤◌, ◌∙◌, ℕ, eqb, Option, Some, length, get_or, map, sym, ap, subst, arith}
+use Rattle.std.proofs.Common.{◌≡◌, ◌-◌, ◌<◌, ◌∙◌, eqb, eqb-true, [], length, get_or, map, sym, ap, arith}
+use Rattle.std.specs.List.{slice_get}
+use Rattle.std.proofs.lemmas.Bool.{and_parts, true≢false}
 use Rattle.std.proofs.lemmas.List.{length-map}
-use Rattle.lrc_store.specs.Chains.{last_at}
-use Rattle.lrc_store.specs.Interval.{IntervalRecord}
-use Rattle.lrc_store.specs.Store.{interval_of, is_at}
-use Rattle.lrc_store.proofs.Chained.{reach, reach-taken}
-use Rattle.lrc_store.proofs.Sought.{IsSought, sought_starts, sought_within, sought_on, sought_ends, sought_found}
+use Rattle.std.proofs.lemmas.Option.{none-some, same_Some}
+use Rattle.lrc_time.specs.Time.{entry}
+use Rattle.lrc_store.specs.Interval.{IntervalRecord, index_of}
+use Rattle.lrc_store.specs.Lists.{list_of}
+use Rattle.lrc_store.specs.Store.{StoredRecord, interval_of, is_at}
+use Rattle.lrc_store.proofs.Sought.{listed_within, sought_there, sought_nowhere, sought_found}
 use Rattle.lrc_store.proofs.links.place_of.Goals as goal
-use Rattle.lrc_store.proofs.links.place_of.Goals.{In-Some}
+use Rattle.lrc_store.proofs.links.place_of.Goals.{After-nodes, After-from_newest, In_ok-place}
 
-pub loop-next-init : goal.loop-next-init
-loop-next-init c =
-    sought_starts c.args.node c.args.index c.args.entries.now c.args.by_node.now.keys c.first-next.result c.requires.linked
-    (c.first-next.ensures ∙ ap (λ n. last_at (λ other. eqb other n) c.args.by_node.now.keys) c.from.ensures)
+abbrev none : StoredRecord
+none = record { node = 0; stamp = []; notices = [] }
 
--- the search as it stands in the loop
-here : (c : In-Some) → IsSought c.args.node c.args.index c.args.entries.now (Some c.in-Some.at)
-here c = subst (IsSought c.args.node c.args.index c.args.entries.now) c.in-Some.is c.loop-next.invariant
+pub returns-then-node-nodes : goal.returns-then-node-nodes
+returns-then-node-nodes c =
+    let entries = c.args.entries.now in
+    sym (sought_nowhere c.args.node c.args.index entries none
+    (λ at within is.
+    let parts = and_parts (eqb (get_or entries at none).node c.args.node) (eqb (index_of (interval_of (get_or entries at none))) c.args.index) is in
+    let same = eqb-true (get_or entries at none).node c.args.node parts.0 in
+    omega (arith, same, c.requires.in_range at none within, c.if-node-nodes.true, c.nodes.ensures.all)))
 
-within : (c : In-Some) → c.in-Some.at < length c.args.entries.now
-within c = sought_within c.args.node c.args.index c.args.entries.now c.in-Some.at (here c)
+pub returns-then-index-newest : goal.returns-then-index-newest
+returns-then-index-newest c =
+    let entries = c.args.entries.now in
+    sym (sought_nowhere c.args.node c.args.index entries none
+    (λ at within is.
+    let there = sought_there c.args.node c.args.index entries c.args.last.now c.args.by_node.now.keys at none c.requires.linked c.requires.gapless within is in
+    omega (arith, there.0, c.if-index-newest.true, c.at-newest.ensures)))
 
-pub returns-then-is_at : goal.returns-then-is_at
-returns-then-is_at c =
-    let test = is_at c.args.node c.args.index in
-    sym (sought_found c.args.node c.args.index c.args.entries.now c.requires.ascending c.in-Some.at c.index-entries-place.result
-    (within (goal.at.returns-then-is_at c).In-Some)
-    (ap test (sym c.index-entries-place.is) ∙ sym c.is_at.ensures ∙ c.if-is_at.true))
+-- what the node's list has so far behind
+listed : (c : After-from_newest)
+    → c.from_newest.result ≡ slice_get (list_of c.args.by_node.now.keys c.args.node) (entry c.args.last.now c.args.node - c.args.index)
+listed c =
+    c.from_newest.ensures
+    ∙ ap (λ n. slice_get (list_of c.args.by_node.now.keys n) (c.at-newest.result - c.args.index)) c.from.ensures
+    ∙ ap (λ n. slice_get (list_of c.args.by_node.now.keys c.args.node) (n - c.args.index)) c.at-newest.ensures
 
-pub loop-next-smaller : goal.loop-next-smaller
-loop-next-smaller c =
-    let at = c.in-Some.at in
+pub returns-in_err-place : goal.returns-in_err-place
+returns-in_err-place c =
+    let entries = c.args.entries.now in
+    let a = (goal.at.returns-in_err-place c).After-from_newest in
+    c.from_residual.ensures
+    ∙ sym (sought_nowhere c.args.node c.args.index entries none
+    (λ at within is.
+    let there = sought_there c.args.node c.args.index entries c.args.last.now c.args.by_node.now.keys at none c.requires.linked c.requires.gapless within is in
+    none-some at (sym c.in_err-place.was ∙ listed a ∙ there.1)))
+
+-- what was found is a place
+within : (c : In_ok-place) → c.in_ok-place.field-0 < length c.args.entries.now
+within c =
     let keys = c.args.by_node.now.keys in
-    let inside = within (goal.at.loop-next-smaller c).In-Some in
-    let falls = reach-taken (λ other. eqb other (get_or keys at 0)) keys 0 at
-    (omega (
+    let inside = listed_within keys c.args.node (entry c.args.last.now c.args.node - c.args.index) c.in_ok-place.field-0
+    (sym (listed (goal.at.In_ok-place c).After-from_newest) ∙ c.in_ok-place.was) in
+    omega (
       arith,
       inside,
       ap length c.requires.linked,
       length-map (map interval_of c.args.entries.now) (λ (i : IntervalRecord). i.node),
       length-map c.args.entries.now interval_of,
-    )) in
-    let next : reach c.next-next.result ≤ at =
-    subst (λ (n : Option ℕ). reach n ≤ at) (sym c.next-next.ensures) falls in
-    subst (λ (n : Option ℕ). reach c.next-next.result < reach n) (sym c.in-Some.is) (omega (arith, next))
+    )
 
-pub loop-next-preserved : goal.loop-next-preserved
-loop-next-preserved c =
+pub bounds-entries-place : goal.bounds-entries-place
+bounds-entries-place c = within (goal.at.bounds-entries-place c).In_ok-place
+
+pub returns-then-is_at : goal.returns-then-is_at
+returns-then-is_at c =
     let test = is_at c.args.node c.args.index in
-    sought_on c.args.node c.args.index c.args.entries.now c.in-Some.at c.args.by_node.now.keys c.next-next.result
-    c.index-entries-place.result (here (goal.at.loop-next-preserved c).In-Some) c.requires.linked c.next-next.ensures
-    (ap test (sym c.index-entries-place.is) ∙ sym c.is_at.ensures ∙ c.if-is_at.false)
+    sym (sought_found c.args.node c.args.index c.args.entries.now c.requires.ascending c.in_ok-place.field-0 c.index-entries-place.result
+    (within (goal.at.returns-then-is_at c).In_ok-place)
+    (ap test (sym c.index-entries-place.is) ∙ sym c.is_at.ensures ∙ c.if-is_at.true))
 
-pub returns : goal.returns
-returns c =
-    sym (sought_ends c.args.node c.args.index c.args.entries.now
-    (subst (IsSought c.args.node c.args.index c.args.entries.now) c.in_default.is c.loop-next.invariant))
+pub returns-else-is_at : goal.returns-else-is_at
+returns-else-is_at c =
+    let test = is_at c.args.node c.args.index in
+    let entries = c.args.entries.now in
+    let place = c.in_ok-place.field-0 in
+    let item = c.index-entries-place.result in
+    sym (sought_nowhere c.args.node c.args.index entries item
+    (λ at inside is.
+    let there = sought_there c.args.node c.args.index entries c.args.last.now c.args.by_node.now.keys at item c.requires.linked c.requires.gapless inside is in
+    let same : at ≡ place = same_Some at place (sym there.1 ∙ sym (listed (goal.at.returns-else-is_at c).After-from_newest) ∙ c.in_ok-place.was) in
+    true≢false (sym is ∙ ap (λ k. test (get_or entries k item)) same ∙ ap test (sym c.index-entries-place.is) ∙ sym c.is_at.ensures ∙ c.if-is_at.false)))

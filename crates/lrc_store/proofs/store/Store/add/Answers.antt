@@ -1,4 +1,4 @@
-use Rattle.std.proofs.Common.{◌≡◌, ℕ, List, [], ◌∷◌, ◌++◌, set, sym, ap, ◌∙◌, subst}
+use Rattle.std.proofs.Common.{◌≡◌, ℕ, List, length, [], ◌∷◌, ◌++◌, set, sym, ap, ◌∙◌, subst}
 use Rattle.lrc_store.specs.Interval.{IntervalRecord, index_of}
 use Rattle.lrc_store.specs.Store.{StoredRecord, StoreRecord, added, without_changes}
 use Rattle.lrc_store.specs.declared.key.Key.{Key}
@@ -36,14 +36,16 @@ linked c =
     let interval = c.args.interval.now in
     let is : c.args.self.now ≡ store = sym c.self.view_is in
     let same : after c ≡ added store interval = cc (last_after c, entries_after c) in
-    let node : c.from.result ≡ interval.node = c.from.ensures ∙ ap (λ (i : IntervalRecord). i.node) c.interval.view_is in
+    let node : c.from-2.result ≡ interval.node = c.from-2.ensures ∙ ap (λ (i : IntervalRecord). i.node) c.interval.view_is in
     subst (λ (s : StoreRecord). IsLinkedUp s c.push-2.new.self c.add_notices.new.by_page c.add_notices.new.notices.items) (sym same)
-    (IsLinkedUp-added store c.self.inside.by_node c.self.inside.by_page c.push-2.new.self c.add_notices.new.by_page
-    c.self.inside.notices.items c.add_notices.new.notices.items interval c.self.invariant c.index.ensures.interval
+    (IsLinkedUp-added store c.self.inside.by_node c.push-2.new.self c.self.inside.by_page c.add_notices.new.by_page
+    c.self.inside.notices.items c.add_notices.new.notices.items interval c.len-start.result c.self.invariant c.index.ensures.interval
     (rw is at c.requires.stamp) (rw is at c.requires.pages) (rw is at c.requires.next)
     (c.push-2.ensures.keys ∙ ap (λ n. c.make_room.new.by_node.keys ++ n ∷ []) node
     ∙ ap (λ (l : List ℕ). l ++ interval.node ∷ []) c.make_room.ensures.node_keys)
     (c.push-2.ensures.lists ∙ c.make_room.ensures.node_lists)
+    (c.push-2.ensures.starts ∙ ap (λ (l : List ℕ). l ++ c.len-start.result ∷ []) c.make_room.ensures.node_starts)
+    (c.len-start.ensures.count ∙ ap length c.make_room.ensures.page_keys)
     (c.add_notices.ensures.keys ∙ ap (λ (l : List ℕ). l ++ interval.pages) c.make_room.ensures.page_keys)
     (c.add_notices.ensures.lists ∙ c.make_room.ensures.page_lists)
     (c.add_notices.ensures.notices ∙ ap (λ (l : List (ℕ × Key)). l ++ ranked_pages interval) c.make_room.ensures.notices))

@@ -1,10 +1,11 @@
-use Rattle.std.proofs.Common.{◌≡◌, List, set, map, sym, ap, ◌∙◌, subst, Option, None, Some}
-use Rattle.std.specs.List.{position}
+use Rattle.std.proofs.Common.{◌≡◌, List, set, map, sym, ap, ◌∙◌, subst, Option, None, Some, ◌<◌, length}
+use Rattle.std.specs.List.{All, AllPairs, position}
 use Rattle.std.specs.Option.{option_and_then}
-use Rattle.lrc_store.specs.Store.{StoredRecord, StoreRecord, attached, is_at, notice_of, stored_with}
+use Rattle.lrc_store.specs.Interval.{index_of}
+use Rattle.lrc_store.specs.Store.{interval_of, StoredRecord, StoreRecord, attached, is_at, notice_of, stored_with}
 use Rattle.lrc_store.proofs.Places.{find-position_none}
 use Rattle.lrc_store.specs.Links.{IsLinkedUp}
-use Rattle.lrc_store.proofs.LinkedStores.{IsLinkedUp-attached}
+use Rattle.lrc_store.proofs.LinkedStores.{nodes_in_range, IsLinkedUp-attached}
 use Rattle.lrc_store.proofs.Stores.{map-stored_with}
 use Rattle.lrc_store.proofs.store.Store.attach.Goals as goal
 use Rattle.lrc_store.proofs.store.Store.attach.Goals.{After-attach}
@@ -45,3 +46,15 @@ returns-in_default c =
     let missed = ap (λ (found : Option StoredRecord). option_and_then (notice_of c.args.key.page) found) (find-position_none test _ none) in
     let wanted = c.requires in
     absurd (cc)
+
+pub place_of-requires-clause-in_range : goal.place_of-requires-clause-in_range
+place_of-requires-clause-in_range c =
+    let store : StoreRecord = record { pages = c.self.inside.pages; last = c.self.inside.last; entries = c.self.inside.entries.items } in
+    subst (All (λ stored. stored.node < length c.self.inside.last)) (sym c.deref.ensures.value)
+    (subst (λ n. All (λ stored. stored.node < n) c.self.inside.entries.items) c.self.invariant.node_lists
+    (nodes_in_range store c.self.inside.by_node c.self.inside.by_page c.self.inside.notices.items c.self.invariant))
+
+pub place_of-requires-clause-ascending : goal.place_of-requires-clause-ascending
+place_of-requires-clause-ascending c =
+    subst (λ (entries : List StoredRecord). AllPairs (λ a b. a.node ≡ b.node → index_of a < index_of b) (map interval_of entries))
+    (sym c.deref.ensures.value) c.self.invariant.sound.ascending

@@ -1,8 +1,10 @@
-use Rattle.std.proofs.Common.{◌≡◌, ℕ, List, sym, ap, ◌∙◌, Option, None, Some}
-use Rattle.std.specs.List.{position, find}
+use Rattle.std.proofs.Common.{◌≡◌, ℕ, List, sym, ap, ◌∙◌, Option, None, Some, ◌<◌, length, map, subst}
+use Rattle.std.specs.List.{All, AllPairs, position, find}
 use Rattle.std.specs.Option.{option_copied, option_and_then}
 use Rattle.lrc_page.specs.declared.changes.Change.{Change}
-use Rattle.lrc_store.specs.Store.{StoredRecord, StoreRecord, is_at, notice_of}
+use Rattle.lrc_store.specs.Interval.{index_of}
+use Rattle.lrc_store.specs.Store.{interval_of, StoredRecord, StoreRecord, is_at, notice_of}
+use Rattle.lrc_store.proofs.LinkedStores.{nodes_in_range}
 use Rattle.lrc_store.proofs.Places.{find-position, find-position_none}
 use Rattle.lrc_store.proofs.store.Store.changes.Goals as goal
 
@@ -31,3 +33,15 @@ returns c =
     c.changes.ensures
     ∙ sym (ap (looked_up c.args.key.page) found)
     ∙ ap (λ (s : StoreRecord). looked_up c.args.key.page (find test s.entries)) c.self.view_is
+
+pub place_of-requires-clause-in_range : goal.place_of-requires-clause-in_range
+place_of-requires-clause-in_range c =
+    let store : StoreRecord = record { pages = c.self.inside.pages; last = c.self.inside.last; entries = c.self.inside.entries.items } in
+    subst (All (λ stored. stored.node < length c.self.inside.last)) (sym c.deref.ensures.value)
+    (subst (λ n. All (λ stored. stored.node < n) c.self.inside.entries.items) c.self.invariant.node_lists
+    (nodes_in_range store c.self.inside.by_node c.self.inside.by_page c.self.inside.notices.items c.self.invariant))
+
+pub place_of-requires-clause-ascending : goal.place_of-requires-clause-ascending
+place_of-requires-clause-ascending c =
+    subst (λ (entries : List StoredRecord). AllPairs (λ a b. a.node ≡ b.node → index_of a < index_of b) (map interval_of entries))
+    (sym c.deref.ensures.value) c.self.invariant.sound.ascending

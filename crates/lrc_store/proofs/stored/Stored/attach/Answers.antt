@@ -2,6 +2,7 @@ use Rattle.std.proofs.Common.{◌≡◌, ℕ, ◌<◌, List, length, map, set, s
 use Rattle.std.specs.List.{position}
 use Rattle.std.proofs.lemmas.List.Quantifiers.{position-Some}
 use Rattle.lrc_store.specs.Interval.{IsInterval}
+use Rattle.lrc_page.specs.Pages.{IsRising}
 use Rattle.lrc_store.specs.Store.{NoticeRecord, StoredRecord, notice_with}
 use Rattle.lrc_store.proofs.Records.{pages-written, map-notice_with, map-notice_with_none}
 use Rattle.lrc_store.proofs.stored.Stored.attach.Goals as goal
@@ -50,3 +51,8 @@ returns-in-Some c =
     ∙ sym (map-notice_with a.args.page a.args.changes items a.in-Some.place a.self.invariant.ascending (found a)) in
     ap (λ (ns : List NoticeRecord). record { node = a.self.inside.node; stamp = a.self.inside.stamp; notices = ns }) notices
     ∙ ap (λ (s : StoredRecord). record s { notices = map (notice_with a.args.page a.args.changes) s.notices }) a.self.view_is
+
+pub place_of-requires : goal.place_of-requires
+place_of-requires c = record {
+  ascending = subst (λ (notices : List NoticeRecord). IsRising (map (λ notice. notice.page) notices)) (sym c.deref.ensures.value) c.self.invariant.ascending;
+}

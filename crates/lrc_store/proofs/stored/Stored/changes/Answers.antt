@@ -1,7 +1,8 @@
-use Rattle.std.proofs.Common.{◌≡◌, List, sym, ap, ◌∙◌, eqb, Option, None, Some}
+use Rattle.std.proofs.Common.{◌≡◌, List, sym, ap, ◌∙◌, eqb, Option, None, Some, map, subst}
 use Rattle.std.specs.List.{position, find}
 use Rattle.std.specs.Option.{option_copied, option_and_then}
 use Rattle.lrc_page.specs.declared.changes.Change.{Change}
+use Rattle.lrc_page.specs.Pages.{IsRising}
 use Rattle.lrc_store.specs.Store.{NoticeRecord, StoredRecord}
 use Rattle.lrc_store.proofs.Places.{find-position, find-position_none}
 use Rattle.lrc_store.proofs.stored.Stored.changes.Goals as goal
@@ -31,3 +32,8 @@ returns c =
     ∙ ap (λ (n : NoticeRecord). n.changes) c.notice.view_is
     ∙ sym (ap looked_up found)
     ∙ ap (λ (s : StoredRecord). looked_up (find test s.notices)) c.self.view_is
+
+pub place_of-requires : goal.place_of-requires
+place_of-requires c = record {
+  ascending = subst (λ (notices : List NoticeRecord). IsRising (map (λ notice. notice.page) notices)) (sym c.deref.ensures.value) c.self.invariant.ascending;
+}

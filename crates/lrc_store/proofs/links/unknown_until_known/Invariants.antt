@@ -1,9 +1,9 @@
 use Rattle.lrc_store.proofs.Chained.{reach}
-use Rattle.lrc_store.proofs.Sought.{IsSought}
-use Rattle.lrc_store.proofs.links.place_of.Given as goal
+use Rattle.lrc_store.proofs.Walks.{IsWalked}
+use Rattle.lrc_store.proofs.links.unknown_until_known.Given as goal
 
 abbrev pub invariant-loop-next : goal.invariant-loop-next
-invariant-loop-next l = IsSought l.node l.index l.entries l.next
+invariant-loop-next l = IsWalked l.page l.since l.notices l.next l.found.items
 
 abbrev pub decreases-loop-next : goal.decreases-loop-next
 decreases-loop-next l = reach l.next

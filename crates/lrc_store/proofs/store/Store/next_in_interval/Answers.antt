@@ -1,0 +1,28 @@
+use Rattle.std.proofs.Common.{◌≡◌, ◌<◌, ◌∙◌, ◌+◌, Some, length, ap, sym, subst, arith}
+use Rattle.std.proofs.lemmas.List.{length-map}
+use Rattle.std.proofs.lemmas.Option.{same_Some, slice_get_within}
+use Rattle.lrc_store.specs.declared.key.Key.{Key}
+use Rattle.lrc_store.specs.Lists.{key_at, notices_of}
+use Rattle.lrc_store.specs.Store.{StoreRecord}
+use Rattle.lrc_store.proofs.LinkedStores.{noted_pages}
+use Rattle.lrc_store.proofs.store.Store.next_in_interval.Goals as goal
+
+pub overflow_add-after : goal.overflow_add-after
+overflow_add-after c =
+    let store : StoreRecord = record { pages = c.self.inside.pages; last = c.self.inside.last; entries = c.self.inside.entries.items } in
+    let linked = noted_pages store c.self.inside.by_node c.self.inside.by_page c.self.inside.notices.items c.self.invariant in
+    omega (
+      arith,
+      ap length linked,
+      length-map (notices_of store) (λ (key : Key). key.page),
+      ap (λ (s : StoreRecord). length (notices_of s)) c.self.view_is,
+      c.requires,
+      c.at.view_is,
+      c.len-few.ensures.few,
+    )
+
+pub returns-then-is_of_one_with-clause-in_use : goal.returns-then-is_of_one_with-clause-in_use
+returns-then-is_of_one_with-clause-in_use c = λ notice is.
+    let there : key_at c.args.self.now (c.at.inside.place + 1) ≡ Some c.in_ok-key.key = sym c.key-2.ensures ∙ c.in_ok-key.was in
+    subst (λ n. n < length (notices_of c.args.self.now)) (same_Some _ _ is)
+    (slice_get_within (notices_of c.args.self.now) (c.at.inside.place + 1) c.in_ok-key.key there)

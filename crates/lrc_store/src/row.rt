@@ -1,0 +1,74 @@
+// The places of one node's intervals.
+
+ghost use Rattle.std.specs.Prelude.{◌≡◌, ◌<◌, ◌≤◌, OnOk, [], ◌∷◌, ◌++◌, length, reverse, slice_get};
+
+use std::alloc::{AllocError, Global};
+use std::marker::Model;
+
+/// The places of one node's intervals, oldest first.
+#[derive(Drop)]
+pub(crate) struct Row {
+    places: Vec<u32>,
+}
+
+impl Model for Row {
+    ghost use Rattle.std.specs.Prelude.{vec_capacity};
+    ghost use Rattle.lrc_store.specs.Rows.{RowRecord};
+
+    ghost Value = { RowRecord };
+
+    ghost view = { λ r. record { places = r.places.items; room = vec_capacity r.places } };
+}
+
+impl Row {
+    /// No places.
+    pub(crate) fn new(alloc: Global) -> Self
+        ensures { result.places ≡ [] }
+    {
+        Row {
+            places: Vec::new(alloc),
+        }
+    }
+
+    /// Makes room for one more place. An error changes no place.
+    pub(crate) fn reserve(&mut self) -> Result<(), AllocError>
+        ensures places { self.new.places ≡ self.old.places }
+        ensures ok { OnOk result (length self.old.places < self.new.room) }
+    {
+        self.places.reserve(1)
+    }
+
+    /// Adds a place, for which there is room.
+    pub(crate) fn push(&mut self, place: u32)
+        requires { length self.old.places < self.old.room }
+        ensures places { self.new.places ≡ self.old.places ++ place ∷ [] }
+        ensures room { self.old.room ≤ self.new.room }
+    {
+        let Ok(()) = self.places.push(place) else {
+            unreachable!();
+        };
+    }
+
+    /// Takes out all places and keeps their room.
+    pub(crate) fn clear(&mut self)
+        ensures places { self.new.places ≡ [] }
+        ensures room { self.old.room ≤ self.new.room }
+        ensures fits { length self.old.places ≤ self.new.room }
+    {
+        let _count = self.places.len();
+        self.places.clear();
+    }
+
+    /// The place behind which there are this many.
+    pub(crate) fn from_last(&self, back: u32) -> Option<u32>
+        ensures { result ≡ slice_get (reverse self.now.places) back }
+    {
+        let count = self.places.len();
+        let back = back as usize;
+        if back < count {
+            Some(self.places[count - 1 - back])
+        } else {
+            None
+        }
+    }
+}
