@@ -1,5 +1,5 @@
 -- The first element of a list that passes a test, and a list in which one element is changed.
-use Rattle.std.proofs.Common.{◌≡◌, ◌≢◌, ℕ, suc, ◌+◌, ◌<◌, ◌≤◌, Bool, true, false, nat_lt, ◌||◌, not, Some, None, List, [], ◌∷◌, length, get_or, set, map, cond, refl, ap, sym, ◌∙◌, ⊎_elim, arith}
+use Rattle.std.proofs.Common.{◌≡◌, ◌≢◌, ℕ, suc, ◌+◌, ◌<◌, ◌≤◌, Bool, true, false, nat_lt, ◌||◌, not, Option, Some, None, List, [], ◌∷◌, length, get_or, set, map, cond, refl, ap, sym, ◌∙◌, ⊎_elim, arith}
 use Rattle.std.specs.List.{find, list_any, position, position_or_len}
 use Rattle.std.specs.Option.{is_some}
 use Rattle.std.proofs.lemmas.Grind.{common_steps}
@@ -31,6 +31,16 @@ module _ {X : Type 0} where
       let at = find_at p xs in
       let past : length xs ≤ position_or_len p xs = grind (arith, common_steps) in
       grind (arith, common_steps, gets)
+
+  is_some-found : (p : X → Bool) (xs : List X) (d : X) (place : Option ℕ) → position p xs ≡ place
+      → is_some place ≡ is_some (find p xs)
+  is_some-found p xs d None is = sym (ap is_some (find-position_none p xs is))
+  is_some-found p xs d (Some i) is = sym (ap is_some (find-position p xs i d is))
+
+  -- there is a place exactly where there is an element
+  pub is_some-position : (p : X → Bool) (xs : List X) → is_some (position p xs) ≡ is_some (find p xs)
+  is_some-position p [] = refl
+  is_some-position p (x ∷ xs) = is_some-found p (x ∷ xs) x (position p (x ∷ xs)) refl
 
   pub fails-position_none : (p : X → Bool) (xs : List X) → position p xs ≡ None → (k : ℕ) (d : X)
       → k < length xs → p (get_or xs k d) ≡ false

@@ -1,6 +1,6 @@
 // The intervals that a node knows.
 
-ghost use Rattle.std.specs.Prelude.{◌≡◌, ◌+◌, ◌<◌, ◌≤◌, ◌↔◌, ℕ, All, IfOk, IsTrue, List, OnErr, OnOk, filter, length, map, []};
+ghost use Rattle.std.specs.Prelude.{◌≡◌, ◌+◌, ◌<◌, ◌≤◌, ◌↔◌, ℕ, All, IfOk, IsTrue, List, OnErr, OnOk, filter, is_some, length, map, []};
 ghost use Rattle.std.specs.Option.{option_copied};
 ghost use Rattle.lrc_time.specs.Time.{entry};
 ghost use Rattle.lrc_store.specs.Links.{ranked};
@@ -136,6 +136,23 @@ impl Store {
         )?;
         let stored = &self.entries[place];
         stored.changes(key.page)
+    }
+
+    /// Whether the interval of a key's node and index is in the store and names the key's page.
+    pub fn has_notice(&self, key: Key) -> bool
+        ensures { result ≡ is_some (notice_at self.now key) }
+    {
+        if let Some(place) = place_of(
+            &self.entries,
+            &self.by_node,
+            &self.last,
+            key.node,
+            key.index,
+        ) {
+            self.entries[place].has_notice(key.page)
+        } else {
+            false
+        }
     }
 
     /// Keeps the changes of a key that is in the store and has none yet.

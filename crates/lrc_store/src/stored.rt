@@ -1,6 +1,6 @@
 // One interval in a store.
 
-ghost use Rattle.std.specs.Prelude.{◌≡◌, ◌<◌, ◌==◌, All, IfOk, length, map, nat_lt, option_and_then, position};
+ghost use Rattle.std.specs.Prelude.{◌≡◌, ◌<◌, ◌==◌, All, IfOk, is_some, length, map, nat_lt, option_and_then, position};
 ghost use Rattle.std.specs.Option.{option_copied};
 ghost use Rattle.lrc_time.specs.Time.{knows};
 ghost use Rattle.lrc_page.specs.Pages.{IsRising};
@@ -126,6 +126,13 @@ impl Stored {
         let place = place_of(&self.notices, page)?;
         let notice = &self.notices[place];
         notice.changes.as_ref()
+    }
+
+    /// Whether the interval names this page.
+    pub(crate) fn has_notice(&self, page: u16) -> bool
+        ensures { result ≡ is_some (notice_of page self.now) }
+    {
+        place_of(&self.notices, page).is_some()
     }
 
     /// Keeps the changes of this page.
