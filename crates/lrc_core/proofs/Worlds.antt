@@ -1,6 +1,7 @@
 -- The world at the start, and lists of messages.
 use Rattle.std.proofs.Common.{◌≡◌, ℕ, List, [], ◌∷◌, false, refl, ap, map}
 use Rattle.std.specs.List.{list_any, range_with_len}
+use Rattle.lrc_lock.proofs.Starts.{made_more}
 use Rattle.lrc_lang.specs.declared.program.Program.{Program}
 use Rattle.lrc_protocol.specs.Node.{Node, OptionsRecord, fresh_node}
 use Rattle.lrc_protocol.specs.Log.{Logged}
@@ -26,3 +27,14 @@ fresh_nodes program nodes options = all_fresh (fresh_node program nodes options)
 
 pub fresh_short : (program : Program) (nodes : ℕ) (options : OptionsRecord) → sends_long (fresh_world program nodes options) ≡ false
 fresh_short program nodes options = all_quiet (fresh_node program nodes options) (range_with_len 0 nodes)
+
+-- one node at the beginning of a program, with no turns
+abbrev pub fresh_one : Program → ℕ → OptionsRecord → ℕ → LoggedNode
+fresh_one program nodes options me = sound (record { node = fresh_node program nodes options me; log = [] })
+
+-- one node more
+pub fresh_next : (program : Program) (nodes : ℕ) (options : OptionsRecord) (made : List LoggedNode) (next : LoggedNode) (me : ℕ)
+    → made ≡ map (fresh_one program nodes options) (range_with_len 0 me) → next ≡ fresh_one program nodes options me
+    → made ++ next ∷ [] ≡ map (fresh_one program nodes options) (range_with_len 0 (me + 1))
+fresh_next program nodes options made next me so_far one =
+    made_more (fresh_one program nodes options) me made (made ++ next ∷ []) so_far (ap (λ x. made ++ x ∷ []) one)

@@ -1,7 +1,7 @@
 -- A store seen with changes from elsewhere has the same intervals and notices.
 use Rattle.std.proofs.Common.{◌≡◌, ◌≢◌, ◌∙◌, ℕ, Bool, true, false, cond, eqb, eqb-true, ◌&&◌, Option, Some, None, List, [], ◌∷◌, ◌++◌, map, refl, ap, sym}
 use Rattle.std.specs.Prelude.{filter, not}
-use Rattle.std.specs.Option.{option_and_then, option_map, option_or}
+use Rattle.std.specs.Option.{is_some, option_and_then, option_map, option_or}
 use Rattle.std.proofs.lemmas.Bool.{true≢false, and_parts, and_from, eq-eqb}
 use Rattle.lrc_page.specs.declared.changes.Change.{Change}
 use Rattle.lrc_store.specs.declared.key.Key.{Key}
@@ -80,6 +80,14 @@ module _ (o : Key → Option (List Change)) where
       by_found (Some stored) some =
           find-map (λ notice. eqb notice.page key.page) (notice_over o stored.node (index_of (interval_of stored))) stored.notices (λ notice. refl)
           ∙ by_notice stored (passes-find (is_at key.node key.index) store.entries stored some) (notice_of key.page stored) refl
+
+  -- what is seen has a notice exactly where the store has one
+  pub has_notice-over : (store : StoreRecord) (key : Key) → is_some (notice_at (store_over o store) key) ≡ is_some (notice_at store key)
+  has_notice-over store key = ap is_some (notice_at-over store key) ∙ by_found (notice_at store key)
+    where
+      by_found : (found : Option NoticeRecord) → is_some (option_map (notice_seen key) found) ≡ is_some found
+      by_found None = refl
+      by_found (Some notice) = refl
 
 -- ---- what the store's calls do to what is seen
 

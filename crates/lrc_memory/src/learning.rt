@@ -11,7 +11,7 @@ ghost use Rattle.lrc_memory.specs.Turns.{CanBeAdded, IsInRange};
 
 use crate::memory::Memory;
 use crate::settle::settle_page;
-use lrc_store::{Interval, Intervals};
+use lrc_store::{Interval, Intervals, Key};
 use lrc_table::State;
 use lrc_time::Time;
 use std::alloc::AllocError;
@@ -88,10 +88,10 @@ impl Memory {
     }
 
     /// Whether the interval of this node and index is stored and names the page.
-    pub fn has_notice(&self, node: u8, index: u32, page: u16) -> Result<bool, AllocError>
-        ensures { IfOk result (λ found. found
-            ≡ is_some (notice_at self.now.memory.store (record { node = node; index = index; page = page }))) }
+    pub fn has_notice(&self, node: u8, index: u32, page: u16) -> bool
+        ensures { result
+            ≡ is_some (notice_at self.now.memory.store (record { node = node; index = index; page = page })) }
     {
-        Err(AllocError)
+        self.store.has_notice(Key { node, index, page })
     }
 }

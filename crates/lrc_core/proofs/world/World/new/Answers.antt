@@ -1,9 +1,9 @@
-use Rattle.std.proofs.Common.{◌≡◌, ◌∙◌, ap, map, arith, []}
+use Rattle.std.proofs.Common.{◌≡◌, ◌∙◌, ap, map, arith, [], ◌∷◌, ◌++◌, rules}
 use Rattle.std.specs.List.{range_with_len}
 use Rattle.lrc_protocol.specs.Node.{fresh_node}
 use Rattle.lrc_node.specs.Logged.{sound}
 use Rattle.lrc_core.specs.World.{seen}
-use Rattle.lrc_core.proofs.Worlds.{fresh_nodes, fresh_short}
+use Rattle.lrc_core.proofs.Worlds.{fresh_nodes, fresh_short, fresh_next}
 use Rattle.lrc_core.proofs.world.World.new.Goals as goal
 
 pub returns : goal.returns
@@ -17,3 +17,8 @@ returns c =
       acts = c.new-3.ensures.items;
       short = fresh_short c.args.code.now c.args.nodes c.args.options.now;
     }
+
+pub loop-me-preserved : goal.loop-me-preserved
+loop-me-preserved c =
+    let items : c.push.new.self.items ≡ c.loop-me.made.items ++ c.in_ok-new.field-0 ∷ [] = search rules in
+    items ∙ fresh_next c.args.code.now c.args.nodes c.args.options.now c.loop-me.made.items c.in_ok-new.field-0 c.loop-me.me c.loop-me.invariant c.in_ok-new.ensures
