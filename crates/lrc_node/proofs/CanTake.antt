@@ -34,6 +34,7 @@ use Rattle.lrc_local.proofs.Tests.{each_passes}
 use Rattle.lrc_local.proofs.Awaited.{ascends-pairs}
 use Rattle.lrc_local.proofs.Always.{awaited_at, needed_at}
 use Rattle.lrc_node.specs.Barrier.{arrival_in}
+use Rattle.lrc_node.proofs.Keeping.{apart_pairs}
 use Rattle.lrc_node.proofs.Replied.{changes_go_on, page_goes_on, whatever_mail}
 use Rattle.lrc_protocol.specs.Waits.{with_needs}
 use Rattle.lrc_protocol.specs.Fetch.{with_changes, with_page}
@@ -159,14 +160,6 @@ arriving node from m e =
 
 below_copies : (node : Node) → IsReached node → (page : ℕ) → is_page node page ≡ true → page < length node.memory.copies
 below_copies node r page e = subst (λ n. page < n) (sym (ranged_at node r).memory.copies) (ltb-true page _ e)
-
-apart_pairs : (needs : List Need) → AllPairs (λ (a b : ℕ). a < b) (map (λ (need : Need). need.page) needs) → AllPairs (λ (a b : Need). a.page ≢ b.page) needs
-apart_pairs needs h = λ i j d before within same.
-    let pages : List ℕ = map (λ (need : Need). need.page) needs in
-    let lt : get_or pages i d.page < get_or pages j d.page = h i j d.page before (rw length-map within) in
-    let at_i : get_or pages i d.page ≡ (get_or needs i d).page = get_or-map (λ (need : Need). need.page) needs i d d.page (omega arith) in
-    let at_j : get_or pages j d.page ≡ (get_or needs j d).page = get_or-map (λ (need : Need). need.page) needs j d d.page within in
-    omega arith
 
 -- a node that is reached can take what it expects
 pub can_take : (node : Node) → IsReached node → (from sender number : ℕ) (message : Message) → is_expected node from message ≡ true

@@ -1,34 +1,116 @@
 // Collections at a barrier.
 
-ghost use Rattle.std.specs.Prelude.{◌≡◌, ◌≤◌, IfOk, OnOk, Some, [], length, if◌then◌else◌};
+ghost use Rattle.std.specs.Prelude.{◌≡◌, ◌≢◌, ◌≤◌, All, AllPairs, IfOk, OnOk, Some, [], fold, length, if◌then◌else◌};
+ghost use Rattle.std.specs.List.{list_all};
 ghost use Rattle.lrc_time.specs.Time.{entry};
 ghost use Rattle.lrc_exec.specs.declared.machine.Ask.TheVariants.{Barrier};
 ghost use Rattle.lrc_memory.specs.Turns.{CanBeAdded, IsClosed};
+ghost use Rattle.lrc_memory.specs.View.{SameMemory, with_memory};
+ghost use Rattle.lrc_protocol.specs.Fetch.{is_met, mended};
 ghost use Rattle.lrc_protocol.specs.Mail.{Collection as CollectionRecord, collection_of, discard, nothing, upkeep};
+ghost use Rattle.lrc_protocol.specs.Memory.{with_base};
 ghost use Rattle.lrc_protocol.specs.Node.{acts, waiting};
 ghost use Rattle.lrc_protocol.specs.Take.{collects, discard_by, take_departure};
-ghost use Rattle.lrc_protocol.specs.Waits.{waits_or_goes_on};
+ghost use Rattle.lrc_protocol.specs.Waits.{cleans, waits_or_goes_on};
+ghost use Rattle.lrc_node.specs.Effects.{CanGoOn};
+ghost use Rattle.lrc_node.specs.Keeping.{CanClean, CanKeep, CanMend};
 ghost use Rattle.lrc_node.specs.State.{seen_effect, AreFor};
 ghost use Rattle.lrc_node.specs.Text.{asked_in};
 
+use crate::letters::one;
 use crate::state::State;
 use crate::turn::Effect;
-use lrc_mail::{Collection, Need, Wait};
+use lrc_mail::{Collection, Letter, Need, Wait};
+use lrc_memory::Memory;
 use lrc_time::Time;
-use lrc_wire::News;
+use lrc_wire::{Clean, Message, News};
 use std::alloc::AllocError;
 
+/// Whether all has come that these pages need.
+fn are_met(needs: &[Need]) -> bool
+    ensures { result ≡ list_all is_met needs.now }
+{
+    needs.iter().all(|need| need.is_met())
+}
+
+/// Repairs these pages, for which all has come. No two are the same.
+fn mend_all(memory: &mut Memory, needs: &[Need])
+    requires apart { AllPairs (λ a b. a.page ≢ b.page) needs.now }
+    requires can { All (CanMend memory.old.size memory.old.memory) needs.now }
+    ensures mended { memory.new ≡ with_memory memory.old (fold mended memory.old.memory needs.now) }
+    ensures same { SameMemory memory.old memory.new }
+{
+    for need in needs {
+        memory.mend(need);
+    }
+}
+
+/// Keeps base copies of these pages.
+fn keep_all(memory: &mut Memory, pages: &[u16]) -> Result<(), AllocError>
+    requires { All (CanKeep memory.old.memory) pages.now }
+    ensures kept { OnOk result (memory.new ≡ with_memory memory.old (fold with_base memory.old.memory pages.now)) }
+    ensures same { SameMemory memory.old memory.new }
+{
+    for page in pages {
+        memory.keep_base(*page)?;
+    }
+    Ok(())
+}
+
 impl State<'_> {
+    /// Repairs the pages that the node keeps, for which all has come, and keeps base copies. The node tells node 0 that its
+    /// copies are clean, and waits for the word to discard.
+    fn clean(&mut self, collection: Collection, needs: &[Need]) -> Result<Effect, AllocError>
+        requires { CanClean self.old collection.kept needs.now }
+        ensures effect { IfOk result (λ effect. cleans self.old collection needs.now ≡ seen_effect effect self.new) }
+        ensures to { IfOk result (λ effect. AreFor self.new.setting.nodes effect.letters.items) }
+    {
+        mend_all(&mut self.memory, needs);
+        keep_all(&mut self.memory, collection.kept.as_slice())?;
+        self.mail.wait_for(Wait::Discard(collection));
+        let episode = self.barrier.episode();
+        let letters = one(self.alloc, 0, Message::Clean(Clean { episode }))?;
+        Ok(Effect {
+            deed: None,
+            letters,
+        })
+    }
+
+    /// Sends the requests for the pages that the node keeps in a collection and waits; or where all has come its copies are
+    /// clean.
+    fn keep_up(
+        &mut self,
+        collection: Collection,
+        needs: Vec<Need>,
+        letters: Vec<Letter>,
+    ) -> Result<Effect, AllocError>
+        requires can { CanGoOn self.old (upkeep collection needs.items) }
+        requires to { AreFor self.old.setting.nodes letters.items }
+        ensures effect { IfOk result (λ effect. waits_or_goes_on letters.items self.old (upkeep collection needs.items) ≡ seen_effect effect self.new) }
+        ensures to { IfOk result (λ effect. AreFor self.new.setting.nodes effect.letters.items) }
+    {
+        if are_met(&needs) {
+            return self.clean(collection, &needs);
+        }
+        self.mail.wait_for(Wait::Upkeep(collection, needs));
+        Ok(Effect {
+            deed: None,
+            letters,
+        })
+    }
+
     /// Goes on with a collection, after something came for the pages that the node keeps.
     pub(crate) fn go_on_keeping(
         &mut self,
-        _collection: Collection,
-        _needs: Vec<Need>,
+        collection: Collection,
+        needs: Vec<Need>,
     ) -> Result<Effect, AllocError>
-        ensures effect { IfOk result (λ effect. waits_or_goes_on [] self.old (upkeep _collection _needs.items) ≡ seen_effect effect self.new) }
+        requires { CanGoOn self.old (upkeep collection needs.items) }
+        ensures effect { IfOk result (λ effect. waits_or_goes_on [] self.old (upkeep collection needs.items) ≡ seen_effect effect self.new) }
         ensures to { IfOk result (λ effect. AreFor self.new.setting.nodes effect.letters.items) }
     {
-        Err(AllocError)
+        let letters = Vec::new(self.alloc);
+        self.keep_up(collection, needs, letters)
     }
 
     /// Begins a collection up to this time.
