@@ -1,31 +1,37 @@
 -- Pages that a node keeps in a collection: once all has come they can be repaired, and then base copies can be kept.
 use Rattle.std.proofs.Common.{◌≡◌, ◌≢◌, ℕ, ◌<◌, ◌≤◌, Bool, true, false, List, [], ◌∷◌, get_or, take, min, length, map, fold, refl, sym, ◌∙◌, ap, subst, arith, eq-eqb}
-use Rattle.std.specs.Prelude.{All, AllPairs, None, not, filter, slice_index_or}
+use Rattle.std.specs.Prelude.{All, AllPairs, None, not, filter, flat_map, slice_index_or}
 use Rattle.std.specs.List.{list_all}
 use Rattle.std.proofs.lemmas.Bool.{and_parts}
 use Rattle.std.proofs.lemmas.List.{get_or-take, get_or_default, get_or-set_other, length-map, get_or-map, length-take-le}
-use Rattle.std.proofs.lemmas.List.Elements.{All-head, All-tail, All-get_or, All-contains_itself}
+use Rattle.std.proofs.lemmas.List.Elements.{All-nil, All-head, All-tail, All-append, All-filter, All-get_or, All-contains_itself}
 use Rattle.lrc_page.specs.declared.size.Size.{Size}
 use Rattle.lrc_page.specs.Page.{words_of}
+use Rattle.lrc_page.specs.Place.{pages_of}
 use Rattle.lrc_store.specs.declared.key.Key.{Key}
 use Rattle.lrc_memory.specs.Turns.{is_mendable}
 use Rattle.lrc_protocol.specs.Copy.{Copy, valid, written, invalid, absent, is_readable, changes_of}
-use Rattle.lrc_protocol.specs.Fetch.{Base, unneeded, due, come, Need, is_due, is_met, mended}
-use Rattle.lrc_protocol.specs.Mail.{Collection, upkeep}
-use Rattle.lrc_protocol.specs.Memory.{Memory, copy_at, with_base}
-use Rattle.lrc_protocol.specs.Node.{Node}
+use Rattle.lrc_protocol.specs.Fetch.{Base, unneeded, due, come, Need, need_of, is_due, is_met, mended}
+use Rattle.lrc_protocol.specs.Mail.{Collection, Letter, upkeep}
+use Rattle.lrc_protocol.specs.Letters.{requests_of}
+use Rattle.lrc_protocol.specs.Take.{needs_to_keep}
+use Rattle.lrc_protocol.specs.Memory.{Memory, copy_at, keeper_at, kept_pages, with_base, with_keepers}
+use Rattle.lrc_protocol.specs.Node.{Node, with_memory}
 use Rattle.lrc_protocol.specs.Waits.{clean_memory}
 use Rattle.lrc_local.specs.Needs.{FitsBase, FitsNeed}
+use Rattle.lrc_local.specs.Ranges.{HasRanges}
+use Rattle.lrc_local.proofs.Needs.{ascends-filter, kept-ascends, kept-below, needs-fit, pages_needed}
 use Rattle.lrc_local.specs.Waits.{NoneWritten}
 use Rattle.lrc_local.proofs.Awaited.{ascends-pairs}
 use Rattle.lrc_local.proofs.Change.{View, view_of, cleans}
 use Rattle.lrc_local.proofs.Indices.{Ascends}
 use Rattle.lrc_local.proofs.Quiet.{quiet-kept}
-use Rattle.lrc_local.proofs.Ranges.{mends-same}
+use Rattle.lrc_local.proofs.Ranges.{keeps-ranges, mends-same}
 use Rattle.lrc_local.proofs.Replies.{bases-copies, clean-readable}
 use Rattle.lrc_local.proofs.Tests.{each_passes}
-use Rattle.lrc_node.specs.Keeping.{CanMend, CanKeep, CanClean}
-use Rattle.lrc_node.proofs.Misses.{lacking_of_page}
+use Rattle.lrc_node.specs.Keeping.{CanMend, CanKeep, CanClean, CanCollect}
+use Rattle.lrc_node.specs.State.{AreFor}
+use Rattle.lrc_node.proofs.Misses.{lacking_of_page, requests_for}
 
 -- ---- one page after another
 
@@ -132,3 +138,55 @@ can_clean node pages kept needs arrived long ascends fits below same none met =
             closed = All-get_or (λ copy. changes_of copy ≡ None) after.copies page absent there (none_written node node.memory kept needs met none);
           };
     }
+
+-- ---- a collection begins
+
+kept_needs_below : (node : Node) → CanCollect node → All (λ page. page < pages_of node.setting.words node.options.size) (kept_pages node.setting.me (with_keepers node.memory))
+kept_needs_below node can =
+    let pages : ℕ = pages_of node.setting.words node.options.size in
+    let keeping : HasRanges node.setting.nodes pages (with_keepers node.memory) = keeps-ranges node.setting.nodes pages node.memory can.ranges in
+    kept-below node.setting.me pages (with_keepers node.memory) keeping.keepers
+
+-- the pages that a node keeps are the memory's
+pub kept_within : (node : Node) → CanCollect node → All (λ page. page < length node.memory.copies) (kept_pages node.setting.me (with_keepers node.memory))
+kept_within node can = subst (λ n. All (λ page. page < n) (kept_pages node.setting.me (with_keepers node.memory))) (sym can.ranges.copies) (kept_needs_below node can)
+
+-- where all has come at once, its copies can be cleaned
+pub begins_clean : (node : Node) → CanCollect node
+    → list_all is_met (needs_to_keep (with_memory node (with_keepers node.memory)) (kept_pages node.setting.me (with_keepers node.memory))) ≡ true
+    → CanClean (with_memory node (with_keepers node.memory)) (kept_pages node.setting.me (with_keepers node.memory))
+    (needs_to_keep (with_memory node (with_keepers node.memory)) (kept_pages node.setting.me (with_keepers node.memory)))
+begins_clean node can met =
+    let keeping : Memory = with_keepers node.memory in
+    let pages : ℕ = pages_of node.setting.words node.options.size in
+    let kept : List ℕ = kept_pages node.setting.me keeping in
+    let unread : ℕ → Bool = λ page. not (is_readable (copy_at keeping page)) in
+    let ranges : HasRanges node.setting.nodes pages keeping = keeps-ranges node.setting.nodes pages node.memory can.ranges in
+    let needs : List Need = needs_to_keep (with_memory node keeping) kept in
+    let same : map (λ (need : Need). need.page) needs ≡ filter unread kept = pages_needed node.setting.nodes keeping (filter unread kept) in
+    can_clean (with_memory node keeping) pages kept needs can.arrived ranges.copies
+    (subst Ascends (sym same) (ascends-filter unread kept (kept-ascends node.setting.me keeping)))
+    (needs-fit node.setting.me node.setting.nodes pages (words_of node.options.size) keeping ranges)
+    (kept_needs_below node can) same can.closed met
+
+all_requests : (nodes : ℕ) (memory : Memory) (pages : List ℕ) → All (λ page. keeper_at memory page < nodes) pages
+    → AreFor nodes (flat_map requests_of (map (need_of nodes memory) pages))
+all_requests nodes memory [] h = All-nil (λ (letter : Letter). letter.to < nodes)
+all_requests nodes memory (page ∷ pages) h =
+    All-append (λ (letter : Letter). letter.to < nodes) (requests_of (need_of nodes memory page)) (flat_map requests_of (map (need_of nodes memory) pages))
+    (requests_for nodes memory page (All-head (λ page. keeper_at memory page < nodes) page pages h))
+    (all_requests nodes memory pages (All-tail (λ page. keeper_at memory page < nodes) page pages h))
+
+-- the requests go to nodes
+pub begins_for : (node : Node) → CanCollect node
+    → AreFor node.setting.nodes (flat_map requests_of (needs_to_keep (with_memory node (with_keepers node.memory)) (kept_pages node.setting.me (with_keepers node.memory))))
+begins_for node can =
+    let keeping : Memory = with_keepers node.memory in
+    let pages : ℕ = pages_of node.setting.words node.options.size in
+    let kept : List ℕ = kept_pages node.setting.me keeping in
+    let unread : ℕ → Bool = λ page. not (is_readable (copy_at keeping page)) in
+    let ranges : HasRanges node.setting.nodes pages keeping = keeps-ranges node.setting.nodes pages node.memory can.ranges in
+    all_requests node.setting.nodes keeping (filter unread kept)
+    (All-filter unread (λ page. keeper_at keeping page < node.setting.nodes) kept
+    (λ k d within. All-get_or (λ keeper. keeper < node.setting.nodes) keeping.keepers (get_or kept k d) 0
+    (omega (arith, kept_needs_below node can k d within, ranges.keepers)) ranges.keeping))

@@ -1,7 +1,9 @@
 -- What a node needs of the pages that it keeps in a collection.
 use Rattle.std.specs.Prelude.{ℕ, ◌≡◌, ◌≢◌, ◌<◌, ◌≤◌, true, None, List, All, AllPairs, length, fold}
 use Rattle.lrc_page.specs.declared.size.Size.{Size}
-use Rattle.lrc_memory.specs.Turns.{is_mendable}
+use Rattle.lrc_page.specs.Place.{pages_of}
+use Rattle.lrc_local.specs.Ranges.{HasRanges}
+use Rattle.lrc_memory.specs.Turns.{is_mendable, IsClosed}
 use Rattle.lrc_protocol.specs.Copy.{is_readable, changes_of}
 use Rattle.lrc_protocol.specs.Fetch.{Need, mended}
 use Rattle.lrc_protocol.specs.Memory.{Memory, copy_at}
@@ -26,3 +28,9 @@ pub record CanClean (node : Node) (kept : List ℕ) (needs : List Need) : Type 0
   pub apart : AllPairs (λ a b. a.page ≢ b.page) needs
   pub mends : All (CanMend node.options.size node.memory) needs
   pub keeps : All (CanKeep (fold mended node.memory needs)) kept
+
+-- a node can begin a collection: it has arrived at a barrier, what its memory has is in range, and no page is written
+pub record CanCollect (node : Node) : Type 0 where
+  pub arrived : 1 ≤ node.barrier.episode
+  pub ranges : HasRanges node.setting.nodes (pages_of node.setting.words node.options.size) node.memory
+  pub closed : IsClosed node.memory
