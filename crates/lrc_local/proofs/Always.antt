@@ -220,6 +220,10 @@ sent_at node r = (come_to node r).sent ∙ sym (ap (λ (s : Setting). s.nodes) (
 pub early_at : (node : Node) → IsReached node → node.barrier.episode ≤ entry node.locks.time node.setting.me
 early_at node r = subst (λ (s : Setting). node.barrier.episode ≤ entry node.locks.time s.me) (sym (is_set node r)) (come_to node r).early
 
+-- who is inside a barrier has arrived at one
+pub entered_at : (node : Node) → IsReached node → is_inside node.mail.wait ≤ node.barrier.episode
+entered_at node r = (come_to node r).entered
+
 -- ---- of its text
 
 pub text_at : (node : Node) → IsReached node → (thread : Thread) → node.course ≡ going thread → (thread.setting ≡ node.setting) × (length thread.held ≡ 64)

@@ -7,6 +7,7 @@ pub mod Words
 pub mod Managers
 pub mod Inversion
 pub mod Mailed
+pub mod Entered
 pub mod Reach
 pub mod Leads
 pub mod Tokened

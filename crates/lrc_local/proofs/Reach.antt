@@ -16,6 +16,8 @@ use Rattle.lrc_invariants.proofs.Held.{Tokened, node-tokened, fresh-tokened}
 use Rattle.lrc_local.specs.Reached.{LeadsTo}
 use Rattle.lrc_local.proofs.Change.{View, view_of, Walk, stands}
 use Rattle.lrc_local.proofs.Mailed.{early-kept}
+use Rattle.lrc_local.proofs.Entered.{entered-kept}
+use Rattle.lrc_invariants.specs.Counts.{is_inside}
 use Rattle.lrc_local.proofs.Inversion.{AtEnd, turn-at}
 
 module _ (program : Program) (nodes : ℕ) (options : OptionsRecord) (me : ℕ) (among : me < nodes) where
@@ -27,6 +29,7 @@ module _ (program : Program) (nodes : ℕ) (options : OptionsRecord) (me : ℕ) 
     pub walked : Walk first_view (view_of l.node)
     pub sent : length l.node.mail.sent ≡ nodes
     pub early : l.node.barrier.episode ≤ entry l.node.locks.time me
+    pub entered : is_inside l.node.mail.wait ≤ l.node.barrier.episode
 
   ComeIf : Option Local → Type 0
   ComeIf None = Unit {0}
@@ -48,6 +51,7 @@ module _ (program : Program) (nodes : ℕ) (options : OptionsRecord) (me : ℕ) 
     walked = w;
     sent = t.numbers.size ∙ c.sent;
     early = still_early l turn after s c;
+    entered = entered-kept (part_of l.node) c.entered s.acts after.mail.wait after.locks after.barrier.episode s.shift;
   }
   by_outcome l not_ready t s w c = tt
   by_outcome l unexpected t s w c = tt
@@ -72,4 +76,4 @@ module _ (program : Program) (nodes : ℕ) (options : OptionsRecord) (me : ℕ) 
   come l leads =
       subst ComeIf leads.made
       (by_inputs leads.inputs (Some (record { node = fresh_node program nodes options me; turns = [] }))
-      (record { tokened = fresh-tokened program nodes options me; walked = stands; sent = length-replicate nodes 0; early = omega arith }))
+      (record { tokened = fresh-tokened program nodes options me; walked = stands; sent = length-replicate nodes 0; early = omega arith; entered = omega arith }))

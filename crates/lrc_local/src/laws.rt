@@ -103,12 +103,13 @@ pub fn intervals_are_stored_exactly()
 {}
 
 /// A node that is reached counts messages of each node, has the manager of barriers exactly where it is node 0, and has arrived
-/// no more often than it closed intervals.
+/// no more often than it closed intervals, and where it is inside a barrier at least once.
 pub fn mail_and_barriers_fit()
     ensures sent { (node : Node) → IsReached node → length node.mail.sent ≡ node.setting.nodes }
     ensures taken { (node : Node) → IsReached node → length node.mail.taken ≡ node.setting.nodes }
     ensures manager { (node : Node) → IsReached node → HasManager node.setting.me node.setting.nodes node.barrier.manager }
     ensures episode { (node : Node) → IsReached node → node.barrier.episode ≤ entry node.locks.time node.setting.me }
+    ensures inside { (node : Node) → IsReached node → is_inside node.mail.wait ≤ node.barrier.episode }
 {}
 
 /// The text of a node that is reached has the node's setting, and has arrived at a barrier exactly while the node is inside one.

@@ -34,6 +34,17 @@ use Rattle.lrc_local.proofs.Tests.{each_passes}
 use Rattle.lrc_local.proofs.Awaited.{ascends-pairs}
 use Rattle.lrc_local.proofs.Always.{awaited_at, needed_at}
 use Rattle.lrc_node.specs.Barrier.{arrival_in}
+use Rattle.lrc_node.proofs.Keeping.{apart_pairs}
+use Rattle.lrc_node.specs.Keeping.{CanCollect}
+use Rattle.lrc_time.specs.Time.{joined}
+use Rattle.lrc_protocol.specs.Memory.{Memory, learned}
+use Rattle.lrc_protocol.specs.Take.{learns}
+use Rattle.lrc_invariants.specs.Counts.{is_inside}
+use Rattle.lrc_local.specs.Waits.{NoneWritten}
+use Rattle.lrc_local.proofs.Change.{View, view_of, Change, news, is_open, learns as learns_change}
+use Rattle.lrc_local.proofs.Ranges.{Ranged, ranged-kept}
+use Rattle.lrc_local.proofs.Quiet.{quiet-kept}
+use Rattle.lrc_local.proofs.Always.{entered_at}
 use Rattle.lrc_node.proofs.Replied.{changes_go_on, page_goes_on, whatever_mail}
 use Rattle.lrc_protocol.specs.Waits.{with_needs}
 use Rattle.lrc_protocol.specs.Fetch.{with_changes, with_page}
@@ -160,13 +171,29 @@ arriving node from m e =
 below_copies : (node : Node) → IsReached node → (page : ℕ) → is_page node page ≡ true → page < length node.memory.copies
 below_copies node r page e = subst (λ n. page < n) (sym (ranged_at node r).memory.copies) (ltb-true page _ e)
 
-apart_pairs : (needs : List Need) → AllPairs (λ (a b : ℕ). a < b) (map (λ (need : Need). need.page) needs) → AllPairs (λ (a b : Need). a.page ≢ b.page) needs
-apart_pairs needs h = λ i j d before within same.
-    let pages : List ℕ = map (λ (need : Need). need.page) needs in
-    let lt : get_or pages i d.page < get_or pages j d.page = h i j d.page before (rw length-map within) in
-    let at_i : get_or pages i d.page ≡ (get_or needs i d).page = get_or-map (λ (need : Need). need.page) needs i d d.page (omega arith) in
-    let at_j : get_or pages j d.page ≡ (get_or needs j d).page = get_or-map (λ (need : Need). need.page) needs j d d.page within in
-    omega arith
+departs_open : (wait : Wait) → awaits_departure wait ≡ true → (is_open wait ≡ true) × ((memory : Memory) → IsQuiet wait memory ≡ NoneWritten memory) × (is_inside wait ≡ 1)
+departs_open nothing e = cc
+departs_open (grant lock) e = cc
+departs_open departure e = (refl, λ memory. refl, refl)
+departs_open (access need) e = cc
+departs_open (upkeep collection needs) e = cc
+departs_open (discard collection) e = cc
+
+-- a node that learns what a departure brings can begin a collection then
+can_collect : (node : Node) → IsReached node → (sender number : ℕ) (time : List ℕ) (intervals : List IntervalRecord) → awaits_departure node.mail.wait ≡ true
+    → is_learnable node time intervals ≡ true → CanCollect (learns time intervals (record node { mail = with_taken sender number node.mail }))
+can_collect node r sender number time intervals waits e =
+    let is = departs_open node.mail.wait waits in
+    let v : View = view_of node in
+    let after : View = record v { time = joined v.time time; memory = learned v.time intervals v.memory } in
+    let change : Change v after = learns_change time intervals is.0 (news node time intervals e) in
+    let ranged : Ranged after = ranged-kept v after change (ranged_at node r) in
+    let quiet : IsQuiet node.mail.wait after.memory = quiet-kept v after change (quiet_at node r) in
+    record {
+      arrived = omega (arith, entered_at node r, is.2);
+      ranges = ranged.memory;
+      closed = subst (λ (t : Type 0). t) (is.1 after.memory) quiet;
+    }
 
 -- a node that is reached can take what it expects
 pub can_take : (node : Node) → IsReached node → (from sender number : ℕ) (message : Message) → is_expected node from message ≡ true
@@ -184,7 +211,8 @@ can_take node r from sender number (Arrive m) e = arriving node from m (and_part
 can_take node r from sender number (Depart m) e =
     let a = and_parts _ _ e in
     let waits = (and_parts _ _ (and_parts _ _ (and_parts _ _ a.0).0).0).1 in
-    (departing_asked node r waits, news_time node m.time m.intervals a.1, learnable_added node r m.time m.intervals a.1)
+    (departing_asked node r waits, news_time node m.time m.intervals a.1, learnable_added node r m.time m.intervals a.1,
+    can_collect node r sender number m.time m.intervals waits a.1)
 can_take node r from sender number (Clean episode) e = tt
 can_take node r from sender number (Discard episode) e =
     let d = can_discard node r (and_parts _ _ (and_parts _ _ e).0).1 in

@@ -7,6 +7,7 @@ pub mod Turns
 pub mod InRange
 pub mod Episodes
 pub mod Misses
+pub mod Keeping
 pub mod CanTake
 pub mod Replied
 pub mod Logging

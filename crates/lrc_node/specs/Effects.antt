@@ -1,5 +1,6 @@
 -- What a turn does, by what the text asks for.
 use Rattle.std.specs.Prelude.{ℕ, ◌≡◌, ◌+◌, ◌-◌, ◌<◌, ◌≤◌, true, false, IsTrue, Option, Some, [], length, option_map, All, fold}
+use Rattle.std.specs.List.{list_all}
 use Rattle.lrc_time.specs.Time.{entry}
 use Rattle.lrc_lock.specs.Held.{lock_at, is_free, is_held}
 use Rattle.lrc_lock.specs.declared.state.LockState.TheVariants.{Away}
@@ -12,7 +13,7 @@ use Rattle.lrc_protocol.specs.Memory.{Memory, copy_at, value_at, with_word}
 use Rattle.lrc_protocol.specs.Locks.{next_time}
 use Rattle.lrc_memory.specs.Turns.{is_mendable}
 use Rattle.lrc_protocol.specs.Fetch.{Need, is_met}
-use Rattle.lrc_protocol.specs.Mail.{Wait, access}
+use Rattle.lrc_protocol.specs.Mail.{Wait, access, upkeep}
 use Rattle.lrc_protocol.specs.Node.{Node, Effect, begins, acts, with_memory}
 use Rattle.lrc_protocol.specs.Run.{own_index, reaches, closing, acquire_at, release_at, arrive_at}
 use Rattle.lrc_exec.specs.Ask.{ask_of}
@@ -21,6 +22,7 @@ use Rattle.lrc_protocol.specs.Take.{with_part}
 use Rattle.lrc_protocol.specs.Turn.{Outcome, not_ready, worn}
 use Rattle.lrc_node.specs.declared.fault.NodeFault.{NodeFault}
 use Rattle.lrc_node.specs.declared.fault.NodeFault.TheVariants.{NotReady, Worn, NoMemory}
+use Rattle.lrc_node.specs.Keeping.{CanClean}
 use Rattle.lrc_node.specs.Text.{asked_in, deed_in, gone_on, cost_to_begin}
 
 -- the value that is read where this is asked for, 0 where nothing is
@@ -107,6 +109,7 @@ pub record CanRepair (node : Node) (need : Need) : Type 0 where
 -- what is awaited of a page can be repaired once all has come
 abbrev pub CanGoOn : Node → Wait → Type 0
 CanGoOn node (access need) = is_met need ≡ true → CanRepair node need
+CanGoOn node (upkeep collection needs) = list_all is_met needs ≡ true → CanClean node collection.kept needs
 CanGoOn node _ = Unit {0}
 
 -- the node with the changes of a reply stored

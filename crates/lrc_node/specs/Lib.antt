@@ -2,6 +2,7 @@ pub mod Text
 pub mod Clock
 pub mod Barrier
 pub mod News
+pub mod Keeping
 pub mod Effects
 pub mod State
 pub mod Seen

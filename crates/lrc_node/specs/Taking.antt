@@ -9,9 +9,11 @@ use Rattle.lrc_memory.specs.Turns.{AreAwaited, CanBeAdded, IsClosed}
 use Rattle.lrc_protocol.specs.Fetch.{with_changes, with_page}
 use Rattle.lrc_protocol.specs.Mail.{Collection, discard, needs_of}
 use Rattle.lrc_protocol.specs.Node.{Node}
+use Rattle.lrc_protocol.specs.Take.{learns}
 use Rattle.lrc_protocol.specs.Waits.{with_needs}
 use Rattle.lrc_node.specs.Barrier.{arrival_in}
 use Rattle.lrc_node.specs.Effects.{CanGoOn, with_parts}
+use Rattle.lrc_node.specs.Keeping.{CanCollect}
 use Rattle.lrc_node.specs.Text.{asked_in}
 
 -- a node that waits for the word to discard has nothing written, and collects up to a time that covers its own intervals
@@ -32,6 +34,7 @@ CanTake node from (LockGrant m) =
 CanTake node from (Arrive m) = IsArrival node.setting.nodes from (arrival_in m)
 CanTake node from (Depart m) =
     (asked_in node.course ≡ Some Barrier) × (length m.time ≡ node.setting.nodes) × CanBeAdded node.memory.store m.intervals
+    × CanCollect (learns m.time m.intervals node)
 CanTake node from (Clean episode) = Unit {0}
 CanTake node from (Discard episode) = CanDiscard node
 CanTake node from (ChangesRequest m) = m.page < length node.memory.copies

@@ -1,0 +1,54 @@
+use Rattle.std.proofs.Common.{◌≡◌, ◌<◌, ℕ, true, List, length, sym, ◌∙◌, ap, subst}
+use Rattle.std.specs.Prelude.{All, flat_map}
+use Rattle.std.specs.List.{list_all}
+use Rattle.lrc_protocol.specs.Fetch.{Need, is_met}
+use Rattle.lrc_protocol.specs.Letters.{requests_of}
+use Rattle.lrc_protocol.specs.Mail.{Letter, upkeep}
+use Rattle.lrc_protocol.specs.Memory.{kept_pages, with_keepers}
+use Rattle.lrc_protocol.specs.Node.{Node, with_memory}
+use Rattle.lrc_protocol.specs.Take.{collects, needs_to_keep}
+use Rattle.lrc_protocol.specs.Waits.{waits_or_goes_on}
+use Rattle.lrc_node.specs.Keeping.{CanClean}
+use Rattle.lrc_node.specs.State.{AreFor}
+use Rattle.lrc_node.proofs.Keeping.{kept_within, begins_clean, begins_for}
+use Rattle.lrc_node.proofs.state.State.collects.Goals as goal
+
+pub needs_to_keep-requires : goal.needs_to_keep-requires
+needs_to_keep-requires c =
+    subst (λ (kept : List ℕ). All (λ page. page < length c.take_keepers.new.self.memory.copies) kept) (sym c.in_ok-kept.ensures)
+    (subst (λ (n : Node). All (λ page. page < length n.memory.copies) (kept_pages n.setting.me n.memory)) (sym c.in_ok-take_keepers.ensures)
+    (kept_within c.args.self.now c.requires))
+
+pub keep_up-requires-clause-can : goal.keep_up-requires-clause-can
+keep_up-requires-clause-can c =
+    let now : Node = c.take_keepers.new.self in
+    subst (λ (needs : List Need). list_all is_met needs ≡ true → CanClean now c.in_ok-kept.kept needs) (sym c.in_ok-needs.ensures)
+    (subst (λ (kept : List ℕ). list_all is_met (needs_to_keep now kept) ≡ true → CanClean now kept (needs_to_keep now kept)) (sym c.in_ok-kept.ensures)
+    (subst (λ (n : Node). list_all is_met (needs_to_keep n (kept_pages n.setting.me n.memory)) ≡ true
+    → CanClean n (kept_pages n.setting.me n.memory) (needs_to_keep n (kept_pages n.setting.me n.memory))) (sym c.in_ok-take_keepers.ensures)
+    (begins_clean c.args.self.now c.requires)))
+
+pub keep_up-requires-clause-to : goal.keep_up-requires-clause-to
+keep_up-requires-clause-to c =
+    let now : Node = c.take_keepers.new.self in
+    let sent : c.in_ok-letters.letters.items ≡ flat_map requests_of c.in_ok-needs.needs.items = c.in_ok-letters.ensures ∙ ap (flat_map requests_of) c.deref.ensures.value in
+    subst (AreFor now.setting.nodes) (sym sent)
+    (subst (λ (needs : List Need). AreFor now.setting.nodes (flat_map requests_of needs)) (sym c.in_ok-needs.ensures)
+    (subst (λ (kept : List ℕ). AreFor now.setting.nodes (flat_map requests_of (needs_to_keep now kept))) (sym c.in_ok-kept.ensures)
+    (subst (λ (n : Node). AreFor n.setting.nodes (flat_map requests_of (needs_to_keep n (kept_pages n.setting.me n.memory)))) (sym c.in_ok-take_keepers.ensures)
+    (begins_for c.args.self.now c.requires))))
+
+pub returns-clause-effect : goal.returns-clause-effect
+returns-clause-effect c =
+    let now : Node = c.take_keepers.new.self in
+    let time : List ℕ = c.args.time.now in
+    let sent : c.in_ok-letters.letters.items ≡ flat_map requests_of c.in_ok-needs.needs.items = c.in_ok-letters.ensures ∙ ap (flat_map requests_of) c.deref.ensures.value in
+    let node = ap (λ (n : Node). let kept = kept_pages n.setting.me n.memory in
+    waits_or_goes_on (flat_map requests_of (needs_to_keep n kept)) n (upkeep (record { time = time; kept = kept }) (needs_to_keep n kept))) (sym c.in_ok-take_keepers.ensures) in
+    let kept = ap (λ (kept : List ℕ). waits_or_goes_on (flat_map requests_of (needs_to_keep now kept)) now (upkeep (record { time = time; kept = kept }) (needs_to_keep now kept)))
+    (sym c.in_ok-kept.ensures) in
+    let needs = ap (λ (needs : List Need). waits_or_goes_on (flat_map requests_of needs) now (upkeep (record { time = time; kept = c.in_ok-kept.kept }) needs)) (sym c.in_ok-needs.ensures) in
+    let letters = ap (λ (letters : List Letter). waits_or_goes_on letters now (upkeep (record { time = time; kept = c.in_ok-kept.kept }) c.in_ok-needs.needs.items)) (sym sent) in
+    let until = ap (λ (t : List ℕ). waits_or_goes_on c.in_ok-letters.letters.items now (upkeep (record { time = t; kept = c.in_ok-kept.kept }) c.in_ok-needs.needs.items))
+    (sym c.copy-time.ensures) in
+    rw (node ∙ kept ∙ needs ∙ letters ∙ until) c.keep_up.ensures.effect
