@@ -6,7 +6,7 @@ use Rattle.lrc_lang.specs.declared.program.Program.{Program}
 use Rattle.lrc_protocol.specs.Node.{Node, OptionsRecord, fresh_node}
 use Rattle.lrc_protocol.specs.Log.{Logged}
 use Rattle.lrc_protocol.specs.World.{fresh_world}
-use Rattle.lrc_node.specs.Logged.{sound}
+use Rattle.lrc_node.specs.Logged.{LoggedNode, sound}
 use Rattle.lrc_core.specs.World.{log_is_long, sends_long}
 
 abbrev pub unlogged : Node → Logged

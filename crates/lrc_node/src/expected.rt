@@ -186,5 +186,10 @@ impl State<'_> {
 fn has_notices(memory: &Memory, node: u8, page: u16, indices: &[u32]) -> Result<bool, AllocError>
     ensures { IfOk result (λ has. has ≡ list_all (λ index. is_some (notice_at memory.now.memory.store (record { node = node; index = index; page = page }))) indices.now) }
 {
-    Err(AllocError)
+    for index in indices {
+        if !memory.has_notice(node, *index, page) {
+            return Ok(false);
+        }
+    }
+    Ok(true)
 }
