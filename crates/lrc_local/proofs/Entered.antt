@@ -1,5 +1,5 @@
 -- Who is inside a barrier has arrived at one.
-use Rattle.std.proofs.Common.{◌≡◌, ℕ, ◌+◌, ◌≤◌, Bool, ap, ◌∙◌, arith}
+use Rattle.std.proofs.Common.{ℕ, ◌≤◌, Bool, ap, arith}
 use Rattle.lrc_protocol.specs.Locks.{Locks}
 use Rattle.lrc_protocol.specs.Mail.{Wait}
 use Rattle.lrc_invariants.specs.Counts.{is_inside}

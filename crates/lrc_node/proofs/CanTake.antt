@@ -1,5 +1,5 @@
 -- A node that is reached can take what it expects.
-use Rattle.std.proofs.Common.{◌≡◌, ◌≢◌, ℕ, ◌<◌, true, List, [], get_or, length, refl, sym, ◌∙◌, ap, subst, arith}
+use Rattle.std.proofs.Common.{◌≡◌, ℕ, ◌<◌, true, List, [], length, refl, sym, ◌∙◌, ap, subst, arith}
 use Rattle.std.specs.Prelude.{Option, Some, None, option_map, ◌==◌}
 use Rattle.std.proofs.lemmas.Bool.{and_parts, ltb-true, eqb-true}
 use Rattle.std.proofs.lemmas.Option.{same_Some}
@@ -21,8 +21,7 @@ use Rattle.lrc_memory.specs.Turns.{CanBeAdded}
 use Rattle.lrc_node.specs.Text.{asked_in}
 use Rattle.lrc_node.specs.Taken.{IsTaking}
 use Rattle.lrc_node.specs.Taking.{CanDiscard, CanTake}
-use Rattle.std.specs.Prelude.{AllPairs, map}
-use Rattle.std.proofs.lemmas.List.{length-map, get_or-map}
+use Rattle.std.specs.Prelude.{map}
 use Rattle.lrc_wire.specs.Records.{ArriveRecord}
 use Rattle.lrc_wire.specs.declared.message.Message.{Message}
 use Rattle.lrc_wire.specs.declared.message.Message.TheVariants.{LockRequest, LockForward, LockGrant, Arrive, Depart, Clean, Discard, ChangesRequest, ChangesReply, PageRequest, PageReply}
@@ -210,9 +209,12 @@ can_take node r from sender number (LockGrant m) e =
 can_take node r from sender number (Arrive m) e = arriving node from m (and_parts _ _ e).1
 can_take node r from sender number (Depart m) e =
     let a = and_parts _ _ e in
-    let waits = (and_parts _ _ (and_parts _ _ (and_parts _ _ a.0).0).0).1 in
-    (departing_asked node r waits, news_time node m.time m.intervals a.1, learnable_added node r m.time m.intervals a.1,
-    can_collect node r sender number m.time m.intervals waits a.1)
+    let waits = (and_parts _ _ (and_parts _ _ (and_parts _ _ a.0).0).0).1 in (
+      departing_asked node r waits,
+      news_time node m.time m.intervals a.1,
+      learnable_added node r m.time m.intervals a.1,
+      can_collect node r sender number m.time m.intervals waits a.1,
+    )
 can_take node r from sender number (Clean episode) e = tt
 can_take node r from sender number (Discard episode) e =
     let d = can_discard node r (and_parts _ _ (and_parts _ _ e).0).1 in

@@ -1,5 +1,5 @@
 -- Pages that a node keeps in a collection: once all has come they can be repaired, and then base copies can be kept.
-use Rattle.std.proofs.Common.{◌≡◌, ◌≢◌, ℕ, ◌<◌, ◌≤◌, Bool, true, false, List, [], ◌∷◌, get_or, take, min, length, map, fold, refl, sym, ◌∙◌, ap, subst, arith, eq-eqb}
+use Rattle.std.proofs.Common.{◌≡◌, ◌≢◌, ℕ, ◌<◌, ◌≤◌, Bool, true, false, List, [], ◌∷◌, get_or, take, length, map, fold, refl, sym, ◌∙◌, ap, subst, arith, eq-eqb}
 use Rattle.std.specs.Prelude.{All, AllPairs, None, not, filter, flat_map, slice_index_or}
 use Rattle.std.specs.List.{list_all}
 use Rattle.std.proofs.lemmas.Bool.{and_parts}
@@ -17,7 +17,6 @@ use Rattle.lrc_protocol.specs.Letters.{requests_of}
 use Rattle.lrc_protocol.specs.Take.{needs_to_keep}
 use Rattle.lrc_protocol.specs.Memory.{Memory, copy_at, keeper_at, kept_pages, with_base, with_keepers}
 use Rattle.lrc_protocol.specs.Node.{Node, with_memory}
-use Rattle.lrc_protocol.specs.Waits.{clean_memory}
 use Rattle.lrc_local.specs.Needs.{FitsBase, FitsNeed}
 use Rattle.lrc_local.specs.Ranges.{HasRanges}
 use Rattle.lrc_local.proofs.Needs.{ascends-filter, kept-ascends, kept-below, needs-fit, pages_needed}

@@ -1,21 +1,19 @@
 -- A node that awaits changes or a base copy can repair its page once they have come.
-use Rattle.std.proofs.Common.{◌≡◌, ℕ, ◌<◌, Bool, true, false, List, [], length, map, fold, refl, sym, ◌∙◌, ap, subst, eq-eqb}
+use Rattle.std.proofs.Common.{◌≡◌, ℕ, ◌<◌, true, List, [], length, map, fold, refl, sym, ◌∙◌, ap, subst}
 use Rattle.std.specs.Prelude.{◌≤◌, Option, Some, None, option_map, All, not, filter, slice_index_or}
 use Rattle.std.specs.List.{list_any}
 use Rattle.std.proofs.lemmas.Bool.{and_parts}
 use Rattle.std.proofs.lemmas.List.Elements.{All-head}
 use Rattle.std.proofs.lemmas.Option.{same_Some}
-use Rattle.lrc_page.specs.declared.size.Size.{Size}
 use Rattle.lrc_page.specs.Page.{words_of}
 use Rattle.lrc_page.specs.Place.{pages_of}
 use Rattle.lrc_exec.specs.Ask.{ask_of}
 use Rattle.lrc_exec.specs.Meaning.{Next, quiet, prints, reads, writes, acquires, releases, arrives, departs, traps, ends}
 use Rattle.lrc_store.specs.declared.key.Key.{Key}
 use Rattle.lrc_wire.specs.Records.{IndexedChangesRecord, ChangesReplyRecord}
-use Rattle.lrc_memory.specs.Turns.{is_mendable}
-use Rattle.lrc_protocol.specs.Copy.{Copy, valid, written, invalid, absent, is_readable, changes_of}
+use Rattle.lrc_protocol.specs.Copy.{Copy, absent, is_readable, changes_of}
 use Rattle.lrc_protocol.specs.Memory.{Memory, copy_at}
-use Rattle.lrc_protocol.specs.Fetch.{Base, unneeded, due, come, Need, is_due, is_met, with_changes, with_page, awaits_page}
+use Rattle.lrc_protocol.specs.Fetch.{Need, is_due, is_met, with_changes, with_page, awaits_page}
 use Rattle.lrc_protocol.specs.Mail.{Mail, Wait, nothing, grant, departure, access, upkeep, discard, needs_of}
 use Rattle.lrc_protocol.specs.Node.{Node, with_memory}
 use Rattle.lrc_protocol.specs.Expected.{is_changes_reply}
@@ -23,7 +21,7 @@ use Rattle.lrc_protocol.specs.Take.{with_part}
 use Rattle.lrc_protocol.specs.Waits.{with_needs}
 use Rattle.lrc_invariants.specs.Waiting.{next_in}
 use Rattle.lrc_local.specs.Reached.{IsReached}
-use Rattle.lrc_local.specs.Needs.{FitsBase, FitsNeed, FitsKept, page_next, ReachesFor}
+use Rattle.lrc_local.specs.Needs.{FitsNeed, FitsKept, page_next, ReachesFor}
 use Rattle.lrc_local.specs.Waits.{IsQuiet}
 use Rattle.lrc_invariants.specs.Counts.{is_inside}
 use Rattle.lrc_local.proofs.Indices.{Ascends}

@@ -4,9 +4,9 @@ use Rattle.std.specs.List.{list_all}
 use Rattle.lrc_protocol.specs.Fetch.{Need, is_met}
 use Rattle.lrc_protocol.specs.Letters.{requests_of}
 use Rattle.lrc_protocol.specs.Mail.{Letter, upkeep}
-use Rattle.lrc_protocol.specs.Memory.{kept_pages, with_keepers}
-use Rattle.lrc_protocol.specs.Node.{Node, with_memory}
-use Rattle.lrc_protocol.specs.Take.{collects, needs_to_keep}
+use Rattle.lrc_protocol.specs.Memory.{kept_pages}
+use Rattle.lrc_protocol.specs.Node.{Node}
+use Rattle.lrc_protocol.specs.Take.{needs_to_keep}
 use Rattle.lrc_protocol.specs.Waits.{waits_or_goes_on}
 use Rattle.lrc_node.specs.Keeping.{CanClean}
 use Rattle.lrc_node.specs.State.{AreFor}
