@@ -1,5 +1,5 @@
 -- The world at the start, and lists of messages.
-use Rattle.std.proofs.Common.{◌≡◌, ℕ, List, [], ◌∷◌, false, refl, ap, map}
+use Rattle.std.proofs.Common.{◌≡◌, ℕ, List, [], ◌∷◌, false, refl, ap, map, ◌++◌, ◌+◌}
 use Rattle.std.specs.List.{list_any, range_with_len}
 use Rattle.lrc_lock.proofs.Starts.{made_more}
 use Rattle.lrc_lang.specs.declared.program.Program.{Program}

@@ -71,7 +71,11 @@ impl<'c> World<'c> {
         ensures { (run : Run) → Shows self.old run → PlaysTo self.new (event_on run (events.Run node)) result }
     {
         let outcome = run_at(&mut self.nodes, node);
-        if is_made(outcome)? { self.follow(node) } else { Ok(()) }
+        if is_made(outcome)? {
+            self.follow(node)
+        } else {
+            Ok(())
+        }
     }
 
     // The message at the place is delivered, if it is there and its receiver takes it.
@@ -110,7 +114,11 @@ impl<'c> World<'c> {
         let envelope = envelope_in(self.alloc, &flying.bytes)?;
         let to = envelope.to as usize;
         let outcome = take_at(&mut self.nodes, to, envelope, flying.stamp);
-        if is_made(outcome)? { Ok(Some(to)) } else { Ok(None) }
+        if is_made(outcome)? {
+            Ok(Some(to))
+        } else {
+            Ok(None)
+        }
     }
 
     /// What is reported of the run.
@@ -168,7 +176,11 @@ fn send(
 {
     for envelope in out {
         let bytes = bytes_of(alloc, envelope)?;
-        flight.push_back(Flying { bytes, stamp, delivered: false })?;
+        flight.push_back(Flying {
+            bytes,
+            stamp,
+            delivered: false,
+        })?;
     }
     Ok(())
 }
