@@ -16,8 +16,6 @@ mod locks;
 #[cfg(test)]
 mod messages;
 #[cfg(test)]
-mod nodes;
-#[cfg(test)]
 mod pages;
 #[cfg(test)]
 mod posts;
