@@ -18,8 +18,6 @@ mod locks;
 #[cfg(test)]
 mod messages;
 #[cfg(test)]
-mod nodes;
-#[cfg(test)]
 mod pages;
 #[cfg(test)]
 mod posts;
@@ -29,6 +27,8 @@ mod protocol;
 mod races;
 #[cfg(test)]
 mod runs;
+#[cfg(test)]
+mod simulations;
 #[cfg(test)]
 mod stores;
 #[cfg(test)]
