@@ -103,7 +103,7 @@ fn late_grant(alloc: Global) -> Result<Vec<u64>, SimFault> {
 
 #[test]
 fn a_late_grant_tells_of_the_release_alone(rt: HostRuntime) {
-    assert!(rt; late_grant(rt.alloc()).is_ok_and(|values| values.as_slice() == [1, 0]));
+    assert!(rt; late_grant(rt.alloc()).is_ok_and(|values| values.as_slice() == [1, 0].as_slice()));
 }
 
 #[test]
