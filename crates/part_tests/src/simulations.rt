@@ -20,7 +20,8 @@ const FALSE_SHARING: &[u8] =
 const COUNTER: &[u8] =
     b"words 1; locks 1; acquire 0; x = [0]; [0] = x + 1; release 0; barrier; y = [0]; print y;";
 
-const KEPT_BY_WRITERS: &[u8] = b"words 3; locks 2; if me == 1 { acquire 1; release 1; [0] = 4; } if me == 2 { [2] = 8; }
+const KEPT_BY_WRITERS: &[u8] =
+    b"words 3; locks 2; if me == 1 { acquire 1; release 1; [0] = 4; } if me == 2 { [2] = 8; }
     barrier; if me == 0 { [1] = 6; } barrier; x = [0]; y = [1]; z = [2]; print x; print y; print z;";
 
 fn options(collect: u32, size: Size) -> Options {
@@ -46,7 +47,13 @@ fn rounds(alloc: Global, nodes: u32, count: u32) -> Result<Vec<Event>, AllocErro
     Ok(events)
 }
 
-fn acts_of(alloc: Global, text: &[u8], nodes: u32, options: &Options, events: &[Event]) -> Result<Vec<Act>, SimFault> {
+fn acts_of(
+    alloc: Global,
+    text: &[u8],
+    nodes: u32,
+    options: &Options,
+    events: &[Event],
+) -> Result<Vec<Act>, SimFault> {
     let program = parse(alloc, text).map_err(|_fault| SimFault::NoMemory)?;
     let report = simulate(alloc, &program, nodes, options, events)?;
     Ok(report.acts)
@@ -56,7 +63,9 @@ fn acts_of(alloc: Global, text: &[u8], nodes: u32, options: &Options, events: &[
 fn printed(alloc: Global, acts: &[Act], node: u8) -> Result<Vec<u64>, AllocError> {
     let mut values = Vec::new(alloc);
     for act in acts {
-        if act.node == node && let Deed::Print(value) = act.deed {
+        if act.node == node
+            && let Deed::Print(value) = act.deed
+        {
             values.push(value)?;
         }
     }
@@ -64,12 +73,21 @@ fn printed(alloc: Global, acts: &[Act], node: u8) -> Result<Vec<u64>, AllocError
 }
 
 // Whether each node prints these, and comes to its end.
-fn all_print(alloc: Global, text: &[u8], nodes: u8, options: &Options, wanted: &[u64]) -> Result<bool, SimFault> {
+fn all_print(
+    alloc: Global,
+    text: &[u8],
+    nodes: u8,
+    options: &Options,
+    wanted: &[u64],
+) -> Result<bool, SimFault> {
     let events = rounds(alloc, u32::from(nodes), 60)?;
     let acts = acts_of(alloc, text, u32::from(nodes), options, &events)?;
     for node in 0..nodes {
         let values = printed(alloc, &acts, node)?;
-        let ends = acts.contains(&Act { node, deed: Deed::End });
+        let ends = acts.contains(&Act {
+            node,
+            deed: Deed::End,
+        });
         if values.as_slice() != wanted || !ends {
             return Ok(false);
         }
@@ -108,8 +126,24 @@ fn a_late_grant_tells_of_the_release_alone(rt: HostRuntime) {
 
 #[test]
 fn nodes_write_words_of_one_page(rt: HostRuntime) {
-    assert!(rt; all_print(rt.alloc(), FALSE_SHARING, 2, &options(0, Size::Words64), &[10, 11]) == Ok(true));
-    assert!(rt; all_print(rt.alloc(), FALSE_SHARING, 2, &options(0, Size::Words256), &[10, 11]) == Ok(true));
+    assert!(rt;
+        all_print(
+            rt.alloc(),
+            FALSE_SHARING,
+            2,
+            &options(0, Size::Words64),
+            &[10, 11]
+        ) == Ok(true)
+    );
+    assert!(rt;
+        all_print(
+            rt.alloc(),
+            FALSE_SHARING,
+            2,
+            &options(0, Size::Words256),
+            &[10, 11]
+        ) == Ok(true)
+    );
 }
 
 #[test]
@@ -120,6 +154,14 @@ fn sixteen_nodes_count(rt: HostRuntime) {
 #[test]
 fn writers_keep_pages_over_collections(rt: HostRuntime) {
     for collect in 0..4u32 {
-        assert!(rt; all_print(rt.alloc(), KEPT_BY_WRITERS, 3, &options(collect, Size::Words64), &[4, 6, 8]) == Ok(true));
+        assert!(rt;
+            all_print(
+                rt.alloc(),
+                KEPT_BY_WRITERS,
+                3,
+                &options(collect, Size::Words64),
+                &[4, 6, 8]
+            ) == Ok(true)
+        );
     }
 }
