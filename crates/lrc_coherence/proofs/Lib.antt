@@ -4,3 +4,5 @@ pub mod MadeSteps
 pub mod MadeManagers
 pub mod MadeWorlds
 pub mod Stored
+pub mod History
+pub mod Laws

@@ -1,0 +1,153 @@
+-- What holds in every history of a run, group by group: the statements on which the groups build.
+use Rattle.std.proofs.Common.{◌≡◌, ℕ, ◌<◌, List, [], ◌∷◌, ◌++◌, length, map}
+use Rattle.std.specs.Prelude.{◌==◌, Bool, true, IsTrue, Option, Some, None, slice_get, All, AllPairs, Contains, if◌then◌else◌}
+use Rattle.std.specs.List.{list_any}
+use Rattle.lrc_lang.specs.declared.program.Program.{Program}
+use Rattle.lrc_trace.specs.declared.act.Act.{Act}
+use Rattle.lrc_trace.specs.Reading.{ReadsLazily}
+use Rattle.lrc_page.specs.declared.changes.Change.{Change}
+use Rattle.lrc_page.specs.Page.{words_of}
+use Rattle.lrc_page.specs.Place.{pages_of}
+use Rattle.lrc_time.specs.Time.{entry, Covers}
+use Rattle.lrc_store.specs.declared.key.Key.{Key}
+use Rattle.lrc_store.specs.Interval.{IntervalRecord}
+use Rattle.lrc_store.specs.Store.{StoredRecord, NoticeRecord, interval_of, notice_of, stored_at, changes_at}
+use Rattle.lrc_copies.specs.Page.{PageHistory, PageFits, AgreeOnPage, IsUntouchedBy, IsMadeOf, IsClosedWith}
+use Rattle.lrc_copies.specs.Stamps.{index_of, covered, IsCut, AreStamped, IsBetween}
+use Rattle.lrc_wire.specs.Envelope.{EnvelopeRecord}
+use Rattle.lrc_wire.specs.Records.{IndexedChangesRecord, ChangesReplyRecord, PageReplyRecord}
+use Rattle.lrc_wire.specs.declared.message.Message.TheVariants.{ChangesReply, PageRequest, PageReply}
+use Rattle.lrc_protocol.specs.Copy.{Copy, valid, written, invalid, absent, is_readable, values_of}
+use Rattle.lrc_protocol.specs.Fetch.{Need, due}
+use Rattle.lrc_protocol.specs.Mail.{Wait, access, discard}
+use Rattle.lrc_protocol.specs.Memory.{copy_at}
+use Rattle.lrc_protocol.specs.Node.{Node, OptionsRecord}
+use Rattle.lrc_protocol.specs.Log.{Input, EntryRecord, Logged}
+use Rattle.lrc_protocol.specs.World.{World, Flying, with_turn, pending}
+use Rattle.lrc_protocol.proofs.Worlds.{IsEntry}
+use Rattle.lrc_protocol.proofs.Induction.{Comes}
+use Rattle.lrc_invariants.proofs.Reached.{IsReached}
+use Rattle.lrc_local.specs.Own.{IsAttached}
+use Rattle.lrc_coherence.specs.Made.{AreMade, StoresJust}
+use Rattle.lrc_coherence.specs.Written.{made_stamps, made_changes, changes_on, page_history, open_record}
+use Rattle.lrc_coherence.proofs.History.{History, closed_record, closed_by}
+
+-- ---- stamps and changes
+
+-- The intervals that were closed, as the nodes know them:
+pub record AreKnown (nodes : ℕ) (made : List StoredRecord) (world : World) : Type 0 where
+  -- they are those that the nodes store and tell one another of, each with the changes of all its pages;
+  pub are : AreMade (map interval_of made) world
+  pub stored : (n : ℕ) (l : Logged) → slice_get world.nodes n ≡ Some l → StoresJust (map interval_of made) l.node
+  pub attached : All IsAttached made
+  pub pages : All (λ (x : StoredRecord). AllPairs (λ (a b : NoticeRecord). a.page < b.page) x.notices) made
+  -- no two have the same node and index;
+  pub found : (x : StoredRecord) → Contains made x → stored_at made x.node (index_of made_stamps x) ≡ Some x
+  -- their stamps are cuts, and so are the times of the nodes, what they collected, and what they remember of invalid copies;
+  pub stamped : AreStamped made_stamps nodes made
+  pub time : (n : ℕ) (l : Logged) → slice_get world.nodes n ≡ Some l → IsCut made_stamps made l.node.locks.time
+  pub collected : (n : ℕ) (l : Logged) → slice_get world.nodes n ≡ Some l → IsCut made_stamps made l.node.memory.collected
+  pub since : (n : ℕ) (l : Logged) (page : ℕ) (values since : List ℕ) → slice_get world.nodes n ≡ Some l
+      → copy_at l.node.memory page ≡ invalid values since → IsCut made_stamps made since
+  -- what a node knows of changes, and what a pending reply tells of them, is what they were.
+  pub known : (n : ℕ) (l : Logged) (key : Key) (changes : List Change) → slice_get world.nodes n ≡ Some l
+      → changes_at l.node.memory.store key ≡ Some changes → made_changes made key ≡ Some changes
+  pub replied : (e : EnvelopeRecord) (m : ChangesReplyRecord) (part : IndexedChangesRecord) → Contains (pending world) e
+      → e.message ≡ ChangesReply m → Contains m.parts part
+      → made_changes made (record { node = e.from; index = part.index; page = m.page }) ≡ Some part.changes
+
+-- ---- writes
+
+-- What the acts wrote in the intervals that were closed, and in those that are open:
+pub record AreWritten (options : OptionsRecord) (made : List StoredRecord) (world : World) : Type 0 where
+  -- a page that a closed interval does not name was not written in it;
+  pub named : (x : StoredRecord) (page : ℕ) → Contains made x → notice_of page x ≡ None
+      → IsUntouchedBy (page_history options.size world.acts page) (words_of options.size) x
+  -- a written copy is what its node's open interval made of the twin, and any other page was not written in it.
+  pub open : (n : ℕ) (l : Logged) (page : ℕ) (values twin : List ℕ) → slice_get world.nodes n ≡ Some l
+      → copy_at l.node.memory page ≡ written values twin
+      → IsMadeOf (page_history options.size world.acts page) (open_record l.node) twin values
+  pub untouched : (n : ℕ) (l : Logged) (page : ℕ) → slice_get world.nodes n ≡ Some l
+      → ((values twin : List ℕ) → copy_at l.node.memory page ≡ written values twin → ⊥)
+      → IsUntouchedBy (page_history options.size world.acts page) (words_of options.size) (open_record l.node)
+
+-- A turn changes nothing of what closed intervals wrote; and the interval that it closes has for each page that was written the
+-- changes between twin and copy, and did not write any other.
+pub record TurnWrites (options : OptionsRecord) (made : List StoredRecord) (before after : World) (node : Node) (closed : List StoredRecord)
+    : Type 0 where
+  pub stay : (page : ℕ) → AgreeOnPage made (page_history options.size before.acts page) (page_history options.size after.acts page)
+  pub closes : (x : StoredRecord) (page : ℕ) (values twin : List ℕ) → Contains closed x → copy_at node.memory page ≡ written values twin
+      → IsClosedWith (page_history options.size after.acts page) x twin values
+  pub leaves : (x : StoredRecord) (page : ℕ) → Contains closed x
+      → ((values twin : List ℕ) → copy_at node.memory page ≡ written values twin → ⊥)
+      → IsUntouchedBy (page_history options.size after.acts page) (words_of options.size) x × (changes_on page x ≡ [])
+
+-- ---- requests for pages, and base copies
+
+-- the node waits at a miss for a base copy of the page, due from this keeper
+pub record AwaitsBase (node : Node) (page keeper : ℕ) : Type 0 where
+  pub need : Need
+  pub waits : node.mail.wait ≡ access need
+  pub page_is : need.page ≡ page
+  pub base_is : need.base ≡ due keeper
+
+-- a request for a page and its reply are on their way only while the asker waits for them
+pub record AreAwaited (world : World) : Type 0 where
+  pub request : (e : EnvelopeRecord) (page : ℕ) (l : Logged) → Contains (pending world) e → e.message ≡ PageRequest page
+      → slice_get world.nodes e.from ≡ Some l → AwaitsBase l.node page e.to
+  pub reply : (e : EnvelopeRecord) (m : PageReplyRecord) (l : Logged) → Contains (pending world) e → e.message ≡ PageReply m
+      → slice_get world.nodes e.to ≡ Some l → AwaitsBase l.node m.page e.from
+
+-- the time that a node's base copy of a page fits: that of the collection for which it was made, until that is done; and else
+-- what the node collected
+abbrev pub bound_in : Wait → List ℕ → ℕ → List ℕ
+bound_in (discard collection) collected page = if list_any (λ kept. kept == page) collection.kept then collection.time else collected
+bound_in _ collected page = collected
+
+abbrev pub base_bound : Node → ℕ → List ℕ
+base_bound node page = bound_in node.mail.wait node.memory.collected page
+
+-- a base copy that fits its time fits the asker's collected time too: no interval between the two names the page
+pub record AreServed (made : List StoredRecord) (world : World) : Type 0 where
+  pub below : (n keeper page : ℕ) (l kept : Logged) → slice_get world.nodes n ≡ Some l → slice_get world.nodes keeper ≡ Some kept
+      → AwaitsBase l.node page keeper → Covers l.node.memory.collected (base_bound kept.node page)
+  pub unnamed : (n keeper page : ℕ) (l kept : Logged) (x : StoredRecord) → slice_get world.nodes n ≡ Some l
+      → slice_get world.nodes keeper ≡ Some kept → AwaitsBase l.node page keeper
+      → IsBetween made_stamps made (base_bound kept.node page) l.node.memory.collected x → notice_of page x ≡ None
+
+-- ---- copies
+
+-- each readable copy fits what its node's time covers, with its own open interval
+pub record AreFitting (options : OptionsRecord) (made : List StoredRecord) (world : World) : Type 0 where
+  pub readable : (n : ℕ) (l : Logged) (page : ℕ) → slice_get world.nodes n ≡ Some l → is_readable (copy_at l.node.memory page) ≡ true
+      → PageFits (page_history options.size world.acts page) (values_of (copy_at l.node.memory page))
+      (open_record l.node ∷ covered made_stamps l.node.locks.time made)
+
+-- ---- the laws
+
+module _ (program : Program) (nodes : ℕ) (options : OptionsRecord) where
+  abbrev pub StampsLaw : Type 0
+  StampsLaw = (world : World) (made : List StoredRecord) → History program nodes options world made → AreKnown nodes made world
+
+  abbrev pub WritesLaw : Type 0
+  WritesLaw = (world : World) (made : List StoredRecord) → History program nodes options world made → AreWritten options made world
+
+  abbrev pub TurnsLaw : Type 0
+  TurnsLaw =
+      (world : World) (made : List StoredRecord) (flight : List Flying) (n : ℕ) (l after : Logged) (input : Input) (entry : EntryRecord)
+      → slice_get world.nodes n ≡ Some l → Comes world n input flight → IsEntry l input entry after
+      → IsReached program nodes options world → IsReached program nodes options (with_turn world flight n entry after)
+      → History program nodes options world made
+      → TurnWrites options made world (with_turn world flight n entry after) l.node (closed_by l.node after.node)
+
+  abbrev pub RequestsLaw : Type 0
+  RequestsLaw = (world : World) → IsReached program nodes options world → AreAwaited world
+
+  abbrev pub BasesLaw : Type 0
+  BasesLaw = (world : World) (made : List StoredRecord) → History program nodes options world made → AreServed made world
+
+  abbrev pub CopiesLaw : Type 0
+  CopiesLaw = (world : World) (made : List StoredRecord) → History program nodes options world made → AreFitting options made world
+
+  abbrev pub ReadsLaw : Type 0
+  ReadsLaw = (world : World) → IsReached program nodes options world → ReadsLazily world.acts
