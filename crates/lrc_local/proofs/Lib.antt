@@ -33,3 +33,4 @@ pub mod Acted
 pub mod Always
 pub mod Wrote
 pub mod Comes
+pub mod Steps
