@@ -34,3 +34,4 @@ pub mod Always
 pub mod Wrote
 pub mod Comes
 pub mod Steps
+pub mod Noting

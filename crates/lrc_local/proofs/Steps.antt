@@ -1,21 +1,19 @@
 -- The steps of a node pay for the intervals that it closes and for its accesses.
-use Rattle.std.proofs.Common.{◌≡◌, ℕ, ◌+◌, ◌-◌, ◌<◌, ◌≤◌, ◌⊎◌, List, [], ◌∷◌, Bool, true, false, length, refl, sym, ap, subst, ◌∙◌, ⊎_elim, arith}
-use Rattle.std.specs.Prelude.{Option, Some, None, max, option_map, fold, map, nat_lt, nat_le, slice_set, if◌then◌else◌}
+use Rattle.std.proofs.Common.{◌≡◌, ℕ, ◌+◌, ◌<◌, ◌≤◌, List, [], Bool, true, false, length, refl, sym, ap, subst, ◌∙◌, ⊎_elim, arith}
+use Rattle.std.specs.Prelude.{Option, Some, None, option_map, fold, map, nat_lt, slice_set, if◌then◌else◌}
 use Rattle.std.specs.List.{list_all}
 use Rattle.std.proofs.lemmas.Bool.{and_parts, cases_lt, leb-true}
 use Rattle.std.proofs.lemmas.List.{get_or_past, length-set}
 use Rattle.std.proofs.lemmas.Option.{same_Some}
-use Rattle.lrc_lang.specs.declared.program.Program.{Program}
 use Rattle.lrc_trace.specs.declared.act.Act.{Act}
 use Rattle.lrc_trace.specs.declared.act.Deed.{Deed}
 use Rattle.lrc_trace.specs.declared.act.Deed.TheVariants.{Read, Write}
 use Rattle.lrc_trace.specs.Run.{act_of}
 use Rattle.lrc_time.specs.Time.{entry, joined}
-use Rattle.lrc_time.proofs.Times.{entry-set_same, entry-joined, entry-zeros}
+use Rattle.lrc_time.proofs.Times.{entry-set_same, entry-joined}
 use Rattle.lrc_page.specs.Place.{page_of}
 use Rattle.lrc_exec.specs.Meaning.{Thread, Next, quiet, prints, reads, writes, acquires, releases, arrives, departs, traps, ends, next_of}
 use Rattle.lrc_store.specs.Interval.{IntervalRecord}
-use Rattle.lrc_store.specs.Store.{StoreRecord}
 use Rattle.lrc_wire.specs.Envelope.{EnvelopeRecord}
 use Rattle.lrc_wire.specs.declared.message.Message.{Message}
 use Rattle.lrc_wire.specs.declared.message.Message.TheVariants.{LockRequest, LockForward, LockGrant, Arrive, Depart, Clean, Discard, ChangesRequest, ChangesReply, PageRequest, PageReply}
@@ -27,12 +25,11 @@ use Rattle.lrc_protocol.specs.Memory.{Memory, copy_at, base_at, with_keepers, ke
 use Rattle.lrc_protocol.specs.Fetch.{Need, need_of, is_met, mended, with_changes, with_page}
 use Rattle.lrc_protocol.specs.Mail.{numbered, Letter, Wait, nothing, grant, departure, access, upkeep, discard, collection_of, is_idle, MOST_NUMBER}
 use Rattle.lrc_protocol.specs.Course.{Course, going, trapped, ended, deed_of, cost_of}
-use Rattle.lrc_protocol.specs.Locks.{next_time}
 use Rattle.lrc_protocol.specs.Barrier.{clean_step}
-use Rattle.lrc_protocol.specs.Node.{Node, OptionsRecord, Effect, makes, value_read, acts, acts_by, with_memory, waiting, begins_of, may_begin, fresh_node}
+use Rattle.lrc_protocol.specs.Node.{Node, Effect, value_read, acts, acts_by, with_memory, waiting, begins_of, may_begin}
 use Rattle.lrc_protocol.specs.Letters.{requests_of}
 use Rattle.lrc_protocol.specs.Waits.{waits_or_goes_on, with_needs}
-use Rattle.lrc_protocol.specs.Expected.{is_expected, is_learnable}
+use Rattle.lrc_protocol.specs.Expected.{is_expected}
 use Rattle.lrc_protocol.specs.Run.{own_index, closes, reaches, acquire_at, release_at, arrive_at, run_effect, charged}
 use Rattle.lrc_protocol.specs.Take.{take_departure, request_by, learns, arrive_by, clean_by, discard_by, page_reply_by, take_grant, take_effect, needs_to_keep, with_part}
 use Rattle.lrc_protocol.specs.Turn.{TurnRecord, Outcome, done, not_ready, unexpected, worn, turn_with, turn_of, turn_if, turn_by, take_anew, taking, is_addressed, is_repeat, empty_turn}
