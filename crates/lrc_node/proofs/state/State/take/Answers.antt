@@ -4,7 +4,7 @@ use Rattle.lrc_protocol.specs.Expected.{is_expected}
 use Rattle.lrc_protocol.specs.Node.{Node}
 use Rattle.lrc_protocol.specs.Take.{take_effect}
 use Rattle.lrc_protocol.specs.Turn.{Outcome, unexpected, take_turn, taking, turn_of}
-use Rattle.lrc_node.specs.Taken.{RefusesTake, unawaited, without_memory}
+use Rattle.lrc_node.specs.Taken.{RefusesTake, unawaited}
 use Rattle.lrc_node.specs.declared.fault.NodeFault.TheVariants.{Unexpected}
 use Rattle.lrc_node.proofs.Takes.{unaddressed, addressed, anew, refuses_anew, weaker}
 use Rattle.lrc_node.proofs.state.State.take.Goals as goal
