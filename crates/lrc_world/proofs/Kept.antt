@@ -1,5 +1,5 @@
 -- The nodes of a run with their logs and traces.
-use Rattle.std.proofs.Common.{◌≡◌, ◌∙◌, ℕ, zero, suc, ◌+◌, ◌<◌, arith, List, [], ◌∷◌, ◌++◌, Option, Some, None, refl, sym, ap, subst, map, length, ⊎_elim, ◌≢◌}
+use Rattle.std.proofs.Common.{◌≡◌, ◌∙◌, ℕ, zero, suc, ◌+◌, arith, List, [], ◌∷◌, Some, refl, sym, ap, subst, map, ⊎_elim, ◌≢◌}
 use Rattle.std.proofs.lemmas.Bool.{cases_eq}
 use Rattle.std.proofs.lemmas.Option.{same_Some}
 use Rattle.std.specs.Prelude.{slice_get, slice_set, option_map}
@@ -10,7 +10,7 @@ use Rattle.lrc_protocol.specs.Node.{Node}
 use Rattle.lrc_protocol.specs.Traced.{Traced, traced, trace_of, with_act}
 use Rattle.lrc_protocol.proofs.Traces.{traced_entry}
 use Rattle.lrc_protocol.proofs.Worlds.{IsEntry, Entries, logs-entries, get_set_same, get_set_other}
-use Rattle.lrc_node.specs.Logged.{LoggedNode, TracedLog, sound}
+use Rattle.lrc_node.specs.Logged.{TracedLog, sound}
 use Rattle.lrc_world.specs.World.{Starts, kept_of, after_turn}
 
 -- a turn that is logged

@@ -1,13 +1,11 @@
 -- A turn of one node, in the whole world.
-use Rattle.std.proofs.Common.{◌≡◌, ◌∙◌, ℕ, List, [], ◌∷◌, ◌++◌, Bool, true, false, cond, option_map, Option, Some, None, Result, Ok, Err, refl, sym, ap, subst, map, length, ◌<◌, arith, inl, inr, IsErrAnd}
-use Rattle.std.specs.Prelude.{slice_get, slice_set, slice_index_or, nat_le}
+use Rattle.std.proofs.Common.{◌≡◌, ◌∙◌, ℕ, List, ◌++◌, Bool, true, false, option_map, Option, Some, None, Result, Ok, Err, refl, sym, ap, subst, map, length, ◌<◌, arith, inl, inr, IsErrAnd}
+use Rattle.std.specs.Prelude.{slice_get, slice_set, slice_index_or}
 use Rattle.std.specs.List.{enumerate_from, list_any}
 use Rattle.std.specs.Option.{option_to_list}
 use Rattle.lrc_wire.specs.Envelope.{EnvelopeRecord}
 use Rattle.lrc_wire.specs.Reading.{envelope_of}
-use Rattle.lrc_protocol.specs.Turn.{TurnRecord, Outcome, done, not_ready, unexpected, worn}
-use Rattle.lrc_protocol.specs.Log.{Input, taken, EntryRecord, Logged, Logging, logged, refused, too_large, logs, logging, next_stamp, outcome_of, MOST_STAMP}
-use Rattle.lrc_protocol.specs.Node.{Node}
+use Rattle.lrc_protocol.specs.Log.{Input, taken, EntryRecord, Logged, Logging, logged, refused, too_large, logs}
 use Rattle.lrc_protocol.specs.World.{World as Run, Flying as Sent, inputs, delivers, input_to, after_input, with_turn, sent_by}
 use Rattle.lrc_protocol.proofs.Worlds.{IsEntry, get_set_same}
 use Rattle.lrc_node.specs.Logged.{TracedLog, sound}
@@ -22,7 +20,7 @@ use Rattle.lrc_world.specs.declared.world.World.{World}
 use Rattle.lrc_world.specs.declared.report.SimFault.{SimFault}
 use Rattle.lrc_world.specs.declared.report.SimFault.TheVariants.{BadNodes, BadSteps, Worn, NoMemory}
 use Rattle.lrc_world.specs.World.{Starts, kept_of, after_turn, Shows, PlaysTo, Adds, AddsTo, LogsLast, IsTurn, TurnsBy, TurnsTo, IsTaken, ReceivesTo, made_of, Seen, seen, shown, shown_new, entry_is_long, log_is_long, sends_long}
-use Rattle.lrc_world.proofs.Lists.{map-set, map-map, map-both, map-get, none_of, none-set, some-set, none-end, some-end, same_length}
+use Rattle.lrc_world.proofs.Lists.{map-map, map-both, map-get, none_of, none-set, some-set, none-end, some-end, same_length}
 
 -- a turn that is added to a world
 module _ (starts : Starts) (old mid new : World) (run : Run) (flight : List Sent) (n : ℕ) (input : Input) (came : ℕ) (l : Logged) (entry : EntryRecord)
@@ -33,8 +31,8 @@ module _ (starts : Starts) (old mid new : World) (run : Run) (flight : List Sent
   entered : IsEntry l input entry after
   entered = entry_of l input came entry after turn
 
-  outcome : inputs run flight n input came ≡ Some (with_turn run flight n entry after)
-  outcome = ap (input_to run flight n input came) there ∙ ap (after_input run flight n) turn
+  outcome_is : inputs run flight n input came ≡ Some (with_turn run flight n entry after)
+  outcome_is = ap (input_to run flight n input came) there ∙ ap (after_input run flight n) turn
 
   stands : slice_get (map (kept_of starts) (enumerate_from 0 run.nodes)) n ≡ Some before
   stands = ap (λ xs. slice_get xs n) (sym shows.nodes) ∙ stood
@@ -73,8 +71,8 @@ module _ (starts : Starts) (old mid new : World) (run : Run) (flight : List Sent
 
   pub comes : (result : Result (Unit {0}) SimFault) → ((e : EntryRecord) → LogsLast mid n e → AddsTo mid new e result)
       → PlaysTo starts new (inputs run flight n input came) result
-  comes (Ok u) follows = (with_turn run flight n entry after, outcome, adds (follows entry last))
-  comes (Err Worn) follows = inr (with_turn run flight n entry after, outcome, long (follows entry last))
+  comes (Ok u) follows = (with_turn run flight n entry after, outcome_is, adds (follows entry last))
+  comes (Err Worn) follows = inr (with_turn run flight n entry after, outcome_is, long (follows entry last))
   comes (Err NoMemory) follows = tt
   comes (Err BadNodes) follows = follows entry last
   comes (Err BadSteps) follows = follows entry last

@@ -10,7 +10,8 @@ returns c = λ starts run shows. record {
   acts = shows.acts;
   first = subst (λ acts. MatchOption c.in_ok-first_race.first_race (IsRaceFree acts) (IsFirstRace acts)) (c.deref.ensures.value ∙ shows.acts)
       c.in_ok-first_race.ensures;
-  ends = c.in_ok-ends.ensures run.nodes (all_logged starts c.args.self.nodes.items run.nodes shows.nodes);
+  ends = c.in_ok-ends.ensures run.nodes
+      (ap (map (λ (t : TracedLog). t.logged)) c.deref-2.ensures.value ∙ all_logged starts c.args.self.nodes.items run.nodes shows.nodes);
   logs = c.in_ok-logs.ensures ∙ sym (map-map (λ (l : LoggedNode). l.log) (λ (t : TracedLog). t.logged) c.args.self.nodes.items)
       ∙ ap (map (λ (l : LoggedNode). l.log)) (all_logged starts c.args.self.nodes.items run.nodes shows.nodes)
       ∙ map-map (λ (l : LoggedNode). l.log) sound run.nodes;
