@@ -134,6 +134,7 @@ module _ (program : Program) (nodes : ℕ) (options : OptionsRecord) (stamps : S
     -- a write before this turn
     old_write : (x : StoredRecord) (k word value : ℕ) → Contains made' x → Does world.acts k x.node (Write word value)
         → interval_at world.acts x.node k ≡ index_of made_stamps x → Covers x.stamp (time_at world.times k)
+    unfolding StampsCover
     old_write x k word value c does inside = elim (Contains-append_cases made (closed_by l.node after.node) x c) [
       | inl old ↦ before x k word value old does inside
       | inr new ↦

@@ -22,7 +22,7 @@ use Rattle.lrc_lock.specs.Held.{lock_at, is_free}
 use Rattle.lrc_lock.specs.Managed.{Requested, refuses as refuses_request, forwards, requested}
 use Rattle.lrc_barrier.specs.Barrier.{ArriveStep, refuses as refuses_arrival, waits, departs as all_depart, CleanStep, refuses_clean, awaits, discards as discards_all}
 use Rattle.lrc_protocol.specs.Copy.{is_readable}
-use Rattle.lrc_protocol.specs.Memory.{Memory, copy_at, value_at, base_at, with_keepers, kept_pages}
+use Rattle.lrc_protocol.specs.Memory.{Memory, copy_at, value_at, base_at, with_keepers, kept_pages, collected_at}
 use Rattle.lrc_protocol.specs.Fetch.{Need, need_of, is_met, mended, with_changes, with_page}
 use Rattle.lrc_protocol.specs.Mail.{numbered, Wait, nothing, grant, departure, access, upkeep, discard, collection_of, needs_of, is_idle, awaits_grant, awaits_departure, MOST_NUMBER}
 use Rattle.lrc_protocol.specs.Course.{Course, going, trapped, ended}
@@ -181,7 +181,7 @@ leaves-reads letters node w f says =
     acts-reads letters node (departs next.0) next.1 tt
 
 discard-reads : (node : Node) (w : Wait) → FixesNext w (next_in node.course) → After (discard_by node (collection_of w))
-discard-reads node (discard collection) f = leaves-reads [] _ (discard collection) f (λ next x. x)
+discard-reads node (discard collection) f = leaves-reads [] (waiting nothing (with_memory node (collected_at node.setting.me collection.time node.memory))) (discard collection) f (λ next x. x)
 discard-reads node nothing f = tt
 discard-reads node (grant lock) f = tt
 discard-reads node departure f = tt

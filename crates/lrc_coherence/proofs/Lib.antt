@@ -6,3 +6,7 @@ pub mod MadeWorlds
 pub mod Stored
 pub mod History
 pub mod Laws
+pub mod LazyWrites
+pub mod LazyMade
+pub mod LazyTimes
+pub mod LazyTurns
