@@ -1,21 +1,19 @@
 -- A node's time covers those of its acts, and the stamp of a closed interval covers the times of the writes in it.
-use Rattle.std.proofs.Common.{◌≡◌, ◌⊎◌, ℕ, ◌+◌, ◌<◌, ◌≤◌, List, [], ◌∷◌, ◌++◌, Bool, true, false, length, map, refl, sym, ap, subst, ◌∙◌, inl, inr, append-nil, arith}
-use Rattle.std.specs.Prelude.{◌==◌, Option, Some, None, Contains, slice_get, slice_set, if◌then◌else◌}
-use Rattle.std.proofs.lemmas.Bool.{cases_eq}
+use Rattle.std.proofs.Common.{◌≡◌, ℕ, ◌+◌, ◌≤◌, List, [], ◌∷◌, ◌++◌, Bool, true, false, length, refl, sym, ap, subst, ◌∙◌, inl, inr, append-nil, arith}
+use Rattle.std.specs.Prelude.{◌==◌, Option, Some, None, Contains, slice_get, if◌then◌else◌}
 use Rattle.std.proofs.lemmas.List.{get_or_push}
 use Rattle.std.proofs.lemmas.List.Elements.{Contains-append_cases}
 use Rattle.lrc_lang.specs.declared.program.Program.{Program}
-use Rattle.lrc_trace.specs.declared.act.Act.{Act}
 use Rattle.lrc_trace.specs.declared.act.Deed.{Deed}
 use Rattle.lrc_trace.specs.declared.act.Deed.TheVariants.{Write}
 use Rattle.lrc_trace.specs.Run.{Does, act_of}
 use Rattle.lrc_trace.specs.Interval.{interval_at}
-use Rattle.lrc_trace.proofs.Positions.{Does-within, Does-shorter, Does-cases}
+use Rattle.lrc_trace.proofs.Positions.{Does-within, Does-cases}
 use Rattle.lrc_trace.proofs.Prefixes.{interval_at-prefix}
 use Rattle.lrc_exec.specs.Meaning.{Setting}
-use Rattle.lrc_time.specs.Time.{entry, joined, Covers}
+use Rattle.lrc_time.specs.Time.{entry, Covers}
 use Rattle.lrc_time.proofs.Times.{covers-refl, covers-trans, covers-raised, covers-joined_first}
-use Rattle.lrc_clock.specs.Times.{time_at, time_before, raised}
+use Rattle.lrc_clock.specs.Times.{time_at, time_before}
 use Rattle.lrc_clock.specs.Keeping.{KeepsTime}
 use Rattle.lrc_clock.proofs.Covering.{before-covers}
 use Rattle.lrc_clock.proofs.Counting.{own_entry_before, entry_bound}
@@ -29,7 +27,7 @@ use Rattle.lrc_protocol.specs.Locks.{next_time}
 use Rattle.lrc_protocol.specs.Node.{Node, OptionsRecord}
 use Rattle.lrc_protocol.specs.Log.{Input, EntryRecord, Logged}
 use Rattle.lrc_protocol.specs.World.{World, Flying, fresh_world, with_turn}
-use Rattle.lrc_protocol.proofs.Worlds.{IsEntry, get_set_same, run-whole}
+use Rattle.lrc_protocol.proofs.Worlds.{IsEntry, get_set_same}
 use Rattle.lrc_protocol.proofs.Induction.{Comes}
 use Rattle.lrc_invariants.specs.Present.{IsPresent}
 use Rattle.lrc_invariants.proofs.Shape.{shape_at}

@@ -1,5 +1,5 @@
 -- A turn that reads a word: its value is that of the word in the node's copy of the page, which is readable.
-use Rattle.std.proofs.Common.{◌≡◌, ℕ, ◌<◌, List, [], ◌∷◌, Bool, true, false, length, refl, sym, ap, subst, ◌∙◌, arith}
+use Rattle.std.proofs.Common.{◌≡◌, ℕ, ◌<◌, List, [], Bool, true, false, refl, sym, ap, subst, arith}
 use Rattle.std.specs.Prelude.{Option, Some, None, All, option_map, fold, map, nat_lt, if◌then◌else◌}
 use Rattle.std.specs.List.{list_all}
 use Rattle.std.proofs.lemmas.Bool.{and_parts}
@@ -24,7 +24,7 @@ use Rattle.lrc_barrier.specs.Barrier.{ArriveStep, refuses as refuses_arrival, wa
 use Rattle.lrc_protocol.specs.Copy.{is_readable}
 use Rattle.lrc_protocol.specs.Memory.{Memory, copy_at, value_at, base_at, with_keepers, kept_pages, collected_at}
 use Rattle.lrc_protocol.specs.Fetch.{Need, need_of, is_met, mended, with_changes, with_page}
-use Rattle.lrc_protocol.specs.Mail.{numbered, Wait, nothing, grant, departure, access, upkeep, discard, collection_of, needs_of, is_idle, awaits_grant, awaits_departure, MOST_NUMBER}
+use Rattle.lrc_protocol.specs.Mail.{numbered, Wait, nothing, grant, departure, access, upkeep, discard, collection_of, needs_of, is_idle, MOST_NUMBER}
 use Rattle.lrc_protocol.specs.Course.{Course, going, trapped, ended}
 use Rattle.lrc_protocol.specs.Barrier.{clean_step}
 use Rattle.lrc_protocol.specs.Node.{Node, Effect, makes, acts, acts_by, with_memory, waiting, begins_of, may_begin}
@@ -33,7 +33,7 @@ use Rattle.lrc_protocol.specs.Waits.{waits_or_goes_on, with_needs}
 use Rattle.lrc_protocol.specs.Expected.{is_expected}
 use Rattle.lrc_protocol.specs.Run.{own_index, closes as closes_interval, reaches, acquire_at, release_at, arrive_at, run_effect, charged}
 use Rattle.lrc_protocol.specs.Take.{take_departure, request_by, learns as learns_news, arrive_by, clean_by, discard_by, page_reply_by, take_grant, take_effect, needs_to_keep, with_part}
-use Rattle.lrc_protocol.specs.Turn.{TurnRecord, Outcome, done, not_ready, unexpected, worn, turn_with, turn_of, turn_if, turn_by, take_anew, taking, is_addressed, is_repeat, empty_turn}
+use Rattle.lrc_protocol.specs.Turn.{Outcome, done, not_ready, unexpected, worn, turn_with, turn_of, turn_if, turn_by, take_anew, taking, is_addressed, is_repeat, empty_turn}
 use Rattle.lrc_protocol.specs.Log.{Input, run, taken as taken_in, outcome_of}
 use Rattle.lrc_invariants.specs.Waiting.{next_in, is_departing, FixesNext}
 use Rattle.lrc_invariants.proofs.Shift.{awaits_lock, awaits_leave, deed_made}
@@ -99,9 +99,12 @@ acts-reads letters node next n b = acts_by-reads letters node node.course next n
 access_by : (node : Node) (page : ℕ) (o : Option Next) → page_next node.options.size o ≡ Some page
     → (next : Next) × (o ≡ Some next) × ((memory : Memory) → is_readable (copy_at memory page) ≡ true → Before (with_memory node memory) next)
 access_by node page None e = cc
-access_by node page (Some (reads word after)) e =
-    (reads word after, refl, λ memory r.
-        subst (λ p. is_readable (copy_at memory p) ≡ true) (sym (same_Some (page_of word node.options.size) page e)) r)
+access_by node page (Some (reads word after)) e = (
+  reads word after,
+  refl,
+  λ memory r.
+      subst (λ p. is_readable (copy_at memory p) ≡ true) (sym (same_Some (page_of word node.options.size) page e)) r,
+)
 access_by node page (Some (writes word value after)) e = (writes word value after, refl, λ memory r. tt)
 access_by node page (Some (quiet after)) e = cc
 access_by node page (Some (prints value after)) e = cc

@@ -60,21 +60,29 @@ module _ (f : ℕ × Act → Option ℕ) where
   newest_more before k y acts None e (inl (same, none)) =
       inl (ap (λ o. newest_of (newer before o) (k + 1) acts) e ∙ same, none_first k y acts e none)
   newest_more before k y acts (Some value) e (inl (same, none)) =
-      inr (value, ap (λ o. newest_of (newer before o) (k + 1) acts) e ∙ same, record {
-        place = 0;
-        act = y;
-        stands = refl;
-        gives = here k y (Some value) e;
-        last = none_after k y acts none;
-      })
+      inr (
+        value,
+        ap (λ o. newest_of (newer before o) (k + 1) acts) e ∙ same,
+        record {
+          place = 0;
+          act = y;
+          stands = refl;
+          gives = here k y (Some value) e;
+          last = none_after k y acts none;
+        },
+      )
   newest_more before k y acts o e (inr (value, is, g)) =
-      inr (value, ap (λ o. newest_of (newer before o) (k + 1) acts) e ∙ is, record {
-        place = suc g.place;
-        act = g.act;
-        stands = g.stands;
-        gives = later k g.place g.act (Some value) g.gives;
-        last = last_after k y acts value g;
-      })
+      inr (
+        value,
+        ap (λ o. newest_of (newer before o) (k + 1) acts) e ∙ is,
+        record {
+          place = suc g.place;
+          act = g.act;
+          stands = g.stands;
+          gives = later k g.place g.act (Some value) g.gives;
+          last = last_after k y acts value g;
+        },
+      )
 
   newest : (before : Option ℕ) (k : ℕ) (acts : List Act) → Newest before k acts
   newest before k [] = inl (refl, λ i a at. cc)
@@ -155,14 +163,16 @@ module _ (acts : List Act) (node index word : ℕ) where
   pub last_write-some : (value : ℕ) → last_write acts node index word ≡ Some value → (i : ℕ) × IsLastIn acts node index word i value
   last_write-some value e =
       let g : GiveLast (write_in acts node index word) 0 acts value =
-      gives_last (write_in acts node index word) acts value e (newest (write_in acts node index word) None 0 acts) in
-      (g.place, record {
-        writes = writes_in g.place g.act value g.stands (from_start g.place g.act (Some value) g.gives);
-        last = λ k v w. elim (cases_lt g.place k) [
-          | inl later ↦ absurd (no_write k v w (λ a at. from_start k a None (g.last k a later at)))
-          | inr before ↦ before
-        ];
-      })
+      gives_last (write_in acts node index word) acts value e (newest (write_in acts node index word) None 0 acts) in (
+        g.place,
+        record {
+          writes = writes_in g.place g.act value g.stands (from_start g.place g.act (Some value) g.gives);
+          last = λ k v w. elim (cases_lt g.place k) [
+            | inl later ↦ absurd (no_write k v w (λ a at. from_start k a None (g.last k a later at)))
+            | inr before ↦ before
+          ];
+        },
+      )
 
   -- where it wrote none, no write stands in it
   pub last_write-none : last_write acts node index word ≡ None → (i value : ℕ) → WritesIn acts node index word i value → ⊥

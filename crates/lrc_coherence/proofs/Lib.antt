@@ -10,3 +10,4 @@ pub mod LazyWrites
 pub mod LazyMade
 pub mod LazyTimes
 pub mod LazyTurns
+pub mod LazyReads
