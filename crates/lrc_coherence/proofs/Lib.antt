@@ -11,3 +11,4 @@ pub mod LazyMade
 pub mod LazyTimes
 pub mod LazyTurns
 pub mod LazyReads
+pub mod LazyTheorem

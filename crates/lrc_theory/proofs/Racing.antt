@@ -1,5 +1,5 @@
 -- The first race of a lazy run is one of the plain machine.
-use Rattle.std.proofs.Common.{◌≡◌, ◌⊎◌, ℕ, zero, suc, ◌+◌, ◌<◌, ◌≤◌, List, [], ◌∷◌, ◌++◌, length, map, take, drop, refl, sym, subst, ◌∙◌, ap, inl, inr, arith, add-one}
+use Rattle.std.proofs.Common.{◌≡◌, ℕ, zero, suc, ◌+◌, ◌<◌, ◌≤◌, List, [], ◌∷◌, ◌++◌, length, take, drop, refl, sym, subst, ◌∙◌, ap, inl, inr, arith, add-one}
 use Rattle.std.specs.Prelude.{Some}
 use Rattle.std.proofs.lemmas.Bool.{cases_lt}
 use Rattle.std.proofs.lemmas.List.{take-append-drop, length-take, map-append}
@@ -18,7 +18,7 @@ use Rattle.lrc_trace.proofs.Prefixes.{Races-shorter}
 use Rattle.lrc_trace.proofs.Outlines.{same_races}
 use Rattle.lrc_exec.specs.Plain.{plain}
 use Rattle.lrc_theory.specs.Follows.{nodes_of, FollowsText}
-use Rattle.lrc_theory.specs.Kinds.{SameKind, same, reads, PlainUpTo}
+use Rattle.lrc_theory.specs.Kinds.{SameKind, same, reads}
 use Rattle.lrc_theory.specs.Racing.{HasNoRace, PlainToRace}
 use Rattle.lrc_theory.proofs.Ahead.{take_ahead}
 use Rattle.lrc_theory.proofs.UpToRace.{up_to_race}

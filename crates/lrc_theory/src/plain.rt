@@ -43,7 +43,7 @@ pub fn the_first_race_is_one_of_the_plain_machine()
 
 /// Races belong to the program: where no order gives the plain machine a run with a race, a run that follows the text, is
 /// well synchronized and reads lazily has none.
-pub fn races_belong_to_the_program()
+pub fn races_of_lazy_runs_belong_to_the_program()
     ensures { (program : Program) (nodes : ℕ) (run : List Act) → FollowsText program nodes run
         → IsWellSynchronized nodes run → ReadsLazily run → HasNoRace program nodes → IsRaceFree run }
 {}
