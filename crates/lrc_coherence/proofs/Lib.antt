@@ -12,3 +12,4 @@ pub mod LazyTimes
 pub mod LazyTurns
 pub mod LazyReads
 pub mod LazyTheorem
+pub mod Whole

@@ -1,0 +1,16 @@
+-- The laws of all groups together: every run reads lazily.
+use Rattle.std.proofs.Common.{ℕ}
+use Rattle.lrc_lang.specs.declared.program.Program.{Program}
+use Rattle.lrc_protocol.specs.Node.{OptionsRecord}
+use Rattle.lrc_coherence.proofs.Laws.{StampsLaw, CopiesLaw, ReadsLaw}
+use Rattle.lrc_coherence.proofs.LazyReads.{reads_law}
+
+module _ (program : Program) (nodes : ℕ) (options : OptionsRecord) where
+  stamps : StampsLaw program nodes options
+  stamps = ?
+
+  copies : CopiesLaw program nodes options
+  copies = ?
+
+  pub reads : ReadsLaw program nodes options
+  reads = reads_law program nodes options stamps copies
