@@ -6,3 +6,6 @@ pub mod MadeWorlds
 pub mod Stored
 pub mod History
 pub mod Laws
+pub mod StampLists
+pub mod StampWorlds
+pub mod StampMade
