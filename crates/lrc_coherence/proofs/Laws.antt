@@ -64,7 +64,7 @@ pub record AreWritten (options : OptionsRecord) (made : List StoredRecord) (worl
   pub named : (x : StoredRecord) (page : ℕ) → Contains made x → notice_of page x ≡ None
       → IsUntouchedBy (page_history options.size world.acts page) (words_of options.size) x
   -- a written copy is what its node's open interval made of the twin, and any other page was not written in it.
-  pub open : (n : ℕ) (l : Logged) (page : ℕ) (values twin : List ℕ) → slice_get world.nodes n ≡ Some l
+  pub written_here : (n : ℕ) (l : Logged) (page : ℕ) (values twin : List ℕ) → slice_get world.nodes n ≡ Some l
       → copy_at l.node.memory page ≡ written values twin
       → IsMadeOf (page_history options.size world.acts page) (open_record l.node) twin values
   pub untouched : (n : ℕ) (l : Logged) (page : ℕ) → slice_get world.nodes n ≡ Some l
