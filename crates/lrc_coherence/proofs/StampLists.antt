@@ -1,15 +1,14 @@
 -- Intervals that were closed: as members of lists, and by node and index.
-use Rattle.std.proofs.Common.{◌≡◌, ◌⊎◌, ℕ, ◌+◌, ◌<◌, ◌≤◌, List, [], ◌∷◌, ◌++◌, Bool, true, false, map, refl, sym, ap, subst, ◌∙◌, inl, inr, ⊎_elim, arith}
-use Rattle.std.specs.Prelude.{Option, Some, None, is_some, ◌==◌, ◌&&◌, All, AllPairs, Contains, filter_map, option_map, option_and_then, slice_index_or, if◌then◌else◌}
+use Rattle.std.proofs.Common.{◌≡◌, ℕ, ◌+◌, ◌<◌, ◌≤◌, List, [], ◌∷◌, ◌++◌, Bool, true, false, map, refl, sym, ap, subst, ◌∙◌, ⊎_elim, arith}
+use Rattle.std.specs.Prelude.{Option, Some, None, is_some, ◌==◌, All, AllPairs, Contains, filter_map, option_map, slice_index_or, if◌then◌else◌}
 use Rattle.std.specs.List.{cons_option, enumerate_from, range_with_len}
 use Rattle.std.proofs.lemmas.Bool.{and_parts, and_from, eq-eqb, eqb-true, false_from_ne_true}
 use Rattle.std.proofs.lemmas.Option.{same_Some}
 use Rattle.std.proofs.lemmas.List.Elements.{All-nil, All-cons, All-map, All-weaker, Contains-get_or, Contains-push_cases}
 use Rattle.std.proofs.lemmas.List.Kept.{AllPairs-cons}
 use Rattle.lrc_page.specs.declared.changes.Change.{Change}
-use Rattle.lrc_store.specs.declared.key.Key.{Key}
 use Rattle.lrc_store.specs.Interval.{IntervalRecord}
-use Rattle.lrc_store.specs.Store.{StoredRecord, NoticeRecord, interval_of, is_at, stored_at, notice_of}
+use Rattle.lrc_store.specs.Store.{StoredRecord, NoticeRecord, interval_of, is_at, stored_at}
 use Rattle.lrc_time.specs.Time.{entry}
 use Rattle.lrc_store.proofs.Orders.{map-map}
 use Rattle.lrc_store.proofs.Lookups.{find-push_other, find-push_here}
@@ -21,7 +20,7 @@ use Rattle.lrc_protocol.specs.Locks.{next_time}
 use Rattle.lrc_protocol.specs.Memory.{all_changes, closed_interval}
 use Rattle.lrc_protocol.specs.Node.{Node}
 use Rattle.lrc_local.specs.Own.{IsAttached}
-use Rattle.lrc_coherence.specs.Written.{made_stamps, made_changes}
+use Rattle.lrc_coherence.specs.Written.{made_stamps}
 use Rattle.lrc_coherence.proofs.History.{closed_record, closed_by}
 use Rattle.lrc_coherence.proofs.MadeSteps.{closed_between}
 use Rattle.lrc_coherence.proofs.Stored.{index_in, from_range}

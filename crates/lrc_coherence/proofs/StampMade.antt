@@ -1,25 +1,19 @@
 -- In every history the closed intervals are those that nodes store and tell of; each has the changes of all its pages, which
 -- ascend, and is found by its node and index.
-use Rattle.std.proofs.Common.{◌≡◌, ℕ, ◌+◌, ◌<◌, ◌≤◌, List, [], ◌∷◌, ◌++◌, Bool, true, false, map, refl, sym, ap, subst, ◌∙◌, ⊎_elim, arith, append-nil}
-use Rattle.std.specs.Prelude.{Some, ◌==◌, All, AllPairs, Contains, slice_get, if◌then◌else◌}
+use Rattle.std.proofs.Common.{◌≡◌, ℕ, ◌+◌, ◌<◌, ◌≤◌, List, [], ◌∷◌, ◌++◌, Bool, true, false, map, sym, ap, subst, ◌∙◌, ⊎_elim, arith, append-nil}
+use Rattle.std.specs.Prelude.{◌==◌, All, AllPairs, Contains, if◌then◌else◌}
 use Rattle.std.specs.List.{range_with_len}
 use Rattle.std.proofs.lemmas.List.{map-append}
 use Rattle.std.proofs.lemmas.List.Elements.{All-nil, All-push, Contains-push_cases}
 use Rattle.lrc_lang.specs.declared.program.Program.{Program}
 use Rattle.lrc_time.specs.Time.{entry}
 use Rattle.lrc_time.proofs.Times.{entry-set_same}
-use Rattle.lrc_store.specs.Interval.{IntervalRecord}
 use Rattle.lrc_store.specs.Store.{StoredRecord, NoticeRecord, interval_of}
 use Rattle.lrc_copies.specs.Stamps.{index_of}
 use Rattle.lrc_copies.proofs.Members.{none_Contains}
 use Rattle.lrc_protocol.specs.Expected.{indices_by}
-use Rattle.lrc_protocol.specs.Locks.{next_time}
 use Rattle.lrc_protocol.specs.Node.{Node, OptionsRecord}
-use Rattle.lrc_protocol.specs.Log.{Input, EntryRecord, Logged}
-use Rattle.lrc_protocol.specs.World.{World, Flying, fresh_world, with_turn}
-use Rattle.lrc_protocol.proofs.Worlds.{IsEntry}
-use Rattle.lrc_protocol.proofs.Induction.{Comes}
-use Rattle.lrc_invariants.proofs.Reached.{IsReached}
+use Rattle.lrc_protocol.specs.World.{World, with_turn}
 use Rattle.lrc_local.specs.Own.{IsAttached}
 use Rattle.lrc_coherence.specs.Made.{AreMade}
 use Rattle.lrc_coherence.specs.Written.{made_stamps}
