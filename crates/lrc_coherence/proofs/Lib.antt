@@ -9,3 +9,4 @@ pub mod Laws
 pub mod StampLists
 pub mod StampWorlds
 pub mod StampMade
+pub mod StampTurns
