@@ -10,3 +10,4 @@ pub mod StampLists
 pub mod StampWorlds
 pub mod StampMade
 pub mod StampTurns
+pub mod StampCuts
