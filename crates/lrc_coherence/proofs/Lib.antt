@@ -11,3 +11,4 @@ pub mod StampWorlds
 pub mod StampMade
 pub mod StampTurns
 pub mod StampCuts
+pub mod StampTimes
