@@ -12,3 +12,4 @@ pub mod StampMade
 pub mod StampTurns
 pub mod StampCuts
 pub mod StampTimes
+pub mod KnownStores
