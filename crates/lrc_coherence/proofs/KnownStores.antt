@@ -98,6 +98,11 @@ made-at made m key found c node index =
     ap (λ o. option_and_then changes_of (option_and_then (notice_of key.page) o))
     (ap (λ n. stored_at made n key.index) (sym node) ∙ ap (stored_at made m.node) (sym index) ∙ found m c)
 
+-- changes of a maker's intervals, as they were made
+abbrev pub ArePartsOf : List StoredRecord → ℕ → ℕ → List IndexedChangesRecord → Type 0
+ArePartsOf made from page parts =
+    All (λ (part : IndexedChangesRecord). made_changes made (record { node = from; index = part.index; page = page }) ≡ Some part.changes) parts
+
 -- ---- what is known of it
 
 -- a notice is known as it was made: its page, and its changes if any are known
@@ -143,18 +148,18 @@ module _ (made : List StoredRecord) where
   module _ (found : AreFound made) (rising : All Rises made) where
     -- ---- changes that come
 
-    notices-with : (page : ℕ) (changes : List Change) (has bs : List NoticeRecord) → AllZip IsNoticeOf has bs
-        → ((b : NoticeRecord) → Contains bs b → b.page ≡ page → b.changes ≡ Some changes) → AllZip IsNoticeOf (map (notice_with page changes) has) bs
+    notices-with : (page : ℕ) (changes : List Change) (known those : List NoticeRecord) → AllZip IsNoticeOf known those
+        → ((b : NoticeRecord) → Contains those b → b.page ≡ page → b.changes ≡ Some changes) → AllZip IsNoticeOf (map (notice_with page changes) known) those
     notices-with page changes [] [] z h = tt
-    notices-with page changes [] (b ∷ bs) z h = absurd z
-    notices-with page changes (a ∷ has) [] z h = absurd z
-    notices-with page changes (a ∷ has) (b ∷ bs) z h =
-        (here (a.page == page) refl, notices-with page changes has bs z.1 (λ c in_rest. h c (Contains-later b bs c in_rest)))
+    notices-with page changes [] (b ∷ those) z h = absurd z
+    notices-with page changes (a ∷ known) [] z h = absurd z
+    notices-with page changes (a ∷ known) (b ∷ those) z h =
+        (here (a.page == page) refl, notices-with page changes known those z.1 (λ c in_rest. h c (Contains-later b those c in_rest)))
       where
         here : (t : Bool) → (a.page == page) ≡ t → IsNoticeOf (if t then record { page = page; changes = Some changes } else a) b
         here true e =
             let is : a.page ≡ page = eqb-true a.page page e in
-            (sym is ∙ z.0.0, inr (sym (h b (Contains-first b bs) (sym z.0.0 ∙ is))))
+            (sym is ∙ z.0.0, inr (sym (h b (Contains-first b those) (sym z.0.0 ∙ is))))
         here false e = z.0
 
     stored-with : (key : Key) (changes : List Change) (s : StoredRecord) → made_changes made key ≡ Some changes → IsKnown made s
@@ -184,12 +189,7 @@ module _ (made : List StoredRecord) where
         All-map (IsKnown made) (stored_with key changes) store.entries
         (All-weaker (IsKnown made) (λ s. IsKnown made (stored_with key changes s)) (λ s k. stored-with key changes s e k) store.entries h)
 
-    -- changes of a maker's intervals, as they were made
-    abbrev pub ArePartsOf : ℕ → ℕ → List IndexedChangesRecord → Type 0
-    ArePartsOf from page parts =
-        All (λ (part : IndexedChangesRecord). made_changes made (record { node = from; index = part.index; page = page }) ≡ Some part.changes) parts
-
-    pub parts-known : (from page : ℕ) (parts : List IndexedChangesRecord) (store : StoreRecord) → ArePartsOf from page parts
+    pub parts-known : (from page : ℕ) (parts : List IndexedChangesRecord) (store : StoreRecord) → ArePartsOf made from page parts
         → All (IsKnown made) store.entries → All (IsKnown made) (fold (with_part from page) store parts).entries
     parts-known from page [] store p h = h
     parts-known from page (part ∷ parts) store p h =
@@ -241,18 +241,18 @@ module _ (made : List StoredRecord) where
 
     -- ---- what is read of a store
 
-    notices-of : (page : ℕ) (changes : List Change) (has bs : List NoticeRecord) → AllZip IsNoticeOf has bs → changes_in page has ≡ Some changes
-        → changes_in page bs ≡ Some changes
+    notices-of : (page : ℕ) (changes : List Change) (known those : List NoticeRecord) → AllZip IsNoticeOf known those → changes_in page known ≡ Some changes
+        → changes_in page those ≡ Some changes
     notices-of page changes [] [] z e = e
-    notices-of page changes [] (b ∷ bs) z e = absurd z
-    notices-of page changes (a ∷ has) [] z e = absurd z
-    notices-of page changes (a ∷ has) (b ∷ bs) z e =
-        ap (λ k. option_and_then changes_of (cond (k == page) (Some b) (find (λ (notice : NoticeRecord). notice.page == page) bs))) (sym z.0.0)
-        ∙ here (λ e. notices-of page changes has bs z.1 e) (a.page == page) e
+    notices-of page changes [] (b ∷ those) z e = absurd z
+    notices-of page changes (a ∷ known) [] z e = absurd z
+    notices-of page changes (a ∷ known) (b ∷ those) z e =
+        ap (λ k. option_and_then changes_of (cond (k == page) (Some b) (find (λ (notice : NoticeRecord). notice.page == page) those))) (sym z.0.0)
+        ∙ here (λ e. notices-of page changes known those z.1 e) (a.page == page) e
       where
-        here : (changes_in page has ≡ Some changes → changes_in page bs ≡ Some changes) → (t : Bool)
-            → option_and_then changes_of (cond t (Some a) (find (λ (notice : NoticeRecord). notice.page == page) has)) ≡ Some changes
-            → option_and_then changes_of (cond t (Some b) (find (λ (notice : NoticeRecord). notice.page == page) bs)) ≡ Some changes
+        here : (changes_in page known ≡ Some changes → changes_in page those ≡ Some changes) → (t : Bool)
+            → option_and_then changes_of (cond t (Some a) (find (λ (notice : NoticeRecord). notice.page == page) known)) ≡ Some changes
+            → option_and_then changes_of (cond t (Some b) (find (λ (notice : NoticeRecord). notice.page == page) those)) ≡ Some changes
         here rest true e =
             ⊎_elim (λ (none : a.changes ≡ None). absurd cc) (λ (same : a.changes ≡ b.changes). sym same ∙ e) z.0.1
         here rest false e = rest e

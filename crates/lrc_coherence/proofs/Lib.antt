@@ -13,3 +13,4 @@ pub mod StampTurns
 pub mod StampCuts
 pub mod StampTimes
 pub mod KnownStores
+pub mod Known
