@@ -14,3 +14,4 @@ pub mod StampCuts
 pub mod StampTimes
 pub mod KnownStores
 pub mod Known
+pub mod StampLaw

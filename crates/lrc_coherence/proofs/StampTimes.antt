@@ -53,7 +53,7 @@ timely-weaker : (C D : List ℕ → Type 0) → ((t : List ℕ) → C t → D t)
 timely-weaker C D f memory h =
     record { collected = f memory.collected h.collected; since = λ page. since-weaker C D f (copy_at memory page) (h.since page) }
 
-since-of : (C : List ℕ → Type 0) (copy : Copy) (values since : List ℕ) → copy ≡ invalid values since → SinceIn C copy → C since
+pub since-of : (C : List ℕ → Type 0) (copy : Copy) (values since : List ℕ) → copy ≡ invalid values since → SinceIn C copy → C since
 since-of C copy values since e h = subst (SinceIn C) e h
 
 -- ---- one turn
