@@ -1,5 +1,5 @@
 -- In every history the changes that a node knows, and those that a pending reply tells, are those of the closed intervals.
-use Rattle.std.proofs.Common.{◌≡◌, ◌⊎◌, ℕ, ◌+◌, List, [], ◌∷◌, ◌++◌, Bool, true, false, map, refl, sym, ap, subst, ◌∙◌, ⊎_elim, arith}
+use Rattle.std.proofs.Common.{◌≡◌, ℕ, ◌+◌, List, [], ◌∷◌, ◌++◌, true, false, map, refl, sym, ap, subst, ◌∙◌, ⊎_elim, arith}
 use Rattle.std.specs.Prelude.{Option, Some, None, is_some, ◌==◌, All, Contains, fold, slice_get, unwrap_or, if◌then◌else◌}
 use Rattle.std.specs.List.{range_with_len}
 use Rattle.std.proofs.lemmas.Bool.{and_parts, false≢true, ne_eqb}
@@ -23,14 +23,11 @@ use Rattle.lrc_protocol.specs.Memory.{copy_at, with_interval, changes_or_none}
 use Rattle.lrc_protocol.specs.Node.{Node, OptionsRecord}
 use Rattle.lrc_protocol.specs.Take.{with_part}
 use Rattle.lrc_protocol.specs.Turn.{TurnRecord}
-use Rattle.lrc_protocol.specs.Log.{Input, EntryRecord, Logged}
-use Rattle.lrc_protocol.specs.World.{World, Flying, fresh_world, with_turn, pending}
+use Rattle.lrc_protocol.specs.Log.{Input, Logged}
+use Rattle.lrc_protocol.specs.World.{World, fresh_world, with_turn, pending}
 use Rattle.lrc_protocol.proofs.Worlds.{get_set_same, fresh_at}
-use Rattle.lrc_protocol.proofs.Induction.{Comes}
 use Rattle.lrc_invariants.proofs.Shift.{AllFrom}
 use Rattle.lrc_invariants.proofs.Sends.{Came, by_itself, comes, letter_in}
-use Rattle.lrc_invariants.proofs.Pending.{Took, Lost}
-use Rattle.lrc_invariants.proofs.Reached.{IsReached}
 use Rattle.lrc_local.proofs.Tests.{each_passes}
 use Rattle.lrc_local.proofs.Always.{attached_at, ranged_at}
 use Rattle.lrc_local.proofs.OwnAsked.{own-known}
@@ -42,7 +39,7 @@ use Rattle.lrc_coherence.proofs.History.{History, KeptByHistory, by_history, clo
 use Rattle.lrc_coherence.proofs.StampWorlds.{Placed, placed, each_node, TurnBy, alone, again, anew, turn_at}
 use Rattle.lrc_coherence.proofs.StampMade.{AreListed, closed-index, one_listed, all_made, all_listed}
 use Rattle.lrc_coherence.proofs.StampTurns.{is_changes_reply, AllSilent, SinceIn, Timely, Turned, Says, run-turned, took-turned}
-use Rattle.lrc_coherence.proofs.KnownStores.{then_Some, changes-more, IsKnown, all_known-more, learned-known, dropped-known, ArePartsOf, parts-known, closed-known, known-of}
+use Rattle.lrc_coherence.proofs.KnownStores.{changes-more, IsKnown, all_known-more, learned-known, dropped-known, ArePartsOf, parts-known, closed-known, known-of}
 
 -- ---- replies
 
@@ -198,7 +195,7 @@ module _ (nodes n : ℕ) (node : Node) (made : List StoredRecord) (p : Placed no
       each_passes (λ index. is_some (notice_at node.memory.store (record { node = me; index = index; page = m.page })))
       (λ index. is_some (notice_at node.memory.store (record { node = me; index = index; page = m.page })) ≡ true) (λ index b. b) m.indices parts.1 in
       let P : IndexedChangesRecord → Type 0 = λ part.
-          made_changes made (record { node = me; index = part.index; page = m.page }) ≡ Some part.changes in
+      made_changes made (record { node = me; index = part.index; page = m.page }) ≡ Some part.changes in
       let all : ArePartsOf made me sent.page sent.parts =
       All-map P (own_part node m.page) m.indices
       (All-weaker (λ index. is_some (notice_at node.memory.store (record { node = me; index = index; page = m.page })) ≡ true)
