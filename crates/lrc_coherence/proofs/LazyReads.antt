@@ -4,7 +4,6 @@ use Rattle.std.proofs.Common.{◌≡◌, ◌⊎◌, ℕ, ◌+◌, ◌<◌, ◌�
 use Rattle.std.specs.Prelude.{Option, Some, None, IsTrue, All, Contains, slice_get, slice_index_or}
 use Rattle.std.proofs.lemmas.Bool.{cases_lt}
 use Rattle.std.proofs.lemmas.List.{get_or_push, get_or_past, length_push}
-use Rattle.std.proofs.lemmas.Option.{same_Some}
 use Rattle.lrc_lang.specs.declared.program.Program.{Program}
 use Rattle.lrc_trace.specs.declared.act.Act.{Act}
 use Rattle.lrc_trace.specs.declared.act.Deed.{Deed}
@@ -30,7 +29,7 @@ use Rattle.lrc_clock.specs.Times.{time_at}
 use Rattle.lrc_clock.specs.Keeping.{KeepsTime}
 use Rattle.lrc_clock.proofs.Ordering.{order_to_cover, cover_to_order}
 use Rattle.lrc_clock.proofs.Intervals.{interval_of_other}
-use Rattle.lrc_store.specs.Store.{StoredRecord, stored_at}
+use Rattle.lrc_store.specs.Store.{StoredRecord}
 use Rattle.lrc_copies.specs.Stamps.{index_of, is_covered, covered}
 use Rattle.lrc_copies.specs.Reading.{IsLastWriteIn, ListsWrites}
 use Rattle.lrc_copies.proofs.Members.{Contains-first, Contains-later, cases_Contains, Contains-filter, Contains-from_filter}
