@@ -4,7 +4,6 @@ use Rattle.std.proofs.Common.{◌≡◌, ◌⊎◌, ℕ, ◌+◌, ◌<◌, ◌�
 use Rattle.std.specs.Prelude.{Option, Some, None, IsTrue, All, Contains, slice_get, slice_index_or}
 use Rattle.std.proofs.lemmas.Bool.{cases_lt}
 use Rattle.std.proofs.lemmas.List.{get_or_push, get_or_past, length_push}
-use Rattle.std.proofs.lemmas.Option.{same_Some}
 use Rattle.lrc_lang.specs.declared.program.Program.{Program}
 use Rattle.lrc_trace.specs.declared.act.Act.{Act}
 use Rattle.lrc_trace.specs.declared.act.Deed.{Deed}
@@ -30,7 +29,7 @@ use Rattle.lrc_clock.specs.Times.{time_at}
 use Rattle.lrc_clock.specs.Keeping.{KeepsTime}
 use Rattle.lrc_clock.proofs.Ordering.{order_to_cover, cover_to_order}
 use Rattle.lrc_clock.proofs.Intervals.{interval_of_other}
-use Rattle.lrc_store.specs.Store.{StoredRecord, stored_at}
+use Rattle.lrc_store.specs.Store.{StoredRecord}
 use Rattle.lrc_copies.specs.Stamps.{index_of, is_covered, covered}
 use Rattle.lrc_copies.specs.Reading.{IsLastWriteIn, ListsWrites}
 use Rattle.lrc_copies.proofs.Members.{Contains-first, Contains-later, cases_Contains, Contains-filter, Contains-from_filter}
@@ -56,10 +55,11 @@ use Rattle.lrc_local.specs.Ranges.{IsWhole}
 use Rattle.lrc_local.proofs.Always.{whole_at, known_at}
 use Rattle.lrc_coherence.specs.Written.{made_stamps, last_write, word_on, changes_on, open_record}
 use Rattle.lrc_coherence.proofs.Stored.{reached}
+use Rattle.lrc_coherence.proofs.StampLists.{found_once}
 use Rattle.lrc_coherence.proofs.History.{History, one_more, KeptByHistory, by_history, reached_by, history_of, closed_by}
 use Rattle.lrc_coherence.proofs.Laws.{AreKnown, StampsLaw, CopiesLaw, ReadsLaw}
 use Rattle.lrc_coherence.proofs.LazyWrites.{IsLastIn, last_write-some, last_write-none}
-use Rattle.lrc_coherence.proofs.LazyMade.{Member, member_at}
+use Rattle.lrc_coherence.proofs.LazyMade.{member_at}
 use Rattle.lrc_coherence.proofs.LazyTimes.{covers_acts, own_is_most, stamps_cover}
 use Rattle.lrc_coherence.proofs.LazyTurns.{HasRead, ReadsFrom, ReadsIf, turn-reads}
 
@@ -151,15 +151,15 @@ module _ (program : Program) (nodes : ℕ) (options : OptionsRecord) (stamps : S
         let most : entry (time_at world.times j) other ≤ entry lq.0.node.locks.time other =
         own_is_most program nodes options world r other lq.0 j n (Read word value) lq.1 here last_is in
         let upto : entry time other ≤ entry lq.0.node.locks.time other = subst (λ t. entry t other ≤ entry lq.0.node.locks.time other) time_is most in
-        let m : Member other (interval_at world.acts other i) made =
+        let m : (x : StoredRecord) × Contains made x × (x.node ≡ other) × (index_of made_stamps x ≡ interval_at world.acts other i) =
         member_at made world known.are other (interval_at world.acts other i) lq.0 lq.1 (omega arith) (omega (arith, le, upto)) in
-        let under : index_of made_stamps m.interval ≤ entry time m.interval.node =
-        subst (λ q. index_of made_stamps m.interval ≤ entry time q) (sym m.node_is) (omega (arith, le, m.index_is)) in (
-          m.interval,
-          Contains-later opened (covered made_stamps time made) m.interval
-              (Contains-filter (is_covered made_stamps time) made m.interval m.among (le-covered made_stamps time m.interval under)),
-          m.node_is,
-          m.index_is,
+        let under : index_of made_stamps m.0 ≤ entry time m.0.node =
+        subst (λ q. index_of made_stamps m.0 ≤ entry time q) (sym m.2) (omega (arith, le, m.3)) in (
+          m.0,
+          Contains-later opened (covered made_stamps time made) m.0
+              (Contains-filter (is_covered made_stamps time) made m.0 m.1 (le-covered made_stamps time m.0 under)),
+          m.2,
+          m.3,
         )
 
     own_there : (i : ℕ) (d : Deed) → i < j → Does world.acts i n d
@@ -205,9 +205,7 @@ module _ (program : Program) (nodes : ℕ) (options : OptionsRecord) (stamps : S
           elim (cases_listed b b_in) [
             | inl is' ↦ absurd (not_opened b a is' there.1 (sym nodes_are) (sym same))
             | inr there' ↦
-                same_Some a b
-                (sym (known.found a there.0) ∙ ap (λ q. stored_at made q (index_of made_stamps a)) nodes_are
-                ∙ ap (stored_at made b.node) same ∙ known.found b there'.0)
+                found_once made a b known.found there.0 there'.0 nodes_are same
           ]
     ]
 

@@ -4,7 +4,7 @@ use Rattle.std.proofs.Common.{◌≡◌, ◌⊎◌, ℕ, zero, suc, ◌+◌, ◌
 use Rattle.std.specs.Prelude.{◌==◌, ◌&&◌, Option, Some, None, fold, slice_get, if◌then◌else◌}
 use Rattle.std.specs.List.{enumerate_from}
 use Rattle.std.proofs.lemmas.Bool.{and_parts, and_from, eq-eqb, eqb-true, cases_lt}
-use Rattle.std.proofs.lemmas.Option.{same_Some}
+use Rattle.std.proofs.lemmas.Option.{none-some, same_Some}
 use Rattle.lrc_trace.specs.declared.act.Act.{Act}
 use Rattle.lrc_trace.specs.declared.act.Deed.{Deed}
 use Rattle.lrc_trace.specs.declared.act.Deed.TheVariants.{Quiet, Print, Read, Write, Acquire, Release, Arrive, Depart, Trap, End}
@@ -88,16 +88,13 @@ module _ (f : ℕ × Act → Option ℕ) where
   newest before k [] = inl (refl, λ i a at. cc)
   newest before k (y ∷ acts) = newest_more before k y acts (f (k, y)) refl (newest (newer before (f (k, y))) (k + 1) acts)
 
-  none_some : (o : Option ℕ) (value : ℕ) → o ≡ None → o ≡ Some value → ⊥
-  none_some o value e e' = let never : None ≡ Some value = sym e ∙ e' in cc
-
   gives_last : (acts : List Act) (value : ℕ) → newest_of None 0 acts ≡ Some value → Newest None 0 acts → GiveLast 0 acts value
-  gives_last acts value e (inl (same, none)) = absurd (none_some (newest_of None 0 acts) value same e)
+  gives_last acts value e (inl (same, none)) = absurd (none-some value (sym same ∙ e))
   gives_last acts value e (inr (v, is, g)) = subst (GiveLast 0 acts) (same_Some v value (sym is ∙ e)) g
 
   gives_none : (acts : List Act) → newest_of None 0 acts ≡ None → Newest None 0 acts → GiveNone 0 acts
   gives_none acts e (inl (same, none)) = none
-  gives_none acts e (inr (v, is, g)) = absurd (none_some (newest_of None 0 acts) v e is)
+  gives_none acts e (inr (v, is, g)) = absurd (none-some v (sym e ∙ is))
 
 -- ---- the writes of an interval
 
@@ -154,7 +151,7 @@ module _ (acts : List Act) (node index word : ℕ) where
       → ((a : Act) → slice_get acts i ≡ Some a → write_in acts node index word (i, a) ≡ None) → ⊥
   no_write i value w none =
       let e : write_in acts node index word (i, act_of node (Write word value)) ≡ None = none (act_of node (Write word value)) w.write.stands in
-      let never : None ≡ Some value = sym e ∙ in_writes i value w in cc
+      none-some value (sym e ∙ in_writes i value w)
 
   from_start : (i : ℕ) (a : Act) (o : Option ℕ) → write_in acts node index word (0 + i, a) ≡ o → write_in acts node index word (i, a) ≡ o
   from_start i a o e = let same : i ≡ 0 + i = omega arith in ap (λ m. write_in acts node index word (m, a)) same ∙ e
