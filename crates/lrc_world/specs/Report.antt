@@ -1,7 +1,8 @@
 -- What is reported of a run.
-use Rattle.std.specs.Prelude.{◌≡◌, ◌⊎◌, ℕ, false, true, Some, None, List, [], ◌∷◌, ◌++◌, map}
+use Rattle.std.specs.Prelude.{◌≡◌, ◌⊎◌, ℕ, false, true, Some, None, List, [], ◌∷◌, ◌++◌, MatchOption, map}
 use Rattle.std.specs.List.{list_any}
 use Rattle.lrc_lang.specs.declared.program.Program.{Program}
+use Rattle.lrc_trace.specs.Conflict.{IsFirstRace, IsRaceFree}
 use Rattle.lrc_protocol.specs.declared.event.Event.{Event}
 use Rattle.lrc_protocol.specs.Node.{OptionsRecord}
 use Rattle.lrc_protocol.specs.Turn.{is_ready}
@@ -16,11 +17,12 @@ use Rattle.lrc_world.specs.World.{sends_long}
 abbrev pub end_of_logged : Logged → End
 end_of_logged l = end_of l.node.course
 
--- the acts in order, and for each node from 0 up how it ended and its turns
+-- the acts in order, and for each node from 0 up how it ended and its turns; and the first act that races with an earlier one
 pub record IsReport (report : Report) (run : Run) : Type 0 where
   pub acts : report.acts.items ≡ run.acts
   pub ends : report.ends.items ≡ map end_of_logged run.nodes
   pub logs : map (λ log. log.items) report.logs.items ≡ map (λ l. l.log) run.nodes
+  pub first : MatchOption report.first_race (IsRaceFree run.acts) (IsFirstRace run.acts)
 
 -- At some event from a world on, a number, an interval's index or a stamp would be too large, or a message is longer than may
 -- be sent.

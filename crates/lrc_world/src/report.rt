@@ -23,6 +23,8 @@ pub struct Report {
     pub ends: Vec<End>,
     /// The turns of each node with their stamps, from node 0 up.
     pub logs: Vec<Vec<Entry>>,
+    /// The least position of an act that races with an earlier one, where there is one.
+    pub first_race: Option<usize>,
 }
 
 /// Why there is no report.

@@ -1,6 +1,7 @@
 // A run in rounds.
 
-ghost use Rattle.std.specs.Prelude.{◌≡◌, ◌<◌, ◌≤◌, [], IfOk, OnOk, length};
+ghost use Rattle.std.specs.Prelude.{◌≡◌, ◌<◌, ◌≤◌, [], All, IfOk, OnOk, length};
+ghost use Rattle.lrc_judge.specs.declared.TheConstants.{NODES};
 ghost use Rattle.lrc_protocol.specs.World.{World as Run};
 ghost use Rattle.lrc_world.specs.Report.{IsReport};
 ghost use Rattle.lrc_world.specs.Rounds.{GoesTo, IsAsleep, IsStill, NoneReady};
@@ -49,6 +50,7 @@ impl<'c> Driver<'c> {
 
     /// The events, and what is reported of the run.
     pub(crate) fn report(self) -> Result<(Vec<Event>, Report), AllocError>
+        requires { All (λ act. act.node < NODES) self.world.acts.items }
         ensures events { IfOk result (λ done. done.0 ≡ self.entry.events) }
         ensures report { IfOk result (λ done. (run : Run) → Shows self.entry.world run → IsReport done.1 run) }
     {

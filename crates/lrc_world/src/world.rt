@@ -1,8 +1,9 @@
 // All nodes of a run, the messages in flight, and what events do to them.
 
-ghost use Rattle.std.specs.Prelude.{◌≡◌, ◌≤◌, ◌<◌, ◌++◌, [], ◌∷◌, IfOk, IfErr, OnOk, IsOk, Ok, false, List, length, map, remove, slice_get};
+ghost use Rattle.std.specs.Prelude.{◌≡◌, ◌≤◌, ◌<◌, ◌++◌, [], ◌∷◌, All, IfOk, IfErr, OnOk, IsOk, Ok, false, List, length, map, remove, slice_get};
 ghost use Rattle.std.specs.List.{list_any};
 ghost use Rattle.std.specs.Option.{option_to_list};
+ghost use Rattle.lrc_judge.specs.declared.TheConstants.{NODES};
 ghost use Rattle.lrc_wire.specs.Reading.{envelope_of};
 ghost use Rattle.lrc_protocol.specs.World.{World as Run, Flying as Sent, fresh_world, event_on, with_mark};
 ghost use Rattle.lrc_protocol.specs.declared.event.Event.TheVariants as events;
@@ -19,6 +20,7 @@ use bytes::Bytes;
 use lrc_exec::code::Code;
 use lrc_node::{End, Entry, Logged, NodeFault, Options};
 use lrc_protocol::Event;
+use lrc_race::first_race;
 use lrc_trace::act::Act;
 use lrc_wire::{EncodeFault, Envelope, Picker, WireFault, decode, encode};
 use std::alloc::{AllocError, Global};
@@ -168,8 +170,10 @@ impl<'c> World<'c> {
 
     /// What is reported of the run.
     pub(crate) fn report(self) -> Result<Report, AllocError>
+        requires { All (λ act. act.node < NODES) self.acts.items }
         ensures { (run : Run) → Shows self.entry run → IfOk result (λ report. IsReport report run) }
     {
+        let first_race = first_race(self.alloc, &self.acts)?;
         let World {
             alloc,
             nodes,
@@ -178,7 +182,12 @@ impl<'c> World<'c> {
         } = self;
         let ends = ends_of(alloc, &nodes)?;
         let logs = logs_of(alloc, nodes)?;
-        Ok(Report { acts, ends, logs })
+        Ok(Report {
+            acts,
+            ends,
+            logs,
+            first_race,
+        })
     }
 
     // Adds what the node's newest turn did: its act, and its messages in flight.
