@@ -9,11 +9,8 @@ use Rattle.lrc_world.specs.Rounds.{Drives, GoesTo, NoneReady}
 use Rattle.lrc_world.specs.World.{Shows}
 use Rattle.lrc_world.proofs.Events.{handed_on}
 use Rattle.lrc_world.proofs.Driven.{begins, in_range, over}
-<<<<<<< HEAD
 use Rattle.lrc_world.proofs.Theorem.{in_order, reads_lazily, consistent, to_first_race, race_free}
-=======
 use Rattle.lrc_world.proofs.Worlds.{acts_of_nodes}
->>>>>>> world
 use Rattle.lrc_world.proofs.simulate.drive.Goals as goal
 
 -- the driver before any event
@@ -71,7 +68,15 @@ returns-clause-over c = λ few.
     (ap (λ v. played start v.items) c.in_ok-report.ensures.events ∙ r.1) r.2
     (subst (λ n. NoneReady n c.drive.new.self.world) c.in_ok-count.ensures.0 still.0) still.1
 
-<<<<<<< HEAD
+pub report-requires : goal.report-requires
+report-requires c =
+    let start = fresh_world c.args.program.now c.args.nodes c.args.options.now in
+    let d = first c.args.program.now c.in_ok-code.code c.args.nodes c.in_ok-count.count c.args.options.now c.new-driver.result c.in_ok-world.world
+    c.in_ok-code.ensures c.in_ok-count.ensures.0 c.in_ok-world.ensures c.new-driver.ensures.world c.new-driver.ensures.events in
+    let r = c.in_ok-drive.ensures.goes.drives start d in
+    acts_of_nodes c.args.program.now c.args.nodes c.args.options.now c.drive.new.self.events.items r.0 c.drive.new.self.world r.1 r.2
+    c.in_ok-count.ensures.1.1
+
 pub returns-clause-synchronized : goal.returns-clause-synchronized
 returns-clause-synchronized c =
     in_order c.args.program.now c.args.nodes c.args.options.now c.in_ok-report.field-0.0.items c.in_ok-report.field-0.1 (returns-clause-report c)
@@ -91,13 +96,3 @@ returns-clause-first c =
 pub returns-clause-unraced : goal.returns-clause-unraced
 returns-clause-unraced c =
     race_free c.args.program.now c.args.nodes c.args.options.now c.in_ok-report.field-0.0.items c.in_ok-report.field-0.1 (returns-clause-report c)
-=======
-pub report-requires : goal.report-requires
-report-requires c =
-    let start = fresh_world c.args.program.now c.args.nodes c.args.options.now in
-    let d = first c.args.program.now c.in_ok-code.code c.args.nodes c.in_ok-count.count c.args.options.now c.new-driver.result c.in_ok-world.world
-    c.in_ok-code.ensures c.in_ok-count.ensures.0 c.in_ok-world.ensures c.new-driver.ensures.world c.new-driver.ensures.events in
-    let r = c.in_ok-drive.ensures.goes.drives start d in
-    acts_of_nodes c.args.program.now c.args.nodes c.args.options.now c.drive.new.self.events.items r.0 c.drive.new.self.world r.1 r.2
-    c.in_ok-count.ensures.1.1
->>>>>>> world

@@ -2,11 +2,8 @@ use Rattle.std.proofs.Common.{◌≡◌, ◌∙◌, sym, ap, rules, arith, take}
 use Rattle.lrc_protocol.specs.World.{run_of}
 use Rattle.lrc_world.specs.declared.report.SimFault.TheVariants.{Worn}
 use Rattle.lrc_world.proofs.Events.{goes_on, wears_out, handed_on, take_whole, get_at}
-<<<<<<< HEAD
 use Rattle.lrc_world.proofs.Theorem.{in_order, reads_lazily, consistent, to_first_race, race_free}
-=======
 use Rattle.lrc_world.proofs.Worlds.{acts_of_nodes}
->>>>>>> world
 use Rattle.lrc_world.proofs.simulate.simulate.Goals as goal
 
 pub loop-event-preserved : goal.loop-event-preserved
@@ -26,7 +23,11 @@ returns-clause-report c =
     let all : take c.loop-event.event-index c.args.events.now ≡ c.args.events.now = take_whole c.args.events.now c.loop-event.event-index (omega (arith, c.loop-event-test.false)) in
     (runs.0, ap (run_of c.args.program.now c.args.nodes c.args.options.now) (sym all) ∙ runs.1, c.in_ok-report.ensures runs.0 runs.2)
 
-<<<<<<< HEAD
+pub report-requires : goal.report-requires
+report-requires c =
+    let runs = c.loop-event.invariant in
+    acts_of_nodes c.args.program.now c.args.nodes c.args.options.now (take c.loop-event.event-index c.args.events.now) runs.0 c.loop-event.world runs.1 runs.2 c.in_ok-count.ensures.1.1
+
 pub returns-clause-synchronized : goal.returns-clause-synchronized
 returns-clause-synchronized c =
     in_order c.args.program.now c.args.nodes c.args.options.now c.args.events.now c.in_ok-report.field-0 (returns-clause-report c)
@@ -46,9 +47,3 @@ returns-clause-first c =
 pub returns-clause-unraced : goal.returns-clause-unraced
 returns-clause-unraced c =
     race_free c.args.program.now c.args.nodes c.args.options.now c.args.events.now c.in_ok-report.field-0 (returns-clause-report c)
-=======
-pub report-requires : goal.report-requires
-report-requires c =
-    let runs = c.loop-event.invariant in
-    acts_of_nodes c.args.program.now c.args.nodes c.args.options.now (take c.loop-event.event-index c.args.events.now) runs.0 c.loop-event.world runs.1 runs.2 c.in_ok-count.ensures.1.1
->>>>>>> world
