@@ -35,7 +35,7 @@ use Rattle.lrc_copies.specs.Reading.{IsLastWriteIn, ListsWrites}
 use Rattle.lrc_copies.proofs.Members.{Contains-first, Contains-later, cases_Contains, Contains-filter, Contains-from_filter}
 use Rattle.lrc_copies.proofs.Stamping.{covered-le, le-covered}
 use Rattle.lrc_copies.proofs.Lazily.{copy_may_read}
-use Rattle.lrc_protocol.specs.Copy.{Copy, valid, written, invalid, absent, is_readable, values_of}
+use Rattle.lrc_protocol.specs.Copy.{Copy, absent, is_readable, values_of}
 use Rattle.lrc_protocol.specs.Locks.{next_time}
 use Rattle.lrc_protocol.specs.Memory.{copy_at, value_at}
 use Rattle.lrc_protocol.specs.Node.{OptionsRecord}
@@ -53,6 +53,7 @@ use Rattle.lrc_invariants.proofs.Timed.{keeps, synchronized}
 use Rattle.lrc_invariants.proofs.Reached.{IsReached}
 use Rattle.lrc_local.specs.Ranges.{IsWhole}
 use Rattle.lrc_local.proofs.Always.{whole_at, known_at}
+use Rattle.lrc_local.proofs.Whole.{readable-long}
 use Rattle.lrc_coherence.specs.Written.{made_stamps, last_write, word_on, changes_on, open_record}
 use Rattle.lrc_coherence.proofs.Stored.{reached}
 use Rattle.lrc_coherence.proofs.StampLists.{found_once}
@@ -70,13 +71,7 @@ word_is : (word : ℕ) (size : Size) → word_on size (page_of word size) (offse
 word_is word Words64 = omega arith
 word_is word Words256 = omega arith
 
--- a copy that can be read is a page long
-readable-long : (nodes words : ℕ) (copy : Copy) → is_readable copy ≡ true → IsWhole nodes words copy → length (values_of copy) ≡ words
-readable-long nodes words (valid values) r h = h
-readable-long nodes words (written values twin) r h = h.0
-readable-long nodes words (invalid values since) r h = cc
-readable-long nodes words absent r h = cc
-
+-- a page that can be read is there
 readable-there : (copies : List Copy) (page : ℕ) → is_readable (slice_index_or copies page absent) ≡ true → page < length copies
 readable-there copies page r = elim (cases_lt page (length copies)) [
   | inl lt ↦ lt
