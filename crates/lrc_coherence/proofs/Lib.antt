@@ -7,3 +7,4 @@ pub mod Stored
 pub mod History
 pub mod Laws
 pub mod CollectTurns
+pub mod CollectKeepers
