@@ -237,8 +237,7 @@ from_range a (suc n) k there = elim (cases_Contains a (range_with_len (a + 1) n)
 pub in_kept : (me : ℕ) (memory : Memory) (page : ℕ) → page < length memory.keepers → is_named (intervals_of memory.store) page ≡ true
     → keeper_at memory page ≡ me → Contains (kept_pages me memory) page
 in_kept me memory page lt named mine =
-    (filter-Contains (λ page. is_named (intervals_of memory.store) page && (keeper_at memory page == me)) (range_with_len 0 (length memory.keepers)) page).1
-    (
+    (filter-Contains (λ page. is_named (intervals_of memory.store) page && (keeper_at memory page == me)) (range_with_len 0 (length memory.keepers)) page).1 (
       in_range 0 (length memory.keepers) page (omega arith) (omega (arith, lt)),
       and_from (is_named (intervals_of memory.store) page) (keeper_at memory page == me) named (eq-eqb (keeper_at memory page) me mine),
     )

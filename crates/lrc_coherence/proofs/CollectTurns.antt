@@ -63,7 +63,7 @@ KeepsCopies a b = (page : ℕ) → copy_at b page ≡ absent → copy_at a page 
 abbrev pub KeepsBases : Memory → Memory → Type 0
 KeepsBases a b = (page : ℕ) → is_some (base_at a page) ≡ true → is_some (base_at b page) ≡ true
 
-written_absent : (copy : Copy) (offset value : ℕ) → after_write copy offset value ≡ absent → copy ≡ absent
+pub written_absent : (copy : Copy) (offset value : ℕ) → after_write copy offset value ≡ absent → copy ≡ absent
 written_absent (valid values) offset value e = cc
 written_absent (written values twin) offset value e = cc
 written_absent (invalid values since) offset value e = cc
@@ -81,29 +81,29 @@ invalidated_absent before (written values twin) e = cc
 invalidated_absent before (invalid values since) e = cc
 invalidated_absent before absent e = refl
 
-dropped_absent : (copy : Copy) → dropped copy ≡ absent → is_readable copy ≡ false
+pub dropped_absent : (copy : Copy) → dropped copy ≡ absent → is_readable copy ≡ false
 dropped_absent (valid values) e = cc
 dropped_absent (written values twin) e = cc
 dropped_absent (invalid values since) e = refl
 dropped_absent absent e = refl
 
-no_valid : {Y : Type 0} (values : List ℕ) → valid values ≡ absent → Y
+pub no_valid : {Y : Type 0} (values : List ℕ) → valid values ≡ absent → Y
 no_valid values e = let never : ⊥ = cc in absurd never
 
-mended-keeps : (memory : Memory) (need : Need) → KeepsCopies memory (mended memory need)
+pub mended-keeps : (memory : Memory) (need : Need) → KeepsCopies memory (mended memory need)
 mended-keeps memory need page =
     set-copy (λ copy. copy ≡ absent → copy_at memory page ≡ absent) memory.copies need.page page _ (λ r e. no_valid _ e) (λ e. e)
 
-mends-keeps : (needs : List Need) (memory : Memory) → KeepsCopies memory (fold mended memory needs)
+pub mends-keeps : (needs : List Need) (memory : Memory) → KeepsCopies memory (fold mended memory needs)
 mends-keeps [] memory page e = e
 mends-keeps (need ∷ needs) memory page e = mended-keeps memory need page (mends-keeps needs (mended memory need) page e)
 
-clean-keeps : (needs : List Need) (kept : List ℕ) (memory : Memory) → KeepsCopies memory (clean_memory needs kept memory)
+pub clean-keeps : (needs : List Need) (kept : List ℕ) (memory : Memory) → KeepsCopies memory (clean_memory needs kept memory)
 clean-keeps needs kept memory page e =
     mends-keeps needs memory page
     (subst (λ (copies : List Copy). slice_index_or copies page absent ≡ absent) (bases-copies kept (fold mended memory needs)) e)
 
-learned-keeps : (before : List ℕ) (intervals : List IntervalRecord) (memory : Memory) → KeepsCopies memory (learned before intervals memory)
+pub learned-keeps : (before : List ℕ) (intervals : List IntervalRecord) (memory : Memory) → KeepsCopies memory (learned before intervals memory)
 learned-keeps before intervals memory page e =
     ⊎_elim
     (λ (lt : page < length memory.copies).
@@ -116,10 +116,10 @@ learned-keeps before intervals memory page e =
     by_test true e = invalidated_absent before (copy_at memory page) e
     by_test false e = e
 
-closes-keeps : (me : ℕ) (stamp : List ℕ) (memory : Memory) → KeepsCopies memory (with_interval me stamp memory)
+pub closes-keeps : (me : ℕ) (stamp : List ℕ) (memory : Memory) → KeepsCopies memory (with_interval me stamp memory)
 closes-keeps me stamp memory page e = closed_absent (copy_at memory page) (sym (map-copy closed refl memory.copies page) ∙ e)
 
-base-keeps : (memory : Memory) (at : ℕ) → KeepsBases memory (with_base memory at)
+pub base-keeps : (memory : Memory) (at : ℕ) → KeepsBases memory (with_base memory at)
 base-keeps memory at page h =
     ⊎_elim
     (λ (here : at ≡ page).
@@ -135,11 +135,11 @@ base-keeps memory at page h =
     value : ℕ → Option (List ℕ)
     value at = Some (values_of (copy_at memory at))
 
-bases-keep : (kept : List ℕ) (memory : Memory) → KeepsBases memory (fold with_base memory kept)
+pub bases-keep : (kept : List ℕ) (memory : Memory) → KeepsBases memory (fold with_base memory kept)
 bases-keep [] memory page h = h
 bases-keep (at ∷ kept) memory page h = bases-keep kept (with_base memory at) page (base-keeps memory at page h)
 
-mends-bases : (needs : List Need) (memory : Memory) → (fold mended memory needs).bases ≡ memory.bases
+pub mends-bases : (needs : List Need) (memory : Memory) → (fold mended memory needs).bases ≡ memory.bases
 mends-bases [] memory = refl
 mends-bases (need ∷ needs) memory = mends-bases needs (mended memory need)
 

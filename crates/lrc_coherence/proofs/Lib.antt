@@ -8,3 +8,4 @@ pub mod History
 pub mod Laws
 pub mod CollectTurns
 pub mod CollectKeepers
+pub mod CollectLocal
