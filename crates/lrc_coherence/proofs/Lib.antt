@@ -9,3 +9,4 @@ pub mod Laws
 pub mod CollectTurns
 pub mod CollectKeepers
 pub mod CollectLocal
+pub mod CollectFlips
