@@ -168,6 +168,7 @@ collected-bases me time memory page mine h =
 
 -- all of a node's part in collections stays
 pub record Same (a b : Node) : Type 0 where
+  pub time : b.locks.time ≡ a.locks.time
   pub inside : in_collection b.mail.wait ≡ in_collection a.mail.wait
   pub barrier : b.barrier ≡ a.barrier
   pub collected : b.memory.collected ≡ a.memory.collected
@@ -176,8 +177,9 @@ pub record Same (a b : Node) : Type 0 where
   pub copies : KeepsCopies a.memory b.memory
   pub bases : KeepsBases a.memory b.memory
 
--- the same, but that intervals may come at who is in no collection
+-- the same, but that intervals may come, and the time go on, at who is in no collection
 pub record Steady (a b : Node) : Type 0 where
+  pub time : in_collection a.mail.wait ≡ true → b.locks.time ≡ a.locks.time
   pub inside : in_collection b.mail.wait ≡ in_collection a.mail.wait
   pub collected : b.memory.collected ≡ a.memory.collected
   pub keepers : b.memory.keepers ≡ a.memory.keepers
@@ -215,6 +217,7 @@ pub data Kind (a b : Node) : Came → Type 0 where
 
 same : (a : Node) → Same a a
 same a = record {
+  time = refl;
   inside = refl;
   barrier = refl;
   collected = refl;
@@ -226,6 +229,7 @@ same a = record {
 
 then_same : (a b c : Node) → Same a b → Same b c → Same a c
 then_same a b c x y = record {
+  time = y.time ∙ x.time;
   inside = y.inside ∙ x.inside;
   barrier = y.barrier ∙ x.barrier;
   collected = y.collected ∙ x.collected;
@@ -237,6 +241,7 @@ then_same a b c x y = record {
 
 then_kind : (a b c : Node) (came : Came) → Kind a b came → Same b c → Kind a c came
 then_kind a b c _ (steady k) y = steady (record {
+  time = λ e. y.time ∙ k.time e;
   inside = y.inside ∙ k.inside;
   collected = y.collected ∙ k.collected;
   keepers = y.keepers ∙ k.keepers;
@@ -265,8 +270,9 @@ then_kind a b c _ (ended from episode k) y = ended from episode (record {
 })
 
 -- a node with the same memory
-stood : (a b : Node) → b.memory ≡ a.memory → in_collection b.mail.wait ≡ in_collection a.mail.wait → Steady a b
-stood a b e i = record {
+stood : (a b : Node) → b.memory ≡ a.memory → b.locks.time ≡ a.locks.time → in_collection b.mail.wait ≡ in_collection a.mail.wait → Steady a b
+stood a b e t i = record {
+  time = λ _. t;
   inside = i;
   collected = ap (λ (m : Memory). m.collected) e;
   keepers = ap (λ (m : Memory). m.keepers) e;
@@ -275,13 +281,15 @@ stood a b e i = record {
   bases = λ page h. subst (λ (m : Memory). is_some (base_at m page) ≡ true) (sym e) h;
 }
 
-resting : (a b : Node) (came : Came) → b.memory ≡ a.memory → in_collection b.mail.wait ≡ in_collection a.mail.wait → Kind a b came
-resting a b came e i = steady (stood a b e i)
+resting : (a b : Node) (came : Came) → b.memory ≡ a.memory → b.locks.time ≡ a.locks.time → in_collection b.mail.wait ≡ in_collection a.mail.wait
+    → Kind a b came
+resting a b came e t i = steady (stood a b e t i)
 
 -- ---- acts, and what comes for pages
 
 coursed : (node : Node) (course : Course) → Same node (record node { course = course })
 coursed node course = record {
+  time = refl;
   inside = refl;
   barrier = refl;
   collected = refl;
@@ -296,6 +304,7 @@ makes-same letters node (quiet after) = coursed node _
 makes-same letters node (prints value after) = coursed node _
 makes-same letters node (reads word after) = coursed node _
 makes-same letters node (writes word value after) = record {
+  time = refl;
   inside = refl;
   barrier = refl;
   collected = refl;
@@ -330,6 +339,7 @@ either-same node false x y k l = l
 
 mended-same : (node : Node) (need : Need) → Same (waiting (access need) node) (waiting nothing (with_memory node (mended node.memory need)))
 mended-same node need = record {
+  time = refl;
   inside = refl;
   barrier = refl;
   collected = refl;
@@ -345,6 +355,7 @@ clean-node : (node : Node) (collection : Collection) (needs : List Need)
 clean-node node collection needs =
     let rest : SameRest node.memory (clean_memory needs collection.kept node.memory) = clean-same needs collection.kept node.memory in
     record {
+      time = refl;
       inside = refl;
       barrier = refl;
       collected = rest.collected;
@@ -396,12 +407,13 @@ optional node came true x k = k
 optional node came false x k = tt
 
 plain-kind : (node : Node) → Kind node (acts [] node).node by_itself
-plain-kind node = acted node by_itself [] node (resting node node by_itself refl refl)
+plain-kind node = acted node by_itself [] node (resting node node by_itself refl refl refl)
 
 -- a node in no collection closes its interval
 closes-kind : (node x : Node) → in_collection node.mail.wait ≡ false → in_collection x.mail.wait ≡ false → x.memory ≡ (closes node).memory
     → Kind node x by_itself
 closes-kind node x w v e = steady (record {
+  time = λ i. absurd (false≢true (sym w ∙ i));
   inside = v ∙ sym w;
   collected = ap (λ (m : Memory). m.collected) e;
   keepers = ap (λ (m : Memory). m.keepers) e;
@@ -415,7 +427,7 @@ reaches-kind : (node : Node) (page : ℕ) → in_collection node.mail.wait ≡ f
 reaches-kind node page w =
     let need : Need = need_of node.setting.nodes node.memory page in
     either node by_itself (is_readable (copy_at node.memory page)) _ _ (plain-kind node)
-    (waited node by_itself (requests_of need) node (access need) (resting node (waiting (access need) node) by_itself refl (sym w)))
+    (waited node by_itself (requests_of need) node (access need) (resting node (waiting (access need) node) by_itself refl refl (sym w)))
 
 acquire-kind : (node : Node) (lock : ℕ) → in_collection node.mail.wait ≡ false → Kind node (acquire_at lock (closes node)).node by_itself
 acquire-kind node lock w =
@@ -454,29 +466,30 @@ run-kind node ends w = plain-kind node
 -- ---- what a node does with a message
 
 request-kind : (node : Node) (came : Came) (from lock : ℕ) (time : List ℕ) (r : Requested) → Kind node (request_by node from lock time r).node came
-request-kind node came from lock time (refuses_request fault) = resting node node came refl refl
-request-kind node came from lock time (forwards to managed) = resting node _ came refl refl
+request-kind node came from lock time (refuses_request fault) = resting node node came refl refl refl
+request-kind node came from lock time (forwards to managed) = resting node _ came refl refl refl
 
 arrive-kind : (node : Node) (came : Came) (step : Option ArriveStep) → Kind node (arrive_by node step).node came
-arrive-kind node came None = resting node node came refl refl
-arrive-kind node came (Some (refuses_arrival fault)) = resting node node came refl refl
-arrive-kind node came (Some (waits manager)) = resting node _ came refl refl
-arrive-kind node came (Some (all_depart departures manager)) = resting node _ came refl refl
+arrive-kind node came None = resting node node came refl refl refl
+arrive-kind node came (Some (refuses_arrival fault)) = resting node node came refl refl refl
+arrive-kind node came (Some (waits manager)) = resting node _ came refl refl refl
+arrive-kind node came (Some (all_depart departures manager)) = resting node _ came refl refl refl
 
 clean-kind : (node : Node) (came : Came) (step : Option CleanStep) → Kind node (clean_by node step).node came
-clean-kind node came None = resting node node came refl refl
-clean-kind node came (Some (refuses_clean fault)) = resting node node came refl refl
-clean-kind node came (Some (awaits manager)) = resting node _ came refl refl
-clean-kind node came (Some (discards episode manager)) = resting node _ came refl refl
+clean-kind node came None = resting node node came refl refl refl
+clean-kind node came (Some (refuses_clean fault)) = resting node node came refl refl refl
+clean-kind node came (Some (awaits manager)) = resting node _ came refl refl refl
+clean-kind node came (Some (discards episode manager)) = resting node _ came refl refl refl
 
 page-kind : (node : Node) (came : Came) (from page : ℕ) (base : Option (List ℕ)) → Kind node (page_reply_by node from page base).node came
-page-kind node came from page None = resting node node came refl refl
-page-kind node came from page (Some values) = resting node node came refl refl
+page-kind node came from page None = resting node node came refl refl refl
+page-kind node came from page (Some values) = resting node node came refl refl refl
 
 -- a node in no collection learns of intervals
 learns-kind : (node x : Node) (came : Came) (intervals : List IntervalRecord) → in_collection node.mail.wait ≡ false
     → in_collection x.mail.wait ≡ false → x.memory ≡ learned node.locks.time intervals node.memory → Kind node x came
 learns-kind node x came intervals w v e = steady (record {
+  time = λ i. absurd (false≢true (sym w ∙ i));
   inside = v ∙ sym w;
   collected = ap (λ (m : Memory). m.collected) e;
   keepers = ap (λ (m : Memory). m.keepers) e;
@@ -537,16 +550,16 @@ discard-kind node from episode (discard collection) e =
       copies = λ page h. dropped_absent (copy_at node.memory page) (sym (map-copy dropped refl node.memory.copies page) ∙ h);
       bases = λ page mine h. collected-bases node.setting.me collection.time node.memory page mine h;
     }))
-discard-kind node from episode nothing e = resting node node (comes from (Discard episode)) refl refl
-discard-kind node from episode (grant lock) e = resting node node (comes from (Discard episode)) refl refl
-discard-kind node from episode departure e = resting node node (comes from (Discard episode)) refl refl
-discard-kind node from episode (access need) e = resting node node (comes from (Discard episode)) refl refl
-discard-kind node from episode (upkeep collection needs) e = resting node node (comes from (Discard episode)) refl refl
+discard-kind node from episode nothing e = resting node node (comes from (Discard episode)) refl refl refl
+discard-kind node from episode (grant lock) e = resting node node (comes from (Discard episode)) refl refl refl
+discard-kind node from episode departure e = resting node node (comes from (Discard episode)) refl refl refl
+discard-kind node from episode (access need) e = resting node node (comes from (Discard episode)) refl refl refl
+discard-kind node from episode (upkeep collection needs) e = resting node node (comes from (Discard episode)) refl refl refl
 
 take-kind : (node : Node) (from : ℕ) (message : Message) → is_expected node from message ≡ true
     → Kind node (take_effect node from message).node (comes from message)
 take-kind node from (LockRequest m) e = request-kind node (comes from (LockRequest m)) from m.lock m.time (requested node.locks.managed m.lock from)
-take-kind node from (LockForward m) e = resting node _ (comes from (LockForward m)) refl refl
+take-kind node from (LockForward m) e = resting node _ (comes from (LockForward m)) refl refl refl
 take-kind node from (LockGrant m) e =
     let outer : _ = and_parts _ _ e in
     let inner : _ = and_parts _ _ outer.0 in
@@ -563,12 +576,13 @@ take-kind node from (Depart m) e =
     depart-kind node from m m.collect refl (departs_out node.mail.wait waited_for.1)
 take-kind node from (Clean episode) e = clean-kind node (comes from (Clean episode)) _
 take-kind node from (Discard episode) e = discard-kind node from episode node.mail.wait refl
-take-kind node from (ChangesRequest m) e = resting node _ (comes from (ChangesRequest m)) refl refl
+take-kind node from (ChangesRequest m) e = resting node _ (comes from (ChangesRequest m)) refl refl refl
 take-kind node from (ChangesReply m) e =
     let memory : Memory = record node.memory { store = fold (with_part from m.page) node.memory.store m.parts } in
     let wait : Wait = with_needs (with_changes m.page from) node.mail.wait in
     waited node (comes from (ChangesReply m)) [] (with_memory node memory) wait
     (steady (record {
+      time = λ _. refl;
       inside = still_in (with_changes m.page from) node.mail.wait;
       collected = refl;
       keepers = refl;
@@ -579,7 +593,7 @@ take-kind node from (ChangesReply m) e =
 take-kind node from (PageRequest page) e = page-kind node (comes from (PageRequest page)) from page (base_at node.memory page)
 take-kind node from (PageReply m) e =
     waited node (comes from (PageReply m)) [] node (with_needs (with_page m.page m.values) node.mail.wait)
-    (resting node (waiting (with_needs (with_page m.page m.values) node.mail.wait) node) (comes from (PageReply m)) refl
+    (resting node (waiting (with_needs (with_page m.page m.values) node.mail.wait) node) (comes from (PageReply m)) refl refl
     (still_in (with_page m.page m.values) node.mail.wait))
 
 -- ---- turns
@@ -604,6 +618,7 @@ KindsIf node input worn = Unit {0}
 
 again_same : (x : Node) (sent : List ℕ) → Same x (record x { mail = record x.mail { sent = sent } })
 again_same x sent = record {
+  time = refl;
   inside = refl;
   barrier = refl;
   collected = refl;
@@ -626,9 +641,10 @@ effect_if-kind node came None k = tt
 effect_if-kind node came (Some e) k = effect-kind node came e k
 
 -- the kind depends on a node's setting, wait, barrier and memory alone
-kind_from : (a b x : Node) (came : Came) → b.setting ≡ a.setting → b.mail.wait ≡ a.mail.wait → b.barrier ≡ a.barrier → b.memory ≡ a.memory
+kind_from : (a b x : Node) (came : Came) → b.setting ≡ a.setting → b.locks.time ≡ a.locks.time → b.mail.wait ≡ a.mail.wait → b.barrier ≡ a.barrier → b.memory ≡ a.memory
     → Kind b x came → Kind a x came
-kind_from a b x _ s w r m (steady k) = steady (record {
+kind_from a b x _ s t w r m (steady k) = steady (record {
+  time = λ e. k.time (ap in_collection w ∙ e) ∙ t;
   inside = k.inside ∙ ap in_collection w;
   collected = k.collected ∙ ap (λ (m : Memory). m.collected) m;
   keepers = k.keepers ∙ ap (λ (m : Memory). m.keepers) m;
@@ -636,7 +652,7 @@ kind_from a b x _ s w r m (steady k) = steady (record {
   copies = subst (λ (m : Memory). KeepsCopies m x.memory) m k.copies;
   bases = subst (λ (m : Memory). KeepsBases m x.memory) m k.bases;
 })
-kind_from a b x _ s w r m (begun from d told k) = begun from d told (record {
+kind_from a b x _ s t w r m (begun from d told k) = begun from d told (record {
   was = sym w ∙ k.was;
   inside = k.inside;
   barrier = k.barrier ∙ r;
@@ -645,7 +661,7 @@ kind_from a b x _ s w r m (begun from d told k) = begun from d told (record {
   copies = subst (λ (m : Memory). KeepsCopies m x.memory) m k.copies;
   bases = subst (λ (m : Memory). KeepsBases m x.memory) m k.bases;
 })
-kind_from a b x _ s w r m (ended from episode k) = ended from episode (record {
+kind_from a b x _ s t w r m (ended from episode k) = ended from episode (record {
   collection = k.collection;
   was = sym w ∙ k.was;
   inside = k.inside;
@@ -663,14 +679,14 @@ kind_from a b x _ s w r m (ended from episode k) = ended from episode (record {
 
 -- so the steps that are left are no matter
 uncharged-end : (node : Node) (next : Next) (o : Outcome) → KindEnd (charged node next) by_itself o → KindEnd node by_itself o
-uncharged-end node next (done turn after) k = kind_from node (charged node next) after by_itself refl refl refl refl k
+uncharged-end node next (done turn after) k = kind_from node (charged node next) after by_itself refl refl refl refl refl k
 uncharged-end node next not_ready k = tt
 uncharged-end node next unexpected k = tt
 uncharged-end node next worn k = tt
 
 -- and the number that is taken is none
 untaken-end : (node : Node) (e : EnvelopeRecord) (came : Came) (o : Outcome) → KindEnd (taking node e) came o → KindEnd node came o
-untaken-end node e came (done turn after) k = kind_from node (taking node e) after came refl refl refl refl k
+untaken-end node e came (done turn after) k = kind_from node (taking node e) after came refl refl refl refl refl k
 untaken-end node e came not_ready k = tt
 untaken-end node e came unexpected k = tt
 untaken-end node e came worn k = tt
