@@ -10,3 +10,4 @@ pub mod CollectTurns
 pub mod CollectKeepers
 pub mod CollectLocal
 pub mod CollectFlips
+pub mod CollectPairs
