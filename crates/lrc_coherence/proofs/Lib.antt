@@ -11,3 +11,4 @@ pub mod CollectKeepers
 pub mod CollectLocal
 pub mod CollectFlips
 pub mod CollectPairs
+pub mod CollectAgree
