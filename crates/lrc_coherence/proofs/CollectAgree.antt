@@ -85,7 +85,7 @@ word_inside departure e = absurd (omega (arith, e))
 word_inside (access need) e = absurd (omega (arith, e))
 
 module _ (program : Program) (nodes : ℕ) (options : OptionsRecord) where
-  node_reached : (world : World) (r : IsReached program nodes options world) (n : ℕ) (l : Logged) → slice_get world.nodes n ≡ Some l → IsNodeReached l.node
+  pub node_reached : (world : World) (r : IsReached program nodes options world) (n : ℕ) (l : Logged) → slice_get world.nodes n ≡ Some l → IsNodeReached l.node
   node_reached world r n l at = reached program nodes options r.events world r.runs n l at
 
   -- ---- one world

@@ -12,3 +12,4 @@ pub mod CollectLocal
 pub mod CollectFlips
 pub mod CollectPairs
 pub mod CollectAgree
+pub mod CollectCovers
