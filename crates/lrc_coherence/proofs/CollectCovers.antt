@@ -29,10 +29,10 @@ collecting_inside departure k e z i = cc
 collecting_inside (access need) k e z i = cc
 
 module _ (program : Program) (nodes : ℕ) (options : OptionsRecord) (world : World) (r : IsReached program nodes options world) where
-  abbrev agree : Agree program nodes options world
+  abbrev pub agree : Agree program nodes options world
   agree = all_agree program nodes options r.events world r.runs
 
-  abbrev cleans : Option (List Bool)
+  abbrev pub cleans : Option (List Bool)
   cleans = cleans_in program nodes options world agree.exclusive
 
   below_own : (n : ℕ) (l : Logged) → slice_get world.nodes n ≡ Some l → Covers l.node.locks.time l.node.memory.collected

@@ -13,3 +13,4 @@ pub mod CollectFlips
 pub mod CollectPairs
 pub mod CollectAgree
 pub mod CollectCovers
+pub mod CollectBases
