@@ -14,3 +14,4 @@ pub mod CollectPairs
 pub mod CollectAgree
 pub mod CollectCovers
 pub mod CollectBases
+pub mod CollectServes
