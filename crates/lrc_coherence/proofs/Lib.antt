@@ -6,6 +6,15 @@ pub mod MadeWorlds
 pub mod Stored
 pub mod History
 pub mod Laws
+pub mod CollectTurns
+pub mod CollectKeepers
+pub mod CollectLocal
+pub mod CollectFlips
+pub mod CollectPairs
+pub mod CollectAgree
+pub mod CollectCovers
+pub mod CollectBases
+pub mod CollectServes
 pub mod StampLists
 pub mod StampWorlds
 pub mod StampMade
