@@ -6,3 +6,5 @@ pub mod MadeWorlds
 pub mod Stored
 pub mod History
 pub mod Laws
+pub mod RequestWishes
+pub mod RequestNeeds
