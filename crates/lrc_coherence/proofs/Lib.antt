@@ -8,3 +8,4 @@ pub mod History
 pub mod Laws
 pub mod RequestWishes
 pub mod RequestNeeds
+pub mod RequestTurns
