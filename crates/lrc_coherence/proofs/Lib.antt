@@ -9,3 +9,4 @@ pub mod Laws
 pub mod RequestWishes
 pub mod RequestNeeds
 pub mod RequestTurns
+pub mod RequestWorlds
