@@ -10,3 +10,4 @@ pub mod RequestWishes
 pub mod RequestNeeds
 pub mod RequestTurns
 pub mod RequestWorlds
+pub mod RequestUpkeep
