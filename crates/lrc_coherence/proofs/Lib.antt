@@ -11,3 +11,4 @@ pub mod RequestNeeds
 pub mod RequestTurns
 pub mod RequestWorlds
 pub mod RequestUpkeep
+pub mod RequestLaws

@@ -97,7 +97,7 @@ module _ (page from : ℕ) (indices : List ℕ) (test : Letter → Bool) where
       let x : count_by test (requests (a ∷ asked)) ≡ cond (test (changes_request_of page a)) 1 0 + count_by test (requests asked) =
       count-cons test (changes_request_of page a) (requests asked) in
       let y : count_by test (requests (filter others (a ∷ asked)))
-          ≡ cond (test (changes_request_of page a)) 1 0 + count_by test (requests (filter others asked)) =
+      ≡ cond (test (changes_request_of page a)) 1 0 + count_by test (requests (filter others asked)) =
       ap (λ rest. count_by test (requests rest)) stays ∙ count-cons test (changes_request_of page a) (requests (filter others asked)) in
       omega (arith, rest, x, y))
       (or_cases (asks from indices a) (list_any (asks from indices) asked) e)
@@ -130,7 +130,7 @@ asked-less from indices test need true e h d =
     count-append test base (map (changes_request_of need.page) need.asked) in
     let y : count_by test (base ++ left) ≡ count_by test base + count_by test left = count-append test base left in
     let z : count_by test (map (changes_request_of need.page) need.asked)
-        ≡ cond (test (letter from (ChangesRequest (record { page = need.page; indices = indices })))) 1 0 + count_by test left =
+    ≡ cond (test (letter from (ChangesRequest (record { page = need.page; indices = indices })))) 1 0 + count_by test left =
     changes-less need.page from indices test need.asked h d in
     omega (arith, x, y, z)
 
@@ -161,7 +161,7 @@ module _ (Fits : Need → Type 0) (change : Need → Need) (page : ℕ) (awaits 
       let x : count_by test (flat_map requests_of (need ∷ needs)) ≡ count_by test (requests_of need) + count_by test (flat_map requests_of needs) =
       count-append test (requests_of need) (flat_map requests_of needs) in
       let y : count_by test (flat_map requests_of (map change (need ∷ needs)))
-          ≡ count_by test (requests_of (change need)) + count_by test (flat_map requests_of (map change needs)) =
+      ≡ count_by test (requests_of (change need)) + count_by test (flat_map requests_of (map change needs)) =
       count-append test (requests_of (change need)) (flat_map requests_of (map change needs)) in
       ⊎_elim
       (λ here.

@@ -6,7 +6,7 @@ use Rattle.std.proofs.lemmas.Bool.{and_parts}
 use Rattle.lrc_page.specs.Place.{page_of}
 use Rattle.lrc_exec.specs.Meaning.{Next, quiet, prints, reads, writes, acquires, releases, arrives, departs, traps, ends}
 use Rattle.lrc_wire.specs.Envelope.{EnvelopeRecord}
-use Rattle.lrc_wire.specs.Records.{LockRequestRecord, DepartRecord, IndexedChangesRecord, ChangesRequestRecord, ChangesReplyRecord, PageReplyRecord}
+use Rattle.lrc_wire.specs.Records.{DepartRecord, IndexedChangesRecord, ChangesRequestRecord, ChangesReplyRecord, PageReplyRecord}
 use Rattle.lrc_wire.specs.declared.message.Message.{Message}
 use Rattle.lrc_wire.specs.declared.message.Message.TheVariants.{LockRequest, LockForward, LockGrant, Arrive, Depart, Clean, Discard, ChangesRequest, ChangesReply, PageRequest, PageReply}
 use Rattle.lrc_lock.specs.declared.state.Pass.{Pass}
@@ -27,16 +27,15 @@ use Rattle.lrc_protocol.specs.Expected.{is_expected}
 use Rattle.lrc_protocol.specs.Run.{own_index, closes, reaches, acquire_at, release_at, arrive_at, run_effect, charged}
 use Rattle.lrc_protocol.specs.Take.{take_departure, request_by, learns, arrive_by, clean_by, discard_by, page_reply_by, take_effect, needs_to_keep, with_part}
 use Rattle.lrc_protocol.specs.Turn.{TurnRecord, Outcome, done, not_ready, unexpected, worn, turn_with, turn_of, turn_if, turn_by, run_turn, take_turn, take_anew, taking, is_addressed, is_repeat, empty_turn}
-use Rattle.lrc_protocol.specs.Log.{Input, run, taken, outcome_of}
 use Rattle.lrc_invariants.proofs.Shift.{awaits_lock, awaits_leave}
 use Rattle.lrc_invariants.proofs.Sends.{Came, by_itself, comes, letter_in, LettersIf, numbered-letters}
 use Rattle.lrc_local.specs.Reached.{IsReached}
-use Rattle.lrc_local.proofs.Change.{view_of, pages_in, Reply, reply}
+use Rattle.lrc_local.proofs.Change.{view_of, pages_in}
 use Rattle.lrc_local.proofs.Needs.{needs-with}
 use Rattle.lrc_local.proofs.Needed.{Needed}
 use Rattle.lrc_local.proofs.Always.{needed_at}
 use Rattle.lrc_page.specs.Page.{words_of}
-use Rattle.lrc_coherence.proofs.RequestWishes.{Wish, base_copy, changes, asked_in, told_in, awaited, Steady, AreCalm, ComesCalm, AreRequests, calm, begins as begins_steady, answers, gets, all_requests-ask}
+use Rattle.lrc_coherence.proofs.RequestWishes.{base_copy, changes, awaited, Steady, AreCalm, ComesCalm, calm, begins as begins_steady, answers, gets, all_requests-ask}
 use Rattle.lrc_coherence.proofs.RequestNeeds.{page_comes, changes_come, met_asks, all_met-ask}
 
 -- ---- letters that ask for nothing

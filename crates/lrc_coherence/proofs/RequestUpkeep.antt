@@ -1,6 +1,6 @@
 -- A node inside a collection asks for no base copy: each page that it keeps anew was written here, so that its copy is not absent.
 use Rattle.std.proofs.Common.{◌≡◌, ℕ, ◌+◌, ◌<◌, List, [], ◌∷◌, Bool, true, false, length, refl, sym, ap, subst, ◌∙◌, ◌⊎◌, inl, inr, ◌≤◌, ⊎_elim, arith}
-use Rattle.std.specs.Prelude.{Option, Some, None, All, ◌==◌, ◌&&◌, not, min, unwrap_or, option_map, filter, filter_map, map, slice_index, slice_index_or, if◌then◌else◌}
+use Rattle.std.specs.Prelude.{Option, Some, None, All, ◌==◌, ◌&&◌, not, min, unwrap_or, option_map, filter, filter_map, slice_index, if◌then◌else◌}
 use Rattle.std.specs.List.{list_any, enumerate_from, range_with_len, cons_option}
 use Rattle.std.proofs.lemmas.Bool.{and_parts, or_cases, or_left, cases_lt, eqb-true, false≢true}
 use Rattle.std.proofs.lemmas.Option.{same_Some}
@@ -12,7 +12,7 @@ use Rattle.lrc_store.specs.Interval.{IntervalRecord, index_of}
 use Rattle.lrc_store.specs.Store.{intervals_of}
 use Rattle.lrc_protocol.specs.Copy.{Copy, valid, written, invalid, absent, is_readable}
 use Rattle.lrc_protocol.specs.Memory.{Memory, copy_at, is_named, least, namers_of, keeper_at, kept_pages, with_keepers}
-use Rattle.lrc_protocol.specs.Fetch.{Base, unneeded, Asked, Need, base_of, need_of, is_due_from, awaits_page, with_changes, with_page}
+use Rattle.lrc_protocol.specs.Fetch.{unneeded, Asked, Need, base_of, need_of, is_due_from, awaits_page, with_changes, with_page}
 use Rattle.lrc_protocol.specs.Mail.{Wait, nothing, grant, departure, access, upkeep, discard, needs_of}
 use Rattle.lrc_protocol.specs.Node.{Node, OptionsRecord}
 use Rattle.lrc_protocol.specs.Waits.{with_needs}

@@ -1,17 +1,17 @@
 -- What nodes ask one another for, page by page, and how a turn keeps the balance: what a node still awaits is on its way,
 -- once, as a request or as its reply.
-use Rattle.std.proofs.Common.{◌≡◌, ℕ, ◌+◌, List, [], ◌∷◌, ◌++◌, Bool, true, false, ◌&&◌, cond, map, refl, sym, ap, subst, ◌∙◌, arith}
+use Rattle.std.proofs.Common.{◌≡◌, ℕ, ◌+◌, List, [], ◌∷◌, ◌++◌, Bool, true, false, ◌&&◌, cond, map, refl, sym, ap, ◌∙◌, arith}
 use Rattle.std.specs.Prelude.{Option, Some, None, ◌==◌, count_by, flat_map}
 use Rattle.std.proofs.lemmas.Bool.{eq-eqb, ne_eqb}
 use lib.Pointwise.{pointwise}
 use Rattle.lrc_wire.specs.Records.{IndexedChangesRecord}
 use Rattle.lrc_wire.specs.declared.message.Message.{Message}
-use Rattle.lrc_wire.specs.declared.message.Message.TheVariants.{LockRequest, LockForward, LockGrant, Arrive, Depart, Clean, Discard, ChangesRequest, ChangesReply, PageRequest, PageReply}
+use Rattle.lrc_wire.specs.declared.message.Message.TheVariants.{ChangesRequest, ChangesReply, PageRequest, PageReply}
 use Rattle.lrc_protocol.specs.Fetch.{Base, unneeded, due, come, Asked, Need}
 use Rattle.lrc_protocol.specs.Mail.{Letter, Wait, needs_of}
 use Rattle.lrc_protocol.specs.Letters.{letter, changes_request_of, page_request_of, requests_of}
 use Rattle.lrc_invariants.proofs.Sends.{Came, by_itself, comes}
-use Rattle.lrc_invariants.proofs.Flows.{came_count, count-append, count-cons}
+use Rattle.lrc_invariants.proofs.Flows.{came_count, count-cons}
 
 -- a base copy of a page, or the changes of a page that a maker's intervals with these indices made
 pub data Wish : Type 0 where

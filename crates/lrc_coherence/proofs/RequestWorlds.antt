@@ -1,6 +1,6 @@
 -- In every run: what a node awaits of pages is on its way, once, as a request or as its reply, and nothing else of pages is.
-use Rattle.std.proofs.Common.{◌≡◌, ℕ, ◌+◌, ◌<◌, List, [], ◌∷◌, Bool, true, false, refl, sym, ap, subst, ◌∙◌, inl, inr, arith, append-nil}
-use Rattle.std.specs.Prelude.{Option, Some, None, count_by, slice_get, slice_set, if◌then◌else◌}
+use Rattle.std.proofs.Common.{◌≡◌, ℕ, ◌+◌, List, [], Bool, true, false, refl, sym, ap, subst, ◌∙◌, inl, inr, arith, append-nil}
+use Rattle.std.specs.Prelude.{Some, None, count_by, slice_get, slice_set, if◌then◌else◌}
 use Rattle.std.proofs.lemmas.Bool.{cases_eq}
 use Rattle.std.proofs.lemmas.Option.{same_Some}
 use Rattle.lrc_lang.specs.declared.program.Program.{Program}
@@ -19,11 +19,11 @@ use Rattle.lrc_protocol.proofs.Turned.{Turned, Turns, turns}
 use Rattle.lrc_invariants.specs.Shape.{HasShape}
 use Rattle.lrc_invariants.proofs.Shift.{AllFrom}
 use Rattle.lrc_invariants.proofs.Shape.{NodeShape, shape_at}
-use Rattle.lrc_invariants.proofs.Sends.{Came, by_itself, comes, Sent, Sending, alone, repeats, anew, SendingIf, sendings}
+use Rattle.lrc_invariants.proofs.Sends.{Came, by_itself, comes, Sending, alone, repeats, anew, SendingIf, sendings}
 use Rattle.lrc_invariants.proofs.Flows.{came_count, count_of, counts}
 use Rattle.lrc_invariants.proofs.Standing.{Flow}
 use Rattle.lrc_invariants.proofs.Pending.{new_of, Goes, all_pending, pending-goes}
-use Rattle.lrc_invariants.proofs.Reached.{IsReached, KeptByReached, by_reached}
+use Rattle.lrc_invariants.proofs.Reached.{KeptByReached, by_reached}
 use Rattle.lrc_local.specs.Reached.{IsReached as IsReachedNode}
 use Rattle.lrc_coherence.proofs.Stored.{reached}
 use Rattle.lrc_coherence.proofs.RequestWishes.{Wish, wanted_test, request_test, reply_test, awaited, Steady}
@@ -44,20 +44,20 @@ balances : (me : ℕ) (came : Came) (letters : List Letter) (was now : List Enve
 balances me came letters was now before after s f = record {
   own = λ h q w.
       let a : count_of (request_test me q w) now + came_count (request_test me q w) me came
-          ≡ count_of (request_test me q w) was + count_by (request_test me q w me) letters = f (request_test me q w) in
+      ≡ count_of (request_test me q w) was + count_by (request_test me q w me) letters = f (request_test me q w) in
       let b : count_of (reply_test me q w) now + came_count (reply_test me q w) me came
-          ≡ count_of (reply_test me q w) was + count_by (reply_test me q w me) letters = f (reply_test me q w) in
+      ≡ count_of (reply_test me q w) was + count_by (reply_test me q w me) letters = f (reply_test me q w) in
       let c : count_by (wanted_test q w) (awaited after) + came_count (request_test me q w) me came + came_count (reply_test me q w) me came
-          ≡ count_by (wanted_test q w) (awaited before) + count_by (request_test me q w me) letters + count_by (reply_test me q w me) letters = s.own q w in
+      ≡ count_by (wanted_test q w) (awaited before) + count_by (request_test me q w me) letters + count_by (reply_test me q w me) letters = s.own q w in
       let d : count_of (request_test me q w) was + count_of (reply_test me q w) was ≡ count_by (wanted_test q w) (awaited before) = h q w in
       omega (arith, a, b, c, d);
   other = λ n wait ne h q w.
       let a : count_of (request_test n q w) now + came_count (request_test n q w) me came
-          ≡ count_of (request_test n q w) was + count_by (request_test n q w me) letters = f (request_test n q w) in
+      ≡ count_of (request_test n q w) was + count_by (request_test n q w me) letters = f (request_test n q w) in
       let b : count_of (reply_test n q w) now + came_count (reply_test n q w) me came
-          ≡ count_of (reply_test n q w) was + count_by (reply_test n q w me) letters = f (reply_test n q w) in
+      ≡ count_of (reply_test n q w) was + count_by (reply_test n q w me) letters = f (reply_test n q w) in
       let c : came_count (request_test n q w) me came + came_count (reply_test n q w) me came
-          ≡ count_by (request_test n q w me) letters + count_by (reply_test n q w me) letters = s.other n q w ne in
+      ≡ count_by (request_test n q w me) letters + count_by (reply_test n q w me) letters = s.other n q w ne in
       let d : count_of (request_test n q w) was + count_of (reply_test n q w) was ≡ count_by (wanted_test q w) (awaited wait) = h q w in
       omega (arith, a, b, c, d);
 }
