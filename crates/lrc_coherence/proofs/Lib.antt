@@ -12,3 +12,4 @@ pub mod RequestTurns
 pub mod RequestWorlds
 pub mod RequestUpkeep
 pub mod RequestLaws
+pub mod RequestReplies
