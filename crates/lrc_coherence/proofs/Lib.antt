@@ -13,3 +13,4 @@ pub mod RequestWorlds
 pub mod RequestUpkeep
 pub mod RequestLaws
 pub mod RequestReplies
+pub mod RequestSound
