@@ -14,3 +14,4 @@ pub mod RequestUpkeep
 pub mod RequestLaws
 pub mod RequestReplies
 pub mod RequestSound
+pub mod RequestAccepted

@@ -1,13 +1,17 @@
--- In every run the contents of each pending reply are in range: changes are of words of a page, and a base copy is a page long.
+-- In every run each pending message is of one of the nodes, and the contents of each reply are in range: changes are of words of
+-- a page, and a base copy is a page long.
 use Rattle.std.proofs.Common.{◌≡◌, ℕ, ◌<◌, ◌≤◌, List, [], ◌∷◌, Bool, true, false, cond, length, refl, sym, ap, subst, ◌∙◌, ⊎_elim, inl, inr}
 use Rattle.std.specs.Prelude.{Option, Some, None, ◌==◌, All, Contains, find, map, option_and_then, slice_index_or, unwrap_or}
 use Rattle.std.specs.Option.{ForSome}
 use Rattle.std.proofs.lemmas.Bool.{cases_lt}
-use Rattle.std.proofs.lemmas.Option.{same_Some}
+use Rattle.std.proofs.lemmas.Option.{same_Some, slice_get_within}
 use Rattle.std.proofs.lemmas.List.{get_or_past}
 use Rattle.std.proofs.lemmas.List.Elements.{All-nil, All-head, All-tail, All-map, All-weaker, All-get_or}
 use Rattle.lrc_lang.specs.declared.program.Program.{Program}
+use Rattle.lrc_exec.specs.Meaning.{Setting}
 use Rattle.lrc_exec.specs.Plain.{setting_of}
+use Rattle.lrc_protocol.proofs.Turned.{Turned, Turns, turns}
+use Rattle.lrc_protocol.proofs.Worlds.{run-whole}
 use Rattle.lrc_page.specs.declared.changes.Change.{Change}
 use Rattle.lrc_page.specs.Page.{words_of}
 use Rattle.lrc_store.specs.declared.key.Key.{Key}
@@ -28,7 +32,8 @@ use Rattle.lrc_protocol.specs.Follows.{turns_of}
 use Rattle.lrc_invariants.proofs.Shape.{NodeShape, shape_at}
 use Rattle.lrc_invariants.proofs.Sends.{letter_in}
 use Rattle.lrc_invariants.proofs.Pending.{new_of, Goes, all_pending, pending-goes}
-use Rattle.lrc_invariants.proofs.Moves.{in-now, among_letters}
+use Rattle.lrc_invariants.proofs.Moves.{in-now, among_letters, sent_from}
+use Rattle.lrc_invariants.proofs.Shift.{AllFrom, Shifted, ShiftedIf, shifts}
 use Rattle.lrc_invariants.proofs.Reached.{KeptByReached, by_reached}
 use Rattle.lrc_local.specs.Ranges.{IsWholeBase}
 use Rattle.lrc_local.specs.Reached.{IsReached as IsReachedNode}
@@ -134,12 +139,17 @@ replies-sound node r _ (brings_page from page values e is) l there =
 module _ (program : Program) (nodes : ℕ) (options : OptionsRecord) where
   pub record AllSound (world : World) : Type 0 where
     pub each : (e : EnvelopeRecord) → Contains (pending world) e → IsSound (words_of options.size) e.message
+    pub from : (e : EnvelopeRecord) → Contains (pending world) e → e.from < nodes
 
   sound-kept : KeptByReached program nodes options AllSound
   sound-kept world flight n l after input entry at come i r r' h =
       let shape : NodeShape (setting_of program nodes n) options (record { node = l.node; turns = turns_of l.log }) =
       shape_at program nodes options r.events world n l r.runs at in
       let told : Told l.node entry.turn = subst (ToldIf l.node) i.turn_is (tells l.node input) in
+      let t : Turned l.node entry.turn after.node = subst (Turns l.node) i.turn_is (turns l.node input) in
+      let sh : Shifted l.node entry.turn after.node = subst (ShiftedIf l.node) i.turn_is (shifts l.node input) in
+      let all_from : AllFrom n entry.turn.out = subst (λ (s : Setting). AllFrom s.me entry.turn.out) (t.setting ∙ shape.setting) sh.from in
+      let lt : n < nodes = subst (λ k. n < k) (run-whole program nodes options r.events world r.runs).count (slice_get_within world.nodes n l at) in
       let goes : Goes (new_of l.node input) (pending world) entry.turn.out (pending (with_turn world flight n entry after)) =
       pending-goes program nodes options world flight n l after input entry at come i (all_pending program nodes options r.events world r.runs) in
       record {
@@ -150,10 +160,14 @@ module _ (program : Program) (nodes : ℕ) (options : OptionsRecord) where
               (replies-sound l.node (reached program nodes options r.events world r.runs n l at) told.letters told.replies (letter_in e)
               (subst (λ ls. Contains ls (letter_in e)) told.out (among_letters entry.turn.out e new)))
         ];
+        from = λ e there. elim (in-now (new_of l.node input) (pending world) entry.turn.out _ e goes there) [
+          | inl old ↦ h.from e old
+          | inr new ↦ subst (λ k. k < nodes) (sym (sent_from n entry.turn.out e all_from new)) lt
+        ];
       }
 
   sound-fresh : AllSound (fresh_world program nodes options)
-  sound-fresh = record { each = λ e there. absurd (none_Contains e there) }
+  sound-fresh = record { each = λ e there. absurd (none_Contains e there); from = λ e there. absurd (none_Contains e there) }
 
   pub all_sound : (events : List Event) (world : World) → run_of program nodes options events ≡ Some world → AllSound world
   all_sound events world e = by_reached program nodes options AllSound sound-kept events world sound-fresh e
