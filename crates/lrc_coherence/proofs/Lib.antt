@@ -15,3 +15,12 @@ pub mod RequestLaws
 pub mod RequestReplies
 pub mod RequestSound
 pub mod RequestAccepted
+pub mod StampLists
+pub mod StampWorlds
+pub mod StampMade
+pub mod StampTurns
+pub mod StampCuts
+pub mod StampTimes
+pub mod KnownStores
+pub mod Known
+pub mod StampLaw
