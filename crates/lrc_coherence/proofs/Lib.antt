@@ -24,3 +24,4 @@ pub mod StampTimes
 pub mod KnownStores
 pub mod Known
 pub mod StampLaw
+pub mod RequestStored
