@@ -25,3 +25,10 @@ pub mod KnownStores
 pub mod Known
 pub mod StampLaw
 pub mod RequestStored
+pub mod CollectTurns
+pub mod CollectKeepers
+pub mod CollectLocal
+pub mod CollectFlips
+pub mod CollectPairs
+pub mod CollectAgree
+pub mod CollectCovers
