@@ -24,7 +24,6 @@ pub mod StampTimes
 pub mod KnownStores
 pub mod Known
 pub mod StampLaw
-pub mod RequestStored
 pub mod CollectTurns
 pub mod CollectKeepers
 pub mod CollectLocal
@@ -32,3 +31,5 @@ pub mod CollectFlips
 pub mod CollectPairs
 pub mod CollectAgree
 pub mod CollectCovers
+pub mod RequestStored
+pub mod RequestExpected

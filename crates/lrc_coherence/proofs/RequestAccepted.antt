@@ -37,7 +37,7 @@ all_pass test (x ∷ xs) h =
     and_from (test x) (list_all test xs) (All-head (λ x. test x ≡ true) x xs h) (all_pass test xs (All-tail (λ x. test x ≡ true) x xs h))
 
 -- what a node needs is of its pages
-needed_page : (node : Node) → IsReachedNode node → (page : ℕ) (awaits : Need → Bool)
+pub needed_page : (node : Node) → IsReachedNode node → (page : ℕ) (awaits : Need → Bool)
     → ((need : Need) → awaits need ≡ true → need.page ≡ page) → list_any awaits (needs_of node.mail.wait) ≡ true → is_page node page ≡ true
 needed_page node r page awaits of_page e =
     any_fits (FitsNeed node.setting.nodes (pages_of node.setting.words node.options.size) (words_of node.options.size) node.memory) awaits
