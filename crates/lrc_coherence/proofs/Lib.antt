@@ -33,3 +33,4 @@ pub mod CollectAgree
 pub mod CollectCovers
 pub mod RequestStored
 pub mod RequestExpected
+pub mod RequestOnce

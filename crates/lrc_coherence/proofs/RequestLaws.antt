@@ -21,7 +21,8 @@ use Rattle.lrc_invariants.proofs.Reached.{IsReached}
 use Rattle.lrc_local.proofs.Needs.{any_fits}
 use Rattle.lrc_coherence.proofs.Laws.{AwaitsBase, AreAwaited, RequestsLaw}
 use Rattle.lrc_coherence.proofs.Stored.{reached}
-use Rattle.lrc_coherence.proofs.RequestWishes.{Wish, base_copy, changes, asked_in, told_in, same_wish, is_wish, wanted_test, request_test, reply_test, awaited}
+use Rattle.lrc_coherence.specs.Requested.{Wish, base_copy, changes, asked_in, told_in, same_wish, is_wish}
+use Rattle.lrc_coherence.proofs.RequestWishes.{wanted_test, request_test, reply_test, awaited}
 use Rattle.lrc_coherence.proofs.RequestWorlds.{AreBalanced, all_balanced}
 use Rattle.lrc_coherence.proofs.RequestUpkeep.{NoBase, no_base_at}
 
@@ -31,7 +32,7 @@ same_indices : (xs : List ℕ) → pointwise ◌==◌ xs xs ≡ true
 same_indices [] = refl
 same_indices (x ∷ xs) = and_from (x == x) (pointwise ◌==◌ xs xs) (eq-eqb x x refl) (same_indices xs)
 
-same-itself : (w : Wish) → same_wish w w ≡ true
+pub same-itself : (w : Wish) → same_wish w w ≡ true
 same-itself (base_copy page) = eq-eqb page page refl
 same-itself (changes page indices) = and_from (page == page) (pointwise ◌==◌ indices indices) (eq-eqb page page refl) (same_indices indices)
 

@@ -40,7 +40,8 @@ use Rattle.lrc_local.specs.Reached.{IsReached as IsReachedNode}
 use Rattle.lrc_local.specs.Sized.{AreInPage, IsSized}
 use Rattle.lrc_local.proofs.Always.{whole_at, sized_at}
 use Rattle.lrc_coherence.proofs.Stored.{reached}
-use Rattle.lrc_coherence.proofs.RequestWishes.{told_in, AreRequests}
+use Rattle.lrc_coherence.specs.Requested.{told_in}
+use Rattle.lrc_coherence.proofs.RequestWishes.{AreRequests}
 use Rattle.lrc_coherence.proofs.RequestReplies.{Replies, brings_nothing, brings_changes, brings_page, Told, ToldIf, tells}
 
 -- with so many words on a page

@@ -35,7 +35,8 @@ use Rattle.lrc_local.proofs.Needs.{needs-with}
 use Rattle.lrc_local.proofs.Needed.{Needed}
 use Rattle.lrc_local.proofs.Always.{needed_at}
 use Rattle.lrc_page.specs.Page.{words_of}
-use Rattle.lrc_coherence.proofs.RequestWishes.{base_copy, changes, awaited, Steady, AreCalm, ComesCalm, calm, begins as begins_steady, answers, gets, all_requests-ask}
+use Rattle.lrc_coherence.specs.Requested.{base_copy, changes}
+use Rattle.lrc_coherence.proofs.RequestWishes.{awaited, Steady, AreCalm, ComesCalm, calm, begins as begins_steady, answers, gets, all_requests-ask}
 use Rattle.lrc_coherence.proofs.RequestNeeds.{page_comes, changes_come, met_asks, all_met-ask}
 
 -- ---- letters that ask for nothing

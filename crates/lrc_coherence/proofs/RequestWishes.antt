@@ -10,35 +10,9 @@ use Rattle.lrc_wire.specs.declared.message.Message.TheVariants.{ChangesRequest, 
 use Rattle.lrc_protocol.specs.Fetch.{Base, unneeded, due, come, Asked, Need}
 use Rattle.lrc_protocol.specs.Mail.{Letter, Wait, needs_of}
 use Rattle.lrc_protocol.specs.Letters.{letter, changes_request_of, page_request_of, requests_of}
+use Rattle.lrc_coherence.specs.Requested.{Wish, asked_in, told_in, is_wish}
 use Rattle.lrc_invariants.proofs.Sends.{Came, by_itself, comes}
 use Rattle.lrc_invariants.proofs.Flows.{came_count, count-cons}
-
--- a base copy of a page, or the changes of a page that a maker's intervals with these indices made
-pub data Wish : Type 0 where
-  base_copy : (page : ℕ) → Wish
-  changes : (page : ℕ) (indices : List ℕ) → Wish
-
--- what a request asks for
-abbrev pub asked_in : Message → Option Wish
-asked_in (ChangesRequest m) = Some (changes m.page m.indices)
-asked_in (PageRequest page) = Some (base_copy page)
-asked_in _ = None
-
--- what a reply brings
-abbrev pub told_in : Message → Option Wish
-told_in (ChangesReply m) = Some (changes m.page (map (λ (part : IndexedChangesRecord). part.index) m.parts))
-told_in (PageReply m) = Some (base_copy m.page)
-told_in _ = None
-
-abbrev pub same_wish : Wish → Wish → Bool
-same_wish (base_copy a) (base_copy b) = a == b
-same_wish (changes a xs) (changes b ys) = (a == b) && pointwise ◌==◌ xs ys
-same_wish (base_copy a) (changes b ys) = false
-same_wish (changes a xs) (base_copy b) = false
-
-abbrev pub is_wish : Wish → Option Wish → Bool
-is_wish w None = false
-is_wish w (Some v) = same_wish v w
 
 -- ---- tests
 

@@ -26,7 +26,8 @@ use Rattle.lrc_invariants.proofs.Pending.{new_of, Goes, all_pending, pending-goe
 use Rattle.lrc_invariants.proofs.Reached.{KeptByReached, by_reached}
 use Rattle.lrc_local.specs.Reached.{IsReached as IsReachedNode}
 use Rattle.lrc_coherence.proofs.Stored.{reached}
-use Rattle.lrc_coherence.proofs.RequestWishes.{Wish, wanted_test, request_test, reply_test, awaited, Steady}
+use Rattle.lrc_coherence.specs.Requested.{Wish}
+use Rattle.lrc_coherence.proofs.RequestWishes.{wanted_test, request_test, reply_test, awaited, Steady}
 use Rattle.lrc_coherence.proofs.RequestTurns.{Asks, AsksIf, run-asks, take-asks}
 
 -- among these messages there is, for each thing that a node awaits, once its request or the reply
