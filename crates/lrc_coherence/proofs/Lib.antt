@@ -34,3 +34,4 @@ pub mod CollectCovers
 pub mod RequestStored
 pub mod RequestExpected
 pub mod RequestOnce
+pub mod RequestBases

@@ -54,7 +54,7 @@ module _ (program : Program) (nodes : ℕ) (options : OptionsRecord) (world : Wo
       let below : index_of i < 1 + entry k.node.locks.time q = within.1 in
       omega (arith, below)
 
-  asker : (e : EnvelopeRecord) → Contains (pending world) e → (l : Logged) × (slice_get world.nodes e.from ≡ Some l)
+  pub asker : (e : EnvelopeRecord) → Contains (pending world) e → (l : Logged) × (slice_get world.nodes e.from ≡ Some l)
   asker e there =
       get_within world.nodes e.from
       (subst (λ k. e.from < k) (sym (run-whole program nodes options r.events world r.runs).count)

@@ -226,7 +226,7 @@ module _ (program : Program) (nodes : ℕ) (options : OptionsRecord) (world : Wo
   none_at : (n : ℕ) (l : Logged) → slice_get world.nodes n ≡ Some l → NoBase l.node.mail.wait
   none_at n l at = no_base_at l.node (reached program nodes options r.events world r.runs n l at)
 
-  are_awaited : AreAwaited world
+  pub are_awaited : AreAwaited world
   are_awaited = record {
     request = λ e page l there is at.
         awaits_base l.node l.node.mail.wait page e.to refl (none_at e.from l at) (page_request-awaited e page l there is at);
