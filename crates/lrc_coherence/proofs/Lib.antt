@@ -6,6 +6,15 @@ pub mod MadeWorlds
 pub mod Stored
 pub mod History
 pub mod Laws
+pub mod RequestWishes
+pub mod RequestNeeds
+pub mod RequestTurns
+pub mod RequestWorlds
+pub mod RequestUpkeep
+pub mod RequestLaws
+pub mod RequestReplies
+pub mod RequestSound
+pub mod RequestAccepted
 pub mod CollectTurns
 pub mod CollectKeepers
 pub mod CollectLocal
@@ -24,6 +33,10 @@ pub mod StampTimes
 pub mod KnownStores
 pub mod Known
 pub mod StampLaw
+pub mod RequestStored
+pub mod RequestExpected
+pub mod RequestOnce
+pub mod RequestBases
 pub mod LazyWrites
 pub mod LazyMade
 pub mod LazyTimes
