@@ -6,3 +6,7 @@ pub mod MadeWorlds
 pub mod Stored
 pub mod History
 pub mod Laws
+pub mod WriteDeeds
+pub mod WritePages
+pub mod WriteNotices
+pub mod WriteTurns
