@@ -10,3 +10,4 @@ pub mod WriteDeeds
 pub mod WritePages
 pub mod WriteNotices
 pub mod WriteTurns
+pub mod WriteNodes
