@@ -11,3 +11,4 @@ pub mod WritePages
 pub mod WriteNotices
 pub mod WriteTurns
 pub mod WriteNodes
+pub mod WriteLaws
