@@ -1,38 +1,36 @@
 -- What closed intervals wrote stays what it was, and the interval that a turn closes has what its node's copies show: the laws
 -- of writes, and of a turn's writes.
-use Rattle.std.proofs.Common.{◌≡◌, ℕ, zero, suc, ◌+◌, ◌<◌, ◌≤◌, List, [], ◌∷◌, ◌++◌, Bool, true, false, length, refl, sym, ap, subst, ◌∙◌, ◌⊎◌, inl, inr, ⊎_elim, arith, append-nil}
-use Rattle.std.specs.Prelude.{Option, Some, None, unwrap_or, ◌==◌, slice_index, Contains, filter_map, option_map, slice_get, slice_set, if◌then◌else◌}
+use Rattle.std.proofs.Common.{◌≡◌, ℕ, zero, suc, ◌+◌, ◌≤◌, List, [], ◌∷◌, ◌++◌, Bool, true, false, refl, sym, ap, subst, ◌∙◌, ◌⊎◌, inl, inr, ⊎_elim, arith, append-nil}
+use Rattle.std.specs.Prelude.{Option, Some, None, unwrap_or, ◌==◌, slice_index, Contains, slice_get, if◌then◌else◌}
 use Rattle.std.specs.List.{cons_option}
 use Rattle.std.proofs.lemmas.Bool.{cases_eq, eqb-false}
 use Rattle.std.proofs.lemmas.Option.{same_Some}
 use Rattle.std.proofs.lemmas.List.{map-append}
 use Rattle.std.proofs.lemmas.List.Elements.{filter_map-append, Contains-append_cases}
 use Rattle.lrc_lang.specs.declared.program.Program.{Program}
-use Rattle.lrc_trace.specs.declared.act.Act.{Act}
 use Rattle.lrc_trace.specs.declared.act.Deed.{Deed}
 use Rattle.lrc_page.specs.Page.{words_of}
 use Rattle.lrc_time.specs.Time.{entry}
 use Rattle.lrc_theory.specs.Follows.{deeds_of}
-use Rattle.lrc_copies.specs.Page.{AgreeOnPage, IsUntouchedBy, IsMadeOf, IsClosedWith}
+use Rattle.lrc_copies.specs.Page.{IsUntouchedBy, IsMadeOf, IsClosedWith}
 use Rattle.lrc_copies.specs.Stamps.{index_of}
 use Rattle.lrc_store.specs.Store.{StoredRecord, notice_of}
 use Rattle.lrc_protocol.specs.Copy.{written}
 use Rattle.lrc_protocol.specs.Memory.{copy_at}
 use Rattle.lrc_protocol.specs.Mail.{grant}
-use Rattle.lrc_protocol.specs.Node.{Node, OptionsRecord}
+use Rattle.lrc_protocol.specs.Node.{OptionsRecord}
 use Rattle.lrc_protocol.specs.Turn.{TurnRecord}
 use Rattle.lrc_protocol.specs.Log.{Input, EntryRecord, Logged}
-use Rattle.lrc_protocol.specs.World.{World, Flying, fresh_world, with_turn}
+use Rattle.lrc_protocol.specs.World.{World, Flying, with_turn}
 use Rattle.lrc_protocol.specs.Follows.{turns_of, deeds_in}
 use Rattle.lrc_protocol.proofs.Worlds.{IsEntry, get_set_same, get_set_other}
-use Rattle.lrc_protocol.proofs.Induction.{Comes}
 use Rattle.lrc_invariants.specs.Counts.{closes, count, awaits_acquire}
-use Rattle.lrc_invariants.specs.Waiting.{next_in, acquiring, FixesNext}
+use Rattle.lrc_invariants.specs.Waiting.{next_in, FixesNext}
 use Rattle.lrc_invariants.proofs.Reached.{IsReached}
 use Rattle.lrc_invariants.proofs.Shift.{part_of, Shifted, ShiftedIf, shifts, deed_made}
-use Rattle.lrc_coherence.specs.Written.{written_to, last_write, made_stamps, changes_on, word_on, page_history, open_record}
+use Rattle.lrc_coherence.specs.Written.{last_write, made_stamps, changes_on, word_on, page_history, open_record}
 use Rattle.lrc_coherence.proofs.History.{History, KeptByHistory, by_history, reached_by, closed_record, closed_by}
-use Rattle.lrc_coherence.proofs.Laws.{AreWritten, TurnWrites, WritesLaw, TurnsLaw}
+use Rattle.lrc_coherence.proofs.Laws.{TurnWrites, WritesLaw, TurnsLaw}
 use Rattle.lrc_coherence.proofs.WriteDeeds.{written_in, last_scanned, written-more}
 use Rattle.lrc_coherence.proofs.WriteNodes.{is_me, me_within, follows, fits, own, open_index, made_of_twin, untouched_by_open}
 use Rattle.lrc_coherence.proofs.WriteNotices.{closed_changes, closed_none, unnamed}
@@ -195,7 +193,7 @@ module _ (program : Program) (nodes : ℕ) (options : OptionsRecord) (world : Wo
           l = after;
           at = ap (slice_get next.nodes) (sym e) ∙ there;
           most = subst (λ k. index_of made_stamps x ≤ entry after.node.locks.time k) e
-              (elim moves [ | inl stands ↦ omega (arith, bound, stands) | inr more ↦ omega (arith, bound, more.0) ]);
+              (elim moves [ inl stands ↦ omega (arith, bound, stands) | inr more ↦ omega (arith, bound, more.0) ]);
         }
     | inr ne ↦ record { l = old.l; at = get_set_other world.nodes n x.node after ne ∙ old.at; most = old.most }
   ]

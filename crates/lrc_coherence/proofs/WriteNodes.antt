@@ -1,11 +1,10 @@
 -- A node of a run: what its open interval wrote, by the acts, is what its copies show.
-use Rattle.std.proofs.Common.{◌≡◌, ℕ, ◌+◌, ◌<◌, List, [], ◌∷◌, length, refl, sym, ap, subst, ◌∙◌, inl, inr, arith}
-use Rattle.std.specs.Prelude.{Option, Some, None, unwrap_or, fold, slice_get, slice_index, slice_index_or, All}
+use Rattle.std.proofs.Common.{◌≡◌, ℕ, ◌+◌, ◌<◌, List, [], length, refl, sym, ap, subst, ◌∙◌, inl, inr, arith}
+use Rattle.std.specs.Prelude.{Some, None, unwrap_or, slice_get, slice_index, slice_index_or, All}
 use Rattle.std.proofs.lemmas.Bool.{cases_lt}
 use Rattle.std.proofs.lemmas.List.{get_or_past}
 use Rattle.std.proofs.lemmas.List.Elements.{All-get_or}
 use Rattle.lrc_lang.specs.declared.program.Program.{Program}
-use Rattle.lrc_trace.specs.declared.act.Act.{Act}
 use Rattle.lrc_trace.specs.declared.act.Deed.{Deed}
 use Rattle.lrc_page.specs.declared.size.Size.{Size}
 use Rattle.lrc_page.specs.Page.{words_of}
@@ -19,8 +18,8 @@ use Rattle.lrc_copies.specs.Stamps.{index_of}
 use Rattle.lrc_protocol.specs.Copy.{Copy, valid, written, invalid, absent}
 use Rattle.lrc_protocol.specs.Memory.{copy_at}
 use Rattle.lrc_protocol.specs.Mail.{Wait, nothing, grant, departure, access, upkeep, discard}
-use Rattle.lrc_protocol.specs.Node.{Node, OptionsRecord}
-use Rattle.lrc_protocol.specs.Log.{Local, Logged}
+use Rattle.lrc_protocol.specs.Node.{OptionsRecord}
+use Rattle.lrc_protocol.specs.Log.{Logged}
 use Rattle.lrc_protocol.specs.World.{World}
 use Rattle.lrc_protocol.specs.Follows.{inputs_of, turns_of, deeds_in}
 use Rattle.lrc_protocol.proofs.Worlds.{Follows}
@@ -34,7 +33,7 @@ use Rattle.lrc_invariants.proofs.Shape.{NodeShape, shape_at}
 use Rattle.lrc_invariants.proofs.OwnEntry.{in_range, own_entry}
 use Rattle.lrc_local.specs.Reached.{LeadsTo}
 use Rattle.lrc_local.specs.Ranges.{IsWhole}
-use Rattle.lrc_local.specs.Opened.{on_page, open_writes, open_in, put, IsMadeBy, AreMadeBy}
+use Rattle.lrc_local.specs.Opened.{on_page, open_writes, open_in, IsMadeBy, AreMadeBy}
 use Rattle.lrc_local.proofs.Wrote.{wrote}
 use Rattle.lrc_local.proofs.Always.{whole_at}
 use Rattle.lrc_coherence.specs.Written.{last_write, made_stamps, word_on, page_history, open_record}

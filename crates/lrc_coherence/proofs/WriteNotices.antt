@@ -1,13 +1,13 @@
 -- The notices of an interval that a node closes: one for each page that was written, with the changes between twin and copy.
-use Rattle.std.proofs.Common.{◌≡◌, ℕ, zero, suc, ◌+◌, ◌<◌, List, [], ◌∷◌, Bool, true, false, cond, length, refl, sym, ap, subst, ◌∙◌, inl, inr, arith}
+use Rattle.std.proofs.Common.{◌≡◌, ℕ, zero, suc, ◌+◌, ◌<◌, List, [], ◌∷◌, cond, refl, sym, ap, ◌∙◌, arith}
 use Rattle.std.specs.Prelude.{Option, Some, None, unwrap_or, option_map, option_and_then, ◌==◌, map, find, filter_map, slice_index_or}
 use Rattle.std.specs.List.{enumerate_from, cons_option}
-use Rattle.std.proofs.lemmas.Bool.{cases_eq, eq-eqb, ne_eqb}
+use Rattle.std.proofs.lemmas.Bool.{eq-eqb, ne_eqb}
 use Rattle.lrc_page.specs.declared.changes.Change.{Change}
 use Rattle.lrc_page.specs.Changes.{changes_between}
-use Rattle.lrc_store.specs.Store.{NoticeRecord, StoredRecord, notice_of}
+use Rattle.lrc_store.specs.Store.{NoticeRecord, notice_of}
 use Rattle.lrc_protocol.specs.Copy.{Copy, valid, written, invalid, absent, changes_of}
-use Rattle.lrc_protocol.specs.Memory.{copy_at, all_changes}
+use Rattle.lrc_protocol.specs.Memory.{copy_at}
 use Rattle.lrc_protocol.specs.Node.{Node}
 use Rattle.lrc_coherence.specs.Written.{changes_on}
 use Rattle.lrc_coherence.proofs.History.{closed_record}

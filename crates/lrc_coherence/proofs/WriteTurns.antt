@@ -1,6 +1,6 @@
 -- What a turn of a node does to its own entry, and whether its deed writes.
 use Rattle.std.proofs.Common.{◌≡◌, ℕ, ◌+◌, ◌<◌, ◌≤◌, List, Bool, true, false, length, refl, sym, ap, subst, ◌∙◌, ◌⊎◌, inl, inr, arith}
-use Rattle.std.specs.Prelude.{Option, Some, None, max}
+use Rattle.std.specs.Prelude.{Option, Some, None}
 use Rattle.lrc_time.specs.Time.{entry, joined}
 use Rattle.lrc_time.proofs.Times.{entry-set_same, entry-joined}
 use Rattle.lrc_trace.specs.declared.act.Deed.{Deed}
@@ -8,7 +8,7 @@ use Rattle.lrc_exec.specs.Meaning.{Thread, Next, acquires, releases, arrives}
 use Rattle.lrc_protocol.specs.Course.{Course, deed_of}
 use Rattle.lrc_protocol.specs.Mail.{Wait, nothing, grant, departure, access, upkeep, discard}
 use Rattle.lrc_protocol.specs.Locks.{Locks, next_time}
-use Rattle.lrc_invariants.specs.Waiting.{next_in, acquiring, FixesNext}
+use Rattle.lrc_invariants.specs.Waiting.{next_in, acquiring}
 use Rattle.lrc_invariants.specs.Counts.{awaits_acquire}
 use Rattle.lrc_invariants.proofs.Shift.{Part, Acted, Rested, Moved, Learnable, Shift, plain, misses, takes, asks, releasing, arriving, manages, forwarding, grants, departing, collecting, clean_at_once, discarding, accessing, still_misses, still_collects, cleaning, rests}
 use Rattle.lrc_invariants.proofs.Counts.{deed_next, lock_next}
