@@ -12,3 +12,5 @@ pub mod WriteNotices
 pub mod WriteTurns
 pub mod WriteNodes
 pub mod WriteLaws
+pub mod TraceNotes
+pub mod TraceRuns
