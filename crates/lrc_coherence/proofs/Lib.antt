@@ -14,3 +14,4 @@ pub mod WriteNodes
 pub mod WriteLaws
 pub mod TraceNotes
 pub mod TraceRuns
+pub mod TraceWorlds

@@ -10,7 +10,7 @@ use Rattle.lrc_trace.specs.declared.act.Act.{Act}
 use Rattle.lrc_trace.specs.declared.act.Deed.{Deed}
 use Rattle.lrc_trace.specs.declared.act.Deed.TheVariants.{Read, Write}
 use Rattle.lrc_trace.specs.declared.trace.Segment.{Segment}
-use Rattle.lrc_trace.specs.Run.{Does, act_of, count_of, is_depart, departs_before}
+use Rattle.lrc_trace.specs.Run.{Does, act_of, count_of, is_arrive, is_depart, departs_before}
 use Rattle.lrc_trace.specs.Interval.{closes, interval_at}
 use Rattle.lrc_trace.specs.Segments.{MayFollow, AreSegments}
 use Rattle.lrc_trace.specs.Synchronization.{IsWellSynchronized, WaitsAtBarriers}
@@ -43,17 +43,18 @@ pub record IsTraceIn (run : List Act) (times : List (List ℕ)) (node : ℕ) (tr
 
 -- ---- accesses
 
--- the deed of an access, which is none that closes, departs, or moves the time
+-- the deed of an access, which is none that closes, arrives, departs, or moves the time
 pub record IsDeedOf (run : List Act) (position node : ℕ) : Type 0 where
   pub deed : Deed
   pub does : Does run position node deed
   pub open_still : closes deed ≡ false
   pub departs_not : is_depart deed ≡ false
+  pub arrives_not : is_arrive deed ≡ false
   pub leaves : leaves_time deed ≡ true
 
 pub deed_by : (is_write : Bool) (run : List Act) (position node word : ℕ) → AccessesBy is_write run position node word → IsDeedOf run position node
-deed_by true run position node word (value, d) = record { deed = Write word value; does = d; open_still = refl; departs_not = refl; leaves = refl }
-deed_by false run position node word (value, d) = record { deed = Read word value; does = d; open_still = refl; departs_not = refl; leaves = refl }
+deed_by true run position node word (value, d) = record { deed = Write word value; does = d; open_still = refl; departs_not = refl; arrives_not = refl; leaves = refl }
+deed_by false run position node word (value, d) = record { deed = Read word value; does = d; open_still = refl; departs_not = refl; arrives_not = refl; leaves = refl }
 
 access_longer : (is_write : Bool) (run more : List Act) (position node word : ℕ) → AccessesBy is_write run position node word
     → AccessesBy is_write (run ++ more) position node word
