@@ -15,3 +15,5 @@ pub mod WriteLaws
 pub mod TraceNotes
 pub mod TraceRuns
 pub mod TraceWorlds
+pub mod TraceSegments
+pub mod TraceLaws

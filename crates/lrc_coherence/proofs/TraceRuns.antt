@@ -1,7 +1,7 @@
 -- The trace of a node of a run, position by position: it has the node's accesses, each with its epoch, interval and time.
-use Rattle.std.proofs.Common.{◌≡◌, ℕ, ◌+◌, ◌-◌, ◌<◌, ◌≤◌, ◌⊎◌, List, [], ◌∷◌, ◌++◌, Bool, true, false, length, take, refl, sym, ap, subst, ◌∙◌, inl, inr, ⊎_elim, arith, length-append}
-use Rattle.std.specs.Prelude.{Some, All, Contains, IsTrue}
-use Rattle.std.proofs.lemmas.Bool.{cases_eq, cases_lt}
+use Rattle.std.proofs.Common.{◌≡◌, ℕ, ◌+◌, ◌-◌, ◌<◌, ◌≤◌, List, [], ◌∷◌, ◌++◌, Bool, true, false, length, refl, sym, ap, subst, ◌∙◌, inl, inr, ⊎_elim, arith, length-append}
+use Rattle.std.specs.Prelude.{All, Contains}
+use Rattle.std.proofs.lemmas.Bool.{cases_lt}
 use Rattle.std.proofs.lemmas.List.{take-append-le}
 use Rattle.std.proofs.lemmas.List.Elements.{All-contains}
 use Rattle.std.proofs.lemmas.Option.{slice_get_within, get_or_from_slice_get}
@@ -10,11 +10,11 @@ use Rattle.lrc_trace.specs.declared.act.Act.{Act}
 use Rattle.lrc_trace.specs.declared.act.Deed.{Deed}
 use Rattle.lrc_trace.specs.declared.act.Deed.TheVariants.{Read, Write}
 use Rattle.lrc_trace.specs.declared.trace.Segment.{Segment}
-use Rattle.lrc_trace.specs.Run.{Does, act_of, count_of, is_arrive, is_depart, departs_before}
+use Rattle.lrc_trace.specs.Run.{Does, count_of, is_arrive, is_depart, departs_before}
 use Rattle.lrc_trace.specs.Interval.{closes, interval_at}
 use Rattle.lrc_trace.specs.Segments.{MayFollow, AreSegments}
 use Rattle.lrc_trace.specs.Synchronization.{IsWellSynchronized, WaitsAtBarriers}
-use Rattle.lrc_trace.specs.Trace.{TraceRecord, NotedAccess, IsNoted, MayNote, last_segment, noted}
+use Rattle.lrc_trace.specs.Trace.{TraceRecord, NotedAccess, IsNoted, MayNote, noted}
 use Rattle.lrc_trace.proofs.Positions.{Does-within, Does-longer, Does-shorter, Does-one_deed, departs_before-prefix}
 use Rattle.lrc_trace.proofs.Intervals.{count_of-rises, never_fall}
 use Rattle.lrc_trace.proofs.Noted.{added-to, added-from}
@@ -190,9 +190,11 @@ module _ (run : List Act) (act : Act) (times : List (List ℕ)) (time : List ℕ
   may_note : (trace : TraceRecord) (is_write : Bool) (word : ℕ) → IsTraceIn run times node trace → AccessesBy is_write longer here node word
       → MayNote trace.segments (departs_before longer node here) (interval_at longer node here) (raised (time_at all_times here) node)
   may_note trace is_write word is now s last =
-      let there : Contains trace.segments s =
-      (length trace.segments - 1, slice_get_within trace.segments (length trace.segments - 1) s last,
-        get_or_from_slice_get trace.segments (length trace.segments - 1) s s last) in
+      let there : Contains trace.segments s = (
+        length trace.segments - 1,
+        slice_get_within trace.segments (length trace.segments - 1) s last,
+        get_or_from_slice_get trace.segments (length trace.segments - 1) s s last,
+      ) in
       let some : HasSome trace.size s = All-contains (HasSome trace.size) trace.segments s is.some there in
       let access : NotedAccess = record { epoch = s.epoch; interval = s.interval; time = s.time; word = some.0; is_write = some.1 } in
       let at : (position : ℕ) × IsAccessAt run times node access position =

@@ -1,6 +1,6 @@
 -- In every run the trace that a node keeps has just the node's accesses.
-use Rattle.std.proofs.Common.{◌≡◌, ℕ, zero, suc, ◌+◌, ◌<◌, ◌≤◌, List, [], ◌∷◌, ◌++◌, Bool, true, false, length, map, take, refl, sym, ap, subst, ◌∙◌, inl, inr, arith, append-nil, length-append}
-use Rattle.std.specs.Prelude.{Option, Some, None, All, option_map, slice_get, slice_set}
+use Rattle.std.proofs.Common.{◌≡◌, ℕ, ◌+◌, ◌<◌, ◌≤◌, List, [], ◌∷◌, ◌++◌, Bool, true, false, length, map, refl, sym, ap, subst, ◌∙◌, inl, inr, arith, append-nil, length-append}
+use Rattle.std.specs.Prelude.{Option, Some, None, option_map, slice_get}
 use Rattle.std.specs.Option.{option_to_list}
 use Rattle.std.proofs.lemmas.Bool.{cases_eq, both_ways}
 use Rattle.std.proofs.lemmas.List.{get_or_push}
@@ -11,7 +11,6 @@ use Rattle.lrc_time.specs.Time.{entry}
 use Rattle.lrc_trace.specs.declared.act.Act.{Act}
 use Rattle.lrc_trace.specs.declared.act.Deed.{Deed}
 use Rattle.lrc_trace.specs.declared.act.Deed.TheVariants.{Quiet, Print, Read, Write, Acquire, Release, Arrive, Depart, Trap, End}
-use Rattle.lrc_trace.specs.declared.trace.Segment.{Segment}
 use Rattle.lrc_trace.specs.Run.{Does, act_of, is_arrive, is_depart, arrives_before, departs_before}
 use Rattle.lrc_trace.specs.Interval.{interval_at}
 use Rattle.lrc_trace.specs.Synchronization.{IsWellSynchronized, WaitsAtBarriers}
@@ -25,11 +24,10 @@ use Rattle.lrc_clock.proofs.Intervals.{interval_of_other}
 use Rattle.lrc_protocol.specs.Locks.{next_time}
 use Rattle.lrc_protocol.specs.Node.{Node, OptionsRecord, fresh_node}
 use Rattle.lrc_protocol.specs.Run.{own_index}
-use Rattle.lrc_protocol.specs.Log.{Input, EntryRecord, Logged}
-use Rattle.lrc_protocol.specs.World.{World, Flying, fresh_world, with_turn}
+use Rattle.lrc_protocol.specs.Log.{Logged}
+use Rattle.lrc_protocol.specs.World.{World, fresh_world, with_turn}
 use Rattle.lrc_protocol.specs.Traced.{with_act, trace_of}
-use Rattle.lrc_protocol.proofs.Worlds.{IsEntry, get_set_same, get_set_other, fresh_at}
-use Rattle.lrc_protocol.proofs.Induction.{Comes}
+use Rattle.lrc_protocol.proofs.Worlds.{get_set_same, get_set_other, fresh_at}
 use Rattle.lrc_protocol.proofs.Texts.{follows_at}
 use Rattle.lrc_protocol.proofs.Turned.{Turned, Turns, turns}
 use Rattle.lrc_protocol.proofs.Traces.{trace_more}
@@ -37,7 +35,7 @@ use Rattle.lrc_invariants.proofs.Departs.{counted_at}
 use Rattle.lrc_invariants.proofs.Episodes.{arrivals, departures}
 use Rattle.lrc_invariants.proofs.Reached.{IsReached, KeptByReached, by_reached}
 use Rattle.lrc_invariants.proofs.Timed.{keeps, synchronized, waits}
-use Rattle.lrc_coherence.proofs.TraceRuns.{IsAccessAt, IsTraceIn, IsDeedOf, deed_by, stays-traced, noted-traced}
+use Rattle.lrc_coherence.proofs.TraceRuns.{IsTraceIn, IsDeedOf, deed_by, stays-traced, noted-traced}
 use Rattle.lrc_coherence.proofs.WriteNodes.{is_me}
 
 -- the run keeps time, is well synchronized, and waits at barriers
@@ -57,7 +55,7 @@ is_access _ = false
 -- what is done after the run is done by this act
 last_deed : (run : List Act) (act : Act) (position node : ℕ) (deed : Deed) → length run ≤ position → Does (run ++ act ∷ []) position node deed
     → (act.node ≡ node) × (act.deed ≡ deed)
-last_deed run act position node deed le d = elim (Does-cases d) [ | inl old ↦ absurd (omega (arith, le, old.0)) | inr new ↦ (new.1, new.2) ]
+last_deed run act position node deed le d = elim (Does-cases d) [ inl old ↦ absurd (omega (arith, le, old.0)) | inr new ↦ (new.1, new.2) ]
 
 access_deed : (is_write : Bool) (run : List Act) (position node word : ℕ) → AccessesBy is_write run position node word
     → (deed : Deed) × Does run position node deed × (is_access deed ≡ true)
