@@ -188,5 +188,6 @@ module _ (program : Program) (nodes : ℕ) (options : OptionsRecord) where
     races_named race = (
       λ r. segments_named keeps_time synchronizes waits_there race
           (segments_race nodes world.acts world.times traces keeps_time synchronizes waits_there are_of_run race r),
-      λ n. race_segments nodes world.acts world.times traces keeps_time synchronizes waits_there are_of_run race (named_of_segments keeps_time synchronizes race n),
+      λ n. race_segments nodes world.acts world.times traces keeps_time synchronizes waits_there are_of_run race
+          (named_of_segments keeps_time synchronizes race n),
     )

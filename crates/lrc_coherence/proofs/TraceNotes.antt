@@ -1,8 +1,6 @@
 -- The segments of a trace once an access is noted: their intervals ascend, and each has an access.
-use Rattle.std.proofs.Common.{◌≡◌, ◌≢◌, ℕ, ◌-◌, ◌<◌, ◌⊎◌, List, [], ◌∷◌, Bool, length, get_or, refl, sym, ap, subst, ◌∙◌, inl, inr, ⊎_elim, arith}
+use Rattle.std.proofs.Common.{◌≡◌, ◌≢◌, ℕ, ◌-◌, ◌<◌, List, Bool, length, get_or, refl, sym, subst, inr, ⊎_elim, arith}
 use Rattle.std.specs.Prelude.{IsTrue, All}
-use Rattle.std.proofs.lemmas.Bool.{cases_eq}
-use Rattle.std.proofs.lemmas.List.{get_or_default}
 use Rattle.std.proofs.lemmas.List.Elements.{All-push, All-set}
 use Rattle.lrc_page.specs.declared.size.Size.{Size}
 use Rattle.lrc_page.specs.Place.{page_of, offset_of}
@@ -10,7 +8,7 @@ use Rattle.lrc_trace.specs.declared.trace.Segment.{Segment}
 use Rattle.lrc_trace.specs.Segments.{opened, with_access, IsSegment, AreSegments}
 use Rattle.lrc_trace.specs.Trace.{TraceRecord, MayNote, has_access, noted}
 use Rattle.lrc_trace.proofs.SegmentLists.{segment-opened, segment-with_access, interval-with_access, segments-set, segments-push, noted-open, noted-fresh, note-later}
-use Rattle.lrc_trace.proofs.Noted.{has_access-with_access}
+use Rattle.lrc_trace.proofs.Noted.{has_access-with_access, first_of_segments}
 
 -- the segment has some access
 abbrev pub HasSome : Size → Segment → Type 0
@@ -19,19 +17,6 @@ HasSome size s = (word : ℕ) × (is_write : Bool) × IsTrue (has_access size s 
 some-with_access : (size : Size) (s : Segment) (word : ℕ) (is_write : Bool) → IsSegment s
     → HasSome size (with_access (page_of word size) (offset_of word size) is_write s)
 some-with_access size s word is_write is = (word, is_write, (has_access-with_access size s word is_write word is_write is).1 (inr (refl, refl)))
-
--- the last of the segments is of the interval, or not
-last_or_not : (segments : List Segment) (interval : ℕ)
-    → (((d : Segment) → 0 < length segments → (get_or segments (length segments - 1) d).interval ≢ interval)
-    ⊎ ((d : Segment) × (0 < length segments) × ((get_or segments (length segments - 1) d).interval ≡ interval)))
-last_or_not [] interval = inl (λ d some. absurd (omega (arith, some)))
-last_or_not (t ∷ ts) interval =
-    let last : ℕ = length (t ∷ ts) - 1 in
-    elim (cases_eq (get_or (t ∷ ts) last t).interval interval) [
-      | inl same ↦ inr (t, omega arith, same)
-      | inr apart ↦
-          inl (λ d some same. apart (ap (λ (s : Segment). s.interval) (get_or_default (t ∷ ts) last t d (omega arith)) ∙ same))
-    ]
 
 module _ (trace : TraceRecord) (epoch interval : ℕ) (time : List ℕ) (word : ℕ) (is_write : Bool)
     (are : AreSegments trace.segments) (may : MayNote trace.segments epoch interval time) (each : All (HasSome trace.size) trace.segments) where
@@ -69,13 +54,14 @@ module _ (trace : TraceRecord) (epoch interval : ℕ) (time : List ℕ) (word : 
       note-later trace.segments epoch interval time may other in
       subst Fit (sym (noted-fresh trace.segments epoch interval time page offset is_write other)) (record {
         are_segments = segments-push trace.segments added
-            (λ d some. subst (λ k. (get_or trace.segments (length trace.segments - 1) d).interval < k) (sym (interval-with_access page offset is_write fresh)) (later d some))
+            (λ d some. subst (λ k. (get_or trace.segments (length trace.segments - 1) d).interval < k)
+            (sym (interval-with_access page offset is_write fresh)) (later d some))
             (segment-with_access page offset is_write fresh is) are;
         have_some = All-push (HasSome trace.size) trace.segments added each (some-with_access trace.size fresh word is_write is);
       })
 
   fit : Fit after.segments
-  fit = ⊎_elim (λ other. fit_fresh other) (λ (d, some, here). fit_open d some here) (last_or_not trace.segments interval)
+  fit = ⊎_elim (λ other. fit_fresh other) (λ (d, some, here). fit_open d some here) (first_of_segments trace.segments interval)
 
   pub segments-noted : AreSegments after.segments
   segments-noted = fit.are_segments

@@ -15,10 +15,11 @@ use Rattle.lrc_trace.specs.Interval.{closes, interval_at}
 use Rattle.lrc_trace.specs.Segments.{MayFollow, AreSegments}
 use Rattle.lrc_trace.specs.Synchronization.{IsWellSynchronized, WaitsAtBarriers}
 use Rattle.lrc_trace.specs.Trace.{TraceRecord, NotedAccess, IsNoted, MayNote, noted}
-use Rattle.lrc_trace.proofs.Positions.{Does-within, Does-longer, Does-shorter, Does-one_deed, departs_before-prefix}
+use Rattle.lrc_trace.proofs.Positions.{Does-within, Does-longer, Does-shorter, departs_before-prefix}
 use Rattle.lrc_trace.proofs.Intervals.{count_of-rises, never_fall}
-use Rattle.lrc_trace.proofs.Noted.{added-to, added-from}
+use Rattle.lrc_trace.proofs.Noted.{same_access, added-to, added-from}
 use Rattle.lrc_judge.specs.Segments.{AccessesBy}
+use Rattle.lrc_judge.proofs.Keeping.{one_access}
 use Rattle.lrc_clock.specs.Times.{time_at, raised}
 use Rattle.lrc_clock.specs.Keeping.{KeepsTime, leaves_time}
 use Rattle.lrc_clock.proofs.Epochs.{earlier_epoch_is_covered, same_interval_same_time}
@@ -53,8 +54,10 @@ pub record IsDeedOf (run : List Act) (position node : ℕ) : Type 0 where
   pub leaves : leaves_time deed ≡ true
 
 pub deed_by : (is_write : Bool) (run : List Act) (position node word : ℕ) → AccessesBy is_write run position node word → IsDeedOf run position node
-deed_by true run position node word (value, d) = record { deed = Write word value; does = d; open_still = refl; departs_not = refl; arrives_not = refl; leaves = refl }
-deed_by false run position node word (value, d) = record { deed = Read word value; does = d; open_still = refl; departs_not = refl; arrives_not = refl; leaves = refl }
+deed_by true run position node word (value, d) =
+    record { deed = Write word value; does = d; open_still = refl; departs_not = refl; arrives_not = refl; leaves = refl }
+deed_by false run position node word (value, d) =
+    record { deed = Read word value; does = d; open_still = refl; departs_not = refl; arrives_not = refl; leaves = refl }
 
 access_longer : (is_write : Bool) (run more : List Act) (position node word : ℕ) → AccessesBy is_write run position node word
     → AccessesBy is_write (run ++ more) position node word
@@ -65,30 +68,6 @@ access_shorter : (is_write : Bool) (run more : List Act) (position node word : �
     → AccessesBy is_write (run ++ more) position node word → AccessesBy is_write run position node word
 access_shorter true run more position node word lt (value, d) = (value, Does-shorter more lt d)
 access_shorter false run more position node word lt (value, d) = (value, Does-shorter more lt d)
-
-same_write : (w x v y : ℕ) → Write w v ≡ Write x y → w ≡ x
-same_write w x v y e = cc
-
-same_read : (w x v y : ℕ) → Read w v ≡ Read x y → w ≡ x
-same_read w x v y e = cc
-
-not_both : (w x v y : ℕ) → Write w v ≡ Read x y → ⊥
-not_both w x v y e = cc
-
--- at a position one word is accessed, by a read or by a write
-one_access : (b c : Bool) (run : List Act) (position node v w : ℕ) → AccessesBy b run position node v → AccessesBy c run position node w
-    → (b ≡ c) × (v ≡ w)
-one_access true true run position node v w (x, d) (y, e) = (refl, same_write v w x y (Does-one_deed d e))
-one_access false false run position node v w (x, d) (y, e) = (refl, same_read v w x y (Does-one_deed d e))
-one_access true false run position node v w (x, d) (y, e) = absurd (not_both v w x y (Does-one_deed d e))
-one_access false true run position node v w (x, d) (y, e) = absurd (not_both w v y x (Does-one_deed e d))
-
-same_access : (access : NotedAccess) (epoch interval : ℕ) (time : List ℕ) (word : ℕ) (is_write : Bool) → access.epoch ≡ epoch
-    → access.interval ≡ interval → access.time ≡ time → access.word ≡ word → access.is_write ≡ is_write
-    → access ≡ record { epoch = epoch; interval = interval; time = time; word = word; is_write = is_write }
-same_access access epoch interval time word is_write e i t w b =
-    let same : record { epoch = access.epoch; interval = access.interval; time = access.time; word = access.word; is_write = access.is_write }
-    ≡ record { epoch = epoch; interval = interval; time = time; word = word; is_write = is_write } = cc in same
 
 -- ---- a longer run
 
@@ -234,8 +213,8 @@ module _ (run : List Act) (act : Act) (times : List (List ℕ)) (time : List ℕ
                   let within : position < length longer = Does-within (deed_by access.is_write longer position node access.word a.does).does in
                   let at : position ≡ here = omega (arith, ge, within, long) in
                   let b : IsAccessAt longer all_times node access here = subst (IsAccessAt longer all_times node access) at a in
-                  let one : _ = one_access access.is_write is_write longer here node access.word word b.does now in
+                  let one : _ = one_access longer here access.is_write is_write node node access.word word b.does now in
                   added-from trace epoch interval stamp word is_write is.segments may access
-                  (inr (same_access access epoch interval stamp word is_write (b.epoch ∙ sym e) (b.interval ∙ sym k) (b.time ∙ sym t) one.1 one.0))
+                  (inr (same_access access epoch interval stamp word is_write (b.epoch ∙ sym e) (b.interval ∙ sym k) (b.time ∙ sym t) one.2 one.0))
             ];
       }

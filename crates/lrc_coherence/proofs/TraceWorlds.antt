@@ -211,8 +211,10 @@ module _ (program : Program) (nodes : ℕ) (options : OptionsRecord) where
               (with_act after.node act (trace_of (fresh_node program nodes options n) l.log))) (sym act_is)
               (own_turn world.acts world.times timed nodes n after.node (is_me program nodes options next r' n after there) before
               (trace_of (fresh_node program nodes options n) l.log) (traced.each n l at) turn.deed
-              (subst (λ act. IsOrderly nodes (world.acts ++ option_to_list act) (world.times ++ map (λ act. after.node.locks.time) (option_to_list act))) act_is o)
-              (subst (λ act. after.node.barrier.episode ≡ arrives_before (world.acts ++ option_to_list act) n (length (world.acts ++ option_to_list act))) act_is arrived)) in
+              (subst (λ act. IsOrderly nodes (world.acts ++ option_to_list act) (world.times ++ map (λ act. after.node.locks.time) (option_to_list act)))
+              act_is o)
+              (subst (λ act. after.node.barrier.episode
+              ≡ arrives_before (world.acts ++ option_to_list act) n (length (world.acts ++ option_to_list act))) act_is arrived)) in
               let whole : IsTraceIn next.acts next.times n (trace_of (fresh_node program nodes options n) after.log) =
               subst (IsTraceIn next.acts next.times n)
               (sym (trace_more program nodes options n l after input logged i (follows_at program nodes options r.events world r.runs n l at).replayed)) more in

@@ -64,7 +64,9 @@ module _ (node : Node) (page : ℕ) where
   notice_is = found_from node.memory.copies page 0 page (omega arith)
 
   changes_are : changes_on page (closed_record node) ≡ unwrap_or (changes_of (copy_at node.memory page)) []
-  changes_are = ap (λ o. unwrap_or (option_and_then (λ (notice : NoticeRecord). notice.changes) o) []) notice_is ∙ of_notice (changes_of (copy_at node.memory page))
+  changes_are =
+      ap (λ o. unwrap_or (option_and_then (λ (notice : NoticeRecord). notice.changes) o) []) notice_is
+      ∙ of_notice (changes_of (copy_at node.memory page))
     where
       of_notice : (o : Option (List Change))
           → unwrap_or (option_and_then (λ (notice : NoticeRecord). notice.changes) (option_map (notice_with page) o)) [] ≡ unwrap_or o []

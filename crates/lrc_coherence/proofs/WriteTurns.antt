@@ -1,8 +1,7 @@
 -- What a turn of a node does to its own entry, and whether its deed writes.
 use Rattle.std.proofs.Common.{◌≡◌, ℕ, ◌+◌, ◌<◌, ◌≤◌, List, Bool, true, false, length, refl, sym, ap, subst, ◌∙◌, ◌⊎◌, inl, inr, arith}
 use Rattle.std.specs.Prelude.{Option, Some, None}
-use Rattle.lrc_time.specs.Time.{entry, joined}
-use Rattle.lrc_time.proofs.Times.{entry-set_same, entry-joined}
+use Rattle.lrc_time.specs.Time.{entry}
 use Rattle.lrc_trace.specs.declared.act.Deed.{Deed}
 use Rattle.lrc_exec.specs.Meaning.{Thread, Next, acquires, releases, arrives}
 use Rattle.lrc_protocol.specs.Course.{Course, deed_of}
@@ -10,8 +9,8 @@ use Rattle.lrc_protocol.specs.Mail.{Wait, nothing, grant, departure, access, upk
 use Rattle.lrc_protocol.specs.Locks.{Locks, next_time}
 use Rattle.lrc_invariants.specs.Waiting.{next_in, acquiring}
 use Rattle.lrc_invariants.specs.Counts.{awaits_acquire}
-use Rattle.lrc_invariants.proofs.Shift.{Part, Acted, Rested, Moved, Learnable, Shift, plain, misses, takes, asks, releasing, arriving, manages, forwarding, grants, departing, collecting, clean_at_once, discarding, accessing, still_misses, still_collects, cleaning, rests}
-use Rattle.lrc_invariants.proofs.Counts.{deed_next, lock_next}
+use Rattle.lrc_invariants.proofs.Shift.{Part, Acted, Rested, Moved, Shift, plain, misses, takes, asks, releasing, arriving, manages, forwarding, grants, departing, collecting, clean_at_once, discarding, accessing, still_misses, still_collects, cleaning, rests}
+use Rattle.lrc_invariants.proofs.Counts.{deed_next, lock_next, ticked_entry, learned_entry}
 use Rattle.lrc_coherence.specs.Written.{written_to}
 
 -- the deed, if there is one, writes no word
@@ -50,12 +49,9 @@ awaits_some (discard collection) le = absurd (omega (arith, le))
 abbrev pub OwnMoves : ℕ → List ℕ → Option Deed → List ℕ → Type 0
 OwnMoves me time deed after = (entry after me ≡ entry time me) ⊎ ((entry after me ≡ entry time me + 1) × WritesNone deed)
 
-learned_entry : (p : Part) (time : List ℕ) → Learnable p time → entry (joined p.locks.time time) p.me ≡ entry p.locks.time p.me
-learned_entry p time k = let e : _ = entry-joined p.locks.time time p.me in omega (arith, e, k.own)
-
 module _ (p : Part) (within : p.me < length p.locks.time) where
   closes : (after : List ℕ) (deed : Option Deed) → after ≡ next_time p.me p.locks.time → WritesNone deed → OwnMoves p.me p.locks.time deed after
-  closes after deed e none = inr (ap (λ t. entry t p.me) e ∙ entry-set_same p.locks.time p.me (entry p.locks.time p.me + 1) within, none)
+  closes after deed e none = inr (ap (λ t. entry t p.me) e ∙ ticked_entry p.me p.locks.time within, none)
 
   pub own_moves : (acts : Bool) (wait : Wait) (locks : Locks) (episode : ℕ) (deed : Option Deed) (after : Course)
       → Shift p acts wait locks episode → Moved acts p.course deed after → OwnMoves p.me p.locks.time deed locks.time
