@@ -6,6 +6,17 @@ pub mod MadeWorlds
 pub mod Stored
 pub mod History
 pub mod Laws
+pub mod WriteDeeds
+pub mod WritePages
+pub mod WriteNotices
+pub mod WriteTurns
+pub mod WriteNodes
+pub mod WriteLaws
+pub mod TraceNotes
+pub mod TraceRuns
+pub mod TraceWorlds
+pub mod TraceSegments
+pub mod TraceLaws
 pub mod RequestWishes
 pub mod RequestNeeds
 pub mod RequestTurns

@@ -2,4 +2,8 @@
 #![tactic(auto)]
 
 pub mod made;
+<<<<<<< HEAD
 pub mod theorem;
+=======
+pub mod traces;
+>>>>>>> writes
