@@ -6,3 +6,4 @@ pub mod MadeWorlds
 pub mod Stored
 pub mod History
 pub mod Laws
+pub mod CopyTurns
