@@ -7,3 +7,4 @@ pub mod Stored
 pub mod History
 pub mod Laws
 pub mod CopyTurns
+pub mod FitRepair
