@@ -8,3 +8,7 @@ pub mod History
 pub mod Laws
 pub mod CopyTurns
 pub mod FitRepair
+pub mod StampLists
+pub mod StampWorlds
+pub mod StampMade
+pub mod StampTurns
