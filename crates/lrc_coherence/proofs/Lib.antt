@@ -12,3 +12,4 @@ pub mod StampLists
 pub mod StampWorlds
 pub mod StampMade
 pub mod StampTurns
+pub mod FitCopies
