@@ -13,3 +13,4 @@ pub mod StampWorlds
 pub mod StampMade
 pub mod StampTurns
 pub mod FitCopies
+pub mod FitLater
