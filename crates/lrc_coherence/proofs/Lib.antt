@@ -14,3 +14,4 @@ pub mod StampMade
 pub mod StampTurns
 pub mod FitCopies
 pub mod FitLater
+pub mod FitFirst
