@@ -69,7 +69,7 @@ not_yet count made time since x at below c =
     let up : entry since x.node ≤ entry time x.node = below x.node in
     omega (arith, index, less, up)
 
-whole-long : (nodes words : ℕ) (copies : List Copy) (page : ℕ) (copy : Copy) → slice_index_or copies page absent ≡ copy
+pub whole-long : (nodes words : ℕ) (copies : List Copy) (page : ℕ) (copy : Copy) → slice_index_or copies page absent ≡ copy
     → All (IsWhole nodes words) copies → IsWhole nodes words copy
 whole-long nodes words copies page copy e h =
     ⊎_elim
@@ -128,7 +128,7 @@ list_any-in test (y ∷ xs) x c e =
     (λ later. or_right (test y) (list_any test xs) (list_any-in test xs x later e))
     (cases_Contains y xs x c)
 
-placed-base : (f : ℕ × Option (List ℕ) → Option (List ℕ)) (xs : List (Option (List ℕ))) (page : ℕ) → page < length xs
+pub placed-base : (f : ℕ × Option (List ℕ) → Option (List ℕ)) (xs : List (Option (List ℕ))) (page : ℕ) → page < length xs
     → slice_index_or (map f (enumerate_from 0 xs)) page None ≡ f (page, slice_index_or xs page None)
 placed-base f xs page lt =
     let same : 0 + page ≡ page = omega arith in
@@ -218,23 +218,23 @@ module _ (count : ℕ) (wrote : Wrote) (made : List StoredRecord) (v : View) (fa
 
 -- ---- needs
 
-base_of-fits : (wrote : Wrote) (made : List StoredRecord) (collected : List ℕ) (page keeper : ℕ) (copy : Copy)
+pub base_of-fits : (wrote : Wrote) (made : List StoredRecord) (collected : List ℕ) (page keeper : ℕ) (copy : Copy)
     → BaseFits wrote made collected page (base_of keeper copy)
 base_of-fits wrote made collected page keeper (valid values) = tt
 base_of-fits wrote made collected page keeper (written values twin) = tt
 base_of-fits wrote made collected page keeper (invalid values since) = tt
 base_of-fits wrote made collected page keeper absent = tt
 
-abbrev NeedFits : Wrote → List StoredRecord → List ℕ → Need → Type 0
+abbrev pub NeedFits : Wrote → List StoredRecord → List ℕ → Need → Type 0
 NeedFits wrote made collected need = BaseFits wrote made collected need.page need.base
 
-new-needs : (wrote : Wrote) (made : List StoredRecord) (collected : List ℕ) (nodes : ℕ) (memory : Memory) (pages : List ℕ)
+pub new-needs : (wrote : Wrote) (made : List StoredRecord) (collected : List ℕ) (nodes : ℕ) (memory : Memory) (pages : List ℕ)
     → All (NeedFits wrote made collected) (map (need_of nodes memory) pages)
 new-needs wrote made collected nodes memory pages =
     All-map (NeedFits wrote made collected) (need_of nodes memory) pages
     (λ k d within. base_of-fits wrote made collected _ (keeper_at memory _) (copy_at memory _))
 
-changed-needs : (wrote : Wrote) (made : List StoredRecord) (collected : List ℕ) (page from : ℕ) (wait : Wait)
+pub changed-needs : (wrote : Wrote) (made : List StoredRecord) (collected : List ℕ) (page from : ℕ) (wait : Wait)
     → All (NeedFits wrote made collected) (needs_of wait) → All (NeedFits wrote made collected) (needs_of (with_needs (with_changes page from) wait))
 changed-needs wrote made collected page from wait h =
     subst (All (NeedFits wrote made collected)) (sym (needs-with (with_changes page from) wait))
@@ -247,7 +247,7 @@ changed-needs wrote made collected page from wait h =
     by_test need f true = f
     by_test need f false = f
 
-sent-needs : (wrote : Wrote) (made : List StoredRecord) (collected : List ℕ) (page : ℕ) (values : List ℕ) (wait : Wait)
+pub sent-needs : (wrote : Wrote) (made : List StoredRecord) (collected : List ℕ) (page : ℕ) (values : List ℕ) (wait : Wait)
     → FitsTime wrote made collected page values → All (NeedFits wrote made collected) (needs_of wait)
     → All (NeedFits wrote made collected) (needs_of (with_needs (with_page page values) wait))
 sent-needs wrote made collected page values wait fits h =

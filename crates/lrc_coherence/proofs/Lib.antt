@@ -15,3 +15,4 @@ pub mod StampTurns
 pub mod FitCopies
 pub mod FitLater
 pub mod FitFirst
+pub mod FitTurns
