@@ -16,3 +16,8 @@ pub mod FitCopies
 pub mod FitLater
 pub mod FitFirst
 pub mod FitTurns
+pub mod StampCuts
+pub mod StampTimes
+pub mod KnownStores
+pub mod Known
+pub mod StampLaw

@@ -46,7 +46,7 @@ closed-index nodes n node p =
     entry-set_same node.locks.time node.setting.me (entry node.locks.time node.setting.me + 1) (omega (arith, p.me, p.within, p.long))
 
 -- with one more
-one_listed : (nodes n : ℕ) (node : Node) (made : List StoredRecord) → Placed nodes n node
+pub one_listed : (nodes n : ℕ) (node : Node) (made : List StoredRecord) → Placed nodes n node
     → indices_by (map interval_of made) n ≡ range_with_len 1 (entry node.locks.time n) → AreListed nodes made
     → AreListed nodes (made ++ closed_record node ∷ [])
 one_listed nodes n node made p exact h = record {
