@@ -21,3 +21,5 @@ pub mod StampTimes
 pub mod KnownStores
 pub mod Known
 pub mod StampLaw
+pub mod FitPlayed
+pub mod CopyReplies
