@@ -57,7 +57,7 @@ pub record Shuts (count words : ℕ) (wrote : Wrote) (made : List StoredRecord) 
   pub at : IsClosedAt made_stamps count made v.time x
   pub changes : (page : ℕ) (values twin : List ℕ) → copy_at v.memory page ≡ written values twin → IsClosedWith (history_on wrote page) x twin values
   pub leaves : (page : ℕ) → ((values twin : List ℕ) → copy_at v.memory page ≡ written values twin → ⊥)
-      → (offset : ℕ) → offset < words → wrote page x offset ≡ None
+      → ((offset : ℕ) → offset < words → wrote page x offset ≡ None) × (changes_on page x ≡ [])
 
 -- a time that the node's time covers does not cover the interval that it closes
 pub not_yet : (count : ℕ) (made : List StoredRecord) (time since : List ℕ) (x : StoredRecord) → IsClosedAt made_stamps count made time x → Covers time since
@@ -77,7 +77,7 @@ whole-long nodes words copies page copy e h =
     (λ (le : length copies ≤ page). subst (IsWhole nodes words) (sym (get_or_past copies page absent le) ∙ e) tt)
     (cases_lt page (length copies))
 
-not_written : (copy : Copy) (values twin : List ℕ) → changes_of copy ≡ None → copy ≡ written values twin → ⊥
+pub not_written : (copy : Copy) (values twin : List ℕ) → changes_of copy ≡ None → copy ≡ written values twin → ⊥
 not_written copy values twin none e = cc
 
 module _ (count : ℕ) (wrote : Wrote) (made : List StoredRecord) (v : View) (a : AtView v) (x : StoredRecord)
@@ -90,7 +90,7 @@ module _ (count : ℕ) (wrote : Wrote) (made : List StoredRecord) (v : View) (a 
   closed-fits page (valid values) e f long b =
       untouched_fits_closed made_stamps (wrote page) (changes_on page) count made v.time x shut.at values
       (subst (λ n. (offset : ℕ) → offset < n → wrote page x offset ≡ None) (sym long)
-      (shut.leaves page (λ other twin w. not_written (copy_at v.memory page) other twin (ap changes_of e) w))) f
+      (shut.leaves page (λ other twin w. not_written (copy_at v.memory page) other twin (ap changes_of e) w)).0) f
   closed-fits page (written values twin) e f long b =
       closed_fits made_stamps (wrote page) (changes_on page) count made v.time x shut.at twin values (shut.changes page values twin e) f
   closed-fits page (invalid values since) e f long b =

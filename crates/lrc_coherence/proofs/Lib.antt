@@ -23,3 +23,4 @@ pub mod Known
 pub mod StampLaw
 pub mod FitPlayed
 pub mod CopyReplies
+pub mod FitCarry
