@@ -24,3 +24,4 @@ pub mod StampLaw
 pub mod FitPlayed
 pub mod CopyReplies
 pub mod FitCarry
+pub mod FitWorlds
