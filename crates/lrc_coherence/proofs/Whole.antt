@@ -2,13 +2,20 @@
 use Rattle.std.proofs.Common.{ℕ}
 use Rattle.lrc_lang.specs.declared.program.Program.{Program}
 use Rattle.lrc_protocol.specs.Node.{OptionsRecord}
-use Rattle.lrc_coherence.proofs.Laws.{CopiesLaw, ReadsLaw}
+use Rattle.lrc_coherence.proofs.Laws.{StampsLaw, BasesLaw, CopiesLaw, ReadsLaw}
 use Rattle.lrc_coherence.proofs.StampLaw.{stamps_law}
+use Rattle.lrc_coherence.proofs.CollectBases.{bases_law}
 use Rattle.lrc_coherence.proofs.LazyReads.{reads_law}
 
 module _ (program : Program) (nodes : ℕ) (options : OptionsRecord) where
+  stamps : StampsLaw program nodes options
+  stamps = stamps_law program nodes options
+
+  bases : BasesLaw program nodes options
+  bases = bases_law program nodes options stamps
+
   copies : CopiesLaw program nodes options
   copies = ?
 
   pub reads : ReadsLaw program nodes options
-  reads = reads_law program nodes options (stamps_law program nodes options) copies
+  reads = reads_law program nodes options stamps copies

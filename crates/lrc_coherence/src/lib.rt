@@ -2,8 +2,5 @@
 #![tactic(auto)]
 
 pub mod made;
-<<<<<<< HEAD
 pub mod theorem;
-=======
 pub mod traces;
->>>>>>> writes
