@@ -25,3 +25,5 @@ pub mod FitPlayed
 pub mod CopyReplies
 pub mod FitCarry
 pub mod FitWorlds
+pub mod FitSent
+pub mod FitLaw
