@@ -33,7 +33,8 @@ use Rattle.lrc_invariants.proofs.Reached.{IsReached}
 use Rattle.lrc_invariants.proofs.Sends.{Came, by_itself, comes}
 use Rattle.lrc_invariants.proofs.Shape.{NodeShape, shape_at}
 use Rattle.lrc_local.specs.Reached.{IsReached as IsReachedNode}
-use Rattle.lrc_local.proofs.Always.{is_store_at, known_at, ranged_at}
+use Rattle.lrc_local.specs.Ranges.{IsWholeBase}
+use Rattle.lrc_local.proofs.Always.{is_store_at, known_at, ranged_at, whole_at}
 use Rattle.lrc_local.proofs.Change.{View, view_of, Walk, goes, receives}
 use Rattle.lrc_local.proofs.Reach.{first_view}
 use Rattle.lrc_local.proofs.Tokened.{come_to}
@@ -41,7 +42,7 @@ use Rattle.lrc_coherence.specs.Made.{AllMade, AllTold, intervals_in}
 use Rattle.lrc_coherence.specs.Written.{made_stamps, last_write, word_on, page_history}
 use Rattle.lrc_coherence.proofs.CopyTurns.{Brings, Played, Turning, alone, again, anew, TurningIf, turning}
 use Rattle.lrc_coherence.proofs.FitCarry.{TimesGood, bound-good, carry, agree-fits, agree-sound, Misses, longer-fits, longer-cuts, closes-sound}
-use Rattle.lrc_coherence.proofs.FitCopies.{Wrote, history_on, FitsTime, CopyFits, Fit, Facts, Stored}
+use Rattle.lrc_coherence.proofs.FitCopies.{Wrote, history_on, FitsTime, CopyFits, Fit, Facts, Stored, base-within}
 use Rattle.lrc_coherence.proofs.FitFirst.{Shuts}
 use Rattle.lrc_coherence.proofs.FitLater.{AtView, at_view}
 use Rattle.lrc_coherence.proofs.FitPlayed.{played-fit}
@@ -66,9 +67,27 @@ pub record AreFit (options : OptionsRecord) (made : List StoredRecord) (world : 
   pub sent : (e : EnvelopeRecord) (m : PageReplyRecord) (l : Logged) → Contains (pending world) e → e.message ≡ PageReply m
       → slice_get world.nodes e.to ≡ Some l → FitsTime (wrote_in options world.acts) made l.node.memory.collected m.page m.values
 
+-- what a turn of a node keeps, of copies and of what is on its way
+pub record TurnFits (options : OptionsRecord) (made new : List StoredRecord) (world now : World) (l after : Logged) (input : Input) : Type 0 where
+  pub then_fits : (time : List ℕ) (page : ℕ) (values : List ℕ) → FitsTime (wrote_in options world.acts) made time page values
+      → FitsTime (wrote_in options now.acts) made time page values
+  pub then_node : (q : ℕ) (lq : Logged) → slice_get world.nodes q ≡ Some lq
+      → Fit (wrote_in options now.acts) made lq.node.locks.time lq.node.mail.wait lq.node.memory
+  pub untouched : (page : ℕ) (x : StoredRecord) → Contains made x → notice_of page x ≡ None
+      → (offset : ℕ) → offset < words_of options.size → wrote_in options now.acts page x offset ≡ None
+  pub still_fits : (q : ℕ) (lq : Logged) (page : ℕ) (values : List ℕ) → slice_get world.nodes q ≡ Some lq
+      → FitsTime (wrote_in options now.acts) made lq.node.memory.collected page values
+      → FitsTime (wrote_in options now.acts) (made ++ new) lq.node.memory.collected page values
+  pub sound : (page : ℕ) → IsPageSound (history_on (wrote_in options now.acts) page) (words_of options.size) (made ++ new)
+  pub still_node : (q : ℕ) (lq : Logged) → slice_get world.nodes q ≡ Some lq
+      → Fit (wrote_in options now.acts) (made ++ new) lq.node.locks.time lq.node.mail.wait lq.node.memory
+  pub own_node : Fit (wrote_in options now.acts) (made ++ new) after.node.locks.time after.node.mail.wait after.node.memory
+  pub turning : Turning l.node input after.node
+  pub base_long : (page : ℕ) (values : List ℕ) → base_at l.node.memory page ≡ Some values → length values ≡ words_of options.size
+
 -- ---- members of what a turn closes
 
-closed-is : (node after : Node) (x : StoredRecord) → Contains (closed_by node after) x → closed_record node ≡ x
+pub closed-is : (node after : Node) (x : StoredRecord) → Contains (closed_by node after) x → closed_record node ≡ x
 closed-is node after x c = by_test (entry after.locks.time node.setting.me == entry node.locks.time node.setting.me) c
   where
     by_test : (b : Bool) → Contains (if b then [] else closed_record node ∷ []) x → closed_record node ≡ x
@@ -88,11 +107,11 @@ came_message : (from from' : ℕ) (a b : Message) → comes from a ≡ comes fro
 came_message from from' a b e = cc
 
 -- a message comes to its receiver
-abbrev ToIs : ℕ → Input → Type 0
+abbrev pub ToIs : ℕ → Input → Type 0
 ToIs n run = Unit {0}
 ToIs n (taken e) = n ≡ e.to
 
-to-is : (world : World) (n : ℕ) (input : Input) (flight : List Flying) → Comes world n input flight → ToIs n input
+pub to-is : (world : World) (n : ℕ) (input : Input) (flight : List Flying) → Comes world n input flight → ToIs n input
 to-is world n _ _ named = tt
 to-is world _ _ _ (delivered place is) = refl
 to-is world _ _ _ (repeated place is) = refl
@@ -112,7 +131,7 @@ lost-in e was out now lost =
     subst (λ es. Contains es e) (sym lost.before) (Contains-append_right lost.front (e ∷ lost.back) e (Contains-first e lost.back))
 
 module _ (node : Node) (Q : Node → Type 0) where
-  by_turning : (input : Input) (after : Node) → Turning node input after → Q node → (Played by_itself (view_of node) (view_of after) → Q after)
+  pub by_turning : (input : Input) (after : Node) → Turning node input after → Q node → (Played by_itself (view_of node) (view_of after) → Q after)
       → ((e : EnvelopeRecord) → input ≡ taken e → is_repeat node e ≡ false
       → Played (comes e.from e.message) (view_of (taking node e)) (view_of after) → Q after)
       → Q after
@@ -126,13 +145,13 @@ module _ (program : Program) (nodes : ℕ) (options : OptionsRecord) (stamps : S
       (at : slice_get world.nodes n ≡ Some l) (come : Comes world n input flight) (i : IsEntry l input entry_made after)
       (r : IsReached program nodes options world) (r' : IsReached program nodes options (with_turn world flight n entry_made after))
       (hist : History program nodes options world made) (h : AreFit options made world) where
-    abbrev pub now : World
+    abbrev now : World
     now = with_turn world flight n entry_made after
 
-    abbrev pub new : List StoredRecord
+    abbrev new : List StoredRecord
     new = closed_by l.node after.node
 
-    abbrev pub wrote : Wrote
+    abbrev wrote : Wrote
     wrote = wrote_in options now.acts
 
     hist' : History program nodes options now (made ++ new)
@@ -165,17 +184,17 @@ module _ (program : Program) (nodes : ℕ) (options : OptionsRecord) (stamps : S
     agree : (page : ℕ) → AgreeOnPage made (history_on (wrote_in options world.acts) page) (history_on wrote page)
     agree page = turn.stay page
 
-    pub then-fits : (time : List ℕ) (page : ℕ) (values : List ℕ) → FitsTime (wrote_in options world.acts) made time page values
+    then-fits : (time : List ℕ) (page : ℕ) (values : List ℕ) → FitsTime (wrote_in options world.acts) made time page values
         → FitsTime wrote made time page values
     then-fits time page values f = agree-fits (wrote_in options world.acts) wrote made agree time page values f
 
-    pub then-node : (q : ℕ) (lq : Logged) → slice_get world.nodes q ≡ Some lq → Fit wrote made lq.node.locks.time lq.node.mail.wait lq.node.memory
+    then-node : (q : ℕ) (lq : Logged) → slice_get world.nodes q ≡ Some lq → Fit wrote made lq.node.locks.time lq.node.mail.wait lq.node.memory
     then-node q lq at_q =
         carry (wrote_in options world.acts) wrote made made (λ time. Unit {0}) (λ time page values g f. then-fits time page values f) (λ time g c. c)
         lq.node.locks.time lq.node.mail.wait lq.node.memory
         (record { now = tt; collected = tt; since = λ page values since e. tt; bound = λ page. tt }) (h.nodes q lq at_q)
 
-    pub facts : Facts nodes (words_of options.size) wrote made
+    facts : Facts nodes (words_of options.size) wrote made
     facts = record {
       stamped = known.stamped;
       found = known.found;
@@ -197,7 +216,7 @@ module _ (program : Program) (nodes : ℕ) (options : OptionsRecord) (stamps : S
     index_is = closed-index nodes n l.node is_here
 
     -- no time that covers only what was made covers it
-    pub full-misses : (time : List ℕ) → IsFull made time → Misses new time
+    full-misses : (time : List ℕ) → IsFull made time → Misses new time
     full-misses time full x c covered =
         unknown_by made time (entry l.node.locks.time l.node.setting.me) (closed_record l.node) full counted index_is
         (subst (λ y. IsTrue (is_covered made_stamps time y)) (sym (closed-is l.node after.node x c)) covered)
@@ -248,7 +267,7 @@ module _ (program : Program) (nodes : ℕ) (options : OptionsRecord) (stamps : S
         page
         (subst (λ (o : OptionsRecord). IsPageSound (history_on wrote page) (words_of o.size) made) (sym (same_options n l at)) (facts.sound page)))
 
-    pub then-sound : (page : ℕ) → IsPageSound (history_on wrote page) (words_of options.size) (made ++ new)
+    then-sound : (page : ℕ) → IsPageSound (history_on wrote page) (words_of options.size) (made ++ new)
     then-sound page = one_sound page (entry after.node.locks.time l.node.setting.me == entry l.node.locks.time l.node.setting.me) (λ c. c)
 
     facts' : Facts nodes (words_of options.size) wrote (made ++ new)
@@ -256,11 +275,11 @@ module _ (program : Program) (nodes : ℕ) (options : OptionsRecord) (stamps : S
 
     -- ---- other nodes, and what is on its way
 
-    pub still-fits : (time : List ℕ) (page : ℕ) (values : List ℕ) → IsFull made time → FitsTime wrote made time page values
+    still-fits : (time : List ℕ) (page : ℕ) (values : List ℕ) → IsFull made time → FitsTime wrote made time page values
         → FitsTime wrote (made ++ new) time page values
     still-fits time page values full f = longer-fits wrote new made time page values (full-misses time full) f
 
-    pub still-node : (q : ℕ) (lq : Logged) → slice_get world.nodes q ≡ Some lq
+    still-node : (q : ℕ) (lq : Logged) → slice_get world.nodes q ≡ Some lq
         → Fit wrote (made ++ new) lq.node.locks.time lq.node.mail.wait lq.node.memory
     still-node q lq at_q =
         let p : Placed nodes q lq.node = placed program nodes options world r q lq at_q in
@@ -342,7 +361,7 @@ module _ (program : Program) (nodes : ℕ) (options : OptionsRecord) (stamps : S
         (h.sent e m l (lost-in e (pending world) entry_made.turn.out (pending now) lost) (came_message e.from from e.message (PageReply m) c)
         (subst (λ k. slice_get world.nodes k ≡ Some l) to at)))
 
-    pub own-node : Fit wrote (made ++ new) after.node.locks.time after.node.mail.wait after.node.memory
+    own-node : Fit wrote (made ++ new) after.node.locks.time after.node.mail.wait after.node.memory
     own-node =
         let turning_now : Turning l.node input after.node =
         subst (TurningIf l.node input) i.turn_is (turning l.node input (known_at l.node is_here.reached).text) in
@@ -351,3 +370,22 @@ module _ (program : Program) (nodes : ℕ) (options : OptionsRecord) (stamps : S
         (λ p. played by_itself l.node.mail.taken p walked (λ intervals b. absurd (nothing_came b.from b.message b.came_is))
         (λ from m c. absurd (nothing_came from (PageReply m) c)))
         with_message
+
+    base-long : (page : ℕ) (values : List ℕ) → base_at l.node.memory page ≡ Some values → length values ≡ words_of options.size
+    base-long page values e =
+        subst (λ (o : OptionsRecord). length values ≡ words_of o.size) (same_options n l at)
+        (subst (IsWholeBase (words_of l.node.options.size)) e
+        ((whole_at l.node is_here.reached).bases page None (base-within l.node.memory page values e)))
+
+    pub turn-fits : TurnFits options made new world now l after input
+    turn-fits = record {
+      then_fits = then-fits;
+      then_node = then-node;
+      untouched = λ page x c none. untouched page x (Contains-append_left made new x c) none;
+      still_fits = λ q lq page values at_q f. still-fits lq.node.memory.collected page values (cuts.kept q lq at_q).collected f;
+      sound = then-sound;
+      still_node = still-node;
+      own_node = own-node;
+      turning = subst (TurningIf l.node input) i.turn_is (turning l.node input (known_at l.node is_here.reached).text);
+      base_long = base-long;
+    }

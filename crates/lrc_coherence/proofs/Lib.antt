@@ -54,6 +54,8 @@ pub mod FitPlayed
 pub mod CopyReplies
 pub mod FitCarry
 pub mod FitWorlds
+pub mod FitSent
+pub mod FitLaw
 pub mod RequestStored
 pub mod RequestExpected
 pub mod RequestOnce

@@ -4,7 +4,10 @@ use Rattle.lrc_lang.specs.declared.program.Program.{Program}
 use Rattle.lrc_protocol.specs.Node.{OptionsRecord}
 use Rattle.lrc_coherence.proofs.Laws.{StampsLaw, BasesLaw, CopiesLaw, ReadsLaw}
 use Rattle.lrc_coherence.proofs.StampLaw.{stamps_law}
+use Rattle.lrc_coherence.proofs.WriteLaws.{writes_law, turns_law}
+use Rattle.lrc_coherence.proofs.RequestLaws.{requests_law}
 use Rattle.lrc_coherence.proofs.CollectBases.{bases_law}
+use Rattle.lrc_coherence.proofs.FitLaw.{copies_law}
 use Rattle.lrc_coherence.proofs.LazyReads.{reads_law}
 
 module _ (program : Program) (nodes : ℕ) (options : OptionsRecord) where
@@ -15,7 +18,9 @@ module _ (program : Program) (nodes : ℕ) (options : OptionsRecord) where
   bases = bases_law program nodes options stamps
 
   copies : CopiesLaw program nodes options
-  copies = ?
+  copies =
+      copies_law program nodes options stamps (writes_law program nodes options) (turns_law program nodes options)
+      (requests_law program nodes options) bases
 
   pub reads : ReadsLaw program nodes options
   reads = reads_law program nodes options stamps copies
