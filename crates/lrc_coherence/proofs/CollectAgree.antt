@@ -76,7 +76,7 @@ its_time (access need) time e c = cc
 its_time (upkeep collection needs) time e c = ap Some c
 its_time (discard collection) time e c = ap Some c
 
-word_inside : (w : Wait) → awaits_word w ≡ 1 → in_collection w ≡ true
+pub word_inside : (w : Wait) → awaits_word w ≡ 1 → in_collection w ≡ true
 word_inside (discard collection) e = refl
 word_inside (upkeep collection needs) e = refl
 word_inside nothing e = absurd (omega (arith, e))
@@ -110,7 +110,7 @@ module _ (program : Program) (nodes : ℕ) (options : OptionsRecord) where
         a.joins ∙ ap (λ number. arrived_time nodes world.acts world.times number (length world.acts)) same ∙ sym b.joins
 
   -- with the same collected time and the same time the same is stored
-  stored_there : (world : World) (r : IsReached program nodes options world) (n m : ℕ) (l k : Logged) → slice_get world.nodes n ≡ Some l
+  pub stored_there : (world : World) (r : IsReached program nodes options world) (n m : ℕ) (l k : Logged) → slice_get world.nodes n ≡ Some l
       → slice_get world.nodes m ≡ Some k → l.node.memory.collected ≡ k.node.memory.collected → l.node.locks.time ≡ k.node.locks.time
       → (i : IntervalRecord) → Contains (intervals_of l.node.memory.store) i → Contains (intervals_of k.node.memory.store) i
   stored_there world r n m l k at at_m c t i there =
@@ -201,10 +201,10 @@ module _ (program : Program) (nodes : ℕ) (options : OptionsRecord) where
     pub next_exclusive : Exclusive program nodes options next
     next_exclusive = all_exclusive program nodes options r'.events next r'.runs
 
-    abbrev waited : Bool
+    abbrev pub waited : Bool
     waited = is_some (cleans_in program nodes options world h.exclusive)
 
-    abbrev waits : Bool
+    abbrev pub waits : Bool
     waits = is_some (cleans_in program nodes options next next_exclusive)
 
     there : slice_get next.nodes n ≡ Some after
@@ -227,7 +227,7 @@ module _ (program : Program) (nodes : ℕ) (options : OptionsRecord) where
     its node = Did world flight n l after input entry_made at come i r r' h.exclusive next_exclusive node
 
     -- with the barrier as it was
-    same_waits : after.node.barrier ≡ l.node.barrier → waits ≡ waited
+    pub same_waits : after.node.barrier ≡ l.node.barrier → waits ≡ waited
     same_waits e = ap is_some (same_cleans program nodes options world flight n l after input entry_made at come i r r' h.exclusive next_exclusive e)
 
     -- who has a collection begun stores what others in it store
@@ -293,14 +293,14 @@ module _ (program : Program) (nodes : ℕ) (options : OptionsRecord) where
         subst (λ (y : Logged). Fits waits x.node y.node) same (second_by turned p x was at_p)
     fit_by p q x y at_p at_q (other was) (other had) = relevel p q x y was had
 
-    pub next_agree : Agree next
-    next_agree = record {
-      exclusive = next_exclusive;
-      fit = λ p q x y at_p at_q. fit_by p q x y at_p at_q (whose p x at_p) (whose q y at_q);
-    }
+    pub next_fit : (p q : ℕ) (x y : Logged) → slice_get next.nodes p ≡ Some x → slice_get next.nodes q ≡ Some y → Fits waits x.node y.node
+    next_fit p q x y at_p at_q = fit_by p q x y at_p at_q (whose p x at_p) (whose q y at_q)
 
   agree-kept : KeptByReached program nodes options Agree
-  agree-kept world flight n l after input entry_made at come i r r' h = next_agree world flight n l after input entry_made at come i r r' h
+  agree-kept world flight n l after input entry_made at come i r r' h = record {
+    exclusive = next_exclusive world flight n l after input entry_made at come i r r' h;
+    fit = next_fit world flight n l after input entry_made at come i r r' h;
+  }
 
   fresh_fit : (waits : Bool) (n m : ℕ) (l k : Logged) → slice_get (fresh_world program nodes options).nodes n ≡ Some l
       → slice_get (fresh_world program nodes options).nodes m ≡ Some k → Fits waits l.node k.node

@@ -84,7 +84,7 @@ same_base : (need other : Need) → access need ≡ access other → need ≡ ot
 same_base need other e = cc
 
 module _ (program : Program) (nodes : ℕ) (options : OptionsRecord) (world : World) (r : IsReached program nodes options world) where
-  me_at : (n : ℕ) (l : Logged) → slice_get world.nodes n ≡ Some l → l.node.setting.me ≡ n
+  pub me_at : (n : ℕ) (l : Logged) → slice_get world.nodes n ≡ Some l → l.node.setting.me ≡ n
   me_at n l at = ap (λ (s : Setting). s.me) (shape_at program nodes options r.events world n l r.runs at).setting
 
   -- who awaits a base copy awaits it from the page's keeper

@@ -20,7 +20,7 @@ use Rattle.lrc_coherence.proofs.CollectPairs.{inside, Fits}
 use Rattle.lrc_coherence.proofs.CollectFlips.{cleans_in}
 use Rattle.lrc_coherence.proofs.CollectAgree.{Agree, all_agree, node_reached}
 
-collecting_inside : (w : Wait) (k : ℕ) → is_collecting w ≡ k → k ≡ 0 → in_collection w ≡ true → (collection : Collection) × (w ≡ discard collection)
+pub collecting_inside : (w : Wait) (k : ℕ) → is_collecting w ≡ k → k ≡ 0 → in_collection w ≡ true → (collection : Collection) × (w ≡ discard collection)
 collecting_inside (discard collection) k e z i = (collection, refl)
 collecting_inside (upkeep collection needs) k e z i = absurd (omega (arith, e, z))
 collecting_inside nothing k e z i = cc

@@ -15,3 +15,4 @@ pub mod CollectAgree
 pub mod CollectCovers
 pub mod CollectBases
 pub mod CollectServes
+pub mod CollectHeld
