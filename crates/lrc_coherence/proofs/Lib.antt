@@ -15,3 +15,4 @@ pub mod StampTimes
 pub mod KnownStores
 pub mod Known
 pub mod StampLaw
+pub mod StampNewer
