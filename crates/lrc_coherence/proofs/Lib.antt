@@ -16,3 +16,12 @@ pub mod KnownStores
 pub mod Known
 pub mod StampLaw
 pub mod StampNewer
+pub mod CollectTurns
+pub mod CollectKeepers
+pub mod CollectLocal
+pub mod CollectFlips
+pub mod CollectPairs
+pub mod CollectAgree
+pub mod CollectCovers
+pub mod CollectBases
+pub mod CollectServes
