@@ -6,6 +6,16 @@ pub mod MadeWorlds
 pub mod Stored
 pub mod History
 pub mod Laws
+pub mod StampLists
+pub mod StampWorlds
+pub mod StampMade
+pub mod StampTurns
+pub mod StampCuts
+pub mod StampTimes
+pub mod KnownStores
+pub mod Known
+pub mod StampLaw
+pub mod StampNewer
 pub mod CollectTurns
 pub mod CollectKeepers
 pub mod CollectLocal
