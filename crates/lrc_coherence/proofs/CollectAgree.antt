@@ -1,9 +1,9 @@
 -- In every run: any two nodes, as far as they stand at the same place of a collection, have collected the same and agree on the
 -- keepers.
-use Rattle.std.proofs.Common.{◌≡◌, ◌⊎◌, ℕ, ◌+◌, ◌<◌, ◌≤◌, List, [], Bool, true, false, is_some, length, refl, sym, ap, subst, ◌∙◌, inl, inr, arith}
-use Rattle.std.specs.Prelude.{Option, Some, None, ◌==◌, Contains, count_by, slice_get, slice_set}
-use Rattle.std.proofs.lemmas.Bool.{and_from, cases_eq, cases_Bool, eq-eqb, false≢true}
-use Rattle.std.proofs.lemmas.Option.{same_Some, slice_get_within}
+use Rattle.std.proofs.Common.{◌≡◌, ℕ, ◌+◌, ◌<◌, ◌≤◌, List, [], Bool, true, false, is_some, length, refl, sym, ap, subst, ◌∙◌, inl, inr, arith}
+use Rattle.std.specs.Prelude.{Option, Some, None, ◌==◌, Contains, count_by, slice_get}
+use Rattle.std.proofs.lemmas.Bool.{and_from, cases_eq, eq-eqb, false≢true}
+use Rattle.std.proofs.lemmas.Option.{same_Some}
 use Rattle.lrc_lang.specs.declared.program.Program.{Program}
 use Rattle.lrc_clock.specs.Times.{arrived_time}
 use Rattle.lrc_wire.specs.Envelope.{EnvelopeRecord}
@@ -16,8 +16,7 @@ use Rattle.lrc_store.specs.Store.{intervals_of}
 use Rattle.lrc_protocol.specs.declared.event.Event.{Event}
 use Rattle.lrc_protocol.specs.Mail.{Wait, nothing, grant, departure, access, upkeep, discard}
 use Rattle.lrc_protocol.specs.Node.{Node, OptionsRecord, fresh_node}
-use Rattle.lrc_protocol.specs.Turn.{is_repeat}
-use Rattle.lrc_protocol.specs.Log.{Input, run, taken, EntryRecord, Logged}
+use Rattle.lrc_protocol.specs.Log.{Input, EntryRecord, Logged}
 use Rattle.lrc_protocol.specs.World.{World, Flying, fresh_world, with_turn, pending, run_of}
 use Rattle.lrc_protocol.proofs.Worlds.{IsEntry, get_set_same, get_set_other, fresh_at}
 use Rattle.lrc_protocol.proofs.Induction.{Comes}
@@ -29,10 +28,10 @@ use Rattle.lrc_invariants.proofs.Reached.{IsReached, KeptByReached, by_reached}
 use Rattle.lrc_local.specs.Ranges.{CollectsAt}
 use Rattle.lrc_local.specs.Reached.{IsReached as IsNodeReached}
 use Rattle.lrc_local.proofs.Always.{ranged_at}
-use Rattle.lrc_coherence.specs.Made.{AreMade, StoresJust}
+use Rattle.lrc_coherence.specs.Made.{StoresJust}
 use Rattle.lrc_coherence.proofs.MadeWorlds.{Knows, knows}
 use Rattle.lrc_coherence.proofs.Stored.{stores_just, reached}
-use Rattle.lrc_coherence.proofs.CollectTurns.{in_collection, keepers_after, Steady, Begun, Ended, Kind, steady, begun, ended, Kinds, alone, again, anew, KindsIf, turn_kinds}
+use Rattle.lrc_coherence.proofs.CollectTurns.{in_collection, Steady, Begun, Ended, Kind, steady, begun, ended, Kinds, alone, again, anew, KindsIf, turn_kinds}
 use Rattle.lrc_coherence.proofs.CollectKeepers.{keepers_same}
 use Rattle.lrc_coherence.proofs.CollectFlips.{cleans_in, Flips, goes_on, starts, stops, flips, same_cleans, IsTaken, is_taken}
 use Rattle.lrc_coherence.proofs.CollectPairs.{inside, Fits, itself, level, steady_first, steady_second, SameStored, begun_first, begun_second, ended_first, ended_second}

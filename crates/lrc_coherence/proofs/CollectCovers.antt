@@ -1,7 +1,6 @@
 -- In every run what a node has collected is covered by the time of every node; and who fetches has collected all that others have.
-use Rattle.std.proofs.Common.{◌≡◌, ◌⊎◌, ℕ, ◌+◌, ◌<◌, ◌≤◌, List, Bool, true, false, is_some, refl, sym, ap, subst, ◌∙◌, inl, inr, arith}
+use Rattle.std.proofs.Common.{◌≡◌, ℕ, List, Bool, true, false, is_some, refl, sym, ap, subst, ◌∙◌, arith}
 use Rattle.std.specs.Prelude.{Option, Some, None, Contains, slice_get}
-use Rattle.std.proofs.lemmas.Bool.{cases_Bool}
 use Rattle.lrc_lang.specs.declared.program.Program.{Program}
 use Rattle.lrc_time.specs.Time.{Covers}
 use Rattle.lrc_time.proofs.Times.{covers-refl, covers-trans}
@@ -16,7 +15,6 @@ use Rattle.lrc_protocol.specs.World.{World}
 use Rattle.lrc_invariants.specs.Counts.{is_inside}
 use Rattle.lrc_invariants.specs.Barriers.{is_collecting}
 use Rattle.lrc_invariants.proofs.Reached.{IsReached}
-use Rattle.lrc_local.specs.Reached.{IsReached as IsNodeReached}
 use Rattle.lrc_local.specs.Remembered.{IsBetween}
 use Rattle.lrc_local.proofs.Always.{exact_at, between_at}
 use Rattle.lrc_coherence.proofs.CollectTurns.{in_collection}

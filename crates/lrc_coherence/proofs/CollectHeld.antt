@@ -1,8 +1,7 @@
 -- In every run the keeper that a node asks for a base copy has one.
-use Rattle.std.proofs.Common.{◌≡◌, ◌⊎◌, ℕ, ◌+◌, ◌<◌, List, [], Bool, true, false, is_some, length, refl, sym, ap, subst, ◌∙◌, inl, inr, arith}
-use Rattle.std.specs.Prelude.{Option, Some, None, All, Contains, ◌==◌, replicate, slice_get, slice_index, slice_index_or}
-use Rattle.std.specs.List.{list_any}
-use Rattle.std.proofs.lemmas.Bool.{cases_Bool, false≢true}
+use Rattle.std.proofs.Common.{◌≡◌, ℕ, ◌<◌, List, [], Bool, true, false, is_some, length, refl, sym, ap, subst, ◌∙◌, arith}
+use Rattle.std.specs.Prelude.{Option, Some, None, All, Contains, slice_get, slice_index}
+use Rattle.std.proofs.lemmas.Bool.{false≢true}
 use Rattle.std.proofs.lemmas.List.{get_or-replicate}
 use Rattle.std.proofs.lemmas.List.Elements.{All-head}
 use Rattle.lrc_lang.specs.declared.program.Program.{Program}
@@ -10,22 +9,19 @@ use Rattle.lrc_exec.specs.Meaning.{Setting}
 use Rattle.lrc_exec.specs.Plain.{setting_of}
 use Rattle.lrc_page.specs.Page.{zero_page, words_of}
 use Rattle.lrc_page.specs.Place.{pages_of}
-use Rattle.lrc_store.specs.Interval.{IntervalRecord}
-use Rattle.lrc_store.specs.Store.{intervals_of, is_missing}
+use Rattle.lrc_store.specs.Store.{intervals_of}
 use Rattle.lrc_protocol.specs.declared.event.Event.{Event}
 use Rattle.lrc_protocol.specs.Copy.{Copy, valid, written, invalid, absent, is_readable}
-use Rattle.lrc_protocol.specs.Fetch.{Base, unneeded, due, come, Need}
-use Rattle.lrc_protocol.specs.Mail.{Wait, access, discard, Collection, needs_of}
-use Rattle.lrc_protocol.specs.Memory.{copy_at, is_named, keeper_at, kept_pages, base_at}
-use Rattle.lrc_protocol.specs.Node.{Node, OptionsRecord, fresh_node}
+use Rattle.lrc_protocol.specs.Fetch.{due}
+use Rattle.lrc_protocol.specs.Mail.{discard, Collection, needs_of}
+use Rattle.lrc_protocol.specs.Memory.{copy_at, keeper_at, base_at}
+use Rattle.lrc_protocol.specs.Node.{Node, OptionsRecord}
 use Rattle.lrc_protocol.specs.Log.{Input, EntryRecord, Logged}
 use Rattle.lrc_protocol.specs.Follows.{turns_of}
 use Rattle.lrc_protocol.specs.World.{World, Flying, fresh_world, with_turn, run_of}
-use Rattle.lrc_protocol.proofs.Worlds.{IsEntry, get_set_same, fresh_at}
+use Rattle.lrc_protocol.proofs.Worlds.{IsEntry, fresh_at}
 use Rattle.lrc_protocol.proofs.Induction.{Comes}
-use Rattle.lrc_invariants.specs.Counts.{is_inside}
 use Rattle.lrc_invariants.proofs.Shape.{NodeShape, shape_at}
-use Rattle.lrc_invariants.proofs.Exclusive.{Exclusive}
 use Rattle.lrc_invariants.proofs.Reached.{IsReached, KeptByReached, by_reached}
 use Rattle.lrc_local.specs.Needs.{FitsBase, FitsNeed, FitsKept}
 use Rattle.lrc_local.specs.Ranges.{HasRanges}
@@ -33,13 +29,13 @@ use Rattle.lrc_local.specs.Remembered.{IsBetween}
 use Rattle.lrc_local.specs.Reached.{IsReached as IsNodeReached}
 use Rattle.lrc_local.proofs.Always.{ranged_at, needed_at, between_at}
 use Rattle.lrc_coherence.proofs.Laws.{AwaitsBase}
-use Rattle.lrc_coherence.proofs.CollectTurns.{in_collection, no_valid, Steady, Begun, Ended}
+use Rattle.lrc_coherence.proofs.CollectTurns.{in_collection, no_valid, Ended}
 use Rattle.lrc_coherence.proofs.CollectKeepers.{Namer, namer_of, is_named_by, in_kept}
 use Rattle.lrc_coherence.proofs.CollectLocal.{HasKept, has_kept, missing_named, absent_elsewhere}
 use Rattle.lrc_coherence.proofs.CollectFlips.{cleans_in, Flips, goes_on, starts, stops, flips}
-use Rattle.lrc_coherence.proofs.CollectPairs.{inside, Fits}
-use Rattle.lrc_coherence.proofs.CollectAgree.{Agree, Did, stays, begins, ends, turned, Whose, own, other, whose, next_fit, next_exclusive, waited, waits, same_waits, same_time, stored_there, node_reached, word_inside, all_agree}
-use Rattle.lrc_coherence.proofs.CollectCovers.{collecting_inside, none_under_way}
+use Rattle.lrc_coherence.proofs.CollectPairs.{inside}
+use Rattle.lrc_coherence.proofs.CollectAgree.{Agree, Did, stays, begins, ends, turned, Whose, own, other, whose, next_fit, next_exclusive, waits, same_waits, same_time, stored_there, node_reached, word_inside, all_agree}
+use Rattle.lrc_coherence.proofs.CollectCovers.{collecting_inside}
 use Rattle.lrc_coherence.proofs.CollectBases.{awaited_keeper, me_at}
 use Rattle.lrc_coherence.proofs.CollectServes.{names_it, HasBase, Serves, level_served, steady_asks, steady_keeps, begun_asks, begun_keeps, Renews, ended_asks, ended_keeps}
 
