@@ -40,7 +40,8 @@ use Rattle.lrc_coherence.proofs.CollectCovers.{agree, cleans, none_under_way, wa
 
 -- ---- an interval that names a page
 
-named_by_notice : (page : ℕ) (notices : List NoticeRecord) (notice : NoticeRecord) → find (λ (notice : NoticeRecord). notice.page == page) notices ≡ Some notice
+named_by_notice : (page : ℕ) (notices : List NoticeRecord) (notice : NoticeRecord)
+    → find (λ (notice : NoticeRecord). notice.page == page) notices ≡ Some notice
     → list_any (λ named. named == page) (map (λ (notice : NoticeRecord). notice.page) notices) ≡ true
 named_by_notice page [] notice e = cc
 named_by_notice page (x ∷ notices) notice e = by_test (λ e. named_by_notice page notices notice e) (x.page == page) refl e

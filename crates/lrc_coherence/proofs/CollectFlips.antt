@@ -114,7 +114,8 @@ module _ (program : Program) (nodes : ℕ) (options : OptionsRecord) where
               let some : 1 ≤ count_by (clean_from k) (pending world) =
               subst (λ m. 1 ≤ count_by (clean_from m) (pending world)) (c.from_is ∙ e)
               (counted_in (clean_from c.envelope.from) (pending world) c.envelope c.among
-              (and_from (says_clean c.envelope.message) (c.envelope.from == c.envelope.from) (ap says_clean c.message_is) (eq-eqb c.envelope.from c.envelope.from refl))) in
+              (and_from (says_clean c.envelope.message) (c.envelope.from == c.envelope.from) (ap says_clean c.message_is)
+              (eq-eqb c.envelope.from c.envelope.from refl))) in
               omega (arith, stand, most, some)
           | inr ne ↦
               let zero : cond {A = ℕ} (from == k) 1 0 ≡ 0 = failing (from == k) (ne_eqb from k ne) in

@@ -641,7 +641,8 @@ effect_if-kind node came None k = tt
 effect_if-kind node came (Some e) k = effect-kind node came e k
 
 -- the kind depends on a node's setting, wait, barrier and memory alone
-kind_from : (a b x : Node) (came : Came) → b.setting ≡ a.setting → b.locks.time ≡ a.locks.time → b.mail.wait ≡ a.mail.wait → b.barrier ≡ a.barrier → b.memory ≡ a.memory
+kind_from : (a b x : Node) (came : Came) → b.setting ≡ a.setting → b.locks.time ≡ a.locks.time → b.mail.wait ≡ a.mail.wait → b.barrier ≡ a.barrier
+    → b.memory ≡ a.memory
     → Kind b x came → Kind a x came
 kind_from a b x _ s t w r m (steady k) = steady (record {
   time = λ e. k.time (ap in_collection w ∙ e) ∙ t;
