@@ -1,12 +1,12 @@
 -- A keeper's base copy serves its asker: what its time lacks of the asker's collected time does not name the page.
-use Rattle.std.proofs.Common.{◌≡◌, ◌⊎◌, ℕ, ◌+◌, ◌<◌, ◌≤◌, List, [], ◌∷◌, Bool, true, false, IsTrue, is_some, length, map, refl, sym, ap, subst, ◌∙◌, inl, inr, arith}
+use Rattle.std.proofs.Common.{◌≡◌, ℕ, ◌<◌, List, [], ◌∷◌, Bool, true, false, IsTrue, is_some, length, map, refl, sym, ap, subst, ◌∙◌, inl, inr, arith}
 use Rattle.std.specs.Prelude.{Option, Some, None, Contains, ◌==◌, find, slice_get, slice_index, if◌then◌else◌}
 use Rattle.std.specs.List.{list_any}
-use Rattle.std.proofs.lemmas.Bool.{cases_Bool, false≢true, eqb-true, eq-eqb, le-leb, leb-true, leb-false, cases_lt, or_left, or_right}
+use Rattle.std.proofs.lemmas.Bool.{false≢true, eqb-true, eq-eqb, cases_lt, or_left, or_right}
 use Rattle.std.proofs.lemmas.List.Elements.{All-contains}
 use Rattle.lrc_lang.specs.declared.program.Program.{Program}
 use Rattle.lrc_exec.specs.Meaning.{Setting}
-use Rattle.lrc_time.specs.Time.{entry, Covers, knows}
+use Rattle.lrc_time.specs.Time.{entry, Covers}
 use Rattle.lrc_time.proofs.Times.{covers-refl}
 use Rattle.lrc_page.specs.Place.{pages_of}
 use Rattle.lrc_store.specs.Interval.{IntervalRecord, index_of}
@@ -14,15 +14,14 @@ use Rattle.lrc_store.specs.Store.{StoredRecord, NoticeRecord, interval_of, inter
 use Rattle.lrc_store.proofs.Orders.{Contains-first, Contains-later, cases_Contains, none_Contains}
 use Rattle.lrc_copies.specs.Stamps.{is_covered, IsBetween}
 use Rattle.lrc_copies.proofs.Stamping.{covered-le, le-covered}
-use Rattle.lrc_protocol.specs.Copy.{Copy, valid, written, invalid, absent}
-use Rattle.lrc_protocol.specs.Fetch.{Base, unneeded, due, come, Need}
-use Rattle.lrc_protocol.specs.Mail.{Wait, nothing, grant, departure, access, upkeep, discard, Collection, needs_of}
-use Rattle.lrc_protocol.specs.Memory.{copy_at, is_named, keeper_at, kept_pages}
+use Rattle.lrc_protocol.specs.Fetch.{Need}
+use Rattle.lrc_protocol.specs.Mail.{Wait, nothing, grant, departure, access, upkeep, discard, Collection}
+use Rattle.lrc_protocol.specs.Memory.{keeper_at, kept_pages}
 use Rattle.lrc_protocol.specs.Node.{Node, OptionsRecord}
 use Rattle.lrc_protocol.specs.Log.{Logged}
 use Rattle.lrc_protocol.specs.World.{World}
 use Rattle.lrc_invariants.specs.Counts.{is_inside}
-use Rattle.lrc_invariants.proofs.Shape.{NodeShape, shape_at}
+use Rattle.lrc_invariants.proofs.Shape.{shape_at}
 use Rattle.lrc_invariants.proofs.Reached.{IsReached}
 use Rattle.lrc_local.specs.Needs.{FitsKept}
 use Rattle.lrc_local.specs.Ranges.{CollectsAt, InRange, HasRanges}
@@ -31,17 +30,18 @@ use Rattle.lrc_local.proofs.Needs.{any_fits}
 use Rattle.lrc_coherence.specs.Made.{StoresJust}
 use Rattle.lrc_coherence.specs.Written.{made_stamps}
 use Rattle.lrc_coherence.proofs.History.{History, reached_by}
-use Rattle.lrc_coherence.proofs.Laws.{AwaitsBase, bound_in, base_bound, AreServed, StampsLaw, BasesLaw}
+use Rattle.lrc_coherence.proofs.Laws.{AwaitsBase, bound_in, base_bound, StampsLaw, BasesLaw}
 use Rattle.lrc_coherence.proofs.CollectTurns.{in_collection}
 use Rattle.lrc_coherence.proofs.CollectKeepers.{names, is_named_by, in_kept}
 use Rattle.lrc_coherence.proofs.CollectLocal.{IsDueRight, due_right}
-use Rattle.lrc_coherence.proofs.CollectPairs.{inside, Fits}
-use Rattle.lrc_coherence.proofs.CollectAgree.{Agree, node_reached}
+use Rattle.lrc_coherence.proofs.CollectPairs.{inside}
+use Rattle.lrc_coherence.proofs.CollectAgree.{node_reached}
 use Rattle.lrc_coherence.proofs.CollectCovers.{agree, cleans, none_under_way, waits_for_word}
 
 -- ---- an interval that names a page
 
-named_by_notice : (page : ℕ) (notices : List NoticeRecord) (notice : NoticeRecord) → find (λ (notice : NoticeRecord). notice.page == page) notices ≡ Some notice
+named_by_notice : (page : ℕ) (notices : List NoticeRecord) (notice : NoticeRecord)
+    → find (λ (notice : NoticeRecord). notice.page == page) notices ≡ Some notice
     → list_any (λ named. named == page) (map (λ (notice : NoticeRecord). notice.page) notices) ≡ true
 named_by_notice page [] notice e = cc
 named_by_notice page (x ∷ notices) notice e = by_test (λ e. named_by_notice page notices notice e) (x.page == page) refl e
@@ -84,7 +84,7 @@ same_base : (need other : Need) → access need ≡ access other → need ≡ ot
 same_base need other e = cc
 
 module _ (program : Program) (nodes : ℕ) (options : OptionsRecord) (world : World) (r : IsReached program nodes options world) where
-  me_at : (n : ℕ) (l : Logged) → slice_get world.nodes n ≡ Some l → l.node.setting.me ≡ n
+  pub me_at : (n : ℕ) (l : Logged) → slice_get world.nodes n ≡ Some l → l.node.setting.me ≡ n
   me_at n l at = ap (λ (s : Setting). s.me) (shape_at program nodes options r.events world n l r.runs at).setting
 
   -- who awaits a base copy awaits it from the page's keeper

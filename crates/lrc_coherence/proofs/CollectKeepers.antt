@@ -1,8 +1,8 @@
 -- Who keeps a page after a collection: the least node that names it, by the members of the list of intervals alone.
 use Rattle.std.proofs.Common.{◌≡◌, ◌⊎◌, ℕ, zero, suc, ◌+◌, ◌<◌, ◌≤◌, List, [], ◌∷◌, Bool, true, false, length, refl, sym, ap, subst, ◌∙◌, inl, inr, arith}
-use Rattle.std.specs.Prelude.{Option, Some, None, Contains, ◌==◌, ◌&&◌, ◌||◌, min, unwrap_or, option_map, map, filter_map, slice_index, slice_index_or, if◌then◌else◌}
+use Rattle.std.specs.Prelude.{Option, Some, None, Contains, ◌==◌, ◌&&◌, ◌||◌, min, unwrap_or, option_map, map, filter_map, slice_index, if◌then◌else◌}
 use Rattle.std.specs.List.{list_any, enumerate_from, cons_option, range_with_len}
-use Rattle.std.proofs.lemmas.Bool.{and_parts, and_from, or_cases, or_left, or_right, cases_Bool, cases_lt, false≢true, eqb-true, eq-eqb}
+use Rattle.std.proofs.lemmas.Bool.{and_parts, and_from, or_cases, or_left, or_right, cases_lt, false≢true, eqb-true, eq-eqb}
 use Rattle.std.proofs.lemmas.Option.{same_Some}
 use Rattle.std.proofs.lemmas.List.{get_or_past, get_or-map}
 use Rattle.std.proofs.lemmas.List.FromFn.{get_or-enumerate_from, length-enumerate_from}
@@ -105,7 +105,8 @@ namer_of (i ∷ intervals) page e = elim (or_cases (names page i) (is_named inte
       )
 ]
 
-pub is_named_by : (intervals : List IntervalRecord) (page : ℕ) (i : IntervalRecord) → Contains intervals i → names page i ≡ true → is_named intervals page ≡ true
+pub is_named_by : (intervals : List IntervalRecord) (page : ℕ) (i : IntervalRecord) → Contains intervals i → names page i ≡ true
+    → is_named intervals page ≡ true
 is_named_by [] page i there e = absurd (none_Contains i there)
 is_named_by (x ∷ intervals) page i there e = elim (cases_Contains x intervals i there) [
   | inl here ↦ or_left (names page x) (is_named intervals page) (ap (names page) here ∙ e)
@@ -121,7 +122,8 @@ in_namers [] page node n = absurd (none_Contains n.interval n.among)
 in_namers (x ∷ intervals) page node n =
     by_test (λ k. in_namers intervals page node k) (is_named (x ∷ []) page) refl (cases_Contains x intervals n.interval n.among)
   where
-    by_test : (Namer intervals page node → Contains (namers_in intervals page) node) → (b : Bool) → is_named (x ∷ []) page ≡ b → (x ≡ n.interval) ⊎ Contains intervals n.interval
+    by_test : (Namer intervals page node → Contains (namers_in intervals page) node) → (b : Bool) → is_named (x ∷ []) page ≡ b
+        → (x ≡ n.interval) ⊎ Contains intervals n.interval
         → Contains (cons_option (if b then Some x.node else None) (namers_in intervals page)) node
     by_test more true is (inl here) =
         subst (Contains (x.node ∷ namers_in intervals page)) (ap (λ (i : IntervalRecord). i.node) here ∙ n.node_is)

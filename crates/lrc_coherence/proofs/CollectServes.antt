@@ -1,14 +1,13 @@
 -- Two nodes and a page that the first takes the second to keep: there is a base copy at the second wherever the first's copy is
 -- absent and was not named in the collection that it is in; and how each kind of turn keeps that.
-use Rattle.std.proofs.Common.{◌≡◌, ◌⊎◌, ℕ, ◌<◌, List, Bool, true, false, is_some, refl, sym, ap, subst, ◌∙◌, inl, inr}
-use Rattle.std.specs.Prelude.{◌==◌, slice_index}
+use Rattle.std.proofs.Common.{◌≡◌, ℕ, ◌<◌, List, Bool, true, false, is_some, refl, sym, ap, ◌∙◌, inl, inr}
+use Rattle.std.specs.Prelude.{slice_index}
 use Rattle.std.proofs.lemmas.Bool.{cases_Bool, false≢true, eq-eqb}
-use Rattle.lrc_store.specs.Interval.{IntervalRecord}
 use Rattle.lrc_store.specs.Store.{intervals_of}
 use Rattle.lrc_protocol.specs.Copy.{absent, is_readable}
 use Rattle.lrc_protocol.specs.Memory.{copy_at, is_named, keeper_at, base_at}
 use Rattle.lrc_protocol.specs.Node.{Node}
-use Rattle.lrc_coherence.proofs.CollectTurns.{in_collection, keepers_after, Steady, Begun, Ended}
+use Rattle.lrc_coherence.proofs.CollectTurns.{in_collection, Steady, Begun, Ended}
 use Rattle.lrc_coherence.proofs.CollectKeepers.{keeper-unnamed}
 use Rattle.lrc_coherence.proofs.CollectPairs.{inside}
 
