@@ -2,3 +2,4 @@
 #![tactic(auto)]
 
 pub mod made;
+pub mod requests;
