@@ -1,9 +1,9 @@
 -- In every run: any two nodes, as far as they stand at the same place of a collection, have collected the same and agree on the
 -- keepers.
-use Rattle.std.proofs.Common.{◌≡◌, ◌⊎◌, ℕ, ◌+◌, ◌<◌, ◌≤◌, List, [], Bool, true, false, is_some, length, refl, sym, ap, subst, ◌∙◌, inl, inr, arith}
-use Rattle.std.specs.Prelude.{Option, Some, None, ◌==◌, Contains, count_by, slice_get, slice_set}
-use Rattle.std.proofs.lemmas.Bool.{and_from, cases_eq, cases_Bool, eq-eqb, false≢true}
-use Rattle.std.proofs.lemmas.Option.{same_Some, slice_get_within}
+use Rattle.std.proofs.Common.{◌≡◌, ℕ, ◌+◌, ◌<◌, ◌≤◌, List, [], Bool, true, false, is_some, length, refl, sym, ap, subst, ◌∙◌, inl, inr, arith}
+use Rattle.std.specs.Prelude.{Option, Some, None, ◌==◌, Contains, count_by, slice_get}
+use Rattle.std.proofs.lemmas.Bool.{and_from, cases_eq, eq-eqb, false≢true}
+use Rattle.std.proofs.lemmas.Option.{same_Some}
 use Rattle.lrc_lang.specs.declared.program.Program.{Program}
 use Rattle.lrc_clock.specs.Times.{arrived_time}
 use Rattle.lrc_wire.specs.Envelope.{EnvelopeRecord}
@@ -16,8 +16,7 @@ use Rattle.lrc_store.specs.Store.{intervals_of}
 use Rattle.lrc_protocol.specs.declared.event.Event.{Event}
 use Rattle.lrc_protocol.specs.Mail.{Wait, nothing, grant, departure, access, upkeep, discard}
 use Rattle.lrc_protocol.specs.Node.{Node, OptionsRecord, fresh_node}
-use Rattle.lrc_protocol.specs.Turn.{is_repeat}
-use Rattle.lrc_protocol.specs.Log.{Input, run, taken, EntryRecord, Logged}
+use Rattle.lrc_protocol.specs.Log.{Input, EntryRecord, Logged}
 use Rattle.lrc_protocol.specs.World.{World, Flying, fresh_world, with_turn, pending, run_of}
 use Rattle.lrc_protocol.proofs.Worlds.{IsEntry, get_set_same, get_set_other, fresh_at}
 use Rattle.lrc_protocol.proofs.Induction.{Comes}
@@ -29,10 +28,10 @@ use Rattle.lrc_invariants.proofs.Reached.{IsReached, KeptByReached, by_reached}
 use Rattle.lrc_local.specs.Ranges.{CollectsAt}
 use Rattle.lrc_local.specs.Reached.{IsReached as IsNodeReached}
 use Rattle.lrc_local.proofs.Always.{ranged_at}
-use Rattle.lrc_coherence.specs.Made.{AreMade, StoresJust}
+use Rattle.lrc_coherence.specs.Made.{StoresJust}
 use Rattle.lrc_coherence.proofs.MadeWorlds.{Knows, knows}
 use Rattle.lrc_coherence.proofs.Stored.{stores_just, reached}
-use Rattle.lrc_coherence.proofs.CollectTurns.{in_collection, keepers_after, Steady, Begun, Ended, Kind, steady, begun, ended, Kinds, alone, again, anew, KindsIf, turn_kinds}
+use Rattle.lrc_coherence.proofs.CollectTurns.{in_collection, Steady, Begun, Ended, Kind, steady, begun, ended, Kinds, alone, again, anew, KindsIf, turn_kinds}
 use Rattle.lrc_coherence.proofs.CollectKeepers.{keepers_same}
 use Rattle.lrc_coherence.proofs.CollectFlips.{cleans_in, Flips, goes_on, starts, stops, flips, same_cleans, IsTaken, is_taken}
 use Rattle.lrc_coherence.proofs.CollectPairs.{inside, Fits, itself, level, steady_first, steady_second, SameStored, begun_first, begun_second, ended_first, ended_second}
@@ -76,7 +75,7 @@ its_time (access need) time e c = cc
 its_time (upkeep collection needs) time e c = ap Some c
 its_time (discard collection) time e c = ap Some c
 
-word_inside : (w : Wait) → awaits_word w ≡ 1 → in_collection w ≡ true
+pub word_inside : (w : Wait) → awaits_word w ≡ 1 → in_collection w ≡ true
 word_inside (discard collection) e = refl
 word_inside (upkeep collection needs) e = refl
 word_inside nothing e = absurd (omega (arith, e))
@@ -110,7 +109,7 @@ module _ (program : Program) (nodes : ℕ) (options : OptionsRecord) where
         a.joins ∙ ap (λ number. arrived_time nodes world.acts world.times number (length world.acts)) same ∙ sym b.joins
 
   -- with the same collected time and the same time the same is stored
-  stored_there : (world : World) (r : IsReached program nodes options world) (n m : ℕ) (l k : Logged) → slice_get world.nodes n ≡ Some l
+  pub stored_there : (world : World) (r : IsReached program nodes options world) (n m : ℕ) (l k : Logged) → slice_get world.nodes n ≡ Some l
       → slice_get world.nodes m ≡ Some k → l.node.memory.collected ≡ k.node.memory.collected → l.node.locks.time ≡ k.node.locks.time
       → (i : IntervalRecord) → Contains (intervals_of l.node.memory.store) i → Contains (intervals_of k.node.memory.store) i
   stored_there world r n m l k at at_m c t i there =
@@ -201,10 +200,10 @@ module _ (program : Program) (nodes : ℕ) (options : OptionsRecord) where
     pub next_exclusive : Exclusive program nodes options next
     next_exclusive = all_exclusive program nodes options r'.events next r'.runs
 
-    abbrev waited : Bool
+    abbrev pub waited : Bool
     waited = is_some (cleans_in program nodes options world h.exclusive)
 
-    abbrev waits : Bool
+    abbrev pub waits : Bool
     waits = is_some (cleans_in program nodes options next next_exclusive)
 
     there : slice_get next.nodes n ≡ Some after
@@ -227,7 +226,7 @@ module _ (program : Program) (nodes : ℕ) (options : OptionsRecord) where
     its node = Did world flight n l after input entry_made at come i r r' h.exclusive next_exclusive node
 
     -- with the barrier as it was
-    same_waits : after.node.barrier ≡ l.node.barrier → waits ≡ waited
+    pub same_waits : after.node.barrier ≡ l.node.barrier → waits ≡ waited
     same_waits e = ap is_some (same_cleans program nodes options world flight n l after input entry_made at come i r r' h.exclusive next_exclusive e)
 
     -- who has a collection begun stores what others in it store
@@ -293,14 +292,14 @@ module _ (program : Program) (nodes : ℕ) (options : OptionsRecord) where
         subst (λ (y : Logged). Fits waits x.node y.node) same (second_by turned p x was at_p)
     fit_by p q x y at_p at_q (other was) (other had) = relevel p q x y was had
 
-    pub next_agree : Agree next
-    next_agree = record {
-      exclusive = next_exclusive;
-      fit = λ p q x y at_p at_q. fit_by p q x y at_p at_q (whose p x at_p) (whose q y at_q);
-    }
+    pub next_fit : (p q : ℕ) (x y : Logged) → slice_get next.nodes p ≡ Some x → slice_get next.nodes q ≡ Some y → Fits waits x.node y.node
+    next_fit p q x y at_p at_q = fit_by p q x y at_p at_q (whose p x at_p) (whose q y at_q)
 
   agree-kept : KeptByReached program nodes options Agree
-  agree-kept world flight n l after input entry_made at come i r r' h = next_agree world flight n l after input entry_made at come i r r' h
+  agree-kept world flight n l after input entry_made at come i r r' h = record {
+    exclusive = next_exclusive world flight n l after input entry_made at come i r r' h;
+    fit = next_fit world flight n l after input entry_made at come i r r' h;
+  }
 
   fresh_fit : (waits : Bool) (n m : ℕ) (l k : Logged) → slice_get (fresh_world program nodes options).nodes n ≡ Some l
       → slice_get (fresh_world program nodes options).nodes m ≡ Some k → Fits waits l.node k.node

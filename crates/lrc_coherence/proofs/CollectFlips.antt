@@ -1,6 +1,6 @@
 -- When a collection begins and when all are told that it is over: by the manager's note of who is clean, which is there as long
 -- as some node has not told that its copies are clean.
-use Rattle.std.proofs.Common.{◌≡◌, ◌⊎◌, ℕ, ◌+◌, ◌<◌, ◌≤◌, List, [], ◌∷◌, ◌++◌, Bool, true, false, cond, is_some, length, refl, sym, ap, subst, ◌∙◌, inl, inr, arith}
+use Rattle.std.proofs.Common.{◌≡◌, ℕ, ◌+◌, ◌<◌, ◌≤◌, List, ◌∷◌, Bool, true, false, cond, is_some, length, refl, sym, ap, subst, ◌∙◌, inl, inr, arith}
 use Rattle.std.specs.Prelude.{Option, Some, None, ◌==◌, Contains, count_by, unwrap_or, slice_get, slice_set, if◌then◌else◌}
 use Rattle.std.proofs.lemmas.Bool.{and_parts, and_from, cases_eq, eqb-true, eq-eqb, ne_eqb}
 use Rattle.std.proofs.lemmas.Option.{same_Some, slice_get_within}
@@ -8,13 +8,11 @@ use Rattle.std.proofs.lemmas.List.{length-set}
 use Rattle.std.proofs.lemmas.List.Elements.{Contains-append_right}
 use Rattle.lrc_lang.specs.declared.program.Program.{Program}
 use Rattle.lrc_wire.specs.Envelope.{EnvelopeRecord}
-use Rattle.lrc_wire.specs.Records.{ArriveRecord, DepartRecord}
-use Rattle.lrc_wire.specs.declared.message.Message.TheVariants.{Arrive, Depart, Clean, Discard}
+use Rattle.lrc_wire.specs.declared.message.Message.TheVariants.{Arrive, Clean}
 use Rattle.lrc_store.proofs.Orders.{Contains-first}
-use Rattle.lrc_barrier.specs.declared.departure.Departure.{Departure}
 use Rattle.lrc_barrier.specs.Barrier.{ManagerRecord}
 use Rattle.lrc_protocol.specs.Barrier.{Barrier}
-use Rattle.lrc_protocol.specs.Mail.{Wait, departure}
+use Rattle.lrc_protocol.specs.Mail.{departure}
 use Rattle.lrc_protocol.specs.Node.{OptionsRecord}
 use Rattle.lrc_protocol.specs.Turn.{done, is_repeat}
 use Rattle.lrc_protocol.specs.Log.{Input, taken, outcome_of, EntryRecord, Logged}
@@ -22,15 +20,15 @@ use Rattle.lrc_protocol.specs.World.{World, Flying, with_turn, pending}
 use Rattle.lrc_protocol.proofs.Worlds.{IsEntry, get_set_same}
 use Rattle.lrc_protocol.proofs.Induction.{Comes}
 use Rattle.lrc_invariants.specs.Barriers.{says_clean, clean_from, discard_to, noted_of, awaits_depart, awaits_word}
-use Rattle.lrc_invariants.proofs.Sends.{comes, arrival_in}
+use Rattle.lrc_invariants.proofs.Sends.{comes}
 use Rattle.lrc_invariants.proofs.Flows.{IsFromNode}
-use Rattle.lrc_invariants.proofs.Managers.{failing, LetGo, LetDiscard, noted_in, noted-more, noted-all}
+use Rattle.lrc_invariants.proofs.Managers.{failing, LetDiscard, noted_in, noted-more, noted-all}
 use Rattle.lrc_invariants.proofs.Standing.{same_manager}
 use Rattle.lrc_invariants.proofs.Moves.{Moves, Brought, brought, counted_in}
 use Rattle.lrc_invariants.proofs.Pending.{get_within, all_pending, pending-goes, Lost, Goes, new_of, Took, took}
 use Rattle.lrc_invariants.proofs.AllStand.{AllStand, its_manager}
-use Rattle.lrc_invariants.proofs.Timely.{Gate, gate, all_in}
-use Rattle.lrc_invariants.proofs.Exclusive.{Exclusive, Kind, stays, begins, notes, ends, kind, mv, me_is, new_manager, timely, one_of, all_exclusive}
+use Rattle.lrc_invariants.proofs.Timely.{gate, all_in}
+use Rattle.lrc_invariants.proofs.Exclusive.{Exclusive, Kind, stays, begins, notes, ends, kind, mv, me_is, new_manager, timely, one_of}
 use Rattle.lrc_invariants.proofs.AllTimely.{manager_after}
 use Rattle.lrc_invariants.proofs.Reached.{IsReached}
 

@@ -1,30 +1,29 @@
 -- What a node that is reached keeps, and whom it asks: a base copy is due from the page's keeper; no page that a node keeps is
 -- absent there; and once its copies are clean it has base copies of all pages that it keeps anew.
-use Rattle.std.proofs.Common.{◌≡◌, ◌⊎◌, ℕ, ◌+◌, ◌<◌, ◌≤◌, List, [], ◌∷◌, Bool, true, false, is_some, length, refl, sym, ap, subst, ◌∙◌, inl, inr, arith}
-use Rattle.std.specs.Prelude.{Option, Some, None, All, Contains, ◌==◌, not, fold, filter, slice_index, slice_index_or, slice_set, if◌then◌else◌}
+use Rattle.std.proofs.Common.{◌≡◌, ℕ, ◌<◌, List, [], ◌∷◌, Bool, true, false, is_some, length, refl, sym, ap, subst, ◌∙◌, inl, inr, arith}
+use Rattle.std.specs.Prelude.{Option, Some, None, All, Contains, ◌==◌, not, fold, filter, slice_index, slice_index_or, if◌then◌else◌}
 use Rattle.std.specs.List.{list_any}
-use Rattle.std.proofs.lemmas.Bool.{and_parts, or_cases, or_left, or_right, cases_eq, cases_lt, cases_Bool, false≢true, eqb-true}
-use Rattle.std.proofs.lemmas.List.{get_or-set_same, get_or-set_other, length-set, length-map, length-replicate, get_or-replicate}
-use Rattle.std.proofs.lemmas.List.Elements.{All-head, All-contains}
+use Rattle.std.proofs.lemmas.Bool.{and_parts, or_cases, or_left, or_right, cases_Bool, false≢true, eqb-true}
+use Rattle.std.proofs.lemmas.List.{get_or-set_same, length-set, length-map, length-replicate, get_or-replicate}
+use Rattle.std.proofs.lemmas.List.Elements.{All-contains}
 use Rattle.lrc_page.specs.Page.{zero_page}
 use Rattle.lrc_page.specs.Place.{page_of, offset_of, pages_of}
 use Rattle.lrc_store.specs.Interval.{IntervalRecord, index_of}
 use Rattle.lrc_store.specs.Store.{intervals_of, is_missing}
 use Rattle.lrc_store.proofs.Orders.{cases_Contains, none_Contains}
 use Rattle.lrc_protocol.specs.Copy.{Copy, valid, written, invalid, absent, is_readable, values_of, closed, invalidated, dropped}
-use Rattle.lrc_protocol.specs.Memory.{Memory, fresh_memory, copy_at, with_word, with_interval, is_named, learned, keeper_at, kept_pages, with_keepers, with_base, base_at}
-use Rattle.lrc_protocol.specs.Fetch.{Base, unneeded, due, come, Need, base_of, mended, with_changes, with_page}
+use Rattle.lrc_protocol.specs.Memory.{Memory, copy_at, with_word, with_interval, is_named, learned, keeper_at, kept_pages, with_keepers, with_base, base_at}
+use Rattle.lrc_protocol.specs.Fetch.{due, come, Need, base_of, mended, with_changes, with_page}
 use Rattle.lrc_protocol.specs.Locks.{next_time}
 use Rattle.lrc_protocol.specs.Mail.{Wait, nothing, grant, departure, access, upkeep, discard, Collection}
 use Rattle.lrc_protocol.specs.Node.{Node, OptionsRecord}
 use Rattle.lrc_protocol.specs.Waits.{clean_memory, with_needs}
 use Rattle.lrc_lang.specs.declared.program.Program.{Program}
 use Rattle.lrc_local.specs.Own.{HasOwn, OwnCopied}
-use Rattle.lrc_local.specs.Ranges.{HasRanges}
 use Rattle.lrc_local.specs.Reached.{IsReached}
 use Rattle.lrc_local.specs.Remembered.{IsBetween}
 use Rattle.lrc_local.specs.Needs.{FitsKept}
-use Rattle.lrc_local.proofs.Change.{View, view_of, pages_in, Change, receives, manages, moves, puts, closes, learns, resumes, begins, cleans, discards, misses, mends, gets_changes, gets_page, is_settled, Walk, stands, goes}
+use Rattle.lrc_local.proofs.Change.{View, view_of, Change, receives, manages, moves, puts, closes, learns, resumes, begins, cleans, discards, misses, mends, gets_changes, gets_page, is_settled, Walk, stands, goes}
 use Rattle.lrc_local.proofs.Ranges.{Ranged, SameRest, mends-same, clean-same}
 use Rattle.lrc_local.proofs.Lists.{length-placed}
 use Rattle.lrc_local.proofs.Needs.{any_fits}
@@ -34,8 +33,8 @@ use Rattle.lrc_local.proofs.OwnCopies.{set-copy, map-copy}
 use Rattle.lrc_local.proofs.Reach.{first_view}
 use Rattle.lrc_local.proofs.Tokened.{come_to}
 use Rattle.lrc_local.proofs.Always.{ranged, ranged_at, needed, between, copied_own}
-use Rattle.lrc_coherence.proofs.CollectTurns.{keepers_after, KeepsCopies, no_valid, written_absent, dropped_absent, mended-keeps, clean-keeps, learned-keeps, closes-keeps, bases-keep, mends-bases}
-use Rattle.lrc_coherence.proofs.CollectKeepers.{names, Namer, is_named_by, keeper-named, keeper-unnamed, in_kept, from_kept, IsKept}
+use Rattle.lrc_coherence.proofs.CollectTurns.{keepers_after, KeepsCopies, no_valid, written_absent, dropped_absent, mended-keeps, clean-keeps, learned-keeps, closes-keeps, bases-keep}
+use Rattle.lrc_coherence.proofs.CollectKeepers.{names, Namer, keeper-named, keeper-unnamed, in_kept, from_kept, IsKept}
 
 -- ---- whom a node asks
 

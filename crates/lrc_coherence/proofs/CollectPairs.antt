@@ -1,7 +1,6 @@
 -- Two nodes and a collection: what they have collected and whom they think the keepers, and how each kind of turn keeps that.
-use Rattle.std.proofs.Common.{◌≡◌, ◌⊎◌, ℕ, List, Bool, true, false, is_some, refl, sym, ap, subst, ◌∙◌, inl, inr}
-use Rattle.std.proofs.lemmas.Bool.{cases_Bool, false≢true}
-use Rattle.lrc_store.specs.Interval.{IntervalRecord}
+use Rattle.std.proofs.Common.{◌≡◌, ℕ, List, Bool, true, false, refl, sym, ap, ◌∙◌}
+use Rattle.std.proofs.lemmas.Bool.{false≢true}
 use Rattle.lrc_store.specs.Store.{intervals_of}
 use Rattle.lrc_protocol.specs.Node.{Node}
 use Rattle.lrc_coherence.proofs.CollectTurns.{in_collection, keepers_after, Steady, Begun, Ended}

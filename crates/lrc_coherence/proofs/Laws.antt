@@ -31,7 +31,6 @@ use Rattle.lrc_local.specs.Own.{IsAttached}
 use Rattle.lrc_coherence.specs.Made.{AreMade, StoresJust}
 use Rattle.lrc_coherence.specs.Written.{made_stamps, made_changes, changes_on, page_history, open_record}
 use Rattle.lrc_coherence.proofs.History.{History, closed_record, closed_by}
-
 -- ---- stamps and changes
 
 pub use Rattle.lrc_coherence.specs.Known.{AreKnown}

@@ -24,6 +24,7 @@ pub mod StampTimes
 pub mod KnownStores
 pub mod Known
 pub mod StampLaw
+pub mod StampNewer
 pub mod CollectTurns
 pub mod CollectKeepers
 pub mod CollectLocal
@@ -35,3 +36,7 @@ pub mod RequestStored
 pub mod RequestExpected
 pub mod RequestOnce
 pub mod RequestBases
+pub mod CollectBases
+pub mod CollectServes
+pub mod CollectHeld
+pub mod CollectLaw
