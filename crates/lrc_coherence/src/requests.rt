@@ -47,7 +47,8 @@ pub fn requests_and_replies_are_awaited()
 {}
 
 /// In every run each pending message of pages would be accepted by its receiver now: who is asked for changes stores the intervals
-/// and has not collected them, and what comes in a reply is awaited and in range.
+/// and has not collected them, who is asked for a base copy is another node and keeps one, and what comes in a reply is awaited and
+/// in range.
 pub fn messages_for_pages_are_accepted()
     ensures changes_request { (program : Program) (nodes : ℕ) (options : OptionsRecord) (events : List Event) (world : World)
         (e : EnvelopeRecord) (m : ChangesRequestRecord) (l : Logged) → run_of program nodes options events ≡ Some world
@@ -57,6 +58,10 @@ pub fn messages_for_pages_are_accepted()
         (e : EnvelopeRecord) (m : ChangesReplyRecord) (l : Logged) → run_of program nodes options events ≡ Some world
         → Contains (pending world) e → e.message ≡ ChangesReply m → slice_get world.nodes e.to ≡ Some l
         → is_expected l.node e.from (ChangesReply m) ≡ true }
+    ensures page_request { (program : Program) (nodes : ℕ) (options : OptionsRecord) (events : List Event) (world : World)
+        (e : EnvelopeRecord) (page : ℕ) (l : Logged) → run_of program nodes options events ≡ Some world
+        → Contains (pending world) e → e.message ≡ PageRequest page → slice_get world.nodes e.to ≡ Some l
+        → is_expected l.node e.from (PageRequest page) ≡ true }
     ensures page_reply { (program : Program) (nodes : ℕ) (options : OptionsRecord) (events : List Event) (world : World)
         (e : EnvelopeRecord) (m : PageReplyRecord) (l : Logged) → run_of program nodes options events ≡ Some world
         → Contains (pending world) e → e.message ≡ PageReply m → slice_get world.nodes e.to ≡ Some l
