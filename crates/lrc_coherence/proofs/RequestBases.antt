@@ -1,7 +1,6 @@
 -- In every run a pending request for a base copy would be accepted by its keeper.
-use Rattle.std.proofs.Common.{◌≡◌, ℕ, ◌<◌, ◌≤◌, List, [], Bool, true, false, is_some, length, refl, sym, ap, subst, ◌∙◌, arith}
+use Rattle.std.proofs.Common.{◌≡◌, ℕ, ◌<◌, [], true, is_some, length, refl, sym, ap, subst, ◌∙◌}
 use Rattle.std.specs.Prelude.{Some, ◌==◌, ◌&&◌, not, All, Contains, nat_lt, slice_get, slice_index}
-use Rattle.std.specs.List.{list_any}
 use Rattle.std.proofs.lemmas.Bool.{and_parts, and_from, eqb-true, ne_eqb}
 use Rattle.std.proofs.lemmas.List.Elements.{All-head}
 use Rattle.lrc_lang.specs.declared.program.Program.{Program}
@@ -11,9 +10,9 @@ use Rattle.lrc_page.specs.Place.{pages_of}
 use Rattle.lrc_wire.specs.Envelope.{EnvelopeRecord}
 use Rattle.lrc_wire.specs.declared.message.Message.TheVariants.{PageRequest}
 use Rattle.lrc_protocol.specs.Copy.{Copy, valid, written, invalid, absent}
-use Rattle.lrc_protocol.specs.Memory.{copy_at, keeper_at, base_at}
-use Rattle.lrc_protocol.specs.Fetch.{Need, due, awaits_page}
-use Rattle.lrc_protocol.specs.Mail.{access, needs_of}
+use Rattle.lrc_protocol.specs.Memory.{copy_at, base_at}
+use Rattle.lrc_protocol.specs.Fetch.{due, awaits_page}
+use Rattle.lrc_protocol.specs.Mail.{needs_of}
 use Rattle.lrc_protocol.specs.Expected.{is_page, is_expected}
 use Rattle.lrc_protocol.specs.Node.{Node, OptionsRecord}
 use Rattle.lrc_protocol.specs.Log.{Logged}

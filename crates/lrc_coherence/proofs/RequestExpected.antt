@@ -1,7 +1,7 @@
 -- In every run a pending request for changes would be accepted by its maker: it has the intervals, and has not collected them.
-use Rattle.std.proofs.Common.{◌≡◌, ℕ, ◌+◌, ◌-◌, ◌<◌, ◌≤◌, List, [], Bool, true, false, is_some, length, refl, sym, ap, subst, ◌∙◌, arith}
-use Rattle.std.specs.Prelude.{Some, ◌==◌, ◌&&◌, All, Contains, nat_lt, slice_get}
-use Rattle.std.specs.List.{list_any, list_all, range_with_len}
+use Rattle.std.proofs.Common.{◌≡◌, ℕ, ◌+◌, ◌<◌, ◌≤◌, List, Bool, true, is_some, refl, sym, ap, subst, ◌∙◌, arith}
+use Rattle.std.specs.Prelude.{Some, All, Contains, nat_lt, slice_get}
+use Rattle.std.specs.List.{list_any, list_all}
 use Rattle.std.proofs.lemmas.Bool.{and_parts, and_from, eqb-true, false≢true}
 use Rattle.lrc_lang.specs.declared.program.Program.{Program}
 use Rattle.lrc_exec.specs.Meaning.{Setting}
@@ -16,8 +16,8 @@ use Rattle.lrc_wire.specs.declared.message.Message.TheVariants.{ChangesRequest}
 use Rattle.lrc_protocol.specs.Memory.{lacking}
 use Rattle.lrc_protocol.specs.Fetch.{Need, awaits_changes, indices_of, unknown_of}
 use Rattle.lrc_protocol.specs.Mail.{Wait, nothing, grant, departure, access, upkeep, discard, needs_of}
-use Rattle.lrc_protocol.specs.Expected.{indices_by, is_page, is_expected}
-use Rattle.lrc_protocol.specs.Node.{Node, OptionsRecord}
+use Rattle.lrc_protocol.specs.Expected.{is_page, is_expected}
+use Rattle.lrc_protocol.specs.Node.{OptionsRecord}
 use Rattle.lrc_protocol.specs.Log.{Logged}
 use Rattle.lrc_protocol.specs.World.{World, pending}
 use Rattle.lrc_protocol.proofs.Worlds.{run-whole}

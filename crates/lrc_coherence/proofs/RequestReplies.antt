@@ -1,8 +1,7 @@
 -- What a turn replies: a reply is sent only by a node that takes a request, and has what that node knows.
-use Rattle.std.proofs.Common.{◌≡◌, ℕ, List, [], ◌∷◌, ◌++◌, Bool, true, false, is_some, ◌+◌, refl, sym, ap, subst, ◌∙◌, append-nil}
+use Rattle.std.proofs.Common.{◌≡◌, ℕ, List, [], ◌∷◌, Bool, true, false, ◌+◌, refl, subst, append-nil}
 use Rattle.std.specs.Prelude.{Option, Some, None, nat_lt, if◌then◌else◌, fold, map, flat_map}
 use Rattle.std.specs.List.{list_all, range_with_len}
-use Rattle.std.proofs.lemmas.Bool.{and_parts}
 use Rattle.lrc_page.specs.Place.{page_of}
 use Rattle.lrc_exec.specs.Meaning.{Next, quiet, prints, reads, writes, acquires, releases, arrives, departs, traps, ends}
 use Rattle.lrc_store.specs.Interval.{IntervalRecord}
@@ -22,12 +21,12 @@ use Rattle.lrc_protocol.specs.Mail.{numbered, Letter, Wait, nothing, grant, depa
 use Rattle.lrc_protocol.specs.Course.{Course, going, trapped, ended}
 use Rattle.lrc_protocol.specs.Barrier.{with_arrive}
 use Rattle.lrc_protocol.specs.Node.{Node, Effect, acts, acts_by, with_memory, with_barrier, with_tokens, waiting, begins}
-use Rattle.lrc_protocol.specs.Letters.{request_of, arrival_of, grants_of, departure_of, discards_to, requests_of, changes_reply_to, page_reply_to}
+use Rattle.lrc_protocol.specs.Letters.{arrival_of, grants_of, departure_of, discards_to, requests_of, changes_reply_to, page_reply_to}
 use Rattle.lrc_protocol.specs.Waits.{waits_or_goes_on, with_needs}
 use Rattle.lrc_protocol.specs.Expected.{is_expected}
 use Rattle.lrc_protocol.specs.Run.{own_index, closes, reaches, acquire_at, release_at, arrive_at, run_effect, charged}
 use Rattle.lrc_protocol.specs.Take.{take_departure, request_by, learns, arrive_by, clean_by, discard_by, page_reply_by, take_effect, needs_to_keep, with_part}
-use Rattle.lrc_protocol.specs.Turn.{TurnRecord, Outcome, done, not_ready, unexpected, worn, turn_with, turn_of, turn_if, turn_by, run_turn, take_turn, take_anew, taking, is_addressed, is_repeat, empty_turn}
+use Rattle.lrc_protocol.specs.Turn.{TurnRecord, Outcome, done, not_ready, unexpected, worn, turn_with, turn_of, turn_if, turn_by, take_anew, taking, is_addressed, is_repeat, empty_turn}
 use Rattle.lrc_protocol.specs.Log.{Input, run, taken, outcome_of}
 use Rattle.lrc_invariants.proofs.Sends.{letter_in, LettersIf, numbered-letters}
 use Rattle.lrc_coherence.proofs.RequestWishes.{AreRequests, all_requests-ask}

@@ -1,6 +1,6 @@
 -- What is asked of a maker is stored there: an interval that a copy lacks is one that its maker closed, and has not collected.
-use Rattle.std.proofs.Common.{◌≡◌, ℕ, ◌+◌, ◌<◌, ◌≤◌, List, [], ◌∷◌, Bool, true, false, is_some, refl, sym, ap, subst, ◌∙◌, ⊎_elim, arith}
-use Rattle.std.specs.Prelude.{Some, ◌==◌, not, is_none, All, Contains, filter, map, nat_lt, slice_get}
+use Rattle.std.proofs.Common.{◌≡◌, ℕ, ◌<◌, ◌≤◌, List, [], ◌∷◌, Bool, true, is_some, sym, ap, subst, ◌∙◌, ⊎_elim, arith}
+use Rattle.std.specs.Prelude.{◌==◌, not, is_none, All, Contains, filter, map, nat_lt}
 use Rattle.std.specs.List.{list_any}
 use Rattle.std.proofs.lemmas.Bool.{and_parts, cond_both, eqb-true, not-true, leb-false, false≢true}
 use Rattle.std.proofs.lemmas.List.Elements.{All-nil, All-map, All-weaker, All-filter, All-contains, All-contains_itself}
@@ -8,10 +8,10 @@ use Rattle.lrc_time.specs.Time.{entry, knows}
 use Rattle.lrc_store.specs.declared.key.Key.{Key}
 use Rattle.lrc_store.specs.Interval.{IntervalRecord, index_of, by_weight}
 use Rattle.lrc_store.specs.Order.{placed, ascending_part}
-use Rattle.lrc_store.specs.Store.{StoreRecord, IsStore, intervals_of, notice_at, changes_at, is_missing, key_of, missing_of}
+use Rattle.lrc_store.specs.Store.{intervals_of, notice_at, changes_at, is_missing, key_of, missing_of}
 use Rattle.lrc_store.proofs.Orders.{Contains-first, Contains-later, cases_Contains, none_Contains}
 use Rattle.lrc_protocol.specs.Copy.{Copy, valid, written, invalid, absent}
-use Rattle.lrc_protocol.specs.Memory.{Memory, copy_at, lacking, lacking_in}
+use Rattle.lrc_protocol.specs.Memory.{copy_at, lacking, lacking_in}
 use Rattle.lrc_protocol.specs.Fetch.{indices_of, unknown_of}
 use Rattle.lrc_protocol.specs.Node.{Node}
 use Rattle.lrc_local.specs.Reached.{IsReached}

@@ -2,5 +2,6 @@
 #![tactic(auto)]
 
 pub mod made;
+pub mod requests;
 pub mod theorem;
 pub mod traces;
