@@ -72,8 +72,8 @@ module _ (program : Program) (nodes : ℕ) (options : OptionsRecord) (world : Wo
       (before-covers kept k (length world.acts) n d (Does-within does) does)
 
   -- at no act is more known of a node than the node has closed
-  pub own_is_most : (q : ℕ) (l : Logged) (j n : ℕ) (d : Deed) → slice_get world.nodes q ≡ Some l → Does world.acts j n d → j + 1 ≡ length world.acts
-      → entry (time_at world.times j) q ≤ entry l.node.locks.time q
+  pub own_is_most : (q : ℕ) (l : Logged) (j n : ℕ) (d : Deed) → slice_get world.nodes q ≡ Some l → Does world.acts j n d
+      → j + 1 ≡ length world.acts → entry (time_at world.times j) q ≤ entry l.node.locks.time q
   own_is_most q l j n d at does last =
       let bound : _ = entry_bound kept j n d does q in
       let own : _ = own_entry_before kept (length world.acts) q (omega arith) in

@@ -184,7 +184,9 @@ leaves-reads letters node w f says =
     acts-reads letters node (departs next.0) next.1 tt
 
 discard-reads : (node : Node) (w : Wait) → FixesNext w (next_in node.course) → After (discard_by node (collection_of w))
-discard-reads node (discard collection) f = leaves-reads [] (waiting nothing (with_memory node (collected_at node.setting.me collection.time node.memory))) (discard collection) f (λ next x. x)
+discard-reads node (discard collection) f =
+    leaves-reads [] (waiting nothing (with_memory node (collected_at node.setting.me collection.time node.memory))) (discard collection) f
+    (λ next x. x)
 discard-reads node nothing f = tt
 discard-reads node (grant lock) f = tt
 discard-reads node departure f = tt
@@ -192,8 +194,8 @@ discard-reads node (access need) f = tt
 discard-reads node (upkeep collection needs) f = tt
 
 -- something came for pages; the store may know more changes than before
-comes-reads : (node : Node) (store : StoreRecord) (change : Need → Need) → ((need : Need) → (change need).page ≡ need.page) → Known node → (w : Wait)
-    → node.mail.wait ≡ w → After (waits_or_goes_on [] (with_memory node (record node.memory { store = store })) (with_needs change w))
+comes-reads : (node : Node) (store : StoreRecord) (change : Need → Need) → ((need : Need) → (change need).page ≡ need.page) → Known node
+    → (w : Wait) → node.mail.wait ≡ w → After (waits_or_goes_on [] (with_memory node (record node.memory { store = store })) (with_needs change w))
 comes-reads node store change same known (access need) e =
     let size : Size = node.options.size in
     let now : Memory = record node.memory { store = store } in
@@ -267,7 +269,8 @@ sent-reads e None m = tt
 sent-reads e (Some (out, sent)) m = sent_deed e.deed out sent m
   where
     sent_deed : (d : Option Deed) (out : List EnvelopeRecord) (sent : List ℕ) → ReadsFrom e.node d
-        → ReadsFrom (record e.node { mail = record e.node.mail { sent = sent } }) (option_map (λ (act : Act). act.deed) (option_map (act_of e.node.setting.me) d))
+        → ReadsFrom (record e.node { mail = record e.node.mail { sent = sent } })
+        (option_map (λ (act : Act). act.deed) (option_map (act_of e.node.setting.me) d))
     sent_deed None out sent m = tt
     sent_deed (Some (Read word value)) out sent m = record { readable = m.readable; value_is = m.value_is }
     sent_deed (Some Quiet) out sent m = tt

@@ -6,7 +6,7 @@ use Rattle.lrc_coherence.proofs.Laws.{StampsLaw, BasesLaw, CopiesLaw, ReadsLaw}
 use Rattle.lrc_coherence.proofs.StampLaw.{stamps_law}
 use Rattle.lrc_coherence.proofs.WriteLaws.{writes_law, turns_law}
 use Rattle.lrc_coherence.proofs.RequestLaws.{requests_law}
-use Rattle.lrc_coherence.proofs.CollectBases.{bases_law}
+use Rattle.lrc_coherence.proofs.CollectLaw.{bases_law}
 use Rattle.lrc_coherence.proofs.FitLaw.{copies_law}
 use Rattle.lrc_coherence.proofs.LazyReads.{reads_law}
 
@@ -15,7 +15,7 @@ module _ (program : Program) (nodes : ℕ) (options : OptionsRecord) where
   stamps = stamps_law program nodes options
 
   bases : BasesLaw program nodes options
-  bases = bases_law program nodes options stamps
+  bases = bases_law program nodes options
 
   copies : CopiesLaw program nodes options
   copies =
