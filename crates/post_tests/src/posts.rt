@@ -36,7 +36,7 @@ fn put_two(
 }
 
 /// The stamp of the parcel that is given next, and 0 for none.
-fn next_stamp(mailbox: &mut Mailbox) -> Result<u32, PostFault> {
+fn next_stamp(mailbox: &mut Mailbox) -> Result<u64, PostFault> {
     Ok(match mailbox.give()? {
         Some(parcel) => parcel.stamp,
         None => 0,
@@ -44,7 +44,7 @@ fn next_stamp(mailbox: &mut Mailbox) -> Result<u32, PostFault> {
 }
 
 /// The stamps of the parcels that a mailbox of node 1 gives in five calls after two were put.
-fn stamps_by(rt: &impl Abort, alloc: Global, picker: Picker) -> Result<[u32; 5], Fail> {
+fn stamps_by(rt: &impl Abort, alloc: Global, picker: Picker) -> Result<[u64; 5], Fail> {
     let mut mailbox = Mailbox::new(alloc, 1, 2, picker)?;
     let refused = put_two(rt, alloc, &mut mailbox)?;
     assert!(rt; refused.is_none());
@@ -81,12 +81,12 @@ fn refuses_and_gives_nothing_once_closed(rt: HostRuntime) -> Result<(), Fail> {
 #[test]
 fn gives_a_thousand_parcels(rt: HostRuntime) -> Result<(), Fail> {
     let mut mailbox = Mailbox::new(rt.alloc(), 1, 2, Picker::Newest)?;
-    for _ in 0..500u32 {
+    for _ in 0..500u64 {
         let refused = put_two(&rt, rt.alloc(), &mut mailbox)?;
         assert!(rt; refused.is_none());
     }
-    let mut twos = 0u32;
-    for _ in 0..1000u32 {
+    let mut twos = 0u64;
+    for _ in 0..1000u64 {
         if next_stamp(&mut mailbox)? == 2 && twos < 1000 {
             twos += 1;
         }
@@ -97,7 +97,7 @@ fn gives_a_thousand_parcels(rt: HostRuntime) -> Result<(), Fail> {
 }
 
 /// The stamp of the parcel that node 1 polls next, and 0 for none.
-fn polled<R: Wait>(rt: &R, post: &Post) -> Result<u32, PostFault> {
+fn polled<R: Wait>(rt: &R, post: &Post) -> Result<u64, PostFault> {
     Ok(match post.poll(rt, 1)? {
         Some(parcel) => parcel.stamp,
         None => 0,
@@ -109,7 +109,7 @@ fn put_stamps<R: Wait>(
     rt: &R,
     alloc: Global,
     post: &Post,
-    stamps: &[u32],
+    stamps: &[u64],
 ) -> Result<Option<(PostFault, usize)>, AllocError> {
     let mut parcels = Vec::new(alloc);
     for stamp in stamps {
@@ -130,7 +130,7 @@ fn post_stamps_by<R: Wait + Abort>(
     rt: &R,
     alloc: Global,
     picker: Picker,
-) -> Result<([u32; 5], usize, usize), Fail> {
+) -> Result<([u64; 5], usize, usize), Fail> {
     let post = Post::new(alloc, 2, picker)?;
     let refused = put_stamps(rt, alloc, &post, &[1, 2])?;
     assert!(rt; refused.is_none());
@@ -174,8 +174,8 @@ fn post_refuses_once_closed(rt: HostRuntime) -> Result<(), Fail> {
 
 /// A node puts five hundred parcels for node 1, one in each call, and then waits for a parcel of its own, which never comes.
 fn put_many<R: Wait>(rt: &R, alloc: Global, post: &Post, me: u8) -> Result<bool, AllocError> {
-    for _ in 0..500u32 {
-        if put_stamps(rt, alloc, post, &[u32::from(me)])?.is_some() {
+    for _ in 0..500u64 {
+        if put_stamps(rt, alloc, post, &[u64::from(me)])?.is_some() {
             return Ok(false);
         }
     }
@@ -183,9 +183,9 @@ fn put_many<R: Wait>(rt: &R, alloc: Global, post: &Post, me: u8) -> Result<bool,
 }
 
 /// Takes until the post is closed: how many parcels came.
-fn take_many<R: Wait>(rt: &R, post: &Post) -> Option<u32> {
-    let mut taken = 0u32;
-    for _ in 0..2000u32 {
+fn take_many<R: Wait>(rt: &R, post: &Post) -> Option<u64> {
+    let mut taken = 0u64;
+    for _ in 0..2000u64 {
         match post.take(rt, 1) {
             Ok(Some(_)) if taken < 2000 => taken += 1,
             Ok(_) => return Some(taken),
