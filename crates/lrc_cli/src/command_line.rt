@@ -10,6 +10,8 @@ ghost use Rattle.lrc_cli.specs.CommandLine.{Chooses, HasBadOrder, HasBadPage, Ha
 ghost use Rattle.lrc_cli.specs.CommandLine.{IsFound, IsFoundFault, IsMisfitFault, IsNumberOption, IsOrder, IsPlainRun, IsRunTaken};
 ghost use Rattle.lrc_cli.specs.CommandLine.{IsSimulation, IsSimulationTaken, IsSize, IsTaken, IsWordFault, check, fault_from};
 ghost use Rattle.lrc_cli.specs.CommandLine.{collect_in, file, number, nodes_in, number_in, option, plain, sim, steps_in, treadmarks, words_meant};
+ghost use Rattle.lrc_page.specs.declared.size.Size.{Size};
+ghost use Rattle.lrc_wire.specs.declared.picker.Picker.{Picker};
 ghost use Rattle.lrc_cli.specs.declared.choice.ChooseFault.TheVariants.{NoMemory};
 
 use crate::choice::{Choice, ChooseFault, Collect, Nodes, PlainRun, Simulation, Steps};
@@ -168,9 +170,16 @@ fn order_of(options: &ArgMatches<'_>) -> Result<Picker, Misfit>
     ensures ok { IfOk result (IsOrder (first_of (codes "order") (rows_of (found_of options.now)))) }
     ensures err { IfErr result (λ misfit. (misfit ≡ Misfit.Order) × HasBadOrder (rows_of (found_of options.now))) }
 {
-    let Some(word) = options.get_str("order") else {
-        return Ok(Picker::Oldest);
-    };
+    match options.get_str("order") {
+        Some(word) => order_named(word),
+        None => Ok(Picker::Oldest),
+    }
+}
+
+fn order_named(word: &str) -> Result<Picker, Misfit>
+    ensures ok { IfOk result (IsOrder (Some word.now)) }
+    ensures err { IfErr result (λ misfit. (misfit ≡ Misfit.Order) × ((order : Picker) → ¬ IsOrder (Some word.now) order)) }
+{
     if word == "oldest" {
         Ok(Picker::Oldest)
     } else if word == "newest" {
@@ -186,9 +195,16 @@ fn size_of(options: &ArgMatches<'_>) -> Result<Size, Misfit>
     ensures ok { IfOk result (IsSize (first_of (codes "page") (rows_of (found_of options.now)))) }
     ensures err { IfErr result (λ misfit. (misfit ≡ Misfit.Page) × HasBadPage (rows_of (found_of options.now))) }
 {
-    let Some(word) = options.get_str("page") else {
-        return Ok(Size::Words64);
-    };
+    match options.get_str("page") {
+        Some(word) => size_named(word),
+        None => Ok(Size::Words64),
+    }
+}
+
+fn size_named(word: &str) -> Result<Size, Misfit>
+    ensures ok { IfOk result (IsSize (Some word.now)) }
+    ensures err { IfErr result (λ misfit. (misfit ≡ Misfit.Page) × ((size : Size) → ¬ IsSize (Some word.now) size)) }
+{
     if word == "64" {
         Ok(Size::Words64)
     } else if word == "256" {
