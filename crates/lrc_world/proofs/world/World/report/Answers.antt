@@ -12,7 +12,7 @@ returns-clause-report c = λ starts run shows. record {
       c.in_ok-first_race.ensures;
   ends = c.in_ok-ends.ensures run.nodes
       (ap (map (λ (t : TracedLog). t.logged)) c.deref-2.ensures.value ∙ all_logged starts c.args.self.nodes.items run.nodes shows.nodes);
-  logs = c.in_ok-parts_of.ensures.logs ∙ sym (map-map (λ (l : LoggedNode). l.log) (λ (t : TracedLog). t.logged) c.args.self.nodes.items)
+  logs = c.in_ok-logs.ensures.logs ∙ sym (map-map (λ (l : LoggedNode). l.log) (λ (t : TracedLog). t.logged) c.args.self.nodes.items)
       ∙ ap (map (λ (l : LoggedNode). l.log)) (all_logged starts c.args.self.nodes.items run.nodes shows.nodes)
       ∙ map-map (λ (l : LoggedNode). l.log) sound run.nodes;
 }
