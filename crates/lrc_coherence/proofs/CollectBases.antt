@@ -80,9 +80,6 @@ bound_out (access need) collected page e = refl
 bound_out (upkeep collection needs) collected page e = cc
 bound_out (discard collection) collected page e = cc
 
-same_base : (need other : Need) → access need ≡ access other → need ≡ other
-same_base need other e = cc
-
 module _ (program : Program) (nodes : ℕ) (options : OptionsRecord) (world : World) (r : IsReached program nodes options world) where
   pub me_at : (n : ℕ) (l : Logged) → slice_get world.nodes n ≡ Some l → l.node.setting.me ≡ n
   me_at n l at = ap (λ (s : Setting). s.me) (shape_at program nodes options r.events world n l r.runs at).setting

@@ -157,9 +157,6 @@ from_namers (x ∷ intervals) page node there = by_test (λ t. from_namers inter
 
 -- ---- keepers
 
-keeper_in : List IntervalRecord → ℕ × ℕ → ℕ
-keeper_in intervals place = unwrap_or (least (namers_in intervals place.0)) place.1
-
 map_same : {X Y : Type 0} (f g : X → Y) (xs : List X) → ((x : X) → f x ≡ g x) → map f xs ≡ map g xs
 map_same f g [] same = refl
 map_same f g (x ∷ xs) same = ap (λ y. y ∷ map f xs) (same x) ∙ ap (λ ys. g x ∷ ys) (map_same f g xs same)
