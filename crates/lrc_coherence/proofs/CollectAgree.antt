@@ -2,7 +2,7 @@
 -- keepers.
 use Rattle.std.proofs.Common.{◌≡◌, ℕ, ◌+◌, ◌<◌, ◌≤◌, List, [], Bool, true, false, is_some, length, refl, sym, ap, subst, ◌∙◌, inl, inr, arith}
 use Rattle.std.specs.Prelude.{Option, Some, None, ◌==◌, Contains, count_by, slice_get}
-use Rattle.std.proofs.lemmas.Bool.{and_from, cases_eq, eq-eqb, false≢true}
+use Rattle.std.proofs.lemmas.Bool.{and_from, cases_eq, eq-eqb}
 use Rattle.std.proofs.lemmas.Option.{same_Some}
 use Rattle.lrc_lang.specs.declared.program.Program.{Program}
 use Rattle.lrc_clock.specs.Times.{arrived_time}
@@ -34,25 +34,15 @@ use Rattle.lrc_coherence.proofs.Stored.{stores_just, reached}
 use Rattle.lrc_coherence.proofs.CollectTurns.{in_collection, Steady, Begun, Ended, Kind, steady, begun, ended, Kinds, alone, again, anew, KindsIf, turn_kinds}
 use Rattle.lrc_coherence.proofs.CollectKeepers.{keepers_same}
 use Rattle.lrc_coherence.proofs.CollectFlips.{cleans_in, Flips, goes_on, starts, stops, flips, same_cleans, IsTaken, is_taken}
-use Rattle.lrc_coherence.proofs.CollectPairs.{inside, Fits, itself, level, steady_first, steady_second, SameStored, begun_first, begun_second, ended_first, ended_second}
+use Rattle.lrc_coherence.proofs.CollectPairs.{inside, true_false, Fits, itself, level, steady_first, steady_second, SameStored, begun_first, begun_second, ended_first, ended_second}
 
 -- ---- what a turn is told
-
-message_in : Came → Option Message
-message_in by_itself = None
-message_in (comes from message) = Some message
-
-none_some : {X Y : Type 0} (x : X) → None ≡ Some x → Y
-none_some x e = let never : ⊥ = cc in absurd never
 
 same_message : (from from' : ℕ) (m m' : Message) → comes from m ≡ comes from' m' → m ≡ m'
 same_message from from' m m' e = cc
 
 not_alone : {Y : Type 0} (from : ℕ) (m : Message) → by_itself ≡ comes from m → Y
 not_alone from m e = let never : ⊥ = cc in absurd never
-
-true_false : {Y : Type 0} (b : Bool) → b ≡ true → b ≡ false → Y
-true_false b t f = absurd (false≢true (sym f ∙ t))
 
 -- with no turn all stays
 idle : (a : Node) → Steady a a

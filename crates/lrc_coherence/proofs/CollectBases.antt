@@ -11,7 +11,7 @@ use Rattle.lrc_time.proofs.Times.{covers-refl}
 use Rattle.lrc_page.specs.Place.{pages_of}
 use Rattle.lrc_store.specs.Interval.{IntervalRecord, index_of}
 use Rattle.lrc_store.specs.Store.{StoredRecord, NoticeRecord, interval_of, intervals_of, notice_of}
-use Rattle.lrc_store.proofs.Orders.{Contains-first, Contains-later, cases_Contains, none_Contains}
+use Rattle.lrc_store.proofs.Orders.{cases_Contains, none_Contains}
 use Rattle.lrc_copies.specs.Stamps.{is_covered, IsBetween}
 use Rattle.lrc_copies.proofs.Stamping.{covered-le, le-covered}
 use Rattle.lrc_protocol.specs.Fetch.{Need}
@@ -31,6 +31,7 @@ use Rattle.lrc_coherence.specs.Made.{StoresJust}
 use Rattle.lrc_coherence.specs.Written.{made_stamps}
 use Rattle.lrc_coherence.proofs.History.{History, reached_by}
 use Rattle.lrc_coherence.proofs.Laws.{AwaitsBase, bound_in, base_bound, StampsLaw, BasesLaw}
+use Rattle.lrc_coherence.proofs.StampLists.{interval-in}
 use Rattle.lrc_coherence.proofs.CollectTurns.{in_collection}
 use Rattle.lrc_coherence.proofs.CollectKeepers.{names, is_named_by, in_kept}
 use Rattle.lrc_coherence.proofs.CollectLocal.{IsDueRight, due_right}
@@ -57,13 +58,6 @@ named_by_notice page (x ∷ notices) notice e = by_test (λ e. named_by_notice p
 pub notice_names : (page : ℕ) (x : StoredRecord) (notice : NoticeRecord) → notice_of page x ≡ Some notice → names page (interval_of x) ≡ true
 notice_names page x notice e = named_by_notice page x.notices notice e
 
-in_map : {X Y : Type 0} (f : X → Y) (xs : List X) (x : X) → Contains xs x → Contains (map f xs) (f x)
-in_map f [] x there = absurd (none_Contains x there)
-in_map f (y ∷ xs) x there = elim (cases_Contains y xs x there) [
-  | inl here ↦ subst (λ z. Contains (map f (y ∷ xs)) (f z)) here (Contains-first (f y) (map f xs))
-  | inr later ↦ Contains-later (f y) (map f xs) (f x) (in_map f xs x later)
-]
-
 any_of : (pages : List ℕ) (page : ℕ) → Contains pages page → list_any (λ kept. kept == page) pages ≡ true
 any_of [] page there = absurd (none_Contains page there)
 any_of (x ∷ pages) page there = elim (cases_Contains x pages page there) [
@@ -79,9 +73,6 @@ bound_out departure collected page e = refl
 bound_out (access need) collected page e = refl
 bound_out (upkeep collection needs) collected page e = cc
 bound_out (discard collection) collected page e = cc
-
-same_base : (need other : Need) → access need ≡ access other → need ≡ other
-same_base need other e = cc
 
 module _ (program : Program) (nodes : ℕ) (options : OptionsRecord) (world : World) (r : IsReached program nodes options world) where
   pub me_at : (n : ℕ) (l : Logged) → slice_get world.nodes n ≡ Some l → l.node.setting.me ≡ n
@@ -155,7 +146,7 @@ module _ (program : Program) (nodes : ℕ) (options : OptionsRecord) (world : Wo
           | inr le ↦ absurd (b.later (le-covered made_stamps k.node.memory.collected x le))
         ] in
         let stored : Contains (intervals_of k.node.memory.store) i =
-        (just i).1 (in_map interval_of made x b.member, above, covered-le made_stamps k.node.locks.time x b.known) in
+        (just i).1 (interval-in made x b.member, above, covered-le made_stamps k.node.locks.time x b.known) in
         let there : Contains (kept_pages me k.node.memory) page =
         in_kept me k.node.memory page (in_pages i stored e) (is_named_by (intervals_of k.node.memory.store) page i stored e) (mine ∙ sym (me_at m k at_m)) in
         let fits : FitsKept me k.node.memory (discard collection) =

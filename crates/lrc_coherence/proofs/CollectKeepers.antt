@@ -1,5 +1,5 @@
 -- Who keeps a page after a collection: the least node that names it, by the members of the list of intervals alone.
-use Rattle.std.proofs.Common.{◌≡◌, ◌⊎◌, ℕ, zero, suc, ◌+◌, ◌<◌, ◌≤◌, List, [], ◌∷◌, Bool, true, false, length, refl, sym, ap, subst, ◌∙◌, inl, inr, arith}
+use Rattle.std.proofs.Common.{◌≡◌, ◌⊎◌, ℕ, ◌+◌, ◌<◌, ◌≤◌, List, [], ◌∷◌, Bool, true, false, length, refl, sym, ap, subst, ◌∙◌, inl, inr, arith}
 use Rattle.std.specs.Prelude.{Option, Some, None, Contains, ◌==◌, ◌&&◌, ◌||◌, min, unwrap_or, option_map, map, filter_map, slice_index, if◌then◌else◌}
 use Rattle.std.specs.List.{list_any, enumerate_from, cons_option, range_with_len}
 use Rattle.std.proofs.lemmas.Bool.{and_parts, and_from, or_cases, or_left, or_right, cases_lt, false≢true, eqb-true, eq-eqb}
@@ -11,6 +11,7 @@ use Rattle.lrc_store.specs.Store.{intervals_of}
 use Rattle.lrc_store.proofs.Orders.{Contains-first, Contains-later, cases_Contains, none_Contains, filter-Contains}
 use Rattle.lrc_protocol.specs.Memory.{Memory, is_named, least, keeper_at, kept_pages}
 use Rattle.lrc_local.proofs.Lists.{length-placed}
+use Rattle.lrc_coherence.proofs.Stored.{in_range, from_range}
 use Rattle.lrc_coherence.proofs.CollectTurns.{keepers_after}
 
 -- ---- the least of some numbers
@@ -157,9 +158,6 @@ from_namers (x ∷ intervals) page node there = by_test (λ t. from_namers inter
 
 -- ---- keepers
 
-keeper_in : List IntervalRecord → ℕ × ℕ → ℕ
-keeper_in intervals place = unwrap_or (least (namers_in intervals place.0)) place.1
-
 map_same : {X Y : Type 0} (f g : X → Y) (xs : List X) → ((x : X) → f x ≡ g x) → map f xs ≡ map g xs
 map_same f g [] same = refl
 map_same f g (x ∷ xs) same = ap (λ y. y ∷ map f xs) (same x) ∙ ap (λ ys. g x ∷ ys) (map_same f g xs same)
@@ -221,20 +219,6 @@ keeper-named intervals keepers page lt named = by_least (least (namers_in interv
 
 -- ---- kept pages
 
-in_range : (a n k : ℕ) → a ≤ k → k < a + n → Contains (range_with_len a n) k
-in_range a zero k le lt = absurd (omega (arith, le, lt))
-in_range a (suc n) k le lt = elim (cases_lt a k) [
-  | inl more ↦ Contains-later a (range_with_len (a + 1) n) k (in_range (a + 1) n k (omega (arith, more)) (omega (arith, lt)))
-  | inr less ↦ let is : a ≡ k = omega (arith, le, less) in subst (Contains (range_with_len a (suc n))) is (Contains-first a (range_with_len (a + 1) n))
-]
-
-from_range : (a n k : ℕ) → Contains (range_with_len a n) k → k < a + n
-from_range a zero k there = absurd (none_Contains k there)
-from_range a (suc n) k there = elim (cases_Contains a (range_with_len (a + 1) n) k there) [
-  | inl is ↦ omega (arith, is)
-  | inr later ↦ let lt : k < a + 1 + n = from_range (a + 1) n k later in omega (arith, lt)
-]
-
 -- the pages that are named and the node's to keep
 pub in_kept : (me : ℕ) (memory : Memory) (page : ℕ) → page < length memory.keepers → is_named (intervals_of memory.store) page ≡ true
     → keeper_at memory page ≡ me → Contains (kept_pages me memory) page
@@ -256,7 +240,7 @@ from_kept me memory page there =
     (filter-Contains test (range_with_len 0 (length memory.keepers)) page).0 there in
     let parts : _ = and_parts (is_named (intervals_of memory.store) page) (keeper_at memory page == me) both.1 in
     record {
-      in_range = let lt : page < 0 + length memory.keepers = from_range 0 (length memory.keepers) page both.0 in omega (arith, lt);
+      in_range = let lt : page < 0 + length memory.keepers = (from_range 0 (length memory.keepers) page both.0).1 in omega (arith, lt);
       named = parts.0;
       mine = eqb-true (keeper_at memory page) me parts.1;
     }

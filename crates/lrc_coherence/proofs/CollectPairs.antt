@@ -19,7 +19,7 @@ pub record Fits (waits : Bool) (a b : Node) : Type 0 where
   pub behind : waits ≡ false → inside a ≡ true → inside b ≡ false
       → (b.memory.collected ≡ a.locks.time) × (b.memory.keepers ≡ a.memory.keepers)
 
-true_false : {Y : Type 0} (b : Bool) → b ≡ true → b ≡ false → Y
+pub true_false : {Y : Type 0} (b : Bool) → b ≡ true → b ≡ false → Y
 true_false b t f = absurd (false≢true (sym f ∙ t))
 
 -- a node with itself

@@ -2,14 +2,14 @@
 -- absent and was not named in the collection that it is in; and how each kind of turn keeps that.
 use Rattle.std.proofs.Common.{◌≡◌, ℕ, ◌<◌, List, Bool, true, false, is_some, refl, sym, ap, ◌∙◌, inl, inr}
 use Rattle.std.specs.Prelude.{slice_index}
-use Rattle.std.proofs.lemmas.Bool.{cases_Bool, false≢true, eq-eqb}
+use Rattle.std.proofs.lemmas.Bool.{cases_Bool, eq-eqb}
 use Rattle.lrc_store.specs.Store.{intervals_of}
 use Rattle.lrc_protocol.specs.Copy.{absent, is_readable}
 use Rattle.lrc_protocol.specs.Memory.{copy_at, is_named, keeper_at, base_at}
 use Rattle.lrc_protocol.specs.Node.{Node}
 use Rattle.lrc_coherence.proofs.CollectTurns.{in_collection, Steady, Begun, Ended}
 use Rattle.lrc_coherence.proofs.CollectKeepers.{keeper-unnamed}
-use Rattle.lrc_coherence.proofs.CollectPairs.{inside}
+use Rattle.lrc_coherence.proofs.CollectPairs.{inside, true_false}
 
 -- a stored interval of the node names the page
 abbrev pub names_it : Node → ℕ → Bool
@@ -26,9 +26,6 @@ pub record Serves (pages : ℕ) (waits : Bool) (a b : Node) (m : ℕ) : Type 0 w
   -- and where the page was named, once the second has left the collection.
   pub renewed : waits ≡ false → inside a ≡ true → inside b ≡ false → (page : ℕ) → page < pages → names_it a page ≡ true → keeper_at a.memory page ≡ m
       → HasBase b page
-
-true_false : {Y : Type 0} (b : Bool) → b ≡ true → b ≡ false → Y
-true_false b t f = absurd (false≢true (sym f ∙ t))
 
 same_keeper : (a b : Node) (page m : ℕ) → b.memory.keepers ≡ a.memory.keepers → keeper_at b.memory page ≡ m → keeper_at a.memory page ≡ m
 same_keeper a b page m e k = sym (ap (λ (l : List ℕ). slice_index l page) e) ∙ k
