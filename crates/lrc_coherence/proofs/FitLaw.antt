@@ -78,7 +78,8 @@ module _ (program : Program) (nodes : ℕ) (options : OptionsRecord) (stamps : S
         sound = t.sound;
         nodes =
             each_node
-            (λ q lq. Fit (wrote_in options now.acts) (made ++ closed_by l.node after.node) lq.node.locks.time lq.node.mail.wait lq.node.memory) world n l after at
+            (λ q lq. Fit (wrote_in options now.acts) (made ++ closed_by l.node after.node) lq.node.locks.time lq.node.mail.wait lq.node.memory)
+            world n l after at
             t.own_node t.still_node;
         sent =
             all-sent options made (closed_by l.node after.node) world flight n l after input entry_made at come h t (requests world r) (bases world made hist)

@@ -193,7 +193,8 @@ module _ (came : Came) (count : ℕ) (wrote : Wrote) (made : List StoredRecord) 
         needs = new-needs wrote made v.memory.collected v.setting.nodes (with_keepers (knowing v time intervals).memory) _;
       })
   first-fit _ (discards collection e) shut =
-      stays (record v { wait = nothing; memory = collected_at v.setting.me collection.time v.memory }) refl (discards-fit count wrote made v facts a s h collection e)
+      stays (record v { wait = nothing; memory = collected_at v.setting.me collection.time v.memory }) refl
+      (discards-fit count wrote made v facts a s h collection e)
   first-fit _ (misses page e lt b n) shut =
       stays (record v { wait = access (need_of v.setting.nodes v.memory page) }) refl
       (record {
