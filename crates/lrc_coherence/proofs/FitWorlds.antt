@@ -13,7 +13,7 @@ use Rattle.lrc_store.proofs.Orders.{Contains-first, cases_Contains, none_Contain
 use Rattle.lrc_wire.specs.Envelope.{EnvelopeRecord}
 use Rattle.lrc_wire.specs.Records.{PageReplyRecord}
 use Rattle.lrc_wire.specs.declared.message.Message.{Message}
-use Rattle.lrc_wire.specs.declared.message.Message.TheVariants.{PageReply}
+use Rattle.lrc_wire.specs.declared.message.Message.TheVariants.{LockRequest, LockForward, LockGrant, Arrive, Depart, Clean, Discard, ChangesRequest, ChangesReply, PageRequest, PageReply}
 use Rattle.lrc_copies.specs.Page.{IsPageSound, AgreeOnPage}
 use Rattle.lrc_copies.specs.Stamps.{index_of, is_covered, IsClosedAt}
 use Rattle.lrc_copies.proofs.Stamping.{le-covered}
@@ -36,7 +36,7 @@ use Rattle.lrc_local.proofs.Reach.{first_view}
 use Rattle.lrc_local.proofs.Tokened.{come_to}
 use Rattle.lrc_coherence.specs.Made.{AllMade, AllTold, intervals_in}
 use Rattle.lrc_coherence.specs.Written.{made_stamps, last_write, word_on}
-use Rattle.lrc_coherence.proofs.CopyTurns.{Brings, Played, Turning, alone, again, anew, TurningIf, turning}
+use Rattle.lrc_local.proofs.Turning.{news_in, Brings, Played, Turning, alone, again, anew, TurningIf, turning}
 use Rattle.lrc_coherence.proofs.FitCarry.{bound-good, carry, agree-fits, agree-sound, Misses, longer-fits, longer-cuts, closes-sound}
 use Rattle.lrc_coherence.proofs.FitCopies.{Wrote, history_on, FitsTime, Fit, Facts, Stored, base-within}
 use Rattle.lrc_coherence.proofs.FitFirst.{Shuts}
@@ -101,6 +101,20 @@ nothing_came from message e = cc
 
 came_message : (from from' : ℕ) (a b : Message) → comes from a ≡ comes from' b → a ≡ b
 came_message from from' a b e = cc
+
+-- what is learned with a message is what it tells
+news-made : (made : List IntervalRecord) (message : Message) → AllMade made (intervals_in message) → AllMade made (news_in message)
+news-made made (LockGrant m) h = h
+news-made made (Depart m) h = h
+news-made made (LockRequest m) h = tt
+news-made made (LockForward m) h = tt
+news-made made (Arrive m) h = tt
+news-made made (Clean episode) h = tt
+news-made made (Discard episode) h = tt
+news-made made (ChangesRequest m) h = tt
+news-made made (ChangesReply m) h = tt
+news-made made (PageRequest page) h = tt
+news-made made (PageReply m) h = tt
 
 -- a message comes to its receiver
 abbrev pub ToIs : ℕ → Input → Type 0
@@ -346,12 +360,13 @@ module _ (program : Program) (nodes : ℕ) (options : OptionsRecord) (stamps : S
         let lost : Lost e (pending world) entry_made.turn.out (pending now) =
         lost-of l.node input (pending world) entry_made.turn.out (pending now) goes-there e is fresh in
         let to : n ≡ e.to = subst (ToIs n) is (to-is world n input flight come) in
-        let told : AllMade (map interval_of made) (intervals_in e.message) =
-        told-there (map interval_of made) lost.front lost.back e (subst (AllTold (map interval_of made)) lost.before known.are.told) in
+        let told : AllMade (map interval_of made) (news_in e.message) =
+        news-made (map interval_of made) e.message
+        (told-there (map interval_of made) lost.front lost.back e (subst (AllTold (map interval_of made)) lost.before known.are.told)) in
         played (comes e.from e.message) (taking l.node e).mail.taken p (goes walked (receives e.from _))
         (λ intervals b.
         subst (AllMade (map interval_of made)) b.told
-        (subst (λ message. AllMade (map interval_of made) (intervals_in message)) (came_message e.from b.from e.message b.message b.came_is) told))
+        (subst (λ message. AllMade (map interval_of made) (news_in message)) (came_message e.from b.from e.message b.message b.came_is) told))
         (λ from m c.
         then-fits l.node.memory.collected m.page m.values
         (h.sent e m l (lost-in e (pending world) entry_made.turn.out (pending now) lost) (came_message e.from from e.message (PageReply m) c)

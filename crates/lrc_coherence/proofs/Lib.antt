@@ -6,7 +6,6 @@ pub mod MadeWorlds
 pub mod Stored
 pub mod History
 pub mod Laws
-pub mod CopyTurns
 pub mod FitRepair
 pub mod StampLists
 pub mod StampWorlds
