@@ -15,7 +15,7 @@ use Rattle.clap.specs.declared.builder.value_parser.ValueParser.{ValueParser}
 use Rattle.clap.specs.declared.builder.value_parser.ValueParser.TheVariants.{Unsigned}
 use Rattle.clap.specs.declared.error.kind.ErrorKind.TheVariants.{ValueValidation}
 use Rattle.clap.proofs.ValueTestLemmas.{accepts-Accepts}
-use Rattle.lrc_cli.specs.CommandLine.{HasFile, IsNumberOption, IsRunTaken, IsTaken, check, number, plain, sim, treadmarks, treadmarks_shape}
+use Rattle.lrc_cli.specs.CommandLine.{HasFile, IsNumberOption, IsRunTaken, IsSimulationTaken, IsTaken, check, number, plain, sim, treadmarks, treadmarks_shape}
 use Rattle.lrc_cli.proofs.RowLemmas.{AreGood, IsKeyed, first_passes, given_some, level_good, neither, required_given}
 
 abbrev check_built : Shape
@@ -54,7 +54,16 @@ sim_keyed = (
       record { own = refl; acts = inl (refl, lit< tt); bare = refl },
       (
         record { own = refl; acts = inl (refl, lit< tt); bare = refl },
-        (record { own = refl; acts = inr refl; bare = refl }, tt),
+        (
+          record { own = refl; acts = inl (refl, lit< tt); bare = refl },
+          (
+            record { own = refl; acts = inl (refl, lit< tt); bare = refl },
+            (
+              record { own = refl; acts = inl (refl, lit< tt); bare = refl },
+              (record { own = refl; acts = inr refl; bare = refl }, tt),
+            ),
+          ),
+        ),
       ),
     ),
   ),
@@ -106,11 +115,15 @@ plain_taken words none =
     run_taken plain_built.rules rows level.0
     (given_some plain_built.rules (codes "FILE") rows level.0 ((required_given plain_built rows level.1).0 refl)) refl refl
 
-sim_taken : (words : List Text) → level_fault sim_built [] nothing_held words false [] ≡ [] → IsRunTaken (rows_after sim_built.rules [] words)
+sim_taken : (words : List Text) → level_fault sim_built [] nothing_held words false [] ≡ [] → IsSimulationTaken (rows_after sim_built.rules [] words)
 sim_taken words none =
     let rows = rows_after sim_built.rules [] words in
     let level = level_good sim_built words sim_keyed none in
-    run_taken sim_built.rules rows level.0 (given_some sim_built.rules (codes "FILE") rows level.0 ((required_given sim_built rows level.1).0 refl)) refl refl
+    record {
+      run = run_taken sim_built.rules rows level.0 (given_some sim_built.rules (codes "FILE") rows level.0 ((required_given sim_built rows level.1).0 refl)) refl
+          refl;
+      collect = number_taken sim_built.rules rows (filled (number (codes "collect"))) level.0 refl refl refl;
+    }
 
 -- the top of the command line, as clap builds it
 abbrev top_built : App

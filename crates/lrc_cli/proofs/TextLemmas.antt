@@ -8,7 +8,7 @@ use Rattle.std.proofs.lemmas.List.Concat.{flat_map-append}
 use Rattle.lrc_trace.specs.declared.act.Act.{Act}
 use Rattle.lrc_trace.specs.declared.act.Deed.{Deed}
 use Rattle.lrc_trace.specs.declared.act.Deed.TheVariants.{Print}
-use Rattle.lrc_world.specs.declared.report.End.{End}
+use Rattle.lrc_node.specs.declared.end.End.{End}
 use Rattle.lrc_cli.specs.ReportText.{deed_line, line_of_act, node_text, nodes_text, texts_of, whole_text}
 
 abbrev Part : Type 0

@@ -7,13 +7,19 @@ use Rattle.clap.specs.Words.{App, IsAmong, IsUnsignedIn, Row, Rule, Shape, Text,
 use Rattle.clap.specs.declared.builder.value_parser.ValueParser.TheVariants.{Unsigned}
 use Rattle.clap.specs.declared.error.Error.{Error}
 use Rattle.clap.specs.declared.error.kind.ErrorKind.{ErrorKind}
-use Rattle.clap.specs.declared.error.kind.ErrorKind.TheVariants.{OutOfMemory}
+use Rattle.clap.specs.declared.error.kind.ErrorKind.TheVariants.{InvalidValue, OutOfMemory}
+use Rattle.lrc_page.specs.declared.size.Size.{Size}
+use Rattle.lrc_page.specs.declared.size.Size.TheVariants.{Words64, Words256}
+use Rattle.lrc_wire.specs.declared.picker.Picker.{Picker}
+use Rattle.lrc_wire.specs.declared.picker.Picker.TheVariants.{Oldest, Newest, Twice}
 use Rattle.lrc_cli.specs.declared.choice.Choice.{Choice}
 use Rattle.lrc_cli.specs.declared.choice.Choice.TheVariants.{Check, Plain, Simulate}
 use Rattle.lrc_cli.specs.declared.choice.ChooseFault.{ChooseFault}
 use Rattle.lrc_cli.specs.declared.choice.ChooseFault.TheVariants.{Usage, BadNumber, NoMemory}
 use Rattle.lrc_cli.specs.declared.choice.PlainRun.{PlainRun}
 use Rattle.lrc_cli.specs.declared.choice.Simulation.{Simulation}
+use Rattle.lrc_cli.specs.declared.command_line.Misfit.{Misfit}
+use Rattle.lrc_cli.specs.declared.command_line.Misfit.TheVariants.{Order, Page, Number}
 
 -- FILE, which each command has to have
 abbrev pub file : Rule
@@ -33,9 +39,11 @@ check = with_rule (new_app (codes "check")) file
 abbrev pub plain : App
 plain = with_rule (with_rule (with_rule (new_app (codes "plain")) file) (number (codes "nodes"))) (number (codes "steps"))
 
+-- `order` and `page` take one of few words, which are looked at once clap has read them.
 abbrev pub sim : App
-sim = with_rule (with_rule (with_rule (with_rule (new_app (codes "sim")) file)
-    (number (codes "nodes"))) (number (codes "steps"))) (option (codes "events"))
+sim = with_rule (with_rule (with_rule (with_rule (with_rule (with_rule (with_rule (new_app (codes "sim")) file)
+    (number (codes "nodes"))) (number (codes "steps"))) (number (codes "collect"))) (option (codes "order"))) (option (codes "page")))
+    (option (codes "events"))
 
 -- The words begin with no program's name, and name one of the commands; the program has a version.
 abbrev pub treadmarks_shape : Shape
@@ -66,6 +74,20 @@ nodes_in = number_in (codes "nodes") 1
 abbrev pub steps_in : List Row → ℕ
 steps_in = number_in (codes "steps") 1000000
 
+abbrev pub collect_in : List Row → ℕ
+collect_in = number_in (codes "collect") 0
+
+-- the order of deliveries that a word names; with none it is that of sending
+abbrev pub IsOrder : Option Text → Picker → Type 0
+IsOrder word Oldest = (word ≡ None) ⊎ (word ≡ Some (codes "oldest"))
+IsOrder word Newest = word ≡ Some (codes "newest")
+IsOrder word Twice = word ≡ Some (codes "twice")
+
+-- the size of a page that a word names; with none it has 64 words
+abbrev pub IsSize : Option Text → Size → Type 0
+IsSize word Words64 = (word ≡ None) ⊎ (word ≡ Some (codes "64"))
+IsSize word Words256 = word ≡ Some (codes "256")
+
 -- these matches have a FILE
 abbrev pub HasFile : List Row → Type 0
 HasFile rows = IsSome (first_of (codes "FILE") rows)
@@ -75,18 +97,23 @@ pub record IsNumberOption (name : Text) (rows : List Row) : Type 0 where
   pub number : IfSome (first_of name rows) (IsUnsignedIn 0 18446744073709551615)
   pub as_written : one_of name rows ≡ first_of name rows
 
--- what clap makes sure of in the matches of `plain` and of `sim`
+-- what clap makes sure of in the matches of `plain`
 pub record IsRunTaken (rows : List Row) : Type 0 where
   pub file : HasFile rows
   pub nodes : IsNumberOption (codes "nodes") rows
   pub steps : IsNumberOption (codes "steps") rows
+
+-- the same for the matches of `sim`
+pub record IsSimulationTaken (rows : List Row) : Type 0 where
+  pub run : IsRunTaken rows
+  pub collect : IsNumberOption (codes "collect") rows
 
 -- the command that the words name, with what clap makes sure of in its matches
 abbrev pub IsTaken : Option (Text × List Row) → Type 0
 IsTaken None = ⊥
 IsTaken (Some found) = ((found.0 ≡ codes "check") × HasFile found.1)
     ⊎ ((found.0 ≡ codes "plain") × IsRunTaken found.1)
-    ⊎ ((found.0 ≡ codes "sim") × IsRunTaken found.1)
+    ⊎ ((found.0 ≡ codes "sim") × IsSimulationTaken found.1)
 
 -- the file and the numbers of a run stand in these matches
 pub record AreOptions (path : Text) (node_count step_count : ℕ) (rows : List Row) : Type 0 where
@@ -101,6 +128,9 @@ IsPlainRun run rows = AreOptions run.file.now run.nodes.count run.steps.count ro
 -- a run is chosen by these matches
 pub record IsSimulation (run : Simulation) (rows : List Row) : Type 0 where
   pub options : AreOptions run.file.now run.nodes.count run.steps.count rows
+  pub collect : collect_in rows ≡ run.collect.count
+  pub order : IsOrder (first_of (codes "order") rows) run.order
+  pub size : IsSize (first_of (codes "page") rows) run.size
   pub events : first_of (codes "events") rows ≡ option_map (λ events. events.now) run.events
 
 -- the choice is the command that clap found, with its matches
@@ -110,14 +140,51 @@ IsFound (Check text) found =
 IsFound (Plain run) found = (found.0 ≡ codes "plain") × IsPlainRun run found.1
 IsFound (Simulate run) found = (found.0 ≡ codes "sim") × IsSimulation run found.1
 
--- the number of nodes is not 1 to `most`, or that of steps not 1 to 1,000,000
-abbrev pub HasBadCount : ℕ → List Row → Type 0
-HasBadCount most rows = IsOutOfRange 1 most (nodes_in rows) ⊎ IsOutOfRange 1 1000000 (steps_in rows)
+-- no order, or no size, has the word of the option
+abbrev pub HasBadOrder : List Row → Type 0
+HasBadOrder rows = (order : Picker) → ¬ IsOrder (first_of (codes "order") rows) order
 
--- One of the numbers that clap found is out of its range: the plain machine has up to 16 nodes, and `sim` one.
-abbrev pub HasBadNumber : Text × List Row → Type 0
-HasBadNumber found = ((found.0 ≡ codes "plain") × HasBadCount 16 found.1)
-    ⊎ ((found.0 ≡ codes "sim") × HasBadCount 1 found.1)
+abbrev pub HasBadPage : List Row → Type 0
+HasBadPage rows = (size : Size) → ¬ IsSize (first_of (codes "page") rows) size
+
+-- the words of both options are such as they take
+pub record AreWords (rows : List Row) : Type 0 where
+  pub order : Picker
+  pub size : Size
+  pub order_is : IsOrder (first_of (codes "order") rows) order
+  pub size_is : IsSize (first_of (codes "page") rows) size
+
+-- the number of nodes is not 1 to 16, or that of steps not 1 to 1,000,000
+abbrev pub HasBadCount : List Row → Type 0
+HasBadCount rows = IsOutOfRange 1 16 (nodes_in rows) ⊎ IsOutOfRange 1 1000000 (steps_in rows)
+
+-- what does not fit in the matches of `plain`, and of `sim`, where words are looked at before numbers
+abbrev pub HasRunMisfit : Misfit → List Row → Type 0
+HasRunMisfit Order rows = ⊥
+HasRunMisfit Page rows = ⊥
+HasRunMisfit Number rows = HasBadCount rows
+
+abbrev pub HasSimulationMisfit : Misfit → List Row → Type 0
+HasSimulationMisfit Order rows = HasBadOrder rows
+HasSimulationMisfit Page rows = HasBadPage rows
+HasSimulationMisfit Number rows = AreWords rows × (HasBadCount rows ⊎ IsOutOfRange 0 1000000 (collect_in rows))
+
+-- what does not fit in what clap found
+abbrev pub HasMisfit : Misfit → Text × List Row → Type 0
+HasMisfit misfit found = ((found.0 ≡ codes "plain") × HasRunMisfit misfit found.1)
+    ⊎ ((found.0 ≡ codes "sim") × HasSimulationMisfit misfit found.1)
+
+-- the fault of a word that an option does not take
+abbrev pub IsWordFault : ChooseFault → Type 0
+IsWordFault (Usage error) = kind_of error ≡ InvalidValue
+IsWordFault BadNumber = ⊥
+IsWordFault NoMemory = Unit {0}
+
+-- the fault of what does not fit
+abbrev pub IsMisfitFault : Misfit → ChooseFault → Type 0
+IsMisfitFault Number fault = fault ≡ BadNumber
+IsMisfitFault Order fault = IsWordFault fault
+IsMisfitFault Page fault = IsWordFault fault
 
 -- The fault that clap's error stands for: want of memory, or one of the words.
 abbrev pub fault_of_kind : ErrorKind → Error → ChooseFault
@@ -133,12 +200,16 @@ IsFoundFault words (Usage error) = IsAmong (kind_of error) (fault_of treadmarks 
 IsFoundFault words BadNumber = ⊥
 IsFoundFault words NoMemory = Unit {0}
 
--- What the words come to: where clap finds no fault in them, the choice that it read, or a number that is out of
--- range; where it finds one, that fault. Memory may run out at any words.
+-- clap finds no fault in the words, and this does not fit in what it found
+abbrev pub AreMisfits : List Text → Misfit → Type 0
+AreMisfits words misfit = (fault_of treadmarks words ≡ []) × IsSomeAnd (subcommand_of treadmarks words) (HasMisfit misfit)
+
+-- What the words come to: where clap finds no fault in them, the choice that it read, or a word that its option does not take, or
+-- a number that is out of range; where it finds one, that fault. Memory may run out at any words.
 abbrev pub Chooses : List Text → Result Choice ChooseFault → Type 0
 Chooses words (Ok choice) = (fault_of treadmarks words ≡ [])
     × IsSomeAnd (subcommand_of treadmarks words) (IsFound choice)
-Chooses words (Err BadNumber) = (fault_of treadmarks words ≡ [])
-    × IsSomeAnd (subcommand_of treadmarks words) HasBadNumber
+Chooses words (Err BadNumber) = AreMisfits words Number
 Chooses words (Err (Usage error)) = IsAmong (kind_of error) (fault_of treadmarks words)
+    ⊎ ((kind_of error ≡ InvalidValue) × (AreMisfits words Order ⊎ AreMisfits words Page))
 Chooses words (Err NoMemory) = Unit {0}

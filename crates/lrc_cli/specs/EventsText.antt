@@ -2,8 +2,8 @@
 use Rattle.std.specs.Prelude.{◌≡◌, ◌≢◌, ◌<◌, ◌≤◌, ◌+◌, ◌==◌, ◌⊎◌, ℕ, List, [], ◌∷◌, ◌++◌, length, codes, Result, Ok, Err}
 use Rattle.std.specs.List.{slice_split}
 use Rattle.std.specs.Str.Parse.{IsNumeral, digits_value}
-use Rattle.lrc_world.specs.declared.report.Event.{Event}
-use Rattle.lrc_world.specs.declared.report.Event.TheVariants.{Run, Deliver}
+use Rattle.lrc_protocol.specs.declared.event.Event.{Event}
+use Rattle.lrc_protocol.specs.declared.event.Event.TheVariants.{Run, Deliver, Repeat}
 use Rattle.lrc_cli.specs.declared.events.EventsFault.{EventsFault}
 use Rattle.lrc_cli.specs.declared.events.EventsFault.TheVariants.{BadEvent, NoMemory}
 
@@ -27,6 +27,7 @@ pub record IsLine (word line : List ℕ) (place : ℕ) : Type 0 where
 abbrev pub Names : List ℕ → Event → Type 0
 Names line (Run node) = IsLine (codes "run ") line node
 Names line (Deliver place) = IsLine (codes "deliver ") line place
+Names line (Repeat place) = IsLine (codes "repeat ") line place
 
 -- the lines name these events in order, where an empty line names none
 pub data NameAll : List (List ℕ) → List Event → Type 0 where

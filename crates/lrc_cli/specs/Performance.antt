@@ -20,6 +20,6 @@ pub data Performs (choice : Choice) (text : List ℕ) (events : Option (List ℕ
       → IsWritten out out' printed status result → Keeps err err'
       → Performs choice text events out out' err err' result
   -- or the line of the first fault is written to `err`, and nothing to `out`.
-  faults : (fault : Fault) → IsFault text events fault
+  faults : (fault : Fault) → IsFault choice text events fault
       → IsWritten err err' (fault_line fault) 1 result → Keeps out out'
       → Performs choice text events out out' err err' result

@@ -1,5 +1,5 @@
 -- What a run prints, and the status with which the program ends after it.
-use Rattle.std.specs.Prelude.{◌+◌, ◌==◌, ℕ, Bool, true, false, List, [], ◌∷◌, ◌++◌, codes, decimal, if◌then◌else◌, map, Vec}
+use Rattle.std.specs.Prelude.{◌+◌, ◌==◌, ℕ, Bool, true, false, Option, Some, None, List, [], ◌∷◌, ◌++◌, codes, decimal, if◌then◌else◌, map, Vec}
 use Rattle.std.specs.declared.alloc.Global.{Global}
 use Rattle.std.specs.List.{flat_map, list_all}
 use Rattle.lrc_trace.specs.declared.act.Act.{Act}
@@ -7,8 +7,9 @@ use Rattle.lrc_trace.specs.declared.act.Cause.{Cause}
 use Rattle.lrc_trace.specs.declared.act.Cause.TheVariants.{DivisionByZero, WordOutOfRange, LockOutOfRange, LockHeld, LockNotHeld}
 use Rattle.lrc_trace.specs.declared.act.Deed.{Deed}
 use Rattle.lrc_trace.specs.declared.act.Deed.TheVariants.{Print}
-use Rattle.lrc_world.specs.declared.report.End.{End}
-use Rattle.lrc_world.specs.declared.report.End.TheVariants.{Ended, Trapped, Unfinished}
+use Rattle.lrc_node.specs.declared.end.End.{End}
+use Rattle.lrc_node.specs.declared.end.End.TheVariants.{Ended, Trapped, Unfinished}
+use Rattle.lrc_world.specs.declared.report.Report.{Report}
 
 -- the bytes of each part of a text, and of the whole
 abbrev pub texts_of : List (Vec ℕ Global) → List (List ℕ)
@@ -60,6 +61,20 @@ abbrev pub is_ended : End → Bool
 is_ended Ended = true
 is_ended _ = false
 
--- the status after a run: 0 where every node came to the end of the text, and else 4
+-- the status without a race: 0 where every node came to the end of the text, and else 4
 abbrev pub status_of : List End → ℕ
 status_of ends = if list_all is_ended ends then 0 else 4
+
+-- the last line of a run with a race: the least position that races with an earlier one
+abbrev pub first_race_text : Option ℕ → List ℕ
+first_race_text None = []
+first_race_text (Some position) = codes "first race at act " ++ decimal position ++ codes "\n"
+
+-- what is printed of a run: the lines of its nodes, and its first race
+abbrev pub run_text : Report → List ℕ
+run_text report = report_text report.acts.items report.ends.items ++ first_race_text report.first_race
+
+-- the status after a run: 3 where there is a race
+abbrev pub run_status_of : Option ℕ → List End → ℕ
+run_status_of None ends = status_of ends
+run_status_of (Some position) ends = 3

@@ -2,20 +2,20 @@
 
 ghost use Rattle.std.specs.Prelude.{◌≡◌, IfErr, IfOk, None, Some, is_some, option_map};
 ghost use Rattle.lrc_cli.specs.Answer.{IsFault, IsPrintoutOfRounds, IsRunFault, IsRunOf, Prints, names_events, options_of};
-ghost use Rattle.lrc_cli.specs.ReportText.{report_text, status_of, whole_text};
+ghost use Rattle.lrc_cli.specs.ReportText.{report_text, run_status_of, run_text, status_of, whole_text};
 ghost use Rattle.lrc_cli.specs.declared.fault.Fault.TheVariants.{NoMemory};
 
 use crate::choice::{Choice, PlainRun, Simulation};
 use crate::events::events_of;
 use crate::fault::{Fault, fault_of_run};
-use crate::report::{report_parts, status_after};
+use crate::report::{report_parts, run_parts, status_after, status_after_run};
 use lrc_exec::rounds::plain_rounds;
 use lrc_lang::parse;
 use lrc_lang::program::Program;
+use lrc_node::{End, Options};
 use lrc_trace::act::Act;
 use lrc_world::ends::ends;
-use lrc_world::picker::Picker;
-use lrc_world::report::{End, Options, Report};
+use lrc_world::report::Report;
 use lrc_world::simulate::{drive, simulate};
 use std::alloc::{AllocError, Global};
 
@@ -37,7 +37,7 @@ pub fn answer(
     requires { is_some events ≡ names_events choice.now }
     ensures ok { IfOk result (λ printout. Prints choice.now text.now (option_map (λ e. e.now) events.entry)
         (whole_text printout.parts.items) printout.status) }
-    ensures err { IfErr result (λ fault. IsFault text.now (option_map (λ e. e.now) events.entry) fault) }
+    ensures err { IfErr result (λ fault. IsFault choice.now text.now (option_map (λ e. e.now) events.entry) fault) }
 {
     let program = parse(alloc, text)?;
     match choice {
@@ -49,7 +49,7 @@ pub fn answer(
         Choice::Plain(run) => in_rounds(alloc, run, &program),
         Choice::Simulate(run) => {
             let report = simulated(alloc, run, &program, events)?;
-            Ok(printout_of(alloc, &report.acts, &report.ends)?)
+            Ok(printout_of_run(alloc, &report)?)
         }
     }
 }
@@ -66,7 +66,7 @@ fn in_rounds(alloc: Global, run: &PlainRun<'_>, program: &Program) -> Result<Pri
     Ok(printout_of(alloc, &acts, &ends)?)
 }
 
-// The report of a run with these acts and ends.
+// What is printed of these acts and ends, where no race is looked for.
 fn printout_of(alloc: Global, acts: &[Act], ends: &[End]) -> Result<Printout, AllocError>
     ensures text { IfOk result (λ printout. whole_text printout.parts.items ≡ report_text acts.now ends.now) }
     ensures status { IfOk result (λ printout. printout.status ≡ status_of ends.now) }
@@ -77,15 +77,25 @@ fn printout_of(alloc: Global, acts: &[Act], ends: &[End]) -> Result<Printout, Al
     })
 }
 
+// What is printed of a run.
+fn printout_of_run(alloc: Global, report: &Report) -> Result<Printout, AllocError>
+    ensures text { IfOk result (λ printout. whole_text printout.parts.items ≡ run_text report.now) }
+    ensures status { IfOk result (λ printout. printout.status ≡ run_status_of report.now.first_race report.now.ends.items) }
+{
+    Ok(Printout {
+        parts: run_parts(alloc, report)?,
+        status: status_after_run(report),
+    })
+}
+
 fn simulated(
     alloc: Global,
     run: &Simulation<'_>,
     program: &Program,
     events: Option<&[u8]>,
 ) -> Result<Report, Fault>
-    ensures ok { IfOk result (IsRunOf program.now run.now.nodes.count run.now.steps.count
-        (option_map (λ e. e.now) events.entry)) }
-    ensures err { IfErr result (IsRunFault (option_map (λ e. e.now) events.entry)) }
+    ensures ok { IfOk result (IsRunOf program.now run.now (option_map (λ e. e.now) events.entry)) }
+    ensures err { IfErr result (IsRunFault program.now run.now (option_map (λ e. e.now) events.entry)) }
 {
     match events {
         Some(text) => played(alloc, run, program, text),
@@ -100,36 +110,32 @@ fn played(
     program: &Program,
     text: &[u8],
 ) -> Result<Report, Fault>
-    ensures ok { IfOk result (IsRunOf program.now run.now.nodes.count run.now.steps.count (Some text.now)) }
-    ensures err { IfErr result (IsRunFault (Some text.now)) }
+    ensures ok { IfOk result (IsRunOf program.now run.now (Some text.now)) }
+    ensures err { IfErr result (IsRunFault program.now run.now (Some text.now)) }
 {
     let events = events_of(alloc, text)?;
     let report = simulate(alloc, program, run.nodes.count, &options_of(run), &events);
     report.map_err(fault_of_run)
 }
 
-// The run in which each node goes on in turn.
+// The run in rounds.
 fn driven(alloc: Global, run: &Simulation<'_>, program: &Program) -> Result<Report, Fault>
-    ensures ok { IfOk result (IsRunOf program.now run.now.nodes.count run.now.steps.count None) }
-    ensures err { IfErr result (IsRunFault None) }
+    ensures ok { IfOk result (IsRunOf program.now run.now None) }
+    ensures err { IfErr result (IsRunFault program.now run.now None) }
 {
-    let played = drive(
-        alloc,
-        program,
-        run.nodes.count,
-        &options_of(run),
-        Picker::Oldest,
-    );
-    let (_events, report) = played.map_err(fault_of_run)?;
+    let options = options_of(run);
+    let driven = drive(alloc, program, run.nodes.count, &options, run.order);
+    let (_events, report) = driven.map_err(fault_of_run)?;
     Ok(report)
 }
 
 fn options_of(run: &Simulation<'_>) -> Options
-    ensures { result ≡ options_of run.now.steps.count }
+    ensures { result ≡ options_of run.now }
 {
     Options {
         steps: run.steps.count,
-        collect: 0,
+        collect: run.collect.count,
         first: 0,
+        size: run.size,
     }
 }

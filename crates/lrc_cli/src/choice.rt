@@ -1,7 +1,9 @@
 // What the words of the command line ask for.
 
-ghost use Rattle.std.specs.Prelude.{◌≡◌, ◌≤◌};
+ghost use Rattle.std.specs.Prelude.{◌≤◌};
 
+use lrc_page::Size;
+use lrc_wire::Picker;
 use thiserror::Error;
 
 /// How many nodes a run has, 1 to 16.
@@ -17,6 +19,13 @@ pub struct Nodes {
 pub struct Steps {
     pub count: u32,
     pub ghost some: { 1 ≤ count },
+    pub ghost few: { count ≤ 1000000 },
+}
+
+/// From how many stored intervals on a node asks for a collection, 0 to 1,000,000; 0: never.
+#[derive(Clone, Copy)]
+pub struct Collect {
+    pub count: u32,
     pub ghost few: { count ≤ 1000000 },
 }
 
@@ -36,10 +45,13 @@ pub struct Simulation<'w> {
     pub file: &'w str,
     pub nodes: Nodes,
     pub steps: Steps,
+    pub collect: Collect,
+    /// Which message is delivered next, where no file of events is named.
+    pub order: Picker,
+    /// The size of a page.
+    pub size: Size,
     /// The file of the events, if one is named.
     pub events: Option<&'w str>,
-    /// For now a run has one node.
-    pub ghost alone: { nodes.count ≡ 1 },
 }
 
 /// What the words ask for.

@@ -1,29 +1,48 @@
 // The words of the command line, read by clap.
 
-ghost use Rattle.std.specs.Prelude.{◌≡◌, ◌≤◌, [], IfErr, IfOk, IsSomeAnd, Ok, OnOk, Err, Some, codes, false, map};
+ghost use Rattle.std.specs.Prelude.{◌≡◌, [], IfErr, IfOk, IsSomeAnd, Ok, OnOk, Err, Some, codes, false, map};
 ghost use Rattle.std.specs.Int.{IsOutOfRange};
-ghost use Rattle.clap.specs.Words.{app_of, fault_of, first_of, found_of, rows_of, rule_of, subcommand_of};
+ghost use Rattle.clap.specs.Words.{app_of, fault_of, first_of, found_of, kind_of, rows_of, rule_of, subcommand_of};
 ghost use Rattle.clap.specs.Words.{subcommand_rows_of};
 ghost use Rattle.clap.specs.declared.builder.command.Command.TheViews.{out-Command as fields_of};
-ghost use Rattle.lrc_cli.specs.CommandLine.{Chooses, HasBadCount, HasBadNumber, HasFile, IsFound, IsFoundFault};
-ghost use Rattle.lrc_cli.specs.CommandLine.{IsNumberOption, IsPlainRun, IsRunTaken, IsSimulation, IsTaken, check, fault_from};
-ghost use Rattle.lrc_cli.specs.CommandLine.{file, number, nodes_in, number_in, option, plain, sim, steps_in, treadmarks, words_meant};
-ghost use Rattle.lrc_cli.specs.declared.choice.ChooseFault.TheVariants.{BadNumber, NoMemory};
+ghost use Rattle.clap.specs.declared.error.kind.ErrorKind.TheVariants.{InvalidValue};
+ghost use Rattle.lrc_cli.specs.CommandLine.{Chooses, HasBadOrder, HasBadPage, HasFile, HasMisfit, HasRunMisfit, HasSimulationMisfit};
+ghost use Rattle.lrc_cli.specs.CommandLine.{IsFound, IsFoundFault, IsMisfitFault, IsNumberOption, IsOrder, IsPlainRun, IsRunTaken};
+ghost use Rattle.lrc_cli.specs.CommandLine.{IsSimulation, IsSimulationTaken, IsSize, IsTaken, IsWordFault, check, fault_from};
+ghost use Rattle.lrc_cli.specs.CommandLine.{collect_in, file, number, nodes_in, number_in, option, plain, sim, steps_in, treadmarks, words_meant};
+ghost use Rattle.lrc_page.specs.declared.size.Size.{Size};
+ghost use Rattle.lrc_wire.specs.declared.picker.Picker.{Picker};
+ghost use Rattle.lrc_cli.specs.declared.choice.ChooseFault.TheVariants.{NoMemory};
 
-use crate::choice::{Choice, ChooseFault, Nodes, PlainRun, Simulation, Steps};
+use crate::choice::{Choice, ChooseFault, Collect, Nodes, PlainRun, Simulation, Steps};
 use clap::error::ErrorKind;
 use clap::{Arg, ArgMatches, Command, value_parser};
+use lrc_page::Size;
+use lrc_wire::Picker;
 use std::alloc::{AllocError, Global};
 use std::convert::AsStr;
 
 // What the program does where it gets no words.
 static NO_WORDS: [&str; 2] = ["sim", "-"];
 
-const PLAIN_NODES_HELP: &str = "How many nodes run the program: 1 to 16 [default: 1]";
-
-const SIM_NODES_HELP: &str = "How many nodes run the program: 1 [default: 1]";
+const NODES_HELP: &str = "How many nodes run the program: 1 to 16 [default: 1]";
 
 const STEPS_HELP: &str = "How many statements each node may begin: 1 to 1000000 [default: 1000000]";
+
+const COLLECT_HELP: &str =
+    "From how many stored intervals on a node asks for a collection: 0 to 1000000, 0 for never [default: 0]";
+
+const ORDER_HELP: &str =
+    "Which message is delivered next: oldest, newest or twice (the oldest, and each two times) [default: oldest]";
+
+const PAGE_HELP: &str = "How many words a page has: 64 or 256 [default: 64]";
+
+const EVENTS_HELP: &str =
+    "A file of events to play, `run N`, `deliver I` or `repeat I` on each line [default: all nodes in turn]";
+
+const BAD_ORDER: &str = "invalid value for '--order <ORDER>': it is oldest, newest or twice";
+
+const BAD_PAGE: &str = "invalid value for '--page <WORDS>': it is 64 or 256";
 
 // The version of the program. The message bytes have versions of their own.
 const VERSION: &str = "0.1.0";
@@ -36,6 +55,17 @@ const STATUSES: &str = "Exit status:
      its command gives
   3  a race was found
   4  no race, and a node trapped or is unfinished";
+
+// Why the options that clap read are no choice.
+#[derive(Clone, Copy)]
+enum Misfit {
+    /// `--order` has no word that it takes.
+    Order,
+    /// `--page` has no word that it takes.
+    Page,
+    /// A number is not in its option's range.
+    Number,
+}
 
 /// Reads the words that follow the program's name. No words at all ask for `sim -`.
 pub fn choose<'w, S: AsStr>(alloc: Global, words: &'w [S]) -> Result<Choice<'w>, ChooseFault>
@@ -52,7 +82,33 @@ fn choice_in<'w, S: AsStr>(alloc: Global, words: &'w [S]) -> Result<Choice<'w>, 
     ensures { Chooses (map S.text words.entry.now) result }
 {
     let matches = matches_of(alloc, words)?;
-    choice_from(&matches)
+    choice_from(&matches).map_err(|misfit| fault_of_misfit(alloc, misfit))
+}
+
+fn fault_of_misfit(alloc: Global, misfit: Misfit) -> ChooseFault
+    ensures { IsMisfitFault misfit result }
+{
+    match misfit {
+        Misfit::Order => bad_word(alloc, BAD_ORDER),
+        Misfit::Page => bad_word(alloc, BAD_PAGE),
+        Misfit::Number => ChooseFault::BadNumber,
+    }
+}
+
+fn bad_word(alloc: Global, message: &str) -> ChooseFault
+    ensures { IsWordFault result }
+{
+    match word_error(alloc, message) {
+        Ok(error) => ChooseFault::Usage(error),
+        Err(_error) => ChooseFault::NoMemory,
+    }
+}
+
+fn word_error(alloc: Global, message: &str) -> Result<clap::Error, AllocError>
+    ensures { IfOk result (λ error. kind_of error ≡ InvalidValue) }
+{
+    let mut command = command_line(alloc)?;
+    command.error(ErrorKind::InvalidValue, message)
 }
 
 fn matches_of<'w, S: AsStr>(alloc: Global, words: &'w [S]) -> Result<ArgMatches<'w>, ChooseFault>
@@ -65,11 +121,10 @@ fn matches_of<'w, S: AsStr>(alloc: Global, words: &'w [S]) -> Result<ArgMatches<
     Ok(command.try_get_matches_from(words)?)
 }
 
-fn choice_from<'w>(matches: &ArgMatches<'w>) -> Result<Choice<'w>, ChooseFault>
+fn choice_from<'w>(matches: &ArgMatches<'w>) -> Result<Choice<'w>, Misfit>
     requires { IsTaken (subcommand_rows_of matches.now) }
     ensures ok { IfOk result (λ choice. IsSomeAnd (subcommand_rows_of matches.now) (IsFound choice)) }
-    ensures err { IfErr result (λ fault. (fault ≡ BadNumber)
-        × IsSomeAnd (subcommand_rows_of matches.now) HasBadNumber) }
+    ensures err { IfErr result (λ misfit. IsSomeAnd (subcommand_rows_of matches.now) (HasMisfit misfit)) }
 {
     if let Some(options) = matches.subcommand_matches("check") {
         return Ok(Choice::Check(file_of(options)));
@@ -81,31 +136,82 @@ fn choice_from<'w>(matches: &ArgMatches<'w>) -> Result<Choice<'w>, ChooseFault>
     Ok(Choice::Simulate(simulation(options)?))
 }
 
-fn plain_run<'w>(options: &ArgMatches<'w>) -> Result<PlainRun<'w>, ChooseFault>
+fn plain_run<'w>(options: &ArgMatches<'w>) -> Result<PlainRun<'w>, Misfit>
     requires { IsRunTaken (rows_of (found_of options.now)) }
     ensures ok { IfOk result (λ run. IsPlainRun run (rows_of (found_of options.now))) }
-    ensures err { IfErr result (λ fault. (fault ≡ BadNumber)
-        × HasBadCount 16 (rows_of (found_of options.now))) }
+    ensures err { IfErr result (λ misfit. HasRunMisfit misfit (rows_of (found_of options.now))) }
 {
     Ok(PlainRun {
         file: file_of(options),
-        nodes: nodes_of(options, 16)?,
+        nodes: nodes_of(options)?,
         steps: steps_of(options)?,
     })
 }
 
-fn simulation<'w>(options: &ArgMatches<'w>) -> Result<Simulation<'w>, ChooseFault>
-    requires { IsRunTaken (rows_of (found_of options.now)) }
+fn simulation<'w>(options: &ArgMatches<'w>) -> Result<Simulation<'w>, Misfit>
+    requires { IsSimulationTaken (rows_of (found_of options.now)) }
     ensures ok { IfOk result (λ run. IsSimulation run (rows_of (found_of options.now))) }
-    ensures err { IfErr result (λ fault. (fault ≡ BadNumber)
-        × HasBadCount 1 (rows_of (found_of options.now))) }
+    ensures err { IfErr result (λ misfit. HasSimulationMisfit misfit (rows_of (found_of options.now))) }
 {
+    let order = order_of(options)?;
+    let size = size_of(options)?;
     Ok(Simulation {
         file: file_of(options),
-        nodes: nodes_of(options, 1)?,
+        nodes: nodes_of(options)?,
         steps: steps_of(options)?,
+        collect: collect_of(options)?,
+        order,
+        size,
         events: options.get_str("events"),
     })
+}
+
+fn order_of(options: &ArgMatches<'_>) -> Result<Picker, Misfit>
+    ensures ok { IfOk result (IsOrder (first_of (codes "order") (rows_of (found_of options.now)))) }
+    ensures err { IfErr result (λ misfit. (misfit ≡ Misfit.Order) × HasBadOrder (rows_of (found_of options.now))) }
+{
+    match options.get_str("order") {
+        Some(word) => order_named(word),
+        None => Ok(Picker::Oldest),
+    }
+}
+
+fn order_named(word: &str) -> Result<Picker, Misfit>
+    ensures ok { IfOk result (IsOrder (Some word.now)) }
+    ensures err { IfErr result (λ misfit. (misfit ≡ Misfit.Order) × ((order : Picker) → ¬ IsOrder (Some word.now) order)) }
+{
+    if word == "oldest" {
+        Ok(Picker::Oldest)
+    } else if word == "newest" {
+        Ok(Picker::Newest)
+    } else if word == "twice" {
+        Ok(Picker::Twice)
+    } else {
+        Err(Misfit::Order)
+    }
+}
+
+fn size_of(options: &ArgMatches<'_>) -> Result<Size, Misfit>
+    ensures ok { IfOk result (IsSize (first_of (codes "page") (rows_of (found_of options.now)))) }
+    ensures err { IfErr result (λ misfit. (misfit ≡ Misfit.Page) × HasBadPage (rows_of (found_of options.now))) }
+{
+    match options.get_str("page") {
+        Some(word) => size_named(word),
+        None => Ok(Size::Words64),
+    }
+}
+
+fn size_named(word: &str) -> Result<Size, Misfit>
+    ensures ok { IfOk result (IsSize (Some word.now)) }
+    ensures err { IfErr result (λ misfit. (misfit ≡ Misfit.Page) × ((size : Size) → ¬ IsSize (Some word.now) size)) }
+{
+    if word == "64" {
+        Ok(Size::Words64)
+    } else if word == "256" {
+        Ok(Size::Words256)
+    } else {
+        Err(Misfit::Page)
+    }
 }
 
 fn file_of<'w>(options: &ArgMatches<'w>) -> &'w str
@@ -115,31 +221,42 @@ fn file_of<'w>(options: &ArgMatches<'w>) -> &'w str
     options.get_str("FILE").unwrap()
 }
 
-fn nodes_of(options: &ArgMatches<'_>, most: u32) -> Result<Nodes, ChooseFault>
-    requires few { most ≤ 16 }
-    requires number { IsNumberOption (codes "nodes") (rows_of (found_of options.now)) }
+fn nodes_of(options: &ArgMatches<'_>) -> Result<Nodes, Misfit>
+    requires { IsNumberOption (codes "nodes") (rows_of (found_of options.now)) }
     ensures ok { IfOk result (λ nodes. nodes_in (rows_of (found_of options.now)) ≡ nodes.count) }
-    ensures few { IfOk result (λ nodes. nodes.count ≤ most) }
-    ensures err { IfErr result (λ fault. (fault ≡ BadNumber)
-        × IsOutOfRange 1 most (nodes_in (rows_of (found_of options.now)))) }
+    ensures err { IfErr result (λ misfit. (misfit ≡ Misfit.Number)
+        × IsOutOfRange 1 16 (nodes_in (rows_of (found_of options.now)))) }
 {
     let count = number_of(options, "nodes", 1);
     match u32::try_from(count) {
-        Ok(count) if 1 <= count && count <= most => Ok(Nodes { count }),
-        _ => Err(ChooseFault::BadNumber),
+        Ok(count) if 1 <= count && count <= 16 => Ok(Nodes { count }),
+        _ => Err(Misfit::Number),
     }
 }
 
-fn steps_of(options: &ArgMatches<'_>) -> Result<Steps, ChooseFault>
+fn steps_of(options: &ArgMatches<'_>) -> Result<Steps, Misfit>
     requires { IsNumberOption (codes "steps") (rows_of (found_of options.now)) }
     ensures ok { IfOk result (λ steps. steps_in (rows_of (found_of options.now)) ≡ steps.count) }
-    ensures err { IfErr result (λ fault. (fault ≡ BadNumber)
+    ensures err { IfErr result (λ misfit. (misfit ≡ Misfit.Number)
         × IsOutOfRange 1 1000000 (steps_in (rows_of (found_of options.now)))) }
 {
     let count = number_of(options, "steps", 1_000_000);
     match u32::try_from(count) {
         Ok(count) if 1 <= count && count <= 1_000_000 => Ok(Steps { count }),
-        _ => Err(ChooseFault::BadNumber),
+        _ => Err(Misfit::Number),
+    }
+}
+
+fn collect_of(options: &ArgMatches<'_>) -> Result<Collect, Misfit>
+    requires { IsNumberOption (codes "collect") (rows_of (found_of options.now)) }
+    ensures ok { IfOk result (λ collect. collect_in (rows_of (found_of options.now)) ≡ collect.count) }
+    ensures err { IfErr result (λ misfit. (misfit ≡ Misfit.Number)
+        × IsOutOfRange 0 1000000 (collect_in (rows_of (found_of options.now)))) }
+{
+    let count = number_of(options, "collect", 0);
+    match u32::try_from(count) {
+        Ok(count) if count <= 1_000_000 => Ok(Collect { count }),
+        _ => Err(Misfit::Number),
     }
 }
 
@@ -203,7 +320,7 @@ fn plain_command<'w>(alloc: Global) -> Result<Command<'w>, AllocError>
             "Runs the program of FILE over one flat memory, each node in turn, and looks for no race",
         )
         .arg(file(alloc))?
-        .arg(number(alloc, "nodes", PLAIN_NODES_HELP))?
+        .arg(number(alloc, "nodes", NODES_HELP))?
         .arg(number(alloc, "steps", STEPS_HELP))
 }
 
@@ -214,9 +331,12 @@ fn sim_command<'w>(alloc: Global) -> Result<Command<'w>, AllocError>
     Command::new(alloc, "sim")
         .about("Runs the program of FILE, one event after the other")
         .arg(file(alloc))?
-        .arg(number(alloc, "nodes", SIM_NODES_HELP))?
+        .arg(number(alloc, "nodes", NODES_HELP))?
         .arg(number(alloc, "steps", STEPS_HELP))?
-        .arg(events(alloc))
+        .arg(number(alloc, "collect", COLLECT_HELP))?
+        .arg(text(alloc, "order", "ORDER", ORDER_HELP))?
+        .arg(text(alloc, "page", "WORDS", PAGE_HELP))?
+        .arg(text(alloc, "events", "PATH", EVENTS_HELP))
 }
 
 fn file<'w>(alloc: Global) -> Arg<'w>
@@ -228,16 +348,14 @@ fn file<'w>(alloc: Global) -> Arg<'w>
         .help("The program's text; `-` is standard input")
 }
 
-fn events<'w>(alloc: Global) -> Arg<'w>
-    ensures rule { rule_of result ≡ option (codes "events") }
+fn text<'w>(alloc: Global, name: &'w str, value: &'w str, help: &'w str) -> Arg<'w>
+    ensures rule { rule_of result ≡ option name.entry.now }
     ensures local { result.global ≡ false }
 {
-    Arg::new(alloc, "events")
-        .long("events")
-        .value_name("PATH")
-        .help(
-            "A file of events to play, `run N` or `deliver I` on each line [default: all nodes in turn]",
-        )
+    Arg::new(alloc, name)
+        .long(name)
+        .value_name(value)
+        .help(help)
 }
 
 fn number<'w>(alloc: Global, name: &'w str, help: &'w str) -> Arg<'w>

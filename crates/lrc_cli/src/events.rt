@@ -1,11 +1,11 @@
 // The text of a list of events.
 
 ghost use Rattle.std.specs.Prelude.{◌≡◌, ℕ, IfErr, IfOk, MatchOption, Err, Ok};
-ghost use Rattle.lrc_world.specs.declared.report.Event.{Event};
+ghost use Rattle.lrc_protocol.specs.declared.event.Event.{Event};
 ghost use Rattle.lrc_cli.specs.EventsText.{IsPlace, Names, Reads};
 ghost use Rattle.lrc_cli.specs.declared.events.EventsFault.TheVariants.{NoMemory};
 
-use lrc_world::report::Event;
+use lrc_protocol::Event;
 use std::alloc::{AllocFailed, Global};
 use thiserror::Error;
 
@@ -31,8 +31,8 @@ impl<T: Drop> From<AllocFailed<T>> for EventsFault {
     }
 }
 
-/// The events that a text names, one on each line: `run N` or `deliver N` with a number of up to 4294967295 in decimal
-/// digits. An empty line names none. A text of more than 16,777,216 bytes is wrong in its first line.
+/// The events that a text names, one on each line: `run N`, `deliver N` or `repeat N` with a number of up to 4294967295 in
+/// decimal digits. An empty line names none. A text of more than 16,777,216 bytes is wrong in its first line.
 pub fn events_of(alloc: Global, text: &[u8]) -> Result<Vec<Event>, EventsFault>
     ensures ok { IfOk result (λ events. Reads text.now (Ok events.items)) }
     ensures err { IfErr result (λ fault. Reads text.now (Err fault)) }
@@ -61,8 +61,11 @@ fn event_on(line: &[u8]) -> Option<Event>
     if let Some(digits) = line.strip_prefix(b"run ") {
         return Some(Event::Run(place_in(digits)?));
     }
-    let digits = line.strip_prefix(b"deliver ")?;
-    Some(Event::Deliver(place_in(digits)?))
+    if let Some(digits) = line.strip_prefix(b"deliver ") {
+        return Some(Event::Deliver(place_in(digits)?));
+    }
+    let digits = line.strip_prefix(b"repeat ")?;
+    Some(Event::Repeat(place_in(digits)?))
 }
 
 fn place_in(digits: &[u8]) -> Option<u32>

@@ -2,11 +2,13 @@
 
 ghost use Rattle.std.specs.Prelude.{◌≡◌, ◌++◌, [], IfOk, OnOk, decimal, replicate};
 ghost use Rattle.lrc_trace.specs.declared.act.Deed.TheVariants.{Print};
-ghost use Rattle.lrc_cli.specs.ReportText.{deed_line, end_words, line_on, report_text, status_of, texts_of, whole_text};
+ghost use Rattle.lrc_cli.specs.ReportText.{deed_line, end_words, first_race_text, line_on, report_text, run_status_of, run_text, status_of};
+ghost use Rattle.lrc_cli.specs.ReportText.{texts_of, whole_text};
 
 use itoa::Buffer;
+use lrc_node::End;
 use lrc_trace::act::{Act, Deed};
-use lrc_world::report::End;
+use lrc_world::report::Report;
 use std::alloc::{AllocError, Global};
 
 /// What a run prints: for each node a line for each value that it printed, in order, and one on how it ended. The text
@@ -39,7 +41,37 @@ fn empty_parts(alloc: Global, count: usize) -> Result<Vec<Vec<u8>>, AllocError>
     Ok(parts)
 }
 
-/// The status with which the program ends after a run: 0 where every node came to the end of the text, else 4.
+/// What is printed of a run: the lines of its nodes, and the last line, which names its first race.
+pub fn run_parts(alloc: Global, report: &Report) -> Result<Vec<Vec<u8>>, AllocError>
+    ensures { IfOk result (λ parts. whole_text parts.items ≡ run_text report.now) }
+{
+    let mut parts = report_parts(alloc, &report.acts, &report.ends)?;
+    parts.push(first_race_part(alloc, report.first_race)?)?;
+    Ok(parts)
+}
+
+fn first_race_part(alloc: Global, first: Option<usize>) -> Result<Vec<u8>, AllocError>
+    ensures { IfOk result (λ part. part.items ≡ first_race_text first) }
+{
+    let mut text = Vec::new(alloc);
+    if let Some(position) = first {
+        push_number(&mut text, b"first race at act ", position as u64)?;
+        text.extend_from_slice(b"\n")?;
+    }
+    Ok(text)
+}
+
+/// The status with which the program ends after a run: 3 where there is a race.
+pub fn status_after_run(report: &Report) -> u8
+    ensures { result ≡ run_status_of report.now.first_race report.now.ends.items }
+{
+    match report.first_race {
+        Some(_) => 3,
+        None => status_after(&report.ends),
+    }
+}
+
+/// The status with which the program ends where no race is looked for: 0 where every node came to the end of the text, else 4.
 pub fn status_after(ends: &[End]) -> u8
     ensures { result ≡ status_of ends.now }
 {

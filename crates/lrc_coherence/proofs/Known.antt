@@ -1,5 +1,5 @@
 -- In every history the changes that a node knows, and those that a pending reply tells, are those of the closed intervals.
-use Rattle.std.proofs.Common.{◌≡◌, ◌⊎◌, ℕ, ◌+◌, List, [], ◌∷◌, ◌++◌, Bool, true, false, map, refl, sym, ap, subst, ◌∙◌, ⊎_elim, arith}
+use Rattle.std.proofs.Common.{◌≡◌, ℕ, ◌+◌, List, [], ◌∷◌, ◌++◌, true, false, map, refl, sym, ap, subst, ◌∙◌, ⊎_elim, arith}
 use Rattle.std.specs.Prelude.{Option, Some, None, is_some, ◌==◌, All, Contains, fold, slice_get, unwrap_or, if◌then◌else◌}
 use Rattle.std.specs.List.{range_with_len}
 use Rattle.std.proofs.lemmas.Bool.{and_parts, false≢true, ne_eqb}
@@ -16,21 +16,21 @@ use Rattle.lrc_wire.specs.declared.message.Message.TheVariants.{LockRequest, Loc
 use Rattle.lrc_copies.proofs.Members.{Contains-first, Contains-later, cases_Contains, none_Contains}
 use Rattle.lrc_protocol.specs.Copy.{Copy, valid, written, invalid, absent}
 use Rattle.lrc_protocol.specs.Expected.{indices_by, is_expected}
-use Rattle.lrc_protocol.specs.Letters.{own_part, changes_reply_to}
+use Rattle.lrc_lock.specs.declared.state.Pass.{Pass}
+use Rattle.lrc_exec.specs.Meaning.{Next, quiet, prints, reads, writes, acquires, releases, arrives, departs, traps, ends}
+use Rattle.lrc_protocol.specs.Run.{closes}
+use Rattle.lrc_protocol.specs.Letters.{grants_of, own_part, changes_reply_to}
 use Rattle.lrc_protocol.specs.Locks.{next_time}
 use Rattle.lrc_protocol.specs.Mail.{Letter}
 use Rattle.lrc_protocol.specs.Memory.{copy_at, with_interval, changes_or_none}
 use Rattle.lrc_protocol.specs.Node.{Node, OptionsRecord}
 use Rattle.lrc_protocol.specs.Take.{with_part}
 use Rattle.lrc_protocol.specs.Turn.{TurnRecord}
-use Rattle.lrc_protocol.specs.Log.{Input, EntryRecord, Logged}
-use Rattle.lrc_protocol.specs.World.{World, Flying, fresh_world, with_turn, pending}
+use Rattle.lrc_protocol.specs.Log.{Input, Logged}
+use Rattle.lrc_protocol.specs.World.{World, fresh_world, with_turn, pending}
 use Rattle.lrc_protocol.proofs.Worlds.{get_set_same, fresh_at}
-use Rattle.lrc_protocol.proofs.Induction.{Comes}
 use Rattle.lrc_invariants.proofs.Shift.{AllFrom}
 use Rattle.lrc_invariants.proofs.Sends.{Came, by_itself, comes, letter_in}
-use Rattle.lrc_invariants.proofs.Pending.{Took, Lost}
-use Rattle.lrc_invariants.proofs.Reached.{IsReached}
 use Rattle.lrc_local.proofs.Tests.{each_passes}
 use Rattle.lrc_local.proofs.Always.{attached_at, ranged_at}
 use Rattle.lrc_local.proofs.OwnAsked.{own-known}
@@ -41,8 +41,8 @@ use Rattle.lrc_coherence.proofs.Stocks.{StoreChange, same, closed, granted, depa
 use Rattle.lrc_coherence.proofs.History.{History, KeptByHistory, by_history, closed_record, closed_by}
 use Rattle.lrc_coherence.proofs.StampWorlds.{Placed, placed, each_node, TurnBy, alone, again, anew, turn_at}
 use Rattle.lrc_coherence.proofs.StampMade.{AreListed, closed-index, one_listed, all_made, all_listed}
-use Rattle.lrc_coherence.proofs.StampTurns.{is_changes_reply, AllSilent, SinceIn, Timely, Turned, Says, run-turned, took-turned}
-use Rattle.lrc_coherence.proofs.KnownStores.{then_Some, changes-more, IsKnown, all_known-more, learned-known, dropped-known, ArePartsOf, parts-known, closed-known, known-of}
+use Rattle.lrc_coherence.proofs.StampTurns.{is_changes_reply, AllSilent, NoReplies, silent-replies, grants-replies, SinceIn, Timely, Turned, Says, RunSays, GoesSaying, run-turned, took-turned}
+use Rattle.lrc_coherence.proofs.KnownStores.{changes-more, IsKnown, all_known-more, learned-known, dropped-known, ArePartsOf, parts-known, closed-known, known-of}
 
 -- ---- replies
 
@@ -60,16 +60,23 @@ replied-more made new e h m is =
     (λ (part : IndexedChangesRecord). made_changes (made ++ new) (record { node = e.from; index = part.index; page = m.page }) ≡ Some part.changes)
     (λ part k. changes-more made new (record { node = e.from; index = part.index; page = m.page }) part.changes k) m.parts (h m is)
 
-silent_out : (out : List EnvelopeRecord) → AllSilent (map letter_in out) → (e : EnvelopeRecord) → Contains out e → is_changes_reply e.message ≡ false
-silent_out [] s e c = absurd (none_Contains e c)
-silent_out (x ∷ out) s e c =
+none_out : (out : List EnvelopeRecord) → NoReplies (map letter_in out) → (e : EnvelopeRecord) → Contains out e → is_changes_reply e.message ≡ false
+none_out [] s e c = absurd (none_Contains e c)
+none_out (x ∷ out) s e c =
     ⊎_elim
     (λ (first : x ≡ e). subst (λ (y : EnvelopeRecord). is_changes_reply y.message ≡ false) first s.0)
-    (λ (later : Contains out e). silent_out out s.1 e later)
+    (λ (later : Contains out e). none_out out s.1 e later)
     (cases_Contains x out e c)
 
+none-replied : (made : List StoredRecord) (out : List EnvelopeRecord) → NoReplies (map letter_in out) → AllReplied made out
+none-replied made out s e c m is = absurd (false≢true (sym (none_out out s e c) ∙ ap is_changes_reply is))
+
 silent-replied : (made : List StoredRecord) (out : List EnvelopeRecord) → AllSilent (map letter_in out) → AllReplied made out
-silent-replied made out s e c m is = absurd (false≢true (sym (silent_out out s e c) ∙ ap is_changes_reply is))
+silent-replied made out s = none-replied made out (silent-replies (map letter_in out) s)
+
+grants-replied : (made : List StoredRecord) (out : List EnvelopeRecord) (node : Node) (pass : Option Pass) → map letter_in out ≡ grants_of node pass
+    → AllReplied made out
+grants-replied made out node pass is = none-replied made out (subst NoReplies (sym is) (grants-replies node pass))
 
 from_out : (me : ℕ) (out : List EnvelopeRecord) → AllFrom me out → (e : EnvelopeRecord) → Contains out e → e.from ≡ me
 from_out me [] f e c = absurd (none_Contains e c)
@@ -198,7 +205,7 @@ module _ (nodes n : ℕ) (node : Node) (made : List StoredRecord) (p : Placed no
       each_passes (λ index. is_some (notice_at node.memory.store (record { node = me; index = index; page = m.page })))
       (λ index. is_some (notice_at node.memory.store (record { node = me; index = index; page = m.page })) ≡ true) (λ index b. b) m.indices parts.1 in
       let P : IndexedChangesRecord → Type 0 = λ part.
-          made_changes made (record { node = me; index = part.index; page = m.page }) ≡ Some part.changes in
+      made_changes made (record { node = me; index = part.index; page = m.page }) ≡ Some part.changes in
       let all : ArePartsOf made me sent.page sent.parts =
       All-map P (own_part node m.page) m.indices
       (All-weaker (λ index. is_some (notice_at node.memory.store (record { node = me; index = index; page = m.page })) ≡ true)
@@ -216,7 +223,7 @@ module _ (nodes n : ℕ) (node : Node) (made : List StoredRecord) (p : Placed no
       → Says Unbound node from message (map letter_in out) → AllFrom me out → AllReplied made out
   says-replied from (ChangesRequest m) out e s f = answered from m out e s f
   says-replied from (LockRequest m) out e s f = silent-replied made out s
-  says-replied from (LockForward m) out e s f = silent-replied made out s
+  says-replied from (LockForward m) out e s f = grants-replied made out node _ s
   says-replied from (LockGrant m) out e s f = silent-replied made out s
   says-replied from (Arrive m) out e s f = silent-replied made out s
   says-replied from (Depart m) out e s f = silent-replied made out s
@@ -225,6 +232,18 @@ module _ (nodes n : ℕ) (node : Node) (made : List StoredRecord) (p : Placed no
   says-replied from (ChangesReply m) out e s f = silent-replied made out s
   says-replied from (PageRequest page) out e s f = silent-replied made out s
   says-replied from (PageReply m) out e s f = silent-replied made out s
+
+  run-replied : (next : Next) (out : List EnvelopeRecord) → RunSays Unbound node next (map letter_in out) → AllReplied made out
+  run-replied (releases lock after) out s = grants-replied made out (closes node) _ s
+  run-replied (quiet after) out s = silent-replied made out s
+  run-replied (prints value after) out s = silent-replied made out s
+  run-replied (reads word after) out s = silent-replied made out s
+  run-replied (writes word value after) out s = silent-replied made out s
+  run-replied (acquires lock after) out s = silent-replied made out s
+  run-replied (arrives after) out s = silent-replied made out s
+  run-replied (departs after) out s = silent-replied made out s
+  run-replied (traps cause) out s = silent-replied made out s
+  run-replied ends out s = silent-replied made out s
 
   -- ---- the turn
 
@@ -255,11 +274,12 @@ module _ (nodes n : ℕ) (node : Node) (made : List StoredRecord) (p : Placed no
 
   turned : (input : Input) (turn : TurnRecord) (after : Node) (now : List EnvelopeRecord) → after.setting.me ≡ me
       → TurnBy node was input turn after now → TurnKnown after now
-  turned _ turn after now me_is (alone o k g) = record {
-    stored = by_change by_itself after.memory.store after.locks.time k.change alone_known;
-    replied = both_replied after.locks.time was turn.out now g replies
-        (silent-replied made turn.out (run-turned Unbound node turn after o any_timely).says);
-  }
+  turned _ turn after now me_is (alone o k g) =
+      let went : Turned Unbound (GoesSaying Unbound node) turn after = run-turned Unbound node turn after o any_timely in
+      record {
+        stored = by_change by_itself after.memory.store after.locks.time k.change alone_known;
+        replied = both_replied after.locks.time was turn.out now g replies (run-replied went.says.0 turn.out went.says.1);
+      }
   turned _ _ _ now me_is (again e g) = record {
     stored = more_known node.locks.time node.memory.store.entries known;
     replied = λ x c.

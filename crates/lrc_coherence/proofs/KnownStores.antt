@@ -1,21 +1,21 @@
 -- What a store knows of intervals that were closed: each stored one is one of those, and the changes that are known are its changes.
-use Rattle.std.proofs.Common.{◌≡◌, ◌⊎◌, ℕ, ◌+◌, ◌<◌, List, [], ◌∷◌, ◌++◌, Bool, true, false, length, map, refl, sym, ap, subst, ◌∙◌, inl, inr, ⊎_elim, arith}
+use Rattle.std.proofs.Common.{◌≡◌, ◌⊎◌, ℕ, ◌<◌, List, [], ◌∷◌, ◌++◌, Bool, true, false, map, refl, sym, ap, subst, ◌∙◌, inl, inr, ⊎_elim, arith}
 use Rattle.std.specs.Prelude.{Option, Some, None, not, find, ◌==◌, All, AllPairs, Contains, cond, fold, option_and_then, slice_index_or, if◌then◌else◌}
 use Rattle.std.specs.List.{AllZip}
 use Rattle.std.proofs.lemmas.Bool.{eq-eqb, eqb-true, ne_eqb}
 use Rattle.std.proofs.lemmas.Option.{same_Some}
-use Rattle.std.proofs.lemmas.List.Elements.{All-head, All-tail, All-push, All-map, All-weaker, All-filter, All-contains, All-contains_itself, Contains-append_left, Contains-push}
+use Rattle.std.proofs.lemmas.List.Elements.{All-head, All-tail, All-push, All-map, All-weaker, All-filter, All-contains, All-contains_itself, Contains-append_left}
 use Rattle.lrc_time.specs.Time.{entry}
 use Rattle.lrc_page.specs.declared.changes.Change.{Change}
 use Rattle.lrc_store.specs.declared.key.Key.{Key}
-use Rattle.lrc_store.specs.Interval.{IntervalRecord, index_of as interval_index}
-use Rattle.lrc_store.specs.Store.{StoreRecord, StoredRecord, NoticeRecord, interval_of, intervals_of, is_at, is_covered, unread, without_changes, added, notice_with, stored_with, attached, discarded, stored_at, notice_of, changes_at}
+use Rattle.lrc_store.specs.Interval.{IntervalRecord}
+use Rattle.lrc_store.specs.Store.{StoreRecord, StoredRecord, NoticeRecord, interval_of, is_at, is_covered, unread, without_changes, added, notice_with, stored_with, attached, discarded, stored_at, notice_of, changes_at}
 use Rattle.lrc_store.proofs.Lookups.{passes-find}
 use Rattle.lrc_wire.specs.Records.{IndexedChangesRecord}
 use Rattle.lrc_copies.specs.Stamps.{index_of}
 use Rattle.lrc_copies.proofs.Members.{Contains-first, Contains-later, cases_Contains, none_Contains, AllPairs-first, AllPairs-rest}
 use Rattle.lrc_protocol.specs.Locks.{next_time}
-use Rattle.lrc_protocol.specs.Memory.{Memory, all_changes, closed_interval, with_own, with_interval}
+use Rattle.lrc_protocol.specs.Memory.{all_changes, closed_interval, with_own, with_interval}
 use Rattle.lrc_protocol.specs.Node.{Node}
 use Rattle.lrc_protocol.specs.Take.{with_part}
 use Rattle.lrc_coherence.specs.Made.{AllMade}
@@ -194,7 +194,7 @@ module _ (made : List StoredRecord) where
     parts-known from page [] store p h = h
     parts-known from page (part ∷ parts) store p h =
         let P : IndexedChangesRecord → Type 0 = λ part.
-            made_changes made (record { node = from; index = part.index; page = page }) ≡ Some part.changes in
+        made_changes made (record { node = from; index = part.index; page = page }) ≡ Some part.changes in
         parts-known from page parts (with_part from page store part) (All-tail P part parts p)
         (attached-known store (record { node = from; index = part.index; page = page }) part.changes (All-head P part parts p) h)
 

@@ -147,12 +147,12 @@ module _ (made : List IntervalRecord) (node : Node) (within : node.setting.me < 
   step_made _ _ _ now (repeats e is) k g =
       subst (λ b. TurnMade made (if b then [] else closed_interval node.setting.me (next_time node.setting.me node.locks.time) node.memory ∷ []) node.setting.me node now)
       (sym (eq-eqb (entry node.locks.time node.setting.me) (entry node.locks.time node.setting.me) refl)) (record {
-    own = ap (λ all. indices_by all node.setting.me) (append-nil made) ∙ exact;
-    others = λ q ne. ap (λ all. indices_by all q) (append-nil made);
-    stored = subst (λ all. AllMade all (intervals_of node.memory.store)) (sym (append-nil made)) stored;
-    told = subst (λ all. AllTold all now) (sym (append-nil made)) (repeated e now (is_repeat node e) is g);
-    kept = subst (λ all. ManagerKeeps all node.barrier.manager) (sym (append-nil made)) kept;
-  })
+        own = ap (λ all. indices_by all node.setting.me) (append-nil made) ∙ exact;
+        others = λ q ne. ap (λ all. indices_by all q) (append-nil made);
+        stored = subst (λ all. AllMade all (intervals_of node.memory.store)) (sym (append-nil made)) stored;
+        told = subst (λ all. AllTold all now) (sym (append-nil made)) (repeated e now (is_repeat node e) is g);
+        kept = subst (λ all. ManagerKeeps all node.barrier.manager) (sym (append-nil made)) kept;
+      })
   step_made _ turn after now (anew e to from new sent) k g =
       let lost : Lost e was turn.out now = fresh e turn.out now (is_repeat node e) new g in
       let here : AllMade made (intervals_in e.message) = told-there made lost.front lost.back e (subst (AllTold made) lost.before told) in

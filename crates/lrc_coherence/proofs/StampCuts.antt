@@ -1,12 +1,12 @@
 -- Times that are cuts of what was closed: one that a node goes on to by closing an interval, or by learning news, is one again.
-use Rattle.std.proofs.Common.{◌≡◌, ℕ, ◌+◌, ◌-◌, ◌<◌, ◌≤◌, max, List, [], ◌∷◌, ◌++◌, Bool, true, false, length, map, refl, sym, ap, subst, ◌∙◌, inl, inr, ⊎_elim, arith, append-nil}
-use Rattle.std.specs.Prelude.{IsTrue, ◌==◌, All, Contains, slice_index, if◌then◌else◌}
+use Rattle.std.proofs.Common.{◌≡◌, ℕ, ◌+◌, ◌-◌, ◌<◌, ◌≤◌, max, List, [], ◌∷◌, ◌++◌, Bool, true, false, length, map, refl, sym, ap, subst, ◌∙◌, ⊎_elim, arith, append-nil}
+use Rattle.std.specs.Prelude.{IsTrue, ◌==◌, All, Contains, if◌then◌else◌}
 use Rattle.std.specs.List.{range_with_len}
-use Rattle.std.proofs.lemmas.Bool.{cases_eq, cases_lt, eq-eqb, ne_eqb}
+use Rattle.std.proofs.lemmas.Bool.{cases_eq, cases_lt, ne_eqb}
 use Rattle.std.proofs.lemmas.List.{get_or_past, map-append}
 use Rattle.std.proofs.lemmas.List.Elements.{All-contains, Contains-append_left, Contains-push, Contains-push_cases}
 use Rattle.lrc_time.specs.Time.{entry, zeros, joined, Covers}
-use Rattle.lrc_time.proofs.Times.{covers-trans, covers-joined_first, covers-joined_second, entry-zeros, entry-joined, entry-set_same, entry-set_other}
+use Rattle.lrc_time.proofs.Times.{covers-trans, covers-joined_first, covers-joined_second, entry-zeros, entry-joined, entry-set_other}
 use Rattle.lrc_store.specs.Interval.{IntervalRecord, index_of as interval_index}
 use Rattle.lrc_store.specs.Store.{StoredRecord, interval_of}
 use Rattle.lrc_copies.specs.Stamps.{index_of, is_covered, IsCut, AreStamped, IsClosedAt}

@@ -1,9 +1,9 @@
 -- In every history the nodes know the closed intervals as they are: the law of stamps and changes.
-use Rattle.std.proofs.Common.{◌≡◌, ℕ, List, map}
+use Rattle.std.proofs.Common.{◌≡◌, ℕ, map}
 use Rattle.std.specs.Prelude.{Some}
 use Rattle.std.proofs.lemmas.List.Elements.{All-contains}
 use Rattle.lrc_lang.specs.declared.program.Program.{Program}
-use Rattle.lrc_store.specs.Store.{StoredRecord, interval_of}
+use Rattle.lrc_store.specs.Store.{interval_of}
 use Rattle.lrc_wire.specs.Records.{IndexedChangesRecord}
 use Rattle.lrc_protocol.specs.Memory.{copy_at}
 use Rattle.lrc_protocol.specs.Node.{OptionsRecord}
@@ -12,7 +12,7 @@ use Rattle.lrc_coherence.specs.Made.{AreMade}
 use Rattle.lrc_coherence.specs.Written.{made_changes}
 use Rattle.lrc_coherence.proofs.Stored.{stores_just}
 use Rattle.lrc_coherence.proofs.History.{reached_by}
-use Rattle.lrc_coherence.proofs.Laws.{AreKnown, StampsLaw}
+use Rattle.lrc_coherence.proofs.Laws.{StampsLaw}
 use Rattle.lrc_coherence.proofs.StampMade.{AreListed, all_made, all_listed}
 use Rattle.lrc_coherence.proofs.StampTimes.{AreCuts, all_cuts, since-of}
 use Rattle.lrc_coherence.proofs.StampCuts.{IsFull}

@@ -1,10 +1,9 @@
 -- In every history the stamps of the closed intervals, and every time that a node has, collected or remembers, are cuts of them.
-use Rattle.std.proofs.Common.{◌≡◌, ℕ, zero, suc, ◌+◌, ◌-◌, ◌<◌, List, [], ◌∷◌, ◌++◌, Bool, true, false, map, refl, sym, ap, subst, ◌∙◌, arith}
+use Rattle.std.proofs.Common.{◌≡◌, ℕ, zero, suc, ◌<◌, List, [], ◌++◌, true, map, refl, sym, subst, ◌∙◌, arith}
 use Rattle.std.specs.Prelude.{Some, Contains, replicate, slice_get, slice_index_or}
-use Rattle.std.specs.List.{range_with_len}
 use Rattle.std.proofs.lemmas.Bool.{and_parts}
 use Rattle.lrc_lang.specs.declared.program.Program.{Program}
-use Rattle.lrc_time.specs.Time.{entry, zeros, joined}
+use Rattle.lrc_time.specs.Time.{entry, joined}
 use Rattle.lrc_page.specs.Page.{zero_page}
 use Rattle.lrc_page.specs.Place.{pages_of}
 use Rattle.lrc_store.specs.Interval.{IntervalRecord}
@@ -17,19 +16,14 @@ use Rattle.lrc_copies.specs.Stamps.{AreStamped}
 use Rattle.lrc_copies.proofs.Members.{none_Contains}
 use Rattle.lrc_protocol.specs.Copy.{Copy, valid, written, invalid, absent}
 use Rattle.lrc_protocol.specs.Memory.{Memory, copy_at}
-use Rattle.lrc_protocol.specs.Expected.{indices_by, is_expected, is_learnable}
+use Rattle.lrc_protocol.specs.Expected.{is_expected, is_learnable}
 use Rattle.lrc_protocol.specs.Node.{Node, OptionsRecord}
 use Rattle.lrc_protocol.specs.Turn.{TurnRecord}
-use Rattle.lrc_protocol.specs.Log.{Input, EntryRecord, Logged}
-use Rattle.lrc_protocol.specs.World.{World, Flying, fresh_world, with_turn, pending}
-use Rattle.lrc_protocol.proofs.Worlds.{IsEntry, fresh_at}
-use Rattle.lrc_protocol.proofs.Induction.{Comes}
+use Rattle.lrc_protocol.specs.Log.{Input, Logged}
+use Rattle.lrc_protocol.specs.World.{World, fresh_world, with_turn, pending}
+use Rattle.lrc_protocol.proofs.Worlds.{fresh_at}
 use Rattle.lrc_invariants.proofs.Sends.{Came, by_itself, comes}
-use Rattle.lrc_invariants.proofs.Pending.{Took, Lost}
-use Rattle.lrc_invariants.proofs.Reached.{IsReached}
 use Rattle.lrc_local.proofs.Change.{News, news, view_of}
-use Rattle.lrc_local.proofs.Tokened.{come_to}
-use Rattle.lrc_local.proofs.Ranges.{Ranged}
 use Rattle.lrc_local.proofs.Always.{ranged_at}
 use Rattle.lrc_coherence.specs.Made.{AllMade, AllTold, intervals_in, AreMade}
 use Rattle.lrc_coherence.specs.Written.{made_stamps}
@@ -38,7 +32,7 @@ use Rattle.lrc_coherence.proofs.Stocks.{StoreChange, same, closed, granted, depa
 use Rattle.lrc_coherence.proofs.History.{History, KeptByHistory, by_history, closed_by}
 use Rattle.lrc_coherence.proofs.StampWorlds.{Placed, placed, each_node, TurnBy, alone, again, anew, turn_at}
 use Rattle.lrc_coherence.proofs.StampMade.{AreListed, all_made, all_listed}
-use Rattle.lrc_coherence.proofs.StampTurns.{SinceIn, Timely, Turned, run-turned, took-turned}
+use Rattle.lrc_coherence.proofs.StampTurns.{SinceIn, Timely, run-turned, took-turned}
 use Rattle.lrc_coherence.proofs.StampCuts.{IsFull, Counted, zeros-full, IsTold, full_learned, made_with, full_still, full_closed, stamped_still, stamps_still}
 
 -- ---- times in a memory

@@ -1,26 +1,25 @@
 -- What a turn does to the times that a node's memory keeps, the collected one and those remembered of invalid copies: they stay, or
 -- become the node's time from before the turn. And only a request of changes is answered by a reply of changes.
-use Rattle.std.proofs.Common.{◌≡◌, ℕ, ◌+◌, ◌<◌, ◌≤◌, List, [], ◌∷◌, ◌++◌, Bool, true, false, length, refl, sym, ap, subst, ◌∙◌, ⊎_elim, arith}
-use Rattle.std.specs.Prelude.{Option, Some, None, fold, map, flat_map, nat_lt, slice_index_or, if◌then◌else◌}
+use Rattle.std.proofs.Common.{◌≡◌, ℕ, ◌<◌, ◌≤◌, List, [], ◌∷◌, ◌++◌, Bool, true, false, length, refl, sym, subst, ⊎_elim, arith}
+use Rattle.std.specs.Prelude.{Option, Some, None, fold, map, flat_map, nat_lt, if◌then◌else◌}
 use Rattle.std.specs.List.{list_all, enumerate_from, range_with_len}
 use Rattle.std.proofs.lemmas.Bool.{cases_lt}
 use Rattle.std.proofs.lemmas.List.{get_or_past}
 use Rattle.lrc_page.specs.Place.{page_of, offset_of}
-use Rattle.lrc_exec.specs.Meaning.{Next, quiet, prints, reads, writes, acquires, releases, arrives, departs, traps, ends, next_of}
+use Rattle.lrc_exec.specs.Meaning.{Thread, Next, quiet, prints, reads, writes, acquires, releases, arrives, departs, traps, ends, next_of}
 use Rattle.lrc_store.specs.Interval.{IntervalRecord}
 use Rattle.lrc_wire.specs.Envelope.{EnvelopeRecord}
-use Rattle.lrc_wire.specs.Records.{ChangesReplyRecord, DepartRecord}
 use Rattle.lrc_wire.specs.declared.message.Message.{Message}
 use Rattle.lrc_wire.specs.declared.message.Message.TheVariants.{LockRequest, LockForward, LockGrant, Arrive, Depart, Clean, Discard, ChangesRequest, ChangesReply, PageRequest, PageReply}
 use Rattle.lrc_lock.specs.declared.state.Pass.{Pass}
 use Rattle.lrc_lock.specs.Managed.{Requested, refuses as refuses_request, forwards, requested}
-use Rattle.lrc_lock.specs.Held.{lock_at, is_free}
+use Rattle.lrc_lock.specs.Held.{lock_at, is_free, released, forwarded, pass_of}
 use Rattle.lrc_barrier.specs.declared.departure.Departure.{Departure}
 use Rattle.lrc_barrier.specs.Barrier.{ArriveStep, refuses as refuses_arrival, waits, departs as all_depart, CleanStep, refuses_clean, awaits, discards}
 use Rattle.lrc_protocol.specs.Copy.{Copy, valid, written, invalid, absent, is_readable, after_write, closed, invalidated, dropped}
-use Rattle.lrc_protocol.specs.Memory.{Memory, copy_at, with_copy, with_word, with_interval, is_named, learned, kept_pages, with_keepers, with_base, base_at, collected_at}
+use Rattle.lrc_protocol.specs.Memory.{Memory, copy_at, with_copy, with_interval, is_named, learned, kept_pages, with_keepers, with_base, base_at, collected_at}
 use Rattle.lrc_protocol.specs.Fetch.{Base, unneeded, due, come, Asked, Need, need_of, is_met, mended, with_changes, with_page}
-use Rattle.lrc_protocol.specs.Mail.{Letter, Wait, nothing, grant, departure, access, upkeep, discard, Collection, collection_of, numbered, MOST_NUMBER}
+use Rattle.lrc_protocol.specs.Mail.{Letter, Wait, nothing, grant, departure, access, upkeep, discard, collection_of, numbered, MOST_NUMBER}
 use Rattle.lrc_protocol.specs.Course.{Course, going, trapped, ended}
 use Rattle.lrc_protocol.specs.Locks.{next_time}
 use Rattle.lrc_protocol.specs.Node.{Node, Effect, begins, sends, acts, acts_by, memory_after, with_memory, waiting}
@@ -36,28 +35,32 @@ use Rattle.lrc_local.specs.Ranges.{CollectsAt}
 use Rattle.lrc_local.proofs.Lists.{length-placed}
 use Rattle.lrc_local.proofs.OwnCopies.{set-copy, map-copy, placed-copy}
 
--- ---- letters that are no reply of changes
+-- ---- letters that tell of changes, or grant a lock, and others
 
 abbrev pub is_changes_reply : Message → Bool
 is_changes_reply (ChangesReply m) = true
 is_changes_reply _ = false
 
+abbrev pub is_lock_grant : Message → Bool
+is_lock_grant (LockGrant m) = true
+is_lock_grant _ = false
+
 abbrev pub AllSilent : List Letter → Type 0
 AllSilent [] = Unit {0}
-AllSilent (x ∷ letters) = (is_changes_reply x.message ≡ false) × AllSilent letters
+AllSilent (x ∷ letters) = (is_changes_reply x.message ≡ false) × (is_lock_grant x.message ≡ false) × AllSilent letters
 
 silent-append : (xs ys : List Letter) → AllSilent xs → AllSilent ys → AllSilent (xs ++ ys)
 silent-append [] ys h k = k
-silent-append (x ∷ xs) ys h k = (h.0, silent-append xs ys h.1 k)
+silent-append (x ∷ xs) ys h k = (h.0, h.1, silent-append xs ys h.2 k)
 
 page_request-silent : (page : ℕ) (base : Base) → AllSilent (page_request_of page base)
 page_request-silent page unneeded = tt
-page_request-silent page (due keeper) = (refl, tt)
+page_request-silent page (due keeper) = (refl, refl, tt)
 page_request-silent page (come values) = tt
 
 changes_requests-silent : (page : ℕ) (asked : List Asked) → AllSilent (map (changes_request_of page) asked)
 changes_requests-silent page [] = tt
-changes_requests-silent page (a ∷ asked) = (refl, changes_requests-silent page asked)
+changes_requests-silent page (a ∷ asked) = (refl, refl, changes_requests-silent page asked)
 
 requests-silent : (need : Need) → AllSilent (requests_of need)
 requests-silent need =
@@ -70,15 +73,24 @@ all_requests-silent (need ∷ needs) = silent-append (requests_of need) (flat_ma
 
 departures-silent : (departures : List Departure) → AllSilent (map departure_of departures)
 departures-silent [] = tt
-departures-silent (d ∷ departures) = (refl, departures-silent departures)
+departures-silent (d ∷ departures) = (refl, refl, departures-silent departures)
 
 discards-silent : (nodes : List ℕ) (episode : ℕ) → AllSilent (discards_to nodes episode)
 discards-silent [] episode = tt
-discards-silent (n ∷ nodes) episode = (refl, discards-silent nodes episode)
+discards-silent (n ∷ nodes) episode = (refl, refl, discards-silent nodes episode)
 
-grants-silent : (node : Node) (pass : Option Pass) → AllSilent (grants_of node pass)
-grants-silent node None = tt
-grants-silent node (Some pass) = (refl, tt)
+-- none of them tells of changes
+abbrev pub NoReplies : List Letter → Type 0
+NoReplies [] = Unit {0}
+NoReplies (x ∷ letters) = (is_changes_reply x.message ≡ false) × NoReplies letters
+
+pub silent-replies : (letters : List Letter) → AllSilent letters → NoReplies letters
+silent-replies [] h = tt
+silent-replies (x ∷ letters) h = (h.0, silent-replies letters h.2)
+
+pub grants-replies : (node : Node) (pass : Option Pass) → NoReplies (grants_of node pass)
+grants-replies node None = tt
+grants-replies node (Some pass) = (refl, tt)
 
 -- ---- times in a memory
 
@@ -184,12 +196,13 @@ module _ (C : List ℕ → Type 0) where
     pub timely : Timely e.node.memory
     pub silent : AllSilent e.letters
 
-  abbrev KeepsIf : Option Effect → Type 0
-  KeepsIf None = Unit {0}
-  KeepsIf (Some e) = Keeps e
-
   rested : (letters : List Letter) (x : Node) → Timely x.memory → AllSilent letters → Keeps (sends letters x)
   rested letters x h s = record { timely = h; silent = s }
+
+  course_timely : (letters : List Letter) (x : Node) (c : Course) → Timely x.memory → Timely (acts_by letters x c).node.memory
+  course_timely letters x (going t) h = memory_after-timely x (next_of t) h
+  course_timely letters x (trapped cause) h = h
+  course_timely letters x ended h = h
 
   by_course : (letters : List Letter) (x : Node) (c : Course) → Timely x.memory → AllSilent letters → Keeps (acts_by letters x c)
   by_course letters x (going t) h s = record { timely = memory_after-timely x (next_of t) h; silent = s }
@@ -203,10 +216,6 @@ module _ (C : List ℕ → Type 0) where
   either true x y k l = k
   either false x y k l = l
 
-  optional : (b : Bool) (x : Effect) → Keeps x → KeepsIf (if b then Some x else None)
-  optional true x k = k
-  optional false x k = tt
-
   goes_on : (letters : List Letter) (x : Node) (w : Wait) → Timely x.memory → AllSilent letters → Keeps (waits_or_goes_on letters x w)
   goes_on letters x (access need) h s =
       either (is_met need) _ _
@@ -216,7 +225,7 @@ module _ (C : List ℕ → Type 0) where
       either (list_all is_met needs) _ _
       (rested (letter 0 (Clean x.barrier.episode) ∷ [])
       (waiting (discard collection) (with_memory x (clean_memory needs collection.kept x.memory)))
-      (clean-timely needs collection.kept x.memory h) (refl, tt))
+      (clean-timely needs collection.kept x.memory h) (refl, refl, tt))
       (rested letters (waiting (upkeep collection needs) x) h s)
   goes_on letters x nothing h s = rested letters (waiting nothing x) h s
   goes_on letters x (grant lock) h s = rested letters (waiting (grant lock) x) h s
@@ -234,31 +243,68 @@ module _ (C : List ℕ → Type 0) where
   closes-timely : (node : Node) → Timely node.memory → Timely (closes node).memory
   closes-timely node h = interval-timely node.setting.me (next_time node.setting.me node.locks.time) node.memory h
 
+  released-timely : (node : Node) (lock : ℕ) → Timely node.memory → Timely (release_at lock (closes node)).node.memory
+  released-timely node lock h = course_timely _ _ node.course (closes-timely node h)
+
   acquire-keeps : (node : Node) (lock : ℕ) → Timely node.memory → Keeps (acquire_at lock (closes node))
   acquire-keeps node lock h =
-      either (is_free (lock_at node.locks.held lock)) _ _ (acted [] _ (closes-timely node h) tt) (rested _ _ (closes-timely node h) (refl, tt))
+      either (is_free (lock_at node.locks.held lock)) _ _ (acted [] _ (closes-timely node h) tt) (rested _ _ (closes-timely node h) (refl, refl, tt))
 
-  run-keeps : (node : Node) (next : Next) → Timely node.memory → KeepsIf (run_effect node next)
-  run-keeps node (quiet after) h = acted [] node h tt
-  run-keeps node (prints value after) h = acted [] node h tt
-  run-keeps node (reads word after) h = reaches-keeps node (page_of word node.options.size) h
-  run-keeps node (writes word value after) h = reaches-keeps node (page_of word node.options.size) h
+  -- a release may grant the lock; whatever else is begun is silent
+  abbrev pub RunSays : Node → Next → List Letter → Type 0
+  RunSays node (releases lock after) letters =
+      letters ≡ grants_of (closes node) (pass_of (released node.locks.held lock (next_time node.setting.me node.locks.time)))
+  RunSays node _ letters = AllSilent letters
+
+  record Begins (node : Node) (next : Next) (e : Effect) : Type 0 where
+    timely : Timely e.node.memory
+    says : RunSays node next e.letters
+
+  abbrev BeginsIf : Node → Next → Option Effect → Type 0
+  BeginsIf node next None = Unit {0}
+  BeginsIf node next (Some e) = Begins node next e
+
+  begins_so : (node : Node) (next : Next) (e : Effect) → (AllSilent e.letters → RunSays node next e.letters) → Keeps e → Begins node next e
+  begins_so node next e f k = record { timely = k.timely; says = f k.silent }
+
+  optional : (node : Node) (next : Next) (b : Bool) (x : Effect) → Begins node next x → BeginsIf node next (if b then Some x else None)
+  optional node next true x k = k
+  optional node next false x k = tt
+
+  -- a release's letters are as they are
+  releases-says : (node : Node) (lock : ℕ) (after : Thread) → RunSays node (releases lock after) (release_at lock (closes node)).letters
+  releases-says node lock after = acts_letters _ _ node.course
+    where
+      acts_letters : (letters : List Letter) (x : Node) (c : Course) → (acts_by letters x c).letters ≡ letters
+      acts_letters letters x (going t) = refl
+      acts_letters letters x (trapped cause) = refl
+      acts_letters letters x ended = refl
+
+  run-keeps : (node : Node) (next : Next) → Timely node.memory → BeginsIf node next (run_effect node next)
+  run-keeps node (quiet after) h = begins_so node (quiet after) _ (λ s. s) (acted [] node h tt)
+  run-keeps node (prints value after) h = begins_so node (prints value after) _ (λ s. s) (acted [] node h tt)
+  run-keeps node (reads word after) h =
+      begins_so node (reads word after) _ (λ s. s) (reaches-keeps node (page_of word node.options.size) h)
+  run-keeps node (writes word value after) h =
+      begins_so node (writes word value after) _ (λ s. s) (reaches-keeps node (page_of word node.options.size) h)
   run-keeps node (acquires lock after) h =
-      optional (nat_lt (own_index node) MOST_NUMBER) (acquire_at lock (closes node)) (acquire-keeps node lock h)
+      optional node (acquires lock after) (nat_lt (own_index node) MOST_NUMBER) (acquire_at lock (closes node))
+      (begins_so node (acquires lock after) _ (λ s. s) (acquire-keeps node lock h))
   run-keeps node (releases lock after) h =
-      optional (nat_lt (own_index node) MOST_NUMBER) (release_at lock (closes node))
-      (acted _ _ (closes-timely node h) (grants-silent (closes node) _))
+      optional node (releases lock after) (nat_lt (own_index node) MOST_NUMBER) (release_at lock (closes node))
+      (record { timely = released-timely node lock h; says = releases-says node lock after })
   run-keeps node (arrives after) h =
-      optional (nat_lt (own_index node) MOST_NUMBER) (arrive_at (closes node)) (acted _ _ (closes-timely node h) (refl, tt))
-  run-keeps node (departs after) h = acted [] node h tt
-  run-keeps node (traps cause) h = acted [] node h tt
-  run-keeps node ends h = acted [] node h tt
+      optional node (arrives after) (nat_lt (own_index node) MOST_NUMBER) (arrive_at (closes node))
+      (begins_so node (arrives after) _ (λ s. s) (acted _ _ (closes-timely node h) (refl, refl, tt)))
+  run-keeps node (departs after) h = begins_so node (departs after) _ (λ s. s) (acted [] node h tt)
+  run-keeps node (traps cause) h = begins_so node (traps cause) _ (λ s. s) (acted [] node h tt)
+  run-keeps node ends h = begins_so node ends _ (λ s. s) (acted [] node h tt)
 
   -- ---- with a message
 
   request-keeps : (node : Node) (from lock : ℕ) (time : List ℕ) (r : Requested) → Timely node.memory → Keeps (request_by node from lock time r)
   request-keeps node from lock time (refuses_request fault) h = rested [] node h tt
-  request-keeps node from lock time (forwards to managed) h = rested _ _ h (refl, tt)
+  request-keeps node from lock time (forwards to managed) h = rested _ _ h (refl, refl, tt)
 
   arrive-keeps : (node : Node) (step : Option ArriveStep) → Timely node.memory → Keeps (arrive_by node step)
   arrive-keeps node None h = rested [] node h tt
@@ -283,7 +329,7 @@ module _ (C : List ℕ → Type 0) where
 
   page-keeps : (node : Node) (from page : ℕ) (base : Option (List ℕ)) → Timely node.memory → Keeps (page_reply_by node from page base)
   page-keeps node from page None h = rested [] node h tt
-  page-keeps node from page (Some values) h = rested _ node h (refl, tt)
+  page-keeps node from page (Some values) h = rested _ node h (refl, refl, tt)
 
   depart-keeps : (node : Node) (collect : Bool) (time : List ℕ) (intervals : List IntervalRecord) → C node.locks.time → Timely node.memory
       → Keeps (take_departure node collect time intervals)
@@ -298,9 +344,10 @@ module _ (C : List ℕ → Type 0) where
       (record { collected = now.collected; since = now.since }) (all_requests-silent needs))
       (acted [] (waiting nothing knowing) now tt)
 
-  -- what is sent is silent, but to a request of changes
+  -- what is sent is silent, but to a request of changes, and to a request of a lock that is passed on
   abbrev pub Says : Node → ℕ → Message → List Letter → Type 0
   Says node from (ChangesRequest m) letters = letters ≡ changes_reply_to node from m.page m.indices ∷ []
+  Says node from (LockForward m) letters = letters ≡ grants_of node (pass_of (forwarded node.locks.held m.lock m.asker m.time))
   Says node from _ letters = AllSilent letters
 
   record Takes (node : Node) (from : ℕ) (message : Message) (e : Effect) : Type 0 where
@@ -315,7 +362,7 @@ module _ (C : List ℕ → Type 0) where
     take-keeps (LockRequest m) =
         mute (LockRequest m) (take_effect node from (LockRequest m)) (λ s. s)
         (request-keeps node from m.lock m.time (requested node.locks.managed m.lock from) h)
-    take-keeps (LockForward m) = mute (LockForward m) (take_effect node from (LockForward m)) (λ s. s) (rested _ _ h (grants-silent node _))
+    take-keeps (LockForward m) = record { timely = record { collected = h.collected; since = h.since }; says = refl }
     take-keeps (LockGrant m) =
         mute (LockGrant m) (take_effect node from (LockGrant m)) (λ s. s) (acted [] _ (learned-timely node.locks.time m.intervals node.memory c h) tt)
     take-keeps (Arrive m) = mute (Arrive m) (take_effect node from (Arrive m)) (λ s. s) (arrive-keeps node _ h)
@@ -360,17 +407,33 @@ module _ (C : List ℕ → Type 0) where
       (numbered-letters e.node.setting.me e.node.options.first e.node.mail.sent e.letters)
       (numbered-from e.node.setting.me e.node.options.first e.node.mail.sent e.letters)
 
-  effect_if-turned : (o : Option Effect) → KeepsIf o → TurnedIf AllSilent (turn_if o)
-  effect_if-turned None k = tt
-  effect_if-turned (Some e) k = effect-turned AllSilent e k.timely k.silent
+  effect_if-turned : (node : Node) (next : Next) (o : Option Effect) → BeginsIf node next o → TurnedIf (RunSays node next) (turn_if o)
+  effect_if-turned node next None k = tt
+  effect_if-turned node next (Some e) k = effect-turned (RunSays node next) e k.timely k.says
 
-  begun-turned : (node : Node) (o : Option Next) → Timely node.memory → TurnedIf AllSilent (turn_by node o)
+  -- what a node says that goes on by itself
+  abbrev pub GoesSaying : Node → List Letter → Type 0
+  GoesSaying node letters = (next : Next) × RunSays node next letters
+
+  begins-with : (node : Node) (next : Next) (o : Outcome) → TurnedIf (RunSays (charged node next) next) o → TurnedIf (GoesSaying node) o
+  begins-with node next (done turn after) t = record { timely = t.timely; says = (next, same next t.says); from = t.from }
+    where
+      same : (n : Next) → RunSays (charged node next) n (map letter_in turn.out) → RunSays node n (map letter_in turn.out)
+      same n s = s
+  begins-with node next not_ready t = tt
+  begins-with node next unexpected t = tt
+  begins-with node next worn t = tt
+
+  begun-turned : (node : Node) (o : Option Next) → Timely node.memory → TurnedIf (GoesSaying node) (turn_by node o)
   begun-turned node None h = tt
-  begun-turned node (Some next) h = effect_if-turned (run_effect (charged node next) next) (run-keeps (charged node next) next h)
+  begun-turned node (Some next) h =
+      begins-with node next (turn_if (run_effect (charged node next) next))
+      (effect_if-turned (charged node next) next (run_effect (charged node next) next) (run-keeps (charged node next) next h))
 
   -- a node that goes on by itself
-  pub run-turned : (node : Node) (turn : TurnRecord) (after : Node) → run_turn node ≡ done turn after → Timely node.memory → Turned AllSilent turn after
-  run-turned node turn after e h = subst (TurnedIf AllSilent) e (begun-turned node (begins node) h)
+  pub run-turned : (node : Node) (turn : TurnRecord) (after : Node) → run_turn node ≡ done turn after → Timely node.memory
+      → Turned (GoesSaying node) turn after
+  run-turned node turn after e h = subst (TurnedIf (GoesSaying node)) e (begun-turned node (begins node) h)
 
   -- a node that takes a message
   pub took-turned : (node : Node) (e : EnvelopeRecord) (turn : TurnRecord) (after : Node) → Took node e turn after → C node.locks.time

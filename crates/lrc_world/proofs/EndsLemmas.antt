@@ -7,8 +7,8 @@ use Rattle.std.proofs.lemmas.List.{same_lists, length-map, length-set, get_or-ma
 use Rattle.std.proofs.lemmas.List.Elements.{filter-append}
 use Rattle.std.proofs.lemmas.List.FromFn.{length-range_with_len, get_or-range_with_len}
 use Rattle.lrc_trace.specs.declared.act.Act.{Act}
-use Rattle.lrc_world.specs.declared.report.End.{End}
-use Rattle.lrc_world.specs.declared.report.End.TheVariants.{Unfinished}
+use Rattle.lrc_node.specs.declared.end.End.{End}
+use Rattle.lrc_node.specs.declared.end.End.TheVariants.{Unfinished}
 use Rattle.lrc_world.specs.Ends.{end_after, end_by, end_of, ends_of}
 
 length-ends : (nodes : ℕ) (acts : List Act) → length (ends_of nodes acts) ≡ nodes

@@ -1,3 +1,9 @@
-pub mod AloneIsPlain
+pub mod Worlds
+pub mod Turned
+pub mod Lists
+pub mod Played
+pub mod Marks
+pub mod Events
 pub mod EndsLemmas
-pub mod Turns
+pub mod Driven
+pub mod Theorem

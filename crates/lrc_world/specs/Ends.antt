@@ -4,8 +4,8 @@ use Rattle.std.specs.List.{last_or, range_with_len}
 use Rattle.lrc_trace.specs.declared.act.Act.{Act}
 use Rattle.lrc_trace.specs.declared.act.Deed.{Deed}
 use Rattle.lrc_trace.specs.declared.act.Deed.TheVariants as deeds
-use Rattle.lrc_world.specs.declared.report.End.{End}
-use Rattle.lrc_world.specs.declared.report.End.TheVariants.{Ended, Trapped, Unfinished}
+use Rattle.lrc_node.specs.declared.end.End.{End}
+use Rattle.lrc_node.specs.declared.end.End.TheVariants.{Ended, Trapped, Unfinished}
 
 -- how a node ended whose last deed is this
 abbrev pub end_after : Deed → End

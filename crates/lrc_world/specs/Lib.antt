@@ -1,5 +1,5 @@
-pub mod Alone
-pub mod Asked
-pub mod Ends
 pub mod Range
-pub mod Standing
+pub mod Ends
+pub mod Report
+pub mod World
+pub mod Rounds

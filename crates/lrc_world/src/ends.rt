@@ -3,7 +3,7 @@
 ghost use Rattle.std.specs.Prelude.{◌≡◌, IfOk, slice_set};
 ghost use Rattle.lrc_world.specs.Ends.{end_after, ends_of};
 
-use crate::report::End;
+use lrc_node::End;
 use lrc_trace::act::{Act, Deed};
 use std::alloc::{AllocError, Global};
 

@@ -1,8 +1,10 @@
-//! Runs of a program: which node goes on, and what comes of it.
+//! Runs of a program on lazy-release-consistent shared memory: nodes that take their turns in any order, and messages that
+//! are delivered in any order, any number of times, or never.
 #![tactic(auto)]
 
-mod alone;
 pub mod ends;
-pub mod picker;
+mod flying;
 pub mod report;
+mod rounds;
 pub mod simulate;
+mod world;

@@ -1,8 +1,10 @@
-// What a run is asked for, and what it answers.
+// What a run answers.
 
 ghost use Rattle.std.specs.Prelude.{◌≡◌};
+ghost use Rattle.lrc_world.specs.declared.report.SimFault.TheVariants.{NoMemory};
 
-use lrc_trace::act::{Act, Cause};
+use lrc_node::{End, Entry};
+use lrc_trace::act::Act;
 use std::alloc::{AllocError, AllocFailed};
 use thiserror::Error;
 
@@ -12,37 +14,6 @@ pub const MOST_EVENTS: usize = 100_000_000;
 /// How many statements a node may begin at most.
 pub const MOST_STEPS: u32 = 1_000_000;
 
-/// What a run may do.
-#[derive(Clone, Copy)]
-pub struct Options {
-    /// How many statements each node may begin, 1 to 1,000,000.
-    pub steps: u32,
-    /// From how many stored intervals on a node asks for a collection; 0 for none.
-    pub collect: u32,
-    /// The number of the first message from each node to each.
-    pub first: u32,
-}
-
-/// What may happen next in a run.
-#[derive(Clone, Copy, PartialEq, Eq)]
-pub enum Event {
-    /// This node goes on. Skipped where no node has this number, or it is not ready.
-    Run(u32),
-    /// The message at this place in flight is delivered, counted from the oldest at 0. Skipped where there is none.
-    Deliver(u32),
-}
-
-/// How a node's run ended.
-#[derive(Clone, Copy, PartialEq, Eq)]
-pub enum End {
-    /// It came to the end of the text.
-    Ended,
-    /// It trapped.
-    Trapped(Cause),
-    /// Neither.
-    Unfinished,
-}
-
 /// What came of a run.
 #[derive(Drop)]
 pub struct Report {
@@ -50,18 +21,22 @@ pub struct Report {
     pub acts: Vec<Act>,
     /// How each node ended, from node 0 up.
     pub ends: Vec<End>,
+    /// The turns of each node with their stamps, from node 0 up.
+    pub logs: Vec<Vec<Entry>>,
+    /// The least position of an act that races with an earlier one, where there is one.
+    pub first_race: Option<usize>,
 }
 
 /// Why there is no report.
 #[derive(Clone, Copy, Debug, PartialEq, Eq, Error)]
 pub enum SimFault {
-    /// The number of nodes is out of range.
+    /// The number of nodes is not 1 to 16.
     #[error("number of nodes out of range")]
     BadNodes,
     /// The number of steps is not 1 to 1,000,000.
     #[error("number of steps out of range")]
     BadSteps,
-    /// A message number would pass its limit.
+    /// A message number, an interval's index, a stamp or the length of a message would pass its limit.
     #[error("message numbers used up")]
     Worn,
     /// Memory ran out.
@@ -70,8 +45,6 @@ pub enum SimFault {
 }
 
 impl From<AllocError> for SimFault {
-    ghost use Rattle.lrc_world.specs.declared.report.SimFault.TheVariants.{NoMemory};
-
     ghost from_gives = { λ _ e. e ≡ NoMemory };
 
     fn from(_: AllocError) -> Self {
@@ -80,8 +53,6 @@ impl From<AllocError> for SimFault {
 }
 
 impl<T: Drop> From<AllocFailed<T>> for SimFault {
-    ghost use Rattle.lrc_world.specs.declared.report.SimFault.TheVariants.{NoMemory};
-
     ghost from_gives = { λ _ e. e ≡ NoMemory };
 
     fn from(_: AllocFailed<T>) -> Self {

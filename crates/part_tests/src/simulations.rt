@@ -2,13 +2,13 @@
 
 ghost use Rattle.std.specs.Prelude.{◌≤◌};
 
-use lrc_core::report::SimFault;
-use lrc_core::simulate::simulate;
 use lrc_lang::parse;
 use lrc_node::Options;
 use lrc_page::Size;
 use lrc_protocol::Event;
 use lrc_trace::act::{Act, Deed};
+use lrc_world::report::SimFault;
+use lrc_world::simulate::simulate;
 use std::alloc::{AllocError, Global};
 
 const LATE_GRANT: &[u8] = b"words 2; locks 1; if me == 0 { acquire 0; [0] = 1; release 0; [1] = 2; }

@@ -1,39 +1,30 @@
-use Rattle.std.proofs.Common.{◌≡◌, ◌∙◌, ◌∷◌, ◌++◌, [], ℕ, List, Option, Result, Ok, Err, Vec, IfErr, IfOk, IsErrAnd, refl, sym, ap, ap₂, subst, append-nil, option_map}
+use Rattle.std.proofs.Common.{◌≡◌, ◌∙◌, ◌∷◌, ◌++◌, [], ℕ, List, Option, Result, Ok, Err, Vec, IfErr, IfOk, IsErrAnd, refl, sym, ap, subst, append-nil, option_map}
 use Rattle.std.specs.Borrow.{Bor}
 use Rattle.std.specs.declared.alloc.Global.{Global}
 use Rattle.lrc_lang.specs.declared.program.Program.{Program}
-use Rattle.lrc_trace.specs.declared.act.Act.{Act}
-use Rattle.lrc_world.specs.Ends.{ends_of}
-use Rattle.lrc_world.specs.declared.report.Report.{Report}
-use Rattle.lrc_cli.specs.Answer.{IsFault, IsPrintoutOfRounds, IsReportOf, IsRunFault, IsTextOf, Prints, acts_of}
-use Rattle.lrc_cli.specs.ReportText.{report_text, status_of, whole_text}
+use Rattle.lrc_cli.specs.Answer.{IsFault, IsPrintoutOfRounds, IsRunFault, IsTextOf, IsWornChoice, Prints}
+use Rattle.lrc_cli.specs.ReportText.{whole_text}
 use Rattle.lrc_cli.specs.declared.answer.Printout.{Printout}
 use Rattle.lrc_cli.specs.declared.choice.Choice.{Choice}
-use Rattle.lrc_cli.specs.declared.choice.Choice.TheVariants.{Plain}
+use Rattle.lrc_cli.specs.declared.choice.Choice.TheVariants.{Plain, Simulate}
 use Rattle.lrc_cli.specs.declared.choice.PlainRun.{PlainRun}
+use Rattle.lrc_cli.specs.declared.choice.Simulation.{Simulation}
 use Rattle.lrc_cli.specs.declared.fault.Fault.{Fault}
 use Rattle.lrc_cli.specs.declared.fault.Fault.TheVariants.{Text, Events, Worn, NoMemory}
 use Rattle.lrc_cli.proofs.answer.answer.Goals as goal
 
 -- a fault of a run is the first, since the text is a program's
-run_fault : (text : List ℕ) (events_text : Option (List ℕ)) (fault : Fault) (program : Program) → IsTextOf text program → IsRunFault events_text fault
-    → IsFault text events_text fault
-run_fault text events_text (Text line kind) program is h = absurd h
-run_fault text events_text (Events line) program is h = ((program, is), h)
-run_fault text events_text Worn program is h = absurd h
-run_fault text events_text NoMemory program is h = tt
+run_fault : (choice : Choice) (run : Simulation) (text : List ℕ) (events_text : Option (List ℕ)) (fault : Fault) (program : Program)
+    → choice ≡ Simulate run → IsTextOf text program → IsRunFault program run events_text fault → IsFault choice text events_text fault
+run_fault choice run text events_text (Text line kind) program chosen is h = absurd h
+run_fault choice run text events_text (Events line) program chosen is h = ((program, is), h)
+run_fault choice run text events_text Worn program chosen is h =
+    (program, is, subst (λ (c : Choice). IsWornChoice c program events_text) (sym chosen) h)
+run_fault choice run text events_text NoMemory program chosen is h = tt
 
 fault_up : {T : Type 0} (r : Result T Fault) (fault : Fault) (P : Fault → Type 0) → IsErrAnd r (λ f. f ≡ fault) → P fault → IfErr r P
 fault_up (Ok x) fault P is h = tt
 fault_up (Err f) fault P is h = subst P (sym is) h
-
--- the report of a run is that of its acts
-report_is : (nodes status : ℕ) (acts : List Act) (out : List ℕ) (report : Report) → out ≡ report_text report.acts.items report.ends.items
-    → status ≡ status_of report.ends.items
-    → report.acts.items ≡ acts → report.ends.items ≡ ends_of nodes report.acts.items → IsReportOf nodes acts out status
-report_is nodes status acts out report printed after acts_are ends_are =
-    let ends : report.ends.items ≡ ends_of nodes acts = ends_are ∙ ap (ends_of nodes) acts_are in
-    (printed ∙ ap₂ report_text acts_are ends, after ∙ ap status_of ends)
 
 -- what is printed of the acts in rounds is what the choice of them prints
 printed_in_rounds : (result : Result Printout Fault) (text : List ℕ) (events_text : Option (List ℕ)) (choice : Choice) (run : PlainRun) (program : Program)
@@ -57,7 +48,8 @@ returns-in-Check-clause-ok c =
 pub returns-in_err-report-in-Simulate-clause-err : goal.returns-in_err-report-in-Simulate-clause-err
 returns-in_err-report-in-Simulate-clause-err c =
     fault_up c.from_residual-in_err-report-in-Simulate.result _ _ c.from_residual-in_err-report-in-Simulate.ensures.1
-    (run_fault c.args.text.now _ c.in_err-report-in-Simulate.field-0.0 c.in_ok-program.program c.in_ok-program.ensures.program
+    (run_fault c.args.choice.now c.in-Simulate.run' c.args.text.now _ c.in_err-report-in-Simulate.field-0.0 c.in_ok-program.program c.in-Simulate.is
+    c.in_ok-program.ensures.program
     c.in_err-report-in-Simulate.ensures.err)
 
 pub returns-in-Plain-clause-ok : goal.returns-in-Plain-clause-ok
@@ -67,18 +59,13 @@ returns-in-Plain-clause-ok c =
 
 pub returns-clause-ok : goal.returns-clause-ok
 returns-clause-ok c =
-    let run = c.in_ok-report-in-Simulate.ensures.ok in
-    let report = c.in_ok-report-in-Simulate.report in
-    let printout = c.in_ok-printout_of-in-Simulate.field-0 in
-    let printed = c.in_ok-printout_of-in-Simulate.ensures.text ∙ ap₂ report_text c.deref.ensures.value c.deref-in-Simulate.ensures.value in
-    let after = c.in_ok-printout_of-in-Simulate.ensures.status ∙ ap status_of c.deref-in-Simulate.ensures.value in
+    let printout = c.in_ok-printout_of_run-in-Simulate.field-0 in
     subst (λ (choice : Choice). Prints choice c.args.text.now (option_map (λ (e : Bor (List ℕ)). e.now) c.args.events)
     (whole_text printout.parts.items) printout.status)
     (sym c.in-Simulate.is) (
       c.in_ok-program.program,
       c.in_ok-program.ensures.program,
-      run.0,
-      run.1,
-      report_is c.in-Simulate.run'.nodes.count printout.status
-          (acts_of c.in_ok-program.program c.in-Simulate.run'.steps.count run.0) _ report printed after run.2 run.3,
+      c.in_ok-report-in-Simulate.report,
+      c.in_ok-report-in-Simulate.ensures.ok,
+      (c.in_ok-printout_of_run-in-Simulate.ensures.text, c.in_ok-printout_of_run-in-Simulate.ensures.status),
     )

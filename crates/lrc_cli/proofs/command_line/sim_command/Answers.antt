@@ -13,7 +13,10 @@ returns-clause-app c =
     let one = c.in_ok-arg.ensures.shape c.file.ensures.local ∙ ap₂ with_rule about_is c.file.ensures.rule in
     let two = c.in_ok-arg-2.ensures.shape c.number.ensures.local ∙ ap₂ with_rule one nodes_is in
     let three = c.in_ok-arg-3.ensures.shape c.number-2.ensures.local ∙ ap₂ with_rule two steps_is in
-    IfOk-weaker c.arg-4.result _ _ (λ r h. h.shape c.events.ensures.local ∙ ap₂ with_rule three c.events.ensures.rule) c.arg-4.ensures
+    let four = c.in_ok-arg-4.ensures.shape c.number-3.ensures.local ∙ ap₂ with_rule three c.number-3.ensures.rule in
+    let five = c.in_ok-arg-5.ensures.shape c.text.ensures.local ∙ ap₂ with_rule four c.text.ensures.rule in
+    let six = c.in_ok-arg-6.ensures.shape c.text-2.ensures.local ∙ ap₂ with_rule five c.text-2.ensures.rule in
+    IfOk-weaker c.arg-7.result _ _ (λ r h. h.shape c.text-3.ensures.local ∙ ap₂ with_rule six c.text-3.ensures.rule) c.arg-7.ensures
 
 pub returns-clause-local : goal.returns-clause-local
 returns-clause-local c =
@@ -21,4 +24,7 @@ returns-clause-local c =
     let one = c.in_ok-arg.ensures.globals ∙ ap₂ ◌||◌ about_is c.file.ensures.local in
     let two = c.in_ok-arg-2.ensures.globals ∙ ap₂ ◌||◌ one c.number.ensures.local in
     let three = c.in_ok-arg-3.ensures.globals ∙ ap₂ ◌||◌ two c.number-2.ensures.local in
-    IfOk-weaker c.arg-4.result _ _ (λ r h. h.globals ∙ ap₂ ◌||◌ three c.events.ensures.local) c.arg-4.ensures
+    let four = c.in_ok-arg-4.ensures.globals ∙ ap₂ ◌||◌ three c.number-3.ensures.local in
+    let five = c.in_ok-arg-5.ensures.globals ∙ ap₂ ◌||◌ four c.text.ensures.local in
+    let six = c.in_ok-arg-6.ensures.globals ∙ ap₂ ◌||◌ five c.text-2.ensures.local in
+    IfOk-weaker c.arg-7.result _ _ (λ r h. h.globals ∙ ap₂ ◌||◌ six c.text-3.ensures.local) c.arg-7.ensures

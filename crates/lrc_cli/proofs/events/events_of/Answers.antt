@@ -2,7 +2,7 @@ use Rattle.std.proofs.Common.{◌≡◌, ◌∙◌, ◌<◌, ◌+◌, ◌==◌, 
 use Rattle.std.proofs.lemmas.List.{append_assoc, length-take-le, length_push, take_all, take_more, take-append-drop}
 use Rattle.std.proofs.lemmas.Iterator.Consumers.{YieldsList-turn, YieldsList-end}
 use Rattle.std.proofs.lemmas.Iterator.Splits.{YieldsList-from_slice_split}
-use Rattle.lrc_world.specs.declared.report.Event.{Event}
+use Rattle.lrc_protocol.specs.declared.event.Event.{Event}
 use Rattle.lrc_cli.specs.EventsText.{IsBad, IsFirstBad, NameAll, Names, empty, lines_of, more, none}
 use Rattle.lrc_cli.proofs.WriteLemmas.{nil_of}
 use Rattle.lrc_cli.proofs.events.events_of.Goals as goal

@@ -12,7 +12,7 @@ same : (held : Option (List ℕ)) → Keeps held held
 same None = tt
 same (Some bytes) = refl
 
-complained : (choice : Choice) (text : List ℕ) (events out err err' : Option (List ℕ)) (result : ℕ) (fault : Fault) → IsFault text events fault
+complained : (choice : Choice) (text : List ℕ) (events out err err' : Option (List ℕ)) (result : ℕ) (fault : Fault) → IsFault choice text events fault
     → IsWritten err err' (fault_line fault) 1 result ⊎ IsWritten err err' (fault_line NoMemory) 1 result → Performs choice text events out out err err' result
 complained choice text events out err err' result fault is (inl line) = faults fault is line (same out)
 complained choice text events out err err' result fault is (inr line) = faults NoMemory tt line (same out)

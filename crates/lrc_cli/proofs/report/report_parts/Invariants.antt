@@ -1,6 +1,6 @@
 use Rattle.std.proofs.Common.{◌≡◌, ◌<◌, ◌≤◌, ℕ, [], length, take, get_or, vec_len}
 use Rattle.std.specs.List.{flat_map}
-use Rattle.lrc_world.specs.declared.report.End.TheVariants.{Ended}
+use Rattle.lrc_node.specs.declared.end.End.TheVariants.{Ended}
 use Rattle.lrc_cli.specs.ReportText.{line_of_act, node_text, texts_of}
 use Rattle.lrc_cli.proofs.report.report_parts.Given as goal
 

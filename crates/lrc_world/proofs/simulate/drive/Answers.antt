@@ -1,34 +1,98 @@
-use Rattle.std.proofs.Common.{◌≡◌, Some, sym, subst, ap, arith, length}
-use Rattle.std.proofs.lemmas.List.{length_push}
-use Rattle.lrc_trace.specs.Synchronization.{IsWellSynchronized}
-use Rattle.lrc_exec.specs.Plain.{plain}
-use Rattle.lrc_theory.specs.Follows.{nodes_of}
-use Rattle.lrc_world.specs.declared.report.Event.TheVariants.{Run}
-use Rattle.lrc_world.proofs.AloneIsPlain.{Promises, promises, IsRun, turned}
+use Rattle.std.proofs.Common.{◌≡◌, ◌∙◌, ◌<◌, ℕ, [], length, Err, ap, subst}
+use Rattle.lrc_lang.specs.declared.program.Program.{Program}
+use Rattle.lrc_protocol.specs.Node.{OptionsRecord}
+use Rattle.lrc_protocol.specs.World.{fresh_world, played}
+use Rattle.lrc_world.specs.declared.report.SimFault.TheVariants.{BadNodes, BadSteps, Worn}
+use Rattle.lrc_world.specs.declared.rounds.Driver.{Driver}
+use Rattle.lrc_world.specs.declared.world.World.{World}
+use Rattle.lrc_world.specs.Rounds.{Drives, GoesTo, NoneReady}
+use Rattle.lrc_world.specs.World.{Shows}
+use Rattle.lrc_world.proofs.Events.{handed_on}
+use Rattle.lrc_world.proofs.Driven.{begins, in_range, over}
+use Rattle.lrc_world.proofs.Theorem.{in_order, reads_lazily, consistent, to_first_race, race_free}
+use Rattle.lrc_world.proofs.Worlds.{acts_of_nodes}
 use Rattle.lrc_world.proofs.simulate.drive.Goals as goal
 
-pub rounds-preserved : goal.rounds-preserved
-rounds-preserved c =
-    let so_far : IsRun c.args.program.now c.args.options.now.steps c.rounds.events.items c.rounds.acts.items c.rounds.node =
-    record { acts_are = c.rounds.invariant.acts; node_is = c.rounds.invariant.node } in
-    let run = turned c.args.program.now c.args.options.now.steps c.rounds.events.items c.push.new.self.items c.rounds.acts.items c.push-in-rounds.new.self.items
-    c.rounds.node c.turn.new.self c.in-Some.deed so_far c.in-Some.ensures.act c.in_ok-push.ensures.items c.in_ok-push-2.ensures.items in
-    let longer = ap length c.in_ok-push.ensures.items in
-    let one_more = length_push c.rounds.events.items (Run 0) in
-    record { acts = run.acts_are; node = run.node_is; few = omega arith }
+-- the driver before any event
+first : (program code : Program) (nodes count : ℕ) (options : OptionsRecord) (d : Driver) (world : World) → code ≡ program → count ≡ nodes
+    → Shows world (fresh_world code count options) → d.world ≡ world → d.events.items ≡ [] → Drives (fresh_world program nodes options) d
+first program code nodes count options d world coded counted shows is none =
+    begins (fresh_world program nodes options) d world
+    (subst (λ p. Shows world (fresh_world p nodes options)) coded (subst (λ n. Shows world (fresh_world code n options)) counted shows)) is none
 
--- what is promised of the acts of the events
-promises_of : (c : goal.After-drop-code-inside-2) → Promises c.args.program.now c.rounds.acts.items
-promises_of c = subst (λ acts. Promises c.args.program.now acts) c.rounds.invariant.acts
-    (promises c.args.program.now c.args.options.now.steps c.rounds.events.items c.args.program.now.few_locks)
+pub returns-in_err-drive-clause-worn : goal.returns-in_err-drive-clause-worn
+returns-in_err-drive-clause-worn c = λ e.
+    let d = first c.args.program.now c.in_ok-code.code c.args.nodes c.in_ok-count.count c.args.options.now c.new-driver.result c.in_ok-world.world
+    c.in_ok-code.ensures c.in_ok-count.ensures.0 c.in_ok-world.ensures c.new-driver.ensures.world c.new-driver.ensures.events in
+    let same = handed_on c.from_residual-in_err-drive.result c.in_err-drive.field-0.0 Worn c.from_residual-in_err-drive.ensures.1 e in
+    let goes : GoesTo c.new-driver.result c.drive.new.self (Err Worn) =
+    subst (λ f. GoesTo c.new-driver.result c.drive.new.self (Err f)) same c.in_err-drive.ensures.goes in
+    goes (fresh_world c.args.program.now c.args.nodes c.args.options.now) d
+
+pub returns-in_err-drive-clause-bad_nodes : goal.returns-in_err-drive-clause-bad_nodes
+returns-in_err-drive-clause-bad_nodes c =
+    let d = first c.args.program.now c.in_ok-code.code c.args.nodes c.in_ok-count.count c.args.options.now c.new-driver.result c.in_ok-world.world
+    c.in_ok-code.ensures c.in_ok-count.ensures.0 c.in_ok-world.ensures c.new-driver.ensures.world c.new-driver.ensures.events in
+    let ranged = in_range c.new-driver.result c.drive.new.self (fresh_world c.args.program.now c.args.nodes c.args.options.now) c.in_err-drive.field-0.0 d
+    c.in_err-drive.ensures.goes in (
+      λ e good. ranged.0 (handed_on c.from_residual-in_err-drive.result c.in_err-drive.field-0.0 BadNodes c.from_residual-in_err-drive.ensures.1 e),
+      λ bad. absurd (bad c.in_ok-count.ensures.1),
+    )
+
+pub returns-in_err-drive-clause-bad_steps : goal.returns-in_err-drive-clause-bad_steps
+returns-in_err-drive-clause-bad_steps c =
+    let d = first c.args.program.now c.in_ok-code.code c.args.nodes c.in_ok-count.count c.args.options.now c.new-driver.result c.in_ok-world.world
+    c.in_ok-code.ensures c.in_ok-count.ensures.0 c.in_ok-world.ensures c.new-driver.ensures.world c.new-driver.ensures.events in
+    let ranged = in_range c.new-driver.result c.drive.new.self (fresh_world c.args.program.now c.args.nodes c.args.options.now) c.in_err-drive.field-0.0 d
+    c.in_err-drive.ensures.goes in (
+      λ e. absurd (ranged.1 (handed_on c.from_residual-in_err-drive.result c.in_err-drive.field-0.0 BadSteps c.from_residual-in_err-drive.ensures.1 e)),
+      λ bad. absurd (bad.1 c.in_ok-count.ensures.2),
+    )
+
+pub returns-clause-report : goal.returns-clause-report
+returns-clause-report c =
+    let start = fresh_world c.args.program.now c.args.nodes c.args.options.now in
+    let d = first c.args.program.now c.in_ok-code.code c.args.nodes c.in_ok-count.count c.args.options.now c.new-driver.result c.in_ok-world.world
+    c.in_ok-code.ensures c.in_ok-count.ensures.0 c.in_ok-world.ensures c.new-driver.ensures.world c.new-driver.ensures.events in
+    let r = c.in_ok-drive.ensures.goes.drives start d in
+    (r.0, ap (λ v. played start v.items) c.in_ok-report.ensures.events ∙ r.1, c.in_ok-report.ensures.report r.0 r.2)
+
+pub returns-clause-over : goal.returns-clause-over
+returns-clause-over c = λ few.
+    let start = fresh_world c.args.program.now c.args.nodes c.args.options.now in
+    let d = first c.args.program.now c.in_ok-code.code c.args.nodes c.in_ok-count.count c.args.options.now c.new-driver.result c.in_ok-world.world
+    c.in_ok-code.ensures c.in_ok-count.ensures.0 c.in_ok-world.ensures c.new-driver.ensures.world c.new-driver.ensures.events in
+    let r = c.in_ok-drive.ensures.goes.drives start d in
+    let still = c.in_ok-drive.ensures.over (subst (λ v. length v.items < 100000000) c.in_ok-report.ensures.events few) in
+    over c.args.program.now c.args.nodes c.args.options.now c.in_ok-report.field-0.0.items r.0 c.drive.new.self.world
+    (ap (λ v. played start v.items) c.in_ok-report.ensures.events ∙ r.1) r.2
+    (subst (λ n. NoneReady n c.drive.new.self.world) c.in_ok-count.ensures.0 still.0) still.1
+
+pub report-requires : goal.report-requires
+report-requires c =
+    let start = fresh_world c.args.program.now c.args.nodes c.args.options.now in
+    let d = first c.args.program.now c.in_ok-code.code c.args.nodes c.in_ok-count.count c.args.options.now c.new-driver.result c.in_ok-world.world
+    c.in_ok-code.ensures c.in_ok-count.ensures.0 c.in_ok-world.ensures c.new-driver.ensures.world c.new-driver.ensures.events in
+    let r = c.in_ok-drive.ensures.goes.drives start d in
+    acts_of_nodes c.args.program.now c.args.nodes c.args.options.now c.drive.new.self.events.items r.0 c.drive.new.self.world r.1 r.2
+    c.in_ok-count.ensures.1.1
 
 pub returns-clause-synchronized : goal.returns-clause-synchronized
-returns-clause-synchronized c = subst (λ nodes. IsWellSynchronized nodes c.rounds.acts.items) (sym c.in_ok-check.ensures.0) (promises_of c).synchronized
+returns-clause-synchronized c =
+    in_order c.args.program.now c.args.nodes c.args.options.now c.in_ok-report.field-0.0.items c.in_ok-report.field-0.1 (returns-clause-report c)
 
 pub returns-clause-lazy : goal.returns-clause-lazy
-returns-clause-lazy c = (promises_of c).lazy
+returns-clause-lazy c =
+    reads_lazily c.args.program.now c.args.nodes c.args.options.now c.in_ok-report.field-0.0.items c.in_ok-report.field-0.1 (returns-clause-report c)
 
 pub returns-clause-consistent : goal.returns-clause-consistent
 returns-clause-consistent c =
-    λ free. subst (λ nodes. plain c.args.program.now nodes (nodes_of c.rounds.acts.items) ≡ Some c.rounds.acts.items) (sym c.in_ok-check.ensures.0)
-    (promises_of c).plain
+    consistent c.args.program.now c.args.nodes c.args.options.now c.in_ok-report.field-0.0.items c.in_ok-report.field-0.1 (returns-clause-report c)
+
+pub returns-clause-first : goal.returns-clause-first
+returns-clause-first c =
+    to_first_race c.args.program.now c.args.nodes c.args.options.now c.in_ok-report.field-0.0.items c.in_ok-report.field-0.1 (returns-clause-report c)
+
+pub returns-clause-unraced : goal.returns-clause-unraced
+returns-clause-unraced c =
+    race_free c.args.program.now c.args.nodes c.args.options.now c.in_ok-report.field-0.0.items c.in_ok-report.field-0.1 (returns-clause-report c)

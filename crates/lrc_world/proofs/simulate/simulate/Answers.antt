@@ -1,22 +1,49 @@
-use Rattle.std.proofs.Common.{◌≡◌, Some, sym, subst, arith}
-use Rattle.lrc_trace.specs.Synchronization.{IsWellSynchronized}
-use Rattle.lrc_exec.specs.Plain.{plain}
-use Rattle.lrc_theory.specs.Follows.{nodes_of}
-use Rattle.lrc_world.proofs.AloneIsPlain.{Promises, promised}
+use Rattle.std.proofs.Common.{◌≡◌, ◌∙◌, sym, ap, rules, arith, take}
+use Rattle.lrc_protocol.specs.World.{run_of}
+use Rattle.lrc_world.specs.declared.report.SimFault.TheVariants.{Worn}
+use Rattle.lrc_world.proofs.Events.{goes_on, wears_out, handed_on, take_whole, get_at}
+use Rattle.lrc_world.proofs.Theorem.{in_order, reads_lazily, consistent, to_first_race, race_free}
+use Rattle.lrc_world.proofs.Worlds.{acts_of_nodes}
 use Rattle.lrc_world.proofs.simulate.simulate.Goals as goal
 
--- what is promised of the acts when no event is left
-promises_of : (c : goal.After-drop-code-inside-2) → Promises c.args.program.now c.loop-event.acts.items
-promises_of c = promised c.args.program.now c.args.options.now.steps c.args.events.now c.loop-event.acts.items c.loop-event.event-index c.loop-event.node
-    (omega arith) c.loop-event.invariant
+pub loop-event-preserved : goal.loop-event-preserved
+loop-event-preserved c =
+    goes_on c.args.program.now c.args.nodes c.args.options.now c.args.events.now c.loop-event.event-index _ (get_at c.args.events.now c.loop-event.event-index _ (omega (arith, c.loop-event-test.true)))
+    c.loop-event.world c.play.new.self c.play.result c.in_ok-play.field-0 c.loop-event.invariant c.play.ensures (search rules)
+
+pub returns-in_err-play-clause-worn : goal.returns-in_err-play-clause-worn
+returns-in_err-play-clause-worn c = λ e.
+    let same = handed_on c.from_residual-in_err-play.result c.in_err-play.field-0.0 Worn c.from_residual-in_err-play.ensures.1 e in
+    wears_out c.args.program.now c.args.nodes c.args.options.now c.args.events.now c.loop-event.event-index _ (get_at c.args.events.now c.loop-event.event-index _ (omega (arith, c.loop-event-test.true)))
+    c.loop-event.world c.play.new.self c.play.result c.loop-event.invariant c.play.ensures (search rules)
+
+pub returns-clause-report : goal.returns-clause-report
+returns-clause-report c =
+    let runs = c.loop-event.invariant in
+    let all : take c.loop-event.event-index c.args.events.now ≡ c.args.events.now = take_whole c.args.events.now c.loop-event.event-index (omega (arith, c.loop-event-test.false)) in
+    (runs.0, ap (run_of c.args.program.now c.args.nodes c.args.options.now) (sym all) ∙ runs.1, c.in_ok-report.ensures runs.0 runs.2)
+
+pub report-requires : goal.report-requires
+report-requires c =
+    let runs = c.loop-event.invariant in
+    acts_of_nodes c.args.program.now c.args.nodes c.args.options.now (take c.loop-event.event-index c.args.events.now) runs.0 c.loop-event.world runs.1 runs.2 c.in_ok-count.ensures.1.1
 
 pub returns-clause-synchronized : goal.returns-clause-synchronized
-returns-clause-synchronized c = subst (λ nodes. IsWellSynchronized nodes c.loop-event.acts.items) (sym c.in_ok-check.ensures.0) (promises_of c).synchronized
+returns-clause-synchronized c =
+    in_order c.args.program.now c.args.nodes c.args.options.now c.args.events.now c.in_ok-report.field-0 (returns-clause-report c)
 
 pub returns-clause-lazy : goal.returns-clause-lazy
-returns-clause-lazy c = (promises_of c).lazy
+returns-clause-lazy c =
+    reads_lazily c.args.program.now c.args.nodes c.args.options.now c.args.events.now c.in_ok-report.field-0 (returns-clause-report c)
 
 pub returns-clause-consistent : goal.returns-clause-consistent
 returns-clause-consistent c =
-    λ free. subst (λ nodes. plain c.args.program.now nodes (nodes_of c.loop-event.acts.items) ≡ Some c.loop-event.acts.items) (sym c.in_ok-check.ensures.0)
-    (promises_of c).plain
+    consistent c.args.program.now c.args.nodes c.args.options.now c.args.events.now c.in_ok-report.field-0 (returns-clause-report c)
+
+pub returns-clause-first : goal.returns-clause-first
+returns-clause-first c =
+    to_first_race c.args.program.now c.args.nodes c.args.options.now c.args.events.now c.in_ok-report.field-0 (returns-clause-report c)
+
+pub returns-clause-unraced : goal.returns-clause-unraced
+returns-clause-unraced c =
+    race_free c.args.program.now c.args.nodes c.args.options.now c.args.events.now c.in_ok-report.field-0 (returns-clause-report c)

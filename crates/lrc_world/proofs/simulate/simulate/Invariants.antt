@@ -1,7 +1,8 @@
-use Rattle.std.proofs.Common.{◌≡◌, ◌++◌, drop}
-use Rattle.lrc_world.specs.Alone.{played, run_of}
+use Rattle.std.proofs.Common.{◌≡◌, Some, take}
+use Rattle.lrc_protocol.specs.World.{World as Run, run_of}
+use Rattle.lrc_world.specs.World.{Shows}
 use Rattle.lrc_world.proofs.simulate.simulate.Given as goal
 
--- the acts so far, and those of the events that are left, are all
+-- the world shows the run of the events so far
 abbrev pub invariant-loop-event : goal.invariant-loop-event
-invariant-loop-event l = l.acts.items ++ (played (drop l.event-index l.events) l.node).acts ≡ (run_of l.program l.options.steps l.events).acts
+invariant-loop-event l = (run : Run) × (run_of l.program l.nodes l.options (take l.event-index l.events) ≡ Some run) × Shows l.world run

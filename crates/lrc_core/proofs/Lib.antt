@@ -1,6 +1,0 @@
-pub mod Worlds
-pub mod Turned
-pub mod Lists
-pub mod Played
-pub mod Marks
-pub mod Events

@@ -1,3 +1,0 @@
-pub mod Range
-pub mod Report
-pub mod World

@@ -1,8 +1,0 @@
-//! Runs of a program on lazy-release-consistent shared memory: nodes that take their turns in any order, and messages that
-//! are delivered in any order, any number of times, or never.
-#![tactic(auto)]
-
-mod flying;
-pub mod report;
-pub mod simulate;
-mod world;

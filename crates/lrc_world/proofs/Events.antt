@@ -1,0 +1,70 @@
+-- One event more.
+use Rattle.std.proofs.Common.{◌≡◌, ◌∙◌, ℕ, ◌+◌, List, [], ◌∷◌, ◌++◌, Some, Result, Ok, Err, IsErrAnd, refl, sym, ap, subst, take, drop, zero, suc, arith, length, ◌≤◌, ◌<◌}
+use Rattle.std.specs.Prelude.{slice_get, slice_index_or}
+use Rattle.std.proofs.lemmas.List.Sums.{fold-append}
+use Rattle.lrc_lang.specs.declared.program.Program.{Program}
+use Rattle.lrc_protocol.specs.declared.event.Event.{Event}
+use Rattle.lrc_protocol.specs.Node.{OptionsRecord}
+use Rattle.lrc_protocol.specs.World.{World as Run, fresh_world, event_on, step_of, run_of}
+use Rattle.lrc_theory.proofs.Ahead.{take_ahead}
+use Rattle.lrc_world.specs.declared.world.World.{World}
+use Rattle.lrc_world.specs.declared.report.SimFault.{SimFault}
+use Rattle.lrc_world.specs.declared.report.SimFault.TheVariants.{Worn}
+use Rattle.lrc_world.specs.World.{Shows, PlaysTo}
+use Rattle.lrc_world.specs.Report.{IsWornBy}
+
+-- the run of the events so far, which the world shows
+abbrev pub Runs : Program → ℕ → OptionsRecord → List Event → World → Type 0
+Runs program nodes options events world = (run : Run) × (run_of program nodes options events ≡ Some run) × Shows world run
+
+module _ (program : Program) (nodes : ℕ) (options : OptionsRecord) (events : List Event) (k : ℕ) (event : Event) (at : slice_get events k ≡ Some event) where
+  one_more : (run : Run) → run_of program nodes options (take k events) ≡ Some run
+      → run_of program nodes options (take (k + 1) events) ≡ event_on run event
+  one_more run so_far =
+      let next : k + 1 ≡ suc k = omega arith in
+      ap (λ n. run_of program nodes options (take n events)) next
+      ∙ ap (run_of program nodes options) (take_ahead events k event at)
+      ∙ fold-append step_of (Some (fresh_world program nodes options)) (take k events) (event ∷ [])
+      ∙ ap (λ w. step_of w event) so_far
+
+  pub goes_on : (old new : World) (result : Result (Unit {0}) SimFault) (u : Unit {0}) → Runs program nodes options (take k events) old
+      → ((run : Run) → Shows old run → PlaysTo new (event_on run event) result) → result ≡ Ok u
+      → Runs program nodes options (take (k + 1) events) new
+  goes_on old new result u runs plays ok =
+      let p = subst (PlaysTo new (event_on runs.0 event)) ok (plays runs.0 runs.2) in
+      (p.0, one_more runs.0 runs.1 ∙ p.1, p.2)
+
+split_at : {X : Type 0} (xs : List X) (k : ℕ) (x : X) → slice_get xs k ≡ Some x → xs ≡ take k xs ++ x ∷ drop (suc k) xs
+split_at [] k x at = cc
+split_at (y ∷ xs) zero x at = let same : y ≡ x = cc in ap (λ z. z ∷ xs) same
+split_at (y ∷ xs) (suc k) x at = ap (λ more. y ∷ more) (split_at xs k x at)
+
+pub wears_out : (program : Program) (nodes : ℕ) (options : OptionsRecord) (events : List Event) (k : ℕ) (event : Event) → slice_get events k ≡ Some event
+    → (old new : World) (result : Result (Unit {0}) SimFault) → Runs program nodes options (take k events) old
+    → ((run : Run) → Shows old run → PlaysTo new (event_on run event) result) → result ≡ Err Worn
+    → IsWornBy program nodes options events
+wears_out program nodes options events k event at old new result runs plays worn = record {
+  before = take k events;
+  event = event;
+  after = drop (suc k) events;
+  run = runs.0;
+  split = split_at events k event at;
+  plays = runs.1;
+  wears = subst (PlaysTo new (event_on runs.0 event)) worn (plays runs.0 runs.2);
+}
+
+-- a fault that is handed on
+pub handed_on : {X : Type 0} (r : Result X SimFault) (fault other : SimFault) → IsErrAnd r (λ f. f ≡ fault) → r ≡ Err other → fault ≡ other
+handed_on (Ok x) fault other is e = absurd is
+handed_on (Err f) fault other is e = let same : f ≡ other = cc in sym is ∙ same
+
+pub take_whole : {X : Type 0} (xs : List X) (k : ℕ) → length xs ≤ k → take k xs ≡ xs
+take_whole [] zero all = refl
+take_whole [] (suc k) all = refl
+take_whole (x ∷ xs) zero all = absurd (omega (arith, all))
+take_whole (x ∷ xs) (suc k) all = ap (λ more. x ∷ more) (take_whole xs k (omega (arith, all)))
+
+pub get_at : {X : Type 0} (xs : List X) (k : ℕ) (d : X) → k < length xs → slice_get xs k ≡ Some (slice_index_or xs k d)
+get_at [] k d within = absurd (omega (arith, within))
+get_at (x ∷ xs) zero d within = refl
+get_at (x ∷ xs) (suc k) d within = get_at xs k d (omega (arith, within))

@@ -1,0 +1,10 @@
+use Rattle.std.proofs.Common.{◌-◌, ◌≤◌, length, vec_len}
+use Rattle.lrc_world.specs.declared.report.TheConstants.{MOST_EVENTS}
+use Rattle.lrc_world.specs.Rounds.{Goes}
+use Rattle.lrc_world.proofs.rounds.Driver.drive.Given as goal
+
+abbrev pub invariant-rounds : goal.invariant-rounds
+invariant-rounds l = record { goes : Goes l.initial.self l.self; few : length l.self.events.items ≤ MOST_EVENTS }
+
+abbrev pub decreases-rounds : goal.decreases-rounds
+decreases-rounds l = MOST_EVENTS - vec_len l.self.events

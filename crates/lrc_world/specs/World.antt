@@ -1,0 +1,146 @@
+-- What is kept of a run, beside the run of the protocol machine: messages in flight are bytes.
+use Rattle.std.specs.Prelude.{◌≡◌, ◌⊎◌, ℕ, Bool, true, false, Option, Some, None, List, [], ◌∷◌, ◌++◌, Result, Ok, Err, length, map, nat_lt, slice_get, slice_set}
+use Rattle.std.specs.List.{list_any}
+use Rattle.std.specs.Option.{option_to_list}
+use Rattle.lrc_wire.specs.Envelope.{EnvelopeRecord}
+use Rattle.lrc_wire.specs.Reading.{envelope_of}
+use Rattle.lrc_wire.specs.Runs.{runs_of}
+use Rattle.lrc_wire.specs.Spelling.{body}
+use Rattle.lrc_wire.specs.declared.fault.WireFault.{WireFault}
+use Rattle.lrc_wire.specs.declared.limits.TheConstants.{MOST_BODY_BYTES}
+use Rattle.lrc_wire.specs.declared.version.Version.TheVariants.{Two}
+use Rattle.lrc_protocol.specs.Log.{EntryRecord, Logged, Input, taken, logged, refused, too_large, logs}
+use Rattle.lrc_protocol.specs.World.{World as Run, Flying as Sent, delivers}
+use Rattle.lrc_node.specs.declared.fault.NodeFault.{NodeFault}
+use Rattle.lrc_node.specs.declared.fault.NodeFault.TheVariants as NodeFaults
+use Rattle.lrc_node.specs.declared.fault.NodeFault.TheVariants.{Failed, NotReady, Unexpected}
+use Rattle.lrc_node.specs.Logged.{LoggedNode, sound}
+use Rattle.lrc_world.specs.declared.flying.Flying.{Flying}
+use Rattle.lrc_world.specs.declared.report.SimFault.{SimFault}
+use Rattle.lrc_world.specs.declared.report.SimFault.TheVariants.{Worn, NoMemory}
+use Rattle.lrc_world.specs.declared.world.World.{World}
+
+-- ---- messages in flight
+
+-- what its bytes say, its stamp, and whether it was delivered
+abbrev pub Seen : Type 0
+Seen = Result EnvelopeRecord WireFault × (ℕ × Bool)
+
+-- a message as it is kept, and as the protocol has it
+abbrev pub seen : Flying → Seen
+seen flying = (envelope_of flying.bytes, (flying.stamp, flying.delivered))
+
+abbrev pub shown : Sent → Seen
+shown sent = (Ok sent.envelope, (sent.stamp, sent.delivered))
+
+-- a message that was just sent, with this stamp
+abbrev pub shown_new : ℕ → EnvelopeRecord → Seen
+shown_new stamp envelope = (Ok envelope, (stamp, false))
+
+-- the message has more bytes than may be sent
+abbrev pub is_long : EnvelopeRecord → Bool
+is_long envelope = nat_lt MOST_BODY_BYTES (length (body Two runs_of envelope.message))
+
+-- a turn sent such a message
+abbrev pub entry_is_long : EntryRecord → Bool
+entry_is_long entry = list_any is_long entry.turn.out
+
+abbrev pub log_is_long : Logged → Bool
+log_is_long l = list_any entry_is_long l.log
+
+abbrev pub sends_long : Run → Bool
+sends_long run = list_any log_is_long run.nodes
+
+-- why messages are not sent: one of them is too long, or no memory is left
+abbrev pub IsSendFault : List EnvelopeRecord → SimFault → Type 0
+IsSendFault out Worn = list_any is_long out ≡ true
+IsSendFault out NoMemory = Unit {0}
+IsSendFault out _ = ⊥
+
+-- ---- worlds
+
+-- the nodes with their logs, the messages in flight and the acts are those of the run, in which no message was too long
+pub record Shows (world : World) (run : Run) : Type 0 where
+  pub nodes : world.nodes.items ≡ map sound run.nodes
+  pub flight : map seen world.flight.items ≡ map shown run.flight
+  pub acts : world.acts.items ≡ run.acts
+  pub short : sends_long run ≡ false
+
+-- What was played comes to this, if it comes to a run: the world shows it; or a number or a message was too large; or no memory
+-- is left.
+abbrev pub PlaysTo : World → Option Run → Result (Unit {0}) SimFault → Type 0
+PlaysTo new outcome (Ok done) = (run : Run) × (outcome ≡ Some run) × Shows new run
+PlaysTo new outcome (Err Worn) = (outcome ≡ None) ⊎ ((run : Run) × (outcome ≡ Some run) × (sends_long run ≡ true))
+PlaysTo new outcome (Err NoMemory) = Unit {0}
+PlaysTo new outcome (Err _) = ⊥
+
+-- the newest entry in a node's log is this
+abbrev pub LogsLast : World → ℕ → EntryRecord → Type 0
+LogsLast world n entry =
+    (l : LoggedNode) × (slice_get world.nodes.items n ≡ Some l) × (before : List EntryRecord) × (l.log ≡ before ++ entry ∷ [])
+
+-- What a turn did was added: its act, and its messages in flight.
+pub record Adds (old new : World) (entry : EntryRecord) : Type 0 where
+  pub nodes : new.nodes ≡ old.nodes
+  pub flight : map seen new.flight.items ≡ map seen old.flight.items ++ map (shown_new entry.stamp) entry.turn.out
+  pub acts : new.acts.items ≡ old.acts.items ++ option_to_list entry.turn.act
+  pub short : entry_is_long entry ≡ false
+
+abbrev pub AddsTo : World → World → EntryRecord → Result (Unit {0}) SimFault → Type 0
+AddsTo old new entry (Ok done) = Adds old new entry
+AddsTo old new entry (Err fault) = IsSendFault entry.turn.out fault
+
+-- ---- turns
+
+-- whether a node made a turn, by what it answered
+abbrev pub made_of : Result (Unit {0}) NodeFault → Result Bool SimFault
+made_of (Ok done) = Ok true
+made_of (Err NotReady) = Ok false
+made_of (Err Unexpected) = Ok false
+made_of (Err NodeFaults.Worn) = Err Worn
+made_of (Err NodeFaults.NoMemory) = Err NoMemory
+made_of (Err Failed) = Err NoMemory
+
+-- What comes of an input to the node at a place: it makes a turn; it is not there, not ready, or does not expect the message, and
+-- nothing changes; a number is too large; or no memory is left.
+pub record IsTurn (old new : List LoggedNode) (n : ℕ) (input : Input) (came : ℕ) (node : Logged) : Type 0 where
+  pub entry : EntryRecord
+  pub after : Logged
+  pub turn : logs node input came ≡ logged entry after
+  pub nodes : new ≡ slice_set old n (sound after)
+
+abbrev pub TurnsBy : List LoggedNode → List LoggedNode → ℕ → Input → ℕ → Option Logged → Result (Unit {0}) NodeFault → Type 0
+TurnsBy old new n input came None (Err NotReady) = new ≡ old
+TurnsBy old new n input came None _ = ⊥
+TurnsBy old new n input came (Some node) (Ok done) = IsTurn old new n input came node
+TurnsBy old new n input came (Some node) (Err NotReady) = (logs node input came ≡ refused) × (new ≡ old)
+TurnsBy old new n input came (Some node) (Err Unexpected) = (logs node input came ≡ refused) × (new ≡ old)
+TurnsBy old new n input came (Some node) (Err NodeFaults.Worn) = logs node input came ≡ too_large
+TurnsBy old new n input came (Some node) (Err NodeFaults.NoMemory) = Unit {0}
+TurnsBy old new n input came (Some node) (Err Failed) = ⊥
+
+abbrev pub TurnsTo : List LoggedNode → List LoggedNode → ℕ → Input → ℕ → Result (Unit {0}) NodeFault → Type 0
+TurnsTo old new n input came result = (nodes : List Logged) → old ≡ map sound nodes → TurnsBy old new n input came (slice_get nodes n) result
+
+-- the message at a place of the run was taken: by this node, which made this turn, and nothing else changed
+pub record IsTaken (old new : World) (run : Run) (place to : ℕ) : Type 0 where
+  pub sent : Sent
+  pub node : Logged
+  pub entry : EntryRecord
+  pub after : Logged
+  pub there : slice_get run.flight place ≡ Some sent
+  pub receiver : sent.envelope.to ≡ to
+  pub stands : slice_get run.nodes to ≡ Some node
+  pub turn : logs node (taken sent.envelope) sent.stamp ≡ logged entry after
+  pub nodes : new.nodes.items ≡ slice_set old.nodes.items to (sound after)
+  pub flight : new.flight ≡ old.flight
+  pub acts : new.acts ≡ old.acts
+
+-- What comes of the message at a place: nothing, where it is not there or not expected; a turn of its receiver; or a number too
+-- large; or no memory is left.
+abbrev pub ReceivesTo : World → World → Run → ℕ → Result (Option ℕ) SimFault → Type 0
+ReceivesTo old new run place (Ok None) = Shows new run × ((flight : List Sent) → delivers run flight (slice_get run.flight place) ≡ Some run)
+ReceivesTo old new run place (Ok (Some to)) = IsTaken old new run place to
+ReceivesTo old new run place (Err Worn) = (flight : List Sent) → delivers run flight (slice_get run.flight place) ≡ None
+ReceivesTo old new run place (Err NoMemory) = Unit {0}
+ReceivesTo old new run place (Err _) = ⊥

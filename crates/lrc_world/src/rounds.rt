@@ -1,0 +1,118 @@
+// A run in rounds.
+
+ghost use Rattle.std.specs.Prelude.{◌≡◌, ◌<◌, ◌≤◌, [], All, IfOk, OnOk, length};
+ghost use Rattle.lrc_judge.specs.declared.TheConstants.{NODES};
+ghost use Rattle.lrc_protocol.specs.World.{World as Run};
+ghost use Rattle.lrc_world.specs.Report.{IsReport};
+ghost use Rattle.lrc_world.specs.Rounds.{GoesTo, IsAsleep, IsStill, NoneReady};
+ghost use Rattle.lrc_world.specs.World.{Shows};
+
+use crate::report::{MOST_EVENTS, Report, SimFault};
+use crate::world::World;
+use lrc_protocol::Event;
+use lrc_wire::Picker;
+use std::alloc::{AllocError, Global};
+
+/// All nodes with the messages in flight, and the events so far.
+#[derive(Drop)]
+pub(crate) struct Driver<'c> {
+    world: World<'c>,
+    events: Vec<Event>,
+}
+
+impl<'c> Driver<'c> {
+    /// A world before any event.
+    pub(crate) fn new(alloc: Global, world: World<'c>) -> Driver<'c>
+        ensures world { result.world ≡ world.entry }
+        ensures events { result.events.items ≡ [] }
+    {
+        Driver {
+            world,
+            events: Vec::new(alloc),
+        }
+    }
+
+    /// Goes on round by round, until one has no event or there are as many events as there may be.
+    pub(crate) fn drive(&mut self, nodes: u8, picker: Picker) -> Result<(), SimFault>
+        requires { length self.old.events.items ≤ MOST_EVENTS }
+        ensures goes { GoesTo self.old self.new result }
+        ensures over { OnOk result (length self.new.events.items < MOST_EVENTS
+            → NoneReady nodes self.new.world × (self.new.world.flight.items ≡ [])) }
+    {
+        'rounds: loop {
+            let before = self.events.len();
+            self.round(nodes, picker)?;
+            if self.events.len() <= before {
+                return Ok(());
+            }
+        }
+    }
+
+    /// The events, and what is reported of the run.
+    pub(crate) fn report(self) -> Result<(Vec<Event>, Report), AllocError>
+        requires { All (λ act. act.node < NODES) self.world.acts.items }
+        ensures events { IfOk result (λ done. done.0 ≡ self.entry.events) }
+        ensures report { IfOk result (λ done. (run : Run) → Shows self.entry.world run → IsReport done.1 run) }
+    {
+        let Driver { world, events } = self;
+        let report = world.report()?;
+        Ok((events, report))
+    }
+
+    // Each ready node goes on, and then as many messages are delivered as are in flight.
+    fn round(&mut self, nodes: u8, picker: Picker) -> Result<(), SimFault>
+        ensures goes { GoesTo self.old self.new result }
+        ensures over { OnOk result (IsStill self.old self.new → NoneReady nodes self.new.world × (self.new.world.flight.items ≡ [])) }
+    {
+        self.run_each(nodes)?;
+        self.deliver_each(picker)
+    }
+
+    // Each ready node goes on once, from node 0 up, as far as there is room for events.
+    fn run_each(&mut self, nodes: u8) -> Result<(), SimFault>
+        ensures goes { GoesTo self.old self.new result }
+        ensures still { OnOk result (IsStill self.old self.new → (self.new.world ≡ self.old.world) × NoneReady nodes self.old.world) }
+    {
+        for node in 0..nodes {
+            self.run_if_ready(node)?;
+        }
+        Ok(())
+    }
+
+    // The node goes on, if it is ready and there is room for an event.
+    fn run_if_ready(&mut self, node: u8) -> Result<(), SimFault>
+        ensures goes { GoesTo self.old self.new result }
+        ensures still { OnOk result (IsStill self.old self.new → (self.new.world ≡ self.old.world) × IsAsleep node self.old.world) }
+    {
+        if !self.world.is_ready(node as usize) {
+            return Ok(());
+        }
+        self.play(Event::Run(u32::from(node)))
+    }
+
+    // As many messages are delivered as are in flight, each of them the one that the picker says, as far as there is room for
+    // events.
+    fn deliver_each(&mut self, picker: Picker) -> Result<(), SimFault>
+        ensures goes { GoesTo self.old self.new result }
+        ensures still { OnOk result (IsStill self.old self.new → (self.new.world ≡ self.old.world) × (self.old.world.flight.items ≡ [])) }
+    {
+        let count = self.world.in_flight();
+        for _message in 0..count {
+            let event = self.world.next_delivery(picker);
+            self.play(event)?;
+        }
+        Ok(())
+    }
+
+    // Plays an event, if there is room for it.
+    fn play(&mut self, event: Event) -> Result<(), SimFault>
+        ensures goes { GoesTo self.old self.new result }
+        ensures moves { OnOk result (¬ IsStill self.old self.new) }
+    {
+        if self.events.len() >= MOST_EVENTS {
+            return Ok(());
+        }
+        self.events.push(event)?;
+        self.world.play(event)
+    }
+}

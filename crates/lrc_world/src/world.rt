@@ -1,0 +1,349 @@
+// All nodes of a run, the messages in flight, and what events do to them.
+
+ghost use Rattle.std.specs.Prelude.{◌≡◌, ◌≤◌, ◌<◌, ◌++◌, [], ◌∷◌, All, IfOk, IfErr, OnOk, IsOk, Ok, false, List, length, map, remove, slice_get};
+ghost use Rattle.std.specs.List.{list_any};
+ghost use Rattle.std.specs.Option.{option_to_list};
+ghost use Rattle.lrc_judge.specs.declared.TheConstants.{NODES};
+ghost use Rattle.lrc_wire.specs.Reading.{envelope_of};
+ghost use Rattle.lrc_protocol.specs.World.{World as Run, Flying as Sent, fresh_world, event_on, with_mark};
+ghost use Rattle.lrc_protocol.specs.declared.event.Event.TheVariants as events;
+ghost use Rattle.lrc_protocol.specs.Log.{EntryRecord};
+ghost use Rattle.lrc_protocol.specs.Log as log;
+ghost use Rattle.lrc_node.specs.Logged.{sound};
+ghost use Rattle.lrc_world.specs.Report.{IsReport, end_of_logged};
+ghost use Rattle.lrc_world.specs.Rounds.{delivery_of, is_delivered, newest_place, ready_at};
+ghost use Rattle.lrc_world.specs.World.{Shows, PlaysTo, AddsTo, LogsLast, ReceivesTo, TurnsTo, made_of, IsSendFault, seen, shown, shown_new, is_long};
+
+use crate::flying::Flying;
+use crate::report::{Report, SimFault};
+use bytes::Bytes;
+use lrc_exec::code::Code;
+use lrc_node::{End, Entry, Logged, NodeFault, Options};
+use lrc_protocol::Event;
+use lrc_race::first_race;
+use lrc_trace::act::Act;
+use lrc_wire::{EncodeFault, Envelope, Picker, WireFault, decode, encode};
+use std::alloc::{AllocError, Global};
+use std::collections::VecDeque;
+
+/// All nodes with their logs, the messages in flight, oldest first, and the acts so far.
+#[derive(Drop)]
+pub(crate) struct World<'c> {
+    alloc: Global,
+    nodes: Vec<Logged<'c>>,
+    flight: VecDeque<Flying>,
+    acts: Vec<Act>,
+}
+
+impl<'c> World<'c> {
+    /// All nodes at the beginning of a program.
+    pub(crate) fn new(
+        alloc: Global,
+        code: &'c Code<'_>,
+        nodes: u8,
+        options: &Options,
+    ) -> Result<World<'c>, AllocError>
+        requires few { nodes ≤ 16 }
+        ensures { IfOk result (λ world. Shows world (fresh_world code.now nodes options.now)) }
+    {
+        let mut made = Vec::with_capacity(alloc, nodes as usize)?;
+        for me in 0..nodes {
+            made.push(Logged::new(alloc, code, me, nodes, options)?)?;
+        }
+        Ok(World {
+            alloc,
+            nodes: made,
+            flight: VecDeque::new(alloc),
+            acts: Vec::new(alloc),
+        })
+    }
+
+    /// Plays an event, which is skipped where it names no ready node and no message that its receiver takes.
+    pub(crate) fn play(&mut self, event: Event) -> Result<(), SimFault>
+        ensures { (run : Run) → Shows self.old run → PlaysTo self.new (event_on run event) result }
+    {
+        match event {
+            Event::Run(node) => self.go_on(node as usize),
+            Event::Deliver(place) => self.deliver(place as usize),
+            Event::Repeat(place) => self.repeat(place as usize),
+        }
+    }
+
+    /// Whether the node is there and ready.
+    pub(crate) fn is_ready(&self, node: usize) -> bool
+        ensures { (run : Run) → Shows self.now run → result ≡ ready_at run node }
+    {
+        match self.nodes.get(node) {
+            Some(logged) => logged.ready(),
+            None => false,
+        }
+    }
+
+    /// How many messages are in flight.
+    pub(crate) fn in_flight(&self) -> usize
+        ensures { result ≡ length self.now.flight.items }
+    {
+        self.flight.len()
+    }
+
+    /// The delivery that comes next.
+    pub(crate) fn next_delivery(&self, picker: Picker) -> Event
+        ensures { (run : Run) → Shows self.now run → result ≡ delivery_of picker run.flight }
+    {
+        match picker {
+            Picker::Oldest => Event::Deliver(0),
+            Picker::Newest => Event::Deliver(newest_place(self.flight.len())),
+            Picker::Twice => {
+                if self.is_oldest_delivered() {
+                    Event::Deliver(0)
+                } else {
+                    Event::Repeat(0)
+                }
+            }
+        }
+    }
+
+    // Whether the oldest message was delivered already.
+    fn is_oldest_delivered(&self) -> bool
+        ensures { (run : Run) → Shows self.now run → result ≡ is_delivered (slice_get run.flight 0) }
+    {
+        match self.flight.get(0) {
+            Some(flying) => flying.delivered,
+            None => false,
+        }
+    }
+
+    // The node goes on, if it is there and ready.
+    fn go_on(&mut self, node: usize) -> Result<(), SimFault>
+        ensures { (run : Run) → Shows self.old run → PlaysTo self.new (event_on run (events.Run node)) result }
+    {
+        let outcome = run_at(&mut self.nodes, node);
+        if is_made(outcome)? {
+            self.follow(node)
+        } else {
+            Ok(())
+        }
+    }
+
+    // The message at the place is delivered, if it is there and its receiver takes it.
+    fn deliver(&mut self, place: usize) -> Result<(), SimFault>
+        ensures { (run : Run) → Shows self.old run → PlaysTo self.new (event_on run (events.Deliver place)) result }
+    {
+        match self.receive(place)? {
+            Some(to) => {
+                forget(&mut self.flight, place);
+                self.follow(to)
+            }
+            None => Ok(()),
+        }
+    }
+
+    // The same, but the message stays in flight.
+    fn repeat(&mut self, place: usize) -> Result<(), SimFault>
+        ensures { (run : Run) → Shows self.old run → PlaysTo self.new (event_on run (events.Repeat place)) result }
+    {
+        match self.receive(place)? {
+            Some(to) => {
+                mark(&mut self.flight, place);
+                self.follow(to)
+            }
+            None => Ok(()),
+        }
+    }
+
+    // The receiver of the message at the place takes it, if both are there and the receiver expects it. Which node that was.
+    fn receive(&mut self, place: usize) -> Result<Option<usize>, SimFault>
+        ensures { (run : Run) → Shows self.old run → ReceivesTo self.old self.new run place result }
+    {
+        let Some(flying) = self.flight.get(place) else {
+            return Ok(None);
+        };
+        let envelope = envelope_in(self.alloc, &flying.bytes)?;
+        let to = envelope.to as usize;
+        let outcome = take_at(&mut self.nodes, to, envelope, flying.stamp);
+        if is_made(outcome)? {
+            Ok(Some(to))
+        } else {
+            Ok(None)
+        }
+    }
+
+    /// What is reported of the run.
+    pub(crate) fn report(self) -> Result<Report, AllocError>
+        requires { All (λ act. act.node < NODES) self.acts.items }
+        ensures { (run : Run) → Shows self.entry run → IfOk result (λ report. IsReport report run) }
+    {
+        let first_race = first_race(self.alloc, &self.acts)?;
+        let World {
+            alloc,
+            nodes,
+            flight: _,
+            acts,
+        } = self;
+        let ends = ends_of(alloc, &nodes)?;
+        let logs = logs_of(alloc, nodes)?;
+        Ok(Report {
+            acts,
+            ends,
+            logs,
+            first_race,
+        })
+    }
+
+    // Adds what the node's newest turn did: its act, and its messages in flight.
+    fn follow(&mut self, node: usize) -> Result<(), SimFault>
+        ensures { (entry : EntryRecord) → LogsLast self.old node entry → AddsTo self.old self.new entry result }
+    {
+        let Some(logged) = self.nodes.get(node) else {
+            return Ok(());
+        };
+        let Some(entry) = logged.log().last() else {
+            return Ok(());
+        };
+        send(self.alloc, &entry.turn.out, entry.stamp, &mut self.flight)?;
+        note(&mut self.acts, entry.turn.act)?;
+        Ok(())
+    }
+}
+
+// The place of the newest of so many messages, as far as an event can name it.
+fn newest_place(count: usize) -> u32
+    ensures { result ≡ newest_place count }
+{
+    u32::try_from(count.saturating_sub(1)).unwrap_or(u32::MAX)
+}
+
+// Adds an act, if one was made.
+fn note(acts: &mut Vec<Act>, act: Option<Act>) -> Result<(), AllocError>
+    ensures { OnOk result (acts.new.items ≡ acts.old.items ++ option_to_list act) }
+{
+    match act {
+        Some(act) => acts.push(act)?,
+        None => {}
+    }
+    Ok(())
+}
+
+// Puts messages of one turn in flight.
+fn send(
+    alloc: Global,
+    out: &[Envelope],
+    stamp: u64,
+    flight: &mut VecDeque<Flying>,
+) -> Result<(), SimFault>
+    ensures flight { OnOk result (map seen flight.new.items ≡ map seen flight.old.items ++ map (shown_new stamp) out.now) }
+    ensures short { OnOk result (list_any is_long out.now ≡ false) }
+    ensures err { IfErr result (IsSendFault out.now) }
+{
+    for envelope in out {
+        let bytes = bytes_of(alloc, envelope)?;
+        flight.push_back(Flying {
+            bytes,
+            stamp,
+            delivered: false,
+        })?;
+    }
+    Ok(())
+}
+
+// The bytes of a message.
+fn bytes_of(alloc: Global, envelope: &Envelope) -> Result<Bytes, SimFault>
+    ensures written { IfOk result (λ bytes. envelope_of bytes ≡ Ok envelope.now) }
+    ensures short { OnOk result (is_long envelope.now ≡ false) }
+    ensures err { IfErr result (IsSendFault (envelope.now ∷ [])) }
+{
+    match encode(alloc, envelope) {
+        Ok(bytes) => Ok(bytes),
+        Err(EncodeFault::TooLong) => Err(SimFault::Worn),
+        Err(EncodeFault::NoMemory) => Err(SimFault::NoMemory),
+    }
+}
+
+// The message that bytes spell.
+fn envelope_in(alloc: Global, bytes: &[u8]) -> Result<Envelope, SimFault>
+    requires { IsOk (envelope_of bytes.now) }
+    ensures read { IfOk result (λ envelope. envelope_of bytes.now ≡ Ok envelope) }
+    ensures err { IfErr result (λ fault. fault ≡ SimFault.NoMemory) }
+{
+    match decode(alloc, bytes) {
+        Ok(envelope) => Ok(envelope),
+        Err(_fault) => Err(SimFault::NoMemory),
+    }
+}
+
+// Whether a node made a turn; a node that has none left has no memory, or has used up its numbers.
+fn is_made(outcome: Result<(), NodeFault>) -> Result<bool, SimFault>
+    ensures { result ≡ made_of outcome }
+{
+    match outcome {
+        Ok(()) => Ok(true),
+        Err(NodeFault::NotReady | NodeFault::Unexpected) => Ok(false),
+        Err(NodeFault::Worn) => Err(SimFault::Worn),
+        Err(NodeFault::Failed | NodeFault::NoMemory) => Err(SimFault::NoMemory),
+    }
+}
+
+// A node goes on, if it is there.
+fn run_at(nodes: &mut Vec<Logged<'_>>, node: usize) -> Result<(), NodeFault>
+    ensures { TurnsTo nodes.old.items nodes.new.items node log.run 0 result }
+{
+    if node < nodes.len() {
+        nodes[node].run()
+    } else {
+        Err(NodeFault::NotReady)
+    }
+}
+
+// A node takes a message, if it is there.
+fn take_at(
+    nodes: &mut Vec<Logged<'_>>,
+    node: usize,
+    envelope: Envelope,
+    stamp: u64,
+) -> Result<(), NodeFault>
+    ensures { TurnsTo nodes.old.items nodes.new.items node (log.taken envelope) stamp result }
+{
+    if node < nodes.len() {
+        nodes[node].take(envelope, stamp)
+    } else {
+        Err(NodeFault::NotReady)
+    }
+}
+
+// Marks the message at the place as delivered, if it is there.
+fn mark(flight: &mut VecDeque<Flying>, place: usize)
+    ensures { (sent : List Sent) → map seen flight.old.items ≡ map shown sent → map seen flight.new.items ≡ map shown (with_mark sent place) }
+{
+    if place < flight.len() {
+        flight[place].delivered = true;
+    }
+}
+
+// Takes the message at the place out of flight, if it is there.
+fn forget(flight: &mut VecDeque<Flying>, place: usize)
+    ensures { place < length flight.old.items → flight.new.items ≡ remove flight.old.items place }
+{
+    flight.remove(place);
+}
+
+// How each node ended.
+fn ends_of(alloc: Global, nodes: &[Logged<'_>]) -> Result<Vec<End>, AllocError>
+    ensures { (all : List log.Logged) → nodes.now ≡ map sound all → IfOk result (λ ends. ends.items ≡ map end_of_logged all) }
+{
+    let mut ends = Vec::with_capacity(alloc, nodes.len())?;
+    for node in nodes {
+        ends.push(node.end())?;
+    }
+    Ok(ends)
+}
+
+// The turns of each node.
+fn logs_of(alloc: Global, nodes: Vec<Logged<'_>>) -> Result<Vec<Vec<Entry>>, AllocError>
+    ensures { IfOk result (λ logs. map (λ log. log.items) logs.items ≡ map (λ node. node.log) nodes.entry.items) }
+{
+    let mut logs = Vec::with_capacity(alloc, nodes.len())?;
+    for node in nodes {
+        logs.push(node.into_log())?;
+    }
+    Ok(logs)
+}
