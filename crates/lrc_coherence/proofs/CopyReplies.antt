@@ -3,7 +3,7 @@ use Rattle.std.proofs.Common.{◌≡◌, ℕ, ◌+◌, List, [], ◌∷◌, ◌+
 use Rattle.std.specs.Prelude.{Option, Some, None, Contains, fold, map, flat_map, nat_lt, if◌then◌else◌}
 use Rattle.std.specs.List.{list_all, range_with_len}
 use Rattle.lrc_page.specs.Place.{page_of}
-use Rattle.lrc_exec.specs.Meaning.{Next, quiet, prints, reads, writes, acquires, releases, arrives, departs, traps, ends, next_of}
+use Rattle.lrc_exec.specs.Meaning.{Next, quiet, prints, reads, writes, acquires, releases, arrives, departs, traps, ends}
 use Rattle.lrc_store.specs.Interval.{IntervalRecord}
 use Rattle.lrc_store.proofs.Orders.{cases_Contains, none_Contains}
 use Rattle.lrc_wire.specs.Envelope.{EnvelopeRecord}
@@ -18,15 +18,14 @@ use Rattle.lrc_barrier.specs.Barrier.{ArriveStep, refuses as refuses_arrival, wa
 use Rattle.lrc_protocol.specs.Copy.{is_readable}
 use Rattle.lrc_protocol.specs.Memory.{copy_at, base_at, with_keepers, kept_pages}
 use Rattle.lrc_protocol.specs.Fetch.{Base, unneeded, due, come, Asked, Need, need_of, is_met, with_changes, with_page}
-use Rattle.lrc_protocol.specs.Mail.{Letter, Wait, nothing, grant, departure, access, upkeep, discard, Collection, collection_of, numbered, MOST_NUMBER}
+use Rattle.lrc_protocol.specs.Mail.{Letter, Wait, nothing, grant, departure, access, upkeep, discard, Collection, numbered, MOST_NUMBER}
 use Rattle.lrc_protocol.specs.Course.{Course, going, trapped, ended}
-use Rattle.lrc_protocol.specs.Barrier.{arrive_step, clean_step}
 use Rattle.lrc_protocol.specs.Node.{Node, Effect, begins, with_memory, sends, acts, acts_by}
 use Rattle.lrc_protocol.specs.Letters.{letter, request_of, forward_to, changes_reply_to, requests_of, page_request_of, changes_request_of, grants_of, arrival_of, departure_of, discards_to}
 use Rattle.lrc_protocol.specs.Waits.{waits_or_goes_on, with_needs}
 use Rattle.lrc_protocol.specs.Run.{charged, own_index, closes, reaches, acquire_at, release_at, arrive_at, run_effect}
 use Rattle.lrc_protocol.specs.Take.{needs_to_keep, collects, take_departure, request_by, learns, arrive_by, clean_by, discard_by, page_reply_by, take_effect, with_part}
-use Rattle.lrc_protocol.specs.Turn.{TurnRecord, Outcome, done, not_ready, unexpected, worn, turn_with, turn_of, turn_if, turn_by, run_turn}
+use Rattle.lrc_protocol.specs.Turn.{TurnRecord, done, turn_with, turn_of, turn_if, turn_by, run_turn}
 use Rattle.lrc_invariants.proofs.Sends.{letter_in, LettersIf, numbered-letters}
 
 -- ---- letters that carry no page

@@ -1,8 +1,8 @@
 -- What fits goes on to fit as other nodes act and close intervals, and what is closed stays sound.
-use Rattle.std.proofs.Common.{◌≡◌, ℕ, ◌<◌, ◌≤◌, List, [], ◌∷◌, ◌++◌, Bool, true, false, IsTrue, length, refl, sym, ap, subst, ◌∙◌, ⊎_elim, arith, append-nil, append_assoc}
-use Rattle.std.specs.Prelude.{Some, None, All, Contains, ◌==◌, if◌then◌else◌}
+use Rattle.std.proofs.Common.{◌≡◌, ℕ, List, [], ◌∷◌, ◌++◌, Bool, true, false, IsTrue, length, refl, sym, ap, subst, append-nil, append_assoc}
+use Rattle.std.specs.Prelude.{Contains, ◌==◌, if◌then◌else◌}
 use Rattle.std.specs.List.{list_any}
-use Rattle.std.proofs.lemmas.List.Elements.{All-weaker, Contains-append_left, Contains-append_right}
+use Rattle.std.proofs.lemmas.List.Elements.{All-weaker}
 use Rattle.lrc_page.specs.Page.{words_of}
 use Rattle.lrc_store.specs.Store.{StoredRecord}
 use Rattle.lrc_store.proofs.Orders.{Contains-first, Contains-later}
@@ -14,9 +14,9 @@ use Rattle.lrc_copies.proofs.Stamping.{added_last, cut_longer}
 use Rattle.lrc_copies.proofs.Timing.{uncovered_fits, closed_sound}
 use Rattle.lrc_protocol.specs.Copy.{Copy, valid, written, invalid, absent, changes_of}
 use Rattle.lrc_protocol.specs.Fetch.{Base, unneeded, due, come, Need}
-use Rattle.lrc_protocol.specs.Mail.{Wait, nothing, grant, departure, access, upkeep, discard, Collection, needs_of}
+use Rattle.lrc_protocol.specs.Mail.{Wait, nothing, grant, departure, access, upkeep, discard, needs_of}
 use Rattle.lrc_protocol.specs.Memory.{Memory, copy_at}
-use Rattle.lrc_local.specs.Ranges.{IsWhole, CollectsAt}
+use Rattle.lrc_local.specs.Ranges.{CollectsAt}
 use Rattle.lrc_local.proofs.Change.{View}
 use Rattle.lrc_coherence.specs.Written.{made_stamps, changes_on}
 use Rattle.lrc_coherence.proofs.Laws.{bound_in}

@@ -1,50 +1,43 @@
 -- What comes of an input keeps it so that copies, base copies and those that came fit their times.
-use Rattle.std.proofs.Common.{◌≡◌, ◌≢◌, ℕ, ◌+◌, ◌-◌, ◌<◌, ◌≤◌, List, [], ◌∷◌, ◌++◌, Bool, true, false, IsTrue, length, map, refl, sym, ap, subst, ◌∙◌, ⊎_elim, arith, append-nil}
-use Rattle.std.specs.Prelude.{Option, Some, None, All, Contains, ◌==◌, ◌&&◌, not, filter, fold, max, slice_index_or, if◌then◌else◌}
-use Rattle.std.specs.List.{list_any, range_with_len, enumerate_from}
-use Rattle.std.proofs.lemmas.Bool.{cases_Bool, cases_lt, and_from, eqb-true, eq-eqb, ne_eqb, false≢true, or_left, or_right}
-use Rattle.std.proofs.lemmas.Option.{same_Some}
-use Rattle.std.proofs.lemmas.List.{get_or-map, get_or_past, length-map}
+use Rattle.std.proofs.Common.{◌≡◌, ℕ, ◌+◌, ◌-◌, ◌<◌, ◌≤◌, List, [], ◌∷◌, ◌++◌, Bool, true, false, IsTrue, length, map, refl, sym, ap, subst, ◌∙◌, ⊎_elim, arith}
+use Rattle.std.specs.Prelude.{Option, None, All, Contains, ◌==◌, not, filter, max, slice_index_or, if◌then◌else◌}
+use Rattle.std.specs.List.{list_any, enumerate_from}
+use Rattle.std.proofs.lemmas.Bool.{cases_lt, eqb-true, false≢true, or_left, or_right}
+use Rattle.std.proofs.lemmas.List.{get_or-map, get_or_past}
 use Rattle.std.proofs.lemmas.List.FromFn.{get_or-enumerate_from, length-enumerate_from}
-use Rattle.std.proofs.lemmas.List.Elements.{All-nil, All-cons, All-map, All-weaker}
-use Rattle.lrc_time.specs.Time.{entry, Covers, covers, joined}
+use Rattle.std.proofs.lemmas.List.Elements.{All-nil, All-map, All-weaker}
+use Rattle.lrc_time.specs.Time.{entry, Covers, joined}
 use Rattle.lrc_time.proofs.Times.{entry-set_same, entry-joined, covers-joined_first}
 use Rattle.lrc_page.specs.Page.{words_of}
 use Rattle.lrc_store.specs.Interval.{IntervalRecord, index_of}
-use Rattle.lrc_store.specs.Store.{StoredRecord, interval_of, intervals_of, stored_at, notice_of}
-use Rattle.lrc_store.proofs.Orders.{filter-Contains, cases_Contains, none_Contains}
-use Rattle.lrc_wire.specs.Records.{PageReplyRecord}
-use Rattle.lrc_wire.specs.declared.message.Message.TheVariants.{PageReply}
+use Rattle.lrc_store.specs.Store.{StoredRecord, interval_of, notice_of}
+use Rattle.lrc_store.proofs.Orders.{cases_Contains, none_Contains}
 use Rattle.lrc_copies.specs.Page.{IsClosedWith}
 use Rattle.lrc_copies.specs.Stamps.{index_of as stamp_index, is_covered, IsCut, IsClosedAt, IsBetween}
 use Rattle.lrc_copies.proofs.Stamping.{covered-le, le-covered, cut_longer}
 use Rattle.lrc_copies.proofs.Timing.{uncovered_fits, untouched_fits_closed, closed_fits}
-use Rattle.lrc_protocol.specs.Copy.{Copy, valid, written, invalid, absent, changes_of, closed, invalidated, dropped}
-use Rattle.lrc_protocol.specs.Expected.{indices_by}
-use Rattle.lrc_protocol.specs.Fetch.{Base, unneeded, due, come, Need, base_of, need_of, with_changes, with_page}
+use Rattle.lrc_protocol.specs.Copy.{Copy, valid, written, invalid, absent, changes_of, closed, invalidated}
+use Rattle.lrc_protocol.specs.Fetch.{come, Need, base_of, need_of, with_changes, with_page}
 use Rattle.lrc_protocol.specs.Locks.{next_time}
-use Rattle.lrc_protocol.specs.Mail.{Wait, nothing, grant, departure, access, upkeep, discard, Collection, needs_of}
-use Rattle.lrc_protocol.specs.Memory.{Memory, copy_at, base_at, keeper_at, kept_pages, is_named, with_interval, learned, with_keepers, collected_at}
+use Rattle.lrc_protocol.specs.Mail.{Wait, nothing, needs_of}
+use Rattle.lrc_protocol.specs.Memory.{Memory, copy_at, keeper_at, is_named, with_interval, learned}
 use Rattle.lrc_protocol.specs.Waits.{with_needs}
-use Rattle.lrc_invariants.proofs.Sends.{Came, comes}
-use Rattle.lrc_local.specs.Needs.{FitsKept}
-use Rattle.lrc_local.specs.Ranges.{IsWhole, CollectsAt}
+use Rattle.lrc_local.specs.Ranges.{IsWhole}
 use Rattle.lrc_local.specs.Remembered.{IsBetween as IsRemembered}
-use Rattle.lrc_local.specs.Waits.{NoneWritten, IsQuiet}
-use Rattle.lrc_local.proofs.Change.{View, News, is_settled, is_open, needs_in, pages_in, kept_in}
+use Rattle.lrc_local.specs.Waits.{NoneWritten}
+use Rattle.lrc_local.proofs.Change.{View, News, is_settled}
 use Rattle.lrc_local.proofs.Lists.{length-placed}
-use Rattle.lrc_local.proofs.Needs.{needs-with, settled-needs, open-needs}
+use Rattle.lrc_local.proofs.Needs.{needs-with, settled-needs}
 use Rattle.lrc_local.proofs.Opened.{unwritten-at}
 use Rattle.lrc_local.proofs.OwnCopies.{map-copy, placed-copy}
 use Rattle.lrc_coherence.specs.Made.{AllMade}
 use Rattle.lrc_coherence.specs.Written.{made_stamps, changes_on}
 use Rattle.lrc_coherence.proofs.Laws.{bound_in}
 use Rattle.lrc_coherence.proofs.Stored.{Member, made_at, in_index, in_range}
-use Rattle.lrc_coherence.proofs.StampLists.{HasRecord, interval-in, interval-from, found_once}
-use Rattle.lrc_coherence.proofs.CopyTurns.{First, Brings, knowing, rests, manages, closes, learns, begins, discards, misses, gets_changes, gets_page}
-use Rattle.lrc_coherence.proofs.FitCopies.{Wrote, history_on, FitsTime, CopyFits, BaseFits, Fit, Facts, Stored, later_fits, base-within, bound-with, bound-settled, bound-open}
+use Rattle.lrc_coherence.proofs.StampLists.{HasRecord, interval-from, found_once}
+use Rattle.lrc_coherence.proofs.FitCopies.{Wrote, history_on, FitsTime, CopyFits, BaseFits, Fit, Facts, later_fits, bound-settled}
 use Rattle.lrc_coherence.proofs.FitLater.{AtView}
-use Rattle.lrc_coherence.proofs.FitRepair.{names, unnamed}
+use Rattle.lrc_coherence.proofs.FitRepair.{unnamed}
 
 -- ---- closing
 
@@ -158,6 +151,16 @@ above-time time x h =
 module _ (count : ℕ) (wrote : Wrote) (made : List StoredRecord) (v : View) (facts : Facts count (words_of v.size) wrote made)
     (counted : v.setting.nodes ≡ count) (a : AtView v) (time : List ℕ) (intervals : List IntervalRecord) (news : News v time intervals)
     (told : AllMade (map interval_of made) intervals) (cut : IsCut made_stamps made v.time) (none : NoneWritten v.memory) where
+  -- the record of what came with the node and index of an interval is the interval's own
+  from_record : (x : StoredRecord) (m : Member x.node (stamp_index made_stamps x) intervals) (y : HasRecord made m.i) → Contains made x
+      → Contains intervals (interval_of x)
+  from_record x m y c =
+      let same : x ≡ y.x =
+      found_once made x y.x facts.found c y.in_list
+      (sym m.node_is ∙ ap (λ (i : IntervalRecord). i.node) (sym y.is))
+      (sym m.index_is ∙ ap index_of (sym y.is)) in
+      subst (Contains intervals) (sym y.is ∙ ap interval_of (sym same)) m.in_list
+
   -- an interval that is new is among those that came
   new-came : (x : StoredRecord) → IsBetween made_stamps made v.time (joined v.time time) x → Contains intervals (interval_of x)
   new-came x b =
@@ -172,12 +175,7 @@ module _ (count : ℕ) (wrote : Wrote) (made : List StoredRecord) (v : View) (fa
       in_index q k intervals
       (subst (λ ks. Contains ks k) (sym (news.between q within))
       (in_range (entry v.time q + 1) (entry time q - entry v.time q) k (omega (arith, later)) (omega (arith, upto, later)))) in
-      let y : HasRecord made m.i = interval-from made m.i (made_at (map interval_of made) intervals m.i told m.in_list) in
-      let same : x ≡ y.x =
-      found_once made x y.x facts.found b.member y.in_list
-      (sym m.node_is ∙ ap (λ (i : IntervalRecord). i.node) (sym y.is))
-      (sym m.index_is ∙ ap index_of (sym y.is)) in
-      subst (Contains intervals) (sym y.is ∙ ap interval_of (sym same)) m.in_list
+      from_record x m (interval-from made m.i (made_at (map interval_of made) intervals m.i told m.in_list)) b.member
     where
       of_two : (a b c k : ℕ) → c ≡ max a b → k ≤ c → a < k → k ≤ b
       of_two a b c k e le lt = omega (arith, e, le, lt)

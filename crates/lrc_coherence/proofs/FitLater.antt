@@ -13,13 +13,13 @@ use Rattle.lrc_page.specs.Page.{words_of}
 use Rattle.lrc_page.specs.Place.{page_of, offset_of}
 use Rattle.lrc_store.specs.declared.key.Key.{Key}
 use Rattle.lrc_store.specs.Store.{StoredRecord, changes_at}
-use Rattle.lrc_protocol.specs.Copy.{Copy, valid, written, invalid, absent, is_readable, values_of, changes_of}
+use Rattle.lrc_protocol.specs.Copy.{Copy, valid, written, invalid, absent, is_readable, values_of}
 use Rattle.lrc_protocol.specs.Fetch.{Base, unneeded, due, come, Need, is_due, is_met, first_values, mended}
-use Rattle.lrc_protocol.specs.Mail.{Wait, nothing, access, upkeep, discard, Collection, needs_of}
+use Rattle.lrc_protocol.specs.Mail.{nothing, access, upkeep, discard, Collection, needs_of}
 use Rattle.lrc_protocol.specs.Memory.{Memory, copy_at, base_at, lacking_in, repaired}
 use Rattle.lrc_protocol.specs.Node.{OptionsRecord}
 use Rattle.lrc_protocol.specs.Waits.{clean_memory}
-use Rattle.lrc_local.specs.Needs.{FitsBase, FitsNeed, FitsKept}
+use Rattle.lrc_local.specs.Needs.{FitsBase, FitsNeed}
 use Rattle.lrc_local.specs.Ranges.{CollectsAt}
 use Rattle.lrc_local.specs.Remembered.{IsBetween}
 use Rattle.lrc_local.specs.Stored.{StoresExactly}
@@ -31,7 +31,7 @@ use Rattle.lrc_local.proofs.Indices.{Ascends}
 use Rattle.lrc_local.proofs.MetNeeds.{met-known}
 use Rattle.lrc_local.proofs.Needed.{Needed}
 use Rattle.lrc_local.proofs.Opened.{unwritten-at}
-use Rattle.lrc_local.proofs.Ranges.{Ranged, SameRest, clean-same, mends-same}
+use Rattle.lrc_local.proofs.Ranges.{Ranged, SameRest, clean-same}
 use Rattle.lrc_local.proofs.Reach.{first_view}
 use Rattle.lrc_local.proofs.Remembered.{Between}
 use Rattle.lrc_local.proofs.Replies.{bases-copies}
@@ -39,7 +39,7 @@ use Rattle.lrc_local.proofs.Tests.{each_passes}
 use Rattle.lrc_local.proofs.Whole.{Whole, met-long}
 use Rattle.lrc_local.proofs.Needs.{any_fits}
 use Rattle.lrc_coherence.proofs.Laws.{bound_in}
-use Rattle.lrc_coherence.proofs.CopyTurns.{Later, moves, puts, cleans, mends}
+use Rattle.lrc_local.proofs.Turning.{Later, moves, puts, cleans, mends}
 use Rattle.lrc_coherence.proofs.FitCopies.{Wrote, FitsTime, CopyFits, BaseFits, Fit, Facts, Stored, set_fits, write_fits, readable_fits, base-within, base-other, base-kept}
 use Rattle.lrc_coherence.proofs.FitRepair.{repair_fits}
 

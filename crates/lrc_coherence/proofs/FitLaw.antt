@@ -1,6 +1,6 @@
 -- Each readable copy fits what its node's time covers, with the node's own open interval, in every history.
-use Rattle.std.proofs.Common.{◌≡◌, ℕ, zero, suc, ◌+◌, ◌<◌, ◌≤◌, List, [], ◌∷◌, ◌++◌, true, IsTrue, length, refl, sym, ap, subst, ◌∙◌, inl, inr, ⊎_elim, arith}
-use Rattle.std.specs.Prelude.{Option, Some, None, Contains, slice_get, slice_index_or, replicate}
+use Rattle.std.proofs.Common.{◌≡◌, ℕ, zero, suc, ◌+◌, ◌≤◌, List, [], ◌∷◌, ◌++◌, true, IsTrue, length, refl, sym, ap, subst, inl, inr, ⊎_elim, arith}
+use Rattle.std.specs.Prelude.{Some, None, Contains, slice_get, slice_index_or, replicate}
 use Rattle.std.proofs.lemmas.List.Elements.{All-nil}
 use Rattle.lrc_lang.specs.declared.program.Program.{Program}
 use Rattle.lrc_time.specs.Time.{entry}
@@ -15,7 +15,7 @@ use Rattle.lrc_copies.proofs.Members.{Contains-from_filter}
 use Rattle.lrc_copies.proofs.Paging.{zero_page_of_size_fits, page_fits_more, page_open}
 use Rattle.lrc_copies.proofs.Stamping.{covered-le, below-covered}
 use Rattle.lrc_protocol.specs.Copy.{Copy, valid, written, invalid, absent, is_readable, values_of, changes_of}
-use Rattle.lrc_protocol.specs.Memory.{copy_at, base_at, fresh_memory}
+use Rattle.lrc_protocol.specs.Memory.{copy_at}
 use Rattle.lrc_protocol.specs.Node.{Node, OptionsRecord, fresh_node}
 use Rattle.lrc_protocol.specs.Log.{Logged}
 use Rattle.lrc_protocol.specs.World.{World, fresh_world, with_turn}
@@ -24,12 +24,12 @@ use Rattle.lrc_invariants.proofs.Reached.{IsReached}
 use Rattle.lrc_invariants.proofs.Shape.{shape_at}
 use Rattle.lrc_local.proofs.Always.{slice_index_or-replicate, whole_at}
 use Rattle.lrc_coherence.specs.Written.{made_stamps, page_history, open_record}
-use Rattle.lrc_coherence.proofs.FitCopies.{history_on, FitsTime, CopyFits, BaseFits, Fit}
+use Rattle.lrc_coherence.proofs.FitCopies.{history_on, FitsTime, CopyFits, Fit}
 use Rattle.lrc_coherence.proofs.FitFirst.{NeedFits, whole-long, not_written}
 use Rattle.lrc_coherence.proofs.FitSent.{all-sent}
 use Rattle.lrc_coherence.proofs.FitWorlds.{AreFit, TurnFits, wrote_in, turn-fits}
 use Rattle.lrc_coherence.proofs.History.{History, KeptByHistory, by_history, reached_by, closed_by}
-use Rattle.lrc_coherence.proofs.Laws.{AreKnown, AreWritten, AreFitting, StampsLaw, WritesLaw, TurnsLaw, RequestsLaw, BasesLaw, CopiesLaw}
+use Rattle.lrc_coherence.proofs.Laws.{StampsLaw, WritesLaw, TurnsLaw, RequestsLaw, BasesLaw, CopiesLaw}
 use Rattle.lrc_coherence.proofs.StampWorlds.{Placed, placed, turn_at, each_node}
 
 no_base_at : (n page : ℕ) (values : List ℕ) → slice_index_or (replicate n None) page None ≡ Some values → ⊥
@@ -78,7 +78,8 @@ module _ (program : Program) (nodes : ℕ) (options : OptionsRecord) (stamps : S
         sound = t.sound;
         nodes =
             each_node
-            (λ q lq. Fit (wrote_in options now.acts) (made ++ closed_by l.node after.node) lq.node.locks.time lq.node.mail.wait lq.node.memory) world n l after at
+            (λ q lq. Fit (wrote_in options now.acts) (made ++ closed_by l.node after.node) lq.node.locks.time lq.node.mail.wait lq.node.memory)
+            world n l after at
             t.own_node t.still_node;
         sent =
             all-sent options made (closed_by l.node after.node) world flight n l after input entry_made at come h t (requests world r) (bases world made hist)

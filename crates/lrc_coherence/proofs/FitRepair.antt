@@ -2,10 +2,10 @@
 use Rattle.std.proofs.Common.{◌≡◌, ℕ, ◌<◌, ◌≤◌, ◌↔◌, List, [], ◌∷◌, Bool, true, false, IsTrue, length, map, refl, sym, ap, subst, ◌∙◌, ⊎_elim, arith}
 use Rattle.std.specs.Prelude.{Option, Some, None, is_some, is_none, unwrap_or, option_and_then, All, AllPairs, Contains, ◌==◌, ◌&&◌, ◌||◌, not, find, fold, slice_index_or, if◌then◌else◌}
 use Rattle.std.specs.List.{list_any}
-use Rattle.std.proofs.lemmas.Bool.{and_parts, not-true, leb-false, cases_Bool, false≢true}
+use Rattle.std.proofs.lemmas.Bool.{and_parts, not-true, leb-false}
 use Rattle.std.proofs.lemmas.List.{get_or-map, length-map}
 use Rattle.std.proofs.lemmas.List.Elements.{All-head, All-tail, All-contains_itself}
-use Rattle.lrc_time.specs.Time.{entry, knows, Covers}
+use Rattle.lrc_time.specs.Time.{entry, Covers}
 use Rattle.lrc_page.specs.declared.changes.Change.{Change}
 use Rattle.lrc_page.specs.Changes.{applied}
 use Rattle.lrc_store.specs.declared.key.Key.{Key}
@@ -15,7 +15,7 @@ use Rattle.lrc_store.specs.Store.{NoticeRecord, StoredRecord, StoreRecord, IsSto
 use Rattle.lrc_store.proofs.Orders.{Contains-first, Contains-later, cases_Contains, none_Contains, IsAscendingPart-ascending_part}
 use Rattle.lrc_store.proofs.Ranks.{IsStrictWeakOrder-by_weight, Comparable-by_weight}
 use Rattle.lrc_copies.specs.Page.{PageFits, IsPageSound}
-use Rattle.lrc_copies.specs.Stamps.{is_covered, covered, comes_before, page_of_stamps, IsCut, AreStamped, IsBetween, AreLacking}
+use Rattle.lrc_copies.specs.Stamps.{is_covered, covered, comes_before, page_of_stamps, IsCut, AreStamped, AreLacking}
 use Rattle.lrc_copies.specs.Stamps.{index_of as stamp_index}
 use Rattle.lrc_copies.proofs.Members.{Contains-filter, Contains-from_filter}
 use Rattle.lrc_copies.proofs.Stamping.{covered-le, le-covered}

@@ -1,41 +1,33 @@
 -- A base copy on its way fits what its receiver collected, from when its keeper sends it until it is taken.
-use Rattle.std.proofs.Common.{◌≡◌, ◌⊎◌, ℕ, ◌<◌, ◌≤◌, List, [], ◌∷◌, ◌++◌, length, map, refl, sym, ap, subst, ◌∙◌, inl, inr, ⊎_elim, arith}
-use Rattle.std.specs.Prelude.{Option, Some, None, Contains, slice_get, slice_set}
+use Rattle.std.proofs.Common.{◌≡◌, ◌⊎◌, ℕ, List, ◌∷◌, ◌++◌, map, refl, sym, ap, subst, ◌∙◌, inl, inr, ⊎_elim}
+use Rattle.std.specs.Prelude.{Some, Contains, slice_get, slice_set}
 use Rattle.std.proofs.lemmas.Bool.{cases_eq}
 use Rattle.std.proofs.lemmas.Option.{same_Some}
 use Rattle.std.proofs.lemmas.List.Elements.{Contains-append_left, Contains-append_right, Contains-append_cases}
-use Rattle.lrc_lang.specs.declared.program.Program.{Program}
-use Rattle.lrc_time.specs.Time.{Covers}
 use Rattle.lrc_page.specs.Page.{words_of}
 use Rattle.lrc_store.specs.Store.{StoredRecord}
-use Rattle.lrc_store.proofs.Orders.{Contains-later, cases_Contains}
+use Rattle.lrc_store.proofs.Orders.{Contains-later}
 use Rattle.lrc_wire.specs.Envelope.{EnvelopeRecord}
 use Rattle.lrc_wire.specs.Records.{PageReplyRecord}
-use Rattle.lrc_wire.specs.declared.message.Message.TheVariants.{PageRequest, PageReply}
+use Rattle.lrc_wire.specs.declared.message.Message.TheVariants.{PageReply}
 use Rattle.lrc_protocol.specs.Mail.{Wait, access, discard, Collection}
 use Rattle.lrc_protocol.specs.Fetch.{Need}
-use Rattle.lrc_protocol.specs.Memory.{base_at}
 use Rattle.lrc_protocol.specs.Node.{Node, OptionsRecord}
-use Rattle.lrc_protocol.specs.Log.{Input, run, taken, EntryRecord, Logged}
+use Rattle.lrc_protocol.specs.Log.{Input, taken, EntryRecord, Logged}
 use Rattle.lrc_protocol.specs.Take.{take_effect}
-use Rattle.lrc_protocol.specs.Turn.{TurnRecord, is_repeat, taking}
+use Rattle.lrc_protocol.specs.Turn.{TurnRecord, taking}
 use Rattle.lrc_protocol.specs.Waits.{clean_memory}
 use Rattle.lrc_protocol.specs.World.{World, Flying, with_turn, pending}
-use Rattle.lrc_protocol.proofs.Worlds.{IsEntry, get_set_same, get_set_other}
+use Rattle.lrc_protocol.proofs.Worlds.{get_set_same, get_set_other}
 use Rattle.lrc_protocol.proofs.Induction.{Comes}
-use Rattle.lrc_invariants.proofs.Pending.{Lost, Took}
-use Rattle.lrc_invariants.proofs.Reached.{IsReached}
 use Rattle.lrc_invariants.proofs.Sends.{Came, letter_in}
-use Rattle.lrc_local.specs.Ranges.{IsWholeBase}
-use Rattle.lrc_local.proofs.Always.{whole_at}
 use Rattle.lrc_local.proofs.Change.{View, view_of}
 use Rattle.lrc_local.proofs.Ranges.{SameRest, clean-same}
 use Rattle.lrc_coherence.proofs.CopyReplies.{Answers, no_pages, run-carries, sent-out, take-answers}
-use Rattle.lrc_coherence.proofs.CopyTurns.{First, rests, manages, closes, learns, begins, discards, misses, gets_changes, gets_page, Later, moves, puts, cleans, mends, Played, begun, goes_on}
+use Rattle.lrc_local.proofs.Turning.{First, rests, manages, closes, learns, begins, discards, misses, gets_changes, gets_page, Later, moves, puts, cleans, mends, Played, begun, goes_on}
 use Rattle.lrc_coherence.proofs.FitCopies.{FitsTime, later_fits}
 use Rattle.lrc_coherence.proofs.FitRepair.{into_map}
 use Rattle.lrc_coherence.proofs.FitWorlds.{AreFit, TurnFits, wrote_in, ToIs, to-is, lost-in, by_turning}
-use Rattle.lrc_coherence.proofs.History.{History}
 use Rattle.lrc_coherence.proofs.Laws.{AwaitsBase, AreAwaited, AreServed, base_bound}
 use Rattle.lrc_coherence.proofs.StampWorlds.{TurnBy, alone, again, anew}
 

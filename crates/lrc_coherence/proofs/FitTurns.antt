@@ -1,13 +1,13 @@
 -- A turn of a node keeps it so that its copies, its base copies and those that came fit their times.
-use Rattle.std.proofs.Common.{◌≡◌, ℕ, ◌+◌, ◌<◌, ◌≤◌, List, [], ◌∷◌, ◌++◌, Bool, true, false, length, map, refl, sym, ap, subst, ◌∙◌, ⊎_elim, arith, append-nil}
-use Rattle.std.specs.Prelude.{Option, Some, None, All, Contains, ◌==◌, ◌&&◌, fold, max, slice_index_or, if◌then◌else◌}
+use Rattle.std.proofs.Common.{◌≡◌, ℕ, ◌+◌, ◌<◌, ◌≤◌, List, [], ◌∷◌, ◌++◌, Bool, true, false, length, map, refl, sym, ap, subst, ◌∙◌, arith, append-nil}
+use Rattle.std.specs.Prelude.{Option, Some, None, Contains, ◌==◌, ◌&&◌, fold, max, if◌then◌else◌}
 use Rattle.std.specs.List.{list_any, range_with_len}
-use Rattle.std.proofs.lemmas.Bool.{cases_Bool, and_from, eq-eqb, ne_eqb, false≢true}
+use Rattle.std.proofs.lemmas.Bool.{and_from, eq-eqb, ne_eqb, false≢true}
 use Rattle.std.proofs.lemmas.List.Elements.{All-nil, All-cons}
 use Rattle.lrc_time.specs.Time.{entry, joined}
 use Rattle.lrc_time.proofs.Times.{entry-set_same, entry-joined}
 use Rattle.lrc_page.specs.Page.{words_of}
-use Rattle.lrc_store.specs.Interval.{IntervalRecord, index_of}
+use Rattle.lrc_store.specs.Interval.{IntervalRecord}
 use Rattle.lrc_store.specs.Store.{StoredRecord, interval_of, intervals_of, notice_of}
 use Rattle.lrc_store.proofs.Orders.{filter-Contains, Contains-first}
 use Rattle.lrc_wire.specs.Records.{PageReplyRecord}
@@ -17,7 +17,7 @@ use Rattle.lrc_copies.proofs.Stamping.{covered-le}
 use Rattle.lrc_protocol.specs.Copy.{Copy, valid, written, invalid, absent, dropped}
 use Rattle.lrc_protocol.specs.Fetch.{need_of, with_changes, with_page}
 use Rattle.lrc_protocol.specs.Locks.{next_time}
-use Rattle.lrc_protocol.specs.Mail.{Wait, nothing, grant, departure, access, upkeep, discard, Collection, needs_of}
+use Rattle.lrc_protocol.specs.Mail.{Wait, nothing, grant, departure, access, upkeep, discard, Collection}
 use Rattle.lrc_protocol.specs.Memory.{Memory, copy_at, base_at, keeper_at, kept_pages, is_named, learned, with_interval, collected_at, with_keepers}
 use Rattle.lrc_protocol.specs.Take.{with_part}
 use Rattle.lrc_protocol.specs.Waits.{with_needs}
@@ -33,11 +33,11 @@ use Rattle.lrc_coherence.specs.Written.{made_stamps}
 use Rattle.lrc_coherence.proofs.Laws.{bound_in}
 use Rattle.lrc_coherence.proofs.Stored.{in_range}
 use Rattle.lrc_coherence.proofs.StampLists.{interval-in}
-use Rattle.lrc_coherence.proofs.CopyTurns.{First, Brings, knowing, rests, manages, closes, learns, begins, discards, misses, gets_changes, gets_page, Later, Played, begun, goes_on}
-use Rattle.lrc_coherence.proofs.FitCopies.{Wrote, FitsTime, CopyFits, BaseFits, Fit, Facts, Stored, later_fits, base-within, bound-with, bound-open}
+use Rattle.lrc_local.proofs.Turning.{First, Brings, knowing, rests, manages, closes, learns, begins, discards, misses, gets_changes, gets_page}
+use Rattle.lrc_coherence.proofs.FitCopies.{Wrote, FitsTime, CopyFits, Fit, Facts, Stored, later_fits, base-within, bound-with, bound-open}
 use Rattle.lrc_coherence.proofs.FitFirst.{closed_in, Shuts, closes-fit, list_any-in, placed-base, above-time, learned-copies, NeedFits, base_of-fits, new-needs, changed-needs, sent-needs}
-use Rattle.lrc_coherence.proofs.FitLater.{AtView, stored-before, later-fit}
-use Rattle.lrc_coherence.proofs.FitRepair.{names, unnamed}
+use Rattle.lrc_coherence.proofs.FitLater.{AtView}
+use Rattle.lrc_coherence.proofs.FitRepair.{unnamed}
 
 -- ---- a collection ends
 
@@ -193,7 +193,8 @@ module _ (came : Came) (count : ℕ) (wrote : Wrote) (made : List StoredRecord) 
         needs = new-needs wrote made v.memory.collected v.setting.nodes (with_keepers (knowing v time intervals).memory) _;
       })
   first-fit _ (discards collection e) shut =
-      stays (record v { wait = nothing; memory = collected_at v.setting.me collection.time v.memory }) refl (discards-fit count wrote made v facts a s h collection e)
+      stays (record v { wait = nothing; memory = collected_at v.setting.me collection.time v.memory }) refl
+      (discards-fit count wrote made v facts a s h collection e)
   first-fit _ (misses page e lt b n) shut =
       stays (record v { wait = access (need_of v.setting.nodes v.memory page) }) refl
       (record {

@@ -1,56 +1,52 @@
 -- In every history copies, base copies, those that came and those on their way fit their times, and what was closed is sound.
-use Rattle.std.proofs.Common.{◌≡◌, ℕ, ◌+◌, ◌<◌, ◌≤◌, List, [], ◌∷◌, ◌++◌, Bool, true, false, IsTrue, length, map, refl, sym, ap, subst, ◌∙◌, inl, inr, ⊎_elim, arith, append-nil}
-use Rattle.std.specs.Prelude.{Option, Some, None, All, Contains, ◌==◌, slice_get, slice_set, slice_index_or, if◌then◌else◌}
-use Rattle.std.proofs.lemmas.Bool.{cases_eq, eq-eqb}
-use Rattle.std.proofs.lemmas.Option.{same_Some}
-use Rattle.std.proofs.lemmas.List.Elements.{Contains-append_left, Contains-append_right, Contains-append_cases}
+use Rattle.std.proofs.Common.{◌≡◌, ℕ, ◌+◌, ◌<◌, ◌≤◌, List, [], ◌∷◌, ◌++◌, Bool, true, false, IsTrue, length, map, refl, sym, ap, subst, ◌∙◌, ⊎_elim, append-nil}
+use Rattle.std.specs.Prelude.{Some, None, Contains, ◌==◌, slice_get, if◌then◌else◌}
+use Rattle.std.proofs.lemmas.Bool.{eq-eqb}
+use Rattle.std.proofs.lemmas.List.Elements.{Contains-append_left, Contains-append_right}
 use Rattle.lrc_lang.specs.declared.program.Program.{Program}
 use Rattle.lrc_trace.specs.declared.act.Act.{Act}
 use Rattle.lrc_time.specs.Time.{entry}
 use Rattle.lrc_page.specs.Page.{words_of}
 use Rattle.lrc_store.specs.Interval.{IntervalRecord}
 use Rattle.lrc_store.specs.Store.{StoredRecord, interval_of, notice_of}
-use Rattle.lrc_store.proofs.Orders.{Contains-first, Contains-later, cases_Contains, none_Contains}
+use Rattle.lrc_store.proofs.Orders.{Contains-first, cases_Contains, none_Contains}
 use Rattle.lrc_wire.specs.Envelope.{EnvelopeRecord}
 use Rattle.lrc_wire.specs.Records.{PageReplyRecord}
 use Rattle.lrc_wire.specs.declared.message.Message.{Message}
-use Rattle.lrc_wire.specs.declared.message.Message.TheVariants.{PageRequest, PageReply}
+use Rattle.lrc_wire.specs.declared.message.Message.TheVariants.{LockRequest, LockForward, LockGrant, Arrive, Depart, Clean, Discard, ChangesRequest, ChangesReply, PageRequest, PageReply}
 use Rattle.lrc_copies.specs.Page.{IsPageSound, AgreeOnPage}
-use Rattle.lrc_copies.specs.Stamps.{index_of, is_covered, IsCut, IsClosedAt}
+use Rattle.lrc_copies.specs.Stamps.{index_of, is_covered, IsClosedAt}
 use Rattle.lrc_copies.proofs.Stamping.{le-covered}
-use Rattle.lrc_protocol.specs.Copy.{Copy, invalid}
-use Rattle.lrc_protocol.specs.Locks.{next_time}
-use Rattle.lrc_protocol.specs.Mail.{Wait, access, discard, Collection}
-use Rattle.lrc_protocol.specs.Memory.{Memory, copy_at, base_at}
+use Rattle.lrc_protocol.specs.Memory.{copy_at, base_at}
 use Rattle.lrc_protocol.specs.Node.{Node, OptionsRecord}
-use Rattle.lrc_protocol.specs.Log.{Input, run, taken, EntryRecord, Logged, outcome_of}
-use Rattle.lrc_protocol.specs.Turn.{TurnRecord, is_repeat, taking}
+use Rattle.lrc_protocol.specs.Log.{Input, run, taken, EntryRecord, Logged}
+use Rattle.lrc_protocol.specs.Turn.{is_repeat, taking}
 use Rattle.lrc_protocol.specs.World.{World, Flying, with_turn, pending}
-use Rattle.lrc_protocol.proofs.Worlds.{IsEntry, get_set_same, get_set_other}
+use Rattle.lrc_protocol.proofs.Worlds.{IsEntry, get_set_same}
 use Rattle.lrc_protocol.proofs.Induction.{Comes, named, delivered, repeated}
 use Rattle.lrc_invariants.proofs.Pending.{Lost, Goes, new_of, pending-goes, all_pending}
 use Rattle.lrc_invariants.proofs.Reached.{IsReached}
 use Rattle.lrc_invariants.proofs.Sends.{Came, by_itself, comes}
-use Rattle.lrc_invariants.proofs.Shape.{NodeShape, shape_at}
+use Rattle.lrc_invariants.proofs.Shape.{shape_at}
 use Rattle.lrc_local.specs.Reached.{IsReached as IsReachedNode}
 use Rattle.lrc_local.specs.Ranges.{IsWholeBase}
 use Rattle.lrc_local.proofs.Always.{is_store_at, known_at, ranged_at, whole_at}
-use Rattle.lrc_local.proofs.Change.{View, view_of, Walk, goes, receives}
+use Rattle.lrc_local.proofs.Change.{view_of, Walk, goes, receives}
 use Rattle.lrc_local.proofs.Reach.{first_view}
 use Rattle.lrc_local.proofs.Tokened.{come_to}
 use Rattle.lrc_coherence.specs.Made.{AllMade, AllTold, intervals_in}
-use Rattle.lrc_coherence.specs.Written.{made_stamps, last_write, word_on, page_history}
-use Rattle.lrc_coherence.proofs.CopyTurns.{Brings, Played, Turning, alone, again, anew, TurningIf, turning}
-use Rattle.lrc_coherence.proofs.FitCarry.{TimesGood, bound-good, carry, agree-fits, agree-sound, Misses, longer-fits, longer-cuts, closes-sound}
-use Rattle.lrc_coherence.proofs.FitCopies.{Wrote, history_on, FitsTime, CopyFits, Fit, Facts, Stored, base-within}
+use Rattle.lrc_coherence.specs.Written.{made_stamps, last_write, word_on}
+use Rattle.lrc_local.proofs.Turning.{news_in, Brings, Played, Turning, alone, again, anew, TurningIf, turning}
+use Rattle.lrc_coherence.proofs.FitCarry.{bound-good, carry, agree-fits, agree-sound, Misses, longer-fits, longer-cuts, closes-sound}
+use Rattle.lrc_coherence.proofs.FitCopies.{Wrote, history_on, FitsTime, Fit, Facts, Stored, base-within}
 use Rattle.lrc_coherence.proofs.FitFirst.{Shuts}
 use Rattle.lrc_coherence.proofs.FitLater.{AtView, at_view}
 use Rattle.lrc_coherence.proofs.FitPlayed.{played-fit}
 use Rattle.lrc_coherence.proofs.History.{History, one_more, closed_record, closed_by}
-use Rattle.lrc_coherence.proofs.Laws.{AreKnown, AreWritten, TurnWrites, StampsLaw, WritesLaw, TurnsLaw, bound_in}
+use Rattle.lrc_coherence.proofs.Laws.{AreKnown, TurnWrites, StampsLaw, WritesLaw, TurnsLaw}
 use Rattle.lrc_coherence.proofs.StampCuts.{IsFull, Counted, unknown_by}
 use Rattle.lrc_coherence.proofs.StampLists.{own_between}
-use Rattle.lrc_coherence.proofs.StampMade.{all_listed, all_made, closed-index}
+use Rattle.lrc_coherence.proofs.StampMade.{all_made, closed-index}
 use Rattle.lrc_coherence.proofs.StampTimes.{AreCuts, all_cuts, since-of}
 use Rattle.lrc_coherence.proofs.StampWorlds.{Placed, placed}
 use Rattle.lrc_coherence.proofs.Told.{told-there}
@@ -105,6 +101,20 @@ nothing_came from message e = cc
 
 came_message : (from from' : ℕ) (a b : Message) → comes from a ≡ comes from' b → a ≡ b
 came_message from from' a b e = cc
+
+-- what is learned with a message is what it tells
+news-made : (made : List IntervalRecord) (message : Message) → AllMade made (intervals_in message) → AllMade made (news_in message)
+news-made made (LockGrant m) h = h
+news-made made (Depart m) h = h
+news-made made (LockRequest m) h = tt
+news-made made (LockForward m) h = tt
+news-made made (Arrive m) h = tt
+news-made made (Clean episode) h = tt
+news-made made (Discard episode) h = tt
+news-made made (ChangesRequest m) h = tt
+news-made made (ChangesReply m) h = tt
+news-made made (PageRequest page) h = tt
+news-made made (PageReply m) h = tt
 
 -- a message comes to its receiver
 abbrev pub ToIs : ℕ → Input → Type 0
@@ -350,12 +360,13 @@ module _ (program : Program) (nodes : ℕ) (options : OptionsRecord) (stamps : S
         let lost : Lost e (pending world) entry_made.turn.out (pending now) =
         lost-of l.node input (pending world) entry_made.turn.out (pending now) goes-there e is fresh in
         let to : n ≡ e.to = subst (ToIs n) is (to-is world n input flight come) in
-        let told : AllMade (map interval_of made) (intervals_in e.message) =
-        told-there (map interval_of made) lost.front lost.back e (subst (AllTold (map interval_of made)) lost.before known.are.told) in
+        let told : AllMade (map interval_of made) (news_in e.message) =
+        news-made (map interval_of made) e.message
+        (told-there (map interval_of made) lost.front lost.back e (subst (AllTold (map interval_of made)) lost.before known.are.told)) in
         played (comes e.from e.message) (taking l.node e).mail.taken p (goes walked (receives e.from _))
         (λ intervals b.
         subst (AllMade (map interval_of made)) b.told
-        (subst (λ message. AllMade (map interval_of made) (intervals_in message)) (came_message e.from b.from e.message b.message b.came_is) told))
+        (subst (λ message. AllMade (map interval_of made) (news_in message)) (came_message e.from b.from e.message b.message b.came_is) told))
         (λ from m c.
         then-fits l.node.memory.collected m.page m.values
         (h.sent e m l (lost-in e (pending world) entry_made.turn.out (pending now) lost) (came_message e.from from e.message (PageReply m) c)

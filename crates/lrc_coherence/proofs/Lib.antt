@@ -25,7 +25,6 @@ pub mod KnownStores
 pub mod Known
 pub mod StampLaw
 pub mod StampNewer
-pub mod CopyTurns
 pub mod FitRepair
 pub mod WriteDeeds
 pub mod WritePages

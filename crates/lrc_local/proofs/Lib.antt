@@ -5,6 +5,7 @@ pub mod Indices
 pub mod Change
 pub mod Words
 pub mod Managers
+pub mod Turning
 pub mod Inversion
 pub mod Mailed
 pub mod Entered

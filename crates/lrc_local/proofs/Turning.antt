@@ -39,16 +39,21 @@ use Rattle.lrc_local.specs.Needs.{page_next}
 use Rattle.lrc_local.proofs.Managers.{Manages, arrival-manages, clean-manages}
 use Rattle.lrc_local.proofs.Words.{next-in_words, page-in_range}
 use Rattle.lrc_local.proofs.Change.{View, Walk, goes, News, Reply, Sent, view_of, pages_in, kept_in, needs_in, is_settled, is_open, news, reply, manages as manages_change, moves as moves_change, puts as puts_change, closes as closes_change, learns as learns_change, resumes as resumes_change, begins as begins_change, cleans as cleans_change, discards as discards_change, misses as misses_change, mends as mends_change, gets_changes as gets_changes_change, gets_page as gets_page_change}
-use Rattle.lrc_coherence.specs.Made.{intervals_in}
 
 -- ---- words
+
+-- the intervals that a node learns with a message
+abbrev pub news_in : Message → List IntervalRecord
+news_in (LockGrant m) = m.intervals
+news_in (Depart m) = m.intervals
+news_in _ = []
 
 -- a message came that tells of these intervals
 pub record Brings (came : Came) (intervals : List IntervalRecord) : Type 0 where
   pub from : ℕ
   pub message : Message
   pub came_is : came ≡ comes from message
-  pub told : intervals_in message ≡ intervals
+  pub told : news_in message ≡ intervals
 
 -- a node that learned news
 abbrev pub knowing : View → List ℕ → List IntervalRecord → View
