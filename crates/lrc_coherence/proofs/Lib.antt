@@ -25,3 +25,4 @@ pub mod CollectAgree
 pub mod CollectCovers
 pub mod CollectBases
 pub mod CollectServes
+pub mod StampAsks
