@@ -26,3 +26,4 @@ pub mod CollectCovers
 pub mod CollectBases
 pub mod CollectServes
 pub mod StampAsks
+pub mod StampAskers
