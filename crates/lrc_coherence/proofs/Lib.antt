@@ -27,3 +27,4 @@ pub mod CollectBases
 pub mod CollectServes
 pub mod StampAsks
 pub mod StampAskers
+pub mod StampLearn
