@@ -69,3 +69,6 @@ pub mod LazyTurns
 pub mod LazyReads
 pub mod LazyTheorem
 pub mod Whole
+pub mod StampAsks
+pub mod StampAskers
+pub mod StampLearn
