@@ -40,3 +40,4 @@ pub mod CollectBases
 pub mod CollectServes
 pub mod CollectHeld
 pub mod CollectLaw
+pub mod RequestNewer
