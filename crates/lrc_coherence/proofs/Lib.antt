@@ -41,3 +41,4 @@ pub mod CollectServes
 pub mod CollectHeld
 pub mod CollectLaw
 pub mod RequestNewer
+pub mod RequestAskTurns
