@@ -72,3 +72,5 @@ pub mod Whole
 pub mod StampAsks
 pub mod StampAskers
 pub mod StampLearn
+pub mod RequestNewer
+pub mod RequestAskTurns
