@@ -18,8 +18,6 @@ mod locks;
 #[cfg(test)]
 mod messages;
 #[cfg(test)]
-mod nodes;
-#[cfg(test)]
 mod pages;
 #[cfg(test)]
 mod protocol;
@@ -35,5 +33,3 @@ mod stores;
 mod tables;
 #[cfg(test)]
 mod times;
-#[cfg(test)]
-mod traces;
