@@ -31,30 +31,9 @@ use Rattle.lrc_local.specs.Own.{IsAttached}
 use Rattle.lrc_coherence.specs.Made.{AreMade, StoresJust}
 use Rattle.lrc_coherence.specs.Written.{made_stamps, made_changes, changes_on, page_history, open_record}
 use Rattle.lrc_coherence.proofs.History.{History, closed_record, closed_by}
-
 -- ---- stamps and changes
 
--- The intervals that were closed, as the nodes know them:
-pub record AreKnown (nodes : ℕ) (made : List StoredRecord) (world : World) : Type 0 where
-  -- they are those that the nodes store and tell one another of, each with the changes of all its pages;
-  pub are : AreMade (map interval_of made) world
-  pub stored : (n : ℕ) (l : Logged) → slice_get world.nodes n ≡ Some l → StoresJust (map interval_of made) l.node
-  pub attached : All IsAttached made
-  pub pages : All (λ (x : StoredRecord). AllPairs (λ (a b : NoticeRecord). a.page < b.page) x.notices) made
-  -- no two have the same node and index;
-  pub found : (x : StoredRecord) → Contains made x → stored_at made x.node (index_of made_stamps x) ≡ Some x
-  -- their stamps are cuts, and so are the times of the nodes, what they collected, and what they remember of invalid copies;
-  pub stamped : AreStamped made_stamps nodes made
-  pub time : (n : ℕ) (l : Logged) → slice_get world.nodes n ≡ Some l → IsCut made_stamps made l.node.locks.time
-  pub collected : (n : ℕ) (l : Logged) → slice_get world.nodes n ≡ Some l → IsCut made_stamps made l.node.memory.collected
-  pub since : (n : ℕ) (l : Logged) (page : ℕ) (values since : List ℕ) → slice_get world.nodes n ≡ Some l
-      → copy_at l.node.memory page ≡ invalid values since → IsCut made_stamps made since
-  -- what a node knows of changes, and what a pending reply tells of them, is what they were.
-  pub known : (n : ℕ) (l : Logged) (key : Key) (changes : List Change) → slice_get world.nodes n ≡ Some l
-      → changes_at l.node.memory.store key ≡ Some changes → made_changes made key ≡ Some changes
-  pub replied : (e : EnvelopeRecord) (m : ChangesReplyRecord) (part : IndexedChangesRecord) → Contains (pending world) e
-      → e.message ≡ ChangesReply m → Contains m.parts part
-      → made_changes made (record { node = e.from; index = part.index; page = m.page }) ≡ Some part.changes
+pub use Rattle.lrc_coherence.specs.Known.{AreKnown}
 
 -- ---- writes
 

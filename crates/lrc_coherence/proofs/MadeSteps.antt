@@ -1,7 +1,8 @@
 -- What one turn adds to the intervals that were made, and what it stores and tells of them.
 use Rattle.std.proofs.Common.{◌≡◌, ℕ, ◌+◌, ◌<◌, ◌≤◌, List, [], ◌∷◌, ◌++◌, length, map, refl, sym, ap, subst, ◌∙◌, arith, append-nil}
-use Rattle.std.specs.Prelude.{max, fold}
+use Rattle.std.specs.Prelude.{max, fold, ◌==◌, if◌then◌else◌}
 use Rattle.std.specs.List.{range_with_len}
+use Rattle.std.proofs.lemmas.Bool.{eq-eqb, ne_eqb}
 use Rattle.std.proofs.lemmas.List.Elements.{Contains-push}
 use Rattle.lrc_time.specs.Time.{entry, joined}
 use Rattle.lrc_time.proofs.Times.{entry-set_same, entry-joined}
@@ -28,38 +29,42 @@ pub record CameSo (made : List IntervalRecord) (me : ℕ) (time : List ℕ) (cam
   pub grant : (from : ℕ) (m : LockGrantRecord) → came ≡ comes from (LockGrant m) → AllMade made m.intervals × (entry m.time me ≤ entry time me)
   pub depart : (from : ℕ) (m : DepartRecord) → came ≡ comes from (Depart m) → AllMade made m.intervals × (entry m.time me ≤ entry time me)
 
--- the intervals made after a turn of a node, with its time and store then
-pub record MadeThen (made : List IntervalRecord) (me : ℕ) (store : StoreRecord) (time : List ℕ) : Type 0 where
-  pub new : List IntervalRecord
+-- the interval that a node closes between these two times: none where its own entry stays
+abbrev pub closed_between : ℕ → List ℕ → Memory → List ℕ → List IntervalRecord
+closed_between me time memory after = if entry after me == entry time me then [] else closed_interval me (next_time me time) memory ∷ []
+
+-- the intervals made after a turn of a node, with what it made, and with its time and store then
+pub record MadeThen (made new : List IntervalRecord) (me : ℕ) (store : StoreRecord) (time : List ℕ) : Type 0 where
   pub own : indices_by (made ++ new) me ≡ range_with_len 1 (entry time me)
   pub others : (q : ℕ) → (me ≡ q → ⊥) → indices_by (made ++ new) q ≡ indices_by made q
   pub stored : AllMade (made ++ new) (intervals_of store)
 
 module _ (made : List IntervalRecord) (me : ℕ) (time : List ℕ) (memory : Memory) (within : me < length time)
     (exact : indices_by made me ≡ range_with_len 1 (entry time me)) (stored : AllMade made (intervals_of memory.store)) where
-  -- none is made
-  none_made : (store : StoreRecord) (time' : List ℕ) → entry time' me ≡ entry time me → AllMade made (intervals_of store) → MadeThen made me store time'
-  none_made store time' e h =
-      record {
-        new = [];
-        own = ap (λ all. indices_by all me) (append-nil made) ∙ exact ∙ ap (range_with_len 1) (sym e);
-        others = λ q ne. ap (λ all. indices_by all q) (append-nil made);
-        stored = subst (λ all. AllMade all (intervals_of store)) (sym (append-nil made)) h;
-      }
-
-  -- the open interval is closed
+  -- the open interval, closed
   abbrev stamp : List ℕ
   stamp = next_time me time
 
   abbrev interval : IntervalRecord
   interval = closed_interval me stamp memory
 
+  -- none is made
+  none_made : (store : StoreRecord) (time' : List ℕ) → entry time' me ≡ entry time me → AllMade made (intervals_of store)
+      → MadeThen made (closed_between me time memory time') me store time'
+  none_made store time' e h =
+      subst (λ b. MadeThen made (if b then [] else interval ∷ []) me store time') (sym (eq-eqb (entry time' me) (entry time me) e)) (record {
+        own = ap (λ all. indices_by all me) (append-nil made) ∙ exact ∙ ap (range_with_len 1) (sym e);
+        others = λ q ne. ap (λ all. indices_by all q) (append-nil made);
+        stored = subst (λ all. AllMade all (intervals_of store)) (sym (append-nil made)) h;
+      })
+
+  -- it is made
   index_is : entry stamp me ≡ entry time me + 1
   index_is = entry-set_same time me (entry time me + 1) within
 
-  one_made : (store : StoreRecord) → intervals_of store ≡ intervals_of memory.store ++ interval ∷ [] → MadeThen made me store stamp
-  one_made store is = record {
-    new = interval ∷ [];
+  one_made : (store : StoreRecord) → intervals_of store ≡ intervals_of memory.store ++ interval ∷ []
+      → MadeThen made (closed_between me time memory stamp) me store stamp
+  one_made store is = subst (λ b. MadeThen made (if b then [] else interval ∷ []) me store stamp) (sym (ne_eqb (entry stamp me) (entry time me) grows)) (record {
     own =
         let n : ℕ = entry time me in
         let next : range_with_len (1 + n) 1 ≡ entry stamp me ∷ [] = ap (λ k. k ∷ []) (one_more n ∙ sym index_is) in
@@ -76,14 +81,17 @@ module _ (made : List IntervalRecord) (me : ℕ) (time : List ℕ) (memory : Mem
         subst (AllMade (made ++ interval ∷ [])) (sym is)
         (made-append (made ++ interval ∷ []) (intervals_of memory.store) (interval ∷ []) (made-more made (interval ∷ []) (intervals_of memory.store) stored)
         (Contains-push made interval, tt));
-  }
+  })
     where
+      grows : entry stamp me ≡ entry time me → ⊥
+      grows e = let is : entry stamp me ≡ entry time me + 1 = index_is in absurd (omega (arith, e, is))
+
       one_more : (n : ℕ) → 1 + n ≡ n + 1
       one_more n = omega arith
 
   -- intervals come
   learned_made : (intervals : List IntervalRecord) (t : List ℕ) → AllMade made intervals → entry t me ≤ entry time me
-      → MadeThen made me (fold added memory.store intervals) (joined time t)
+      → MadeThen made (closed_between me time memory (joined time t)) me (fold added memory.store intervals) (joined time t)
   learned_made intervals t h le =
       let longer : Longer memory.store intervals (fold added memory.store intervals) = learned-longer intervals memory.store in
       none_made (fold added memory.store intervals) (joined time t) (entry-joined time t me ∙ most (entry time me) (entry t me) le)
@@ -94,7 +102,7 @@ module _ (made : List IntervalRecord) (me : ℕ) (time : List ℕ) (memory : Mem
 
   -- every change of the store
   pub made_then : (came : Came) (store : StoreRecord) (time' : List ℕ) → StoreChange me time memory came store time' → CameSo made me time came
-      → MadeThen made me store time'
+      → MadeThen made (closed_between me time memory time') me store time'
   made_then came _ _ same so = none_made memory.store time refl stored
   made_then _ _ _ closed so =
       let all : SameIntervals (added memory.store interval) (fold (with_own me (entry stamp me)) (added memory.store interval) (all_changes memory)) =

@@ -42,14 +42,14 @@ contains_first x ys = (zero, omega arith, refl)
 contains_later : {X : Type 0} (y x : X) (ys : List X) → Contains ys x → Contains (y ∷ ys) x
 contains_later y x ys h = let lt : h.0 < length ys = h.1 in (suc h.0, omega (arith, lt), h.2)
 
-made_at : (made xs : List IntervalRecord) (i : IntervalRecord) → AllMade made xs → Contains xs i → Contains made i
+pub made_at : (made xs : List IntervalRecord) (i : IntervalRecord) → AllMade made xs → Contains xs i → Contains made i
 made_at made [] i h c = absurd (contains_none i c)
 made_at made (x ∷ xs) i h c = elim (contains_cases x i xs c) [
   | inl e ↦ subst (Contains made) e h.0
   | inr later ↦ made_at made xs i h.1 later
 ]
 
-index_in : (q : ℕ) (xs : List IntervalRecord) (i : IntervalRecord) → Contains xs i → i.node ≡ q → Contains (indices_by xs q) (index_of i)
+pub index_in : (q : ℕ) (xs : List IntervalRecord) (i : IntervalRecord) → Contains xs i → i.node ≡ q → Contains (indices_by xs q) (index_of i)
 index_in q [] i c e = absurd (contains_none i c)
 index_in q (x ∷ xs) i c e = elim (cases_eq x.node q) [
   | inl here ↦
@@ -65,16 +65,16 @@ index_in q (x ∷ xs) i c e = elim (cases_eq x.node q) [
 ]
 
 -- a member of the node with this index
-record Member (q k : ℕ) (xs : List IntervalRecord) : Type 0 where
-  i : IntervalRecord
-  in_list : Contains xs i
-  node_is : i.node ≡ q
-  index_is : index_of i ≡ k
+pub record Member (q k : ℕ) (xs : List IntervalRecord) : Type 0 where
+  pub i : IntervalRecord
+  pub in_list : Contains xs i
+  pub node_is : i.node ≡ q
+  pub index_is : index_of i ≡ k
 
 later_member : (q k : ℕ) (x : IntervalRecord) (xs : List IntervalRecord) → Member q k xs → Member q k (x ∷ xs)
 later_member q k x xs m = record { i = m.i; in_list = contains_later x m.i xs m.in_list; node_is = m.node_is; index_is = m.index_is }
 
-in_index : (q k : ℕ) (xs : List IntervalRecord) → Contains (indices_by xs q) k → Member q k xs
+pub in_index : (q k : ℕ) (xs : List IntervalRecord) → Contains (indices_by xs q) k → Member q k xs
 in_index q k [] c = absurd (contains_none k c)
 in_index q k (x ∷ xs) c = elim (cases_eq x.node q) [
   | inl here ↦
@@ -87,7 +87,7 @@ in_index q k (x ∷ xs) c = elim (cases_eq x.node q) [
 
 -- ---- ranges
 
-from_range : (a n k : ℕ) → Contains (range_with_len a n) k → (a ≤ k) × (k < a + n)
+pub from_range : (a n k : ℕ) → Contains (range_with_len a n) k → (a ≤ k) × (k < a + n)
 from_range a zero k c = absurd (contains_none k c)
 from_range a (suc n) k c = elim (contains_cases a k (range_with_len (a + 1) n) c) [
   | inl e ↦ (omega (arith, e), omega (arith, e))
@@ -98,7 +98,7 @@ from_range a (suc n) k c = elim (contains_cases a k (range_with_len (a + 1) n) c
       (omega (arith, least), omega (arith, most))
 ]
 
-in_range : (a n k : ℕ) → a ≤ k → k < a + n → Contains (range_with_len a n) k
+pub in_range : (a n k : ℕ) → a ≤ k → k < a + n → Contains (range_with_len a n) k
 in_range a zero k le lt = absurd (omega (arith, le, lt))
 in_range a (suc n) k le lt = elim (cases_eq a k) [
   | inl e ↦ subst (Contains (range_with_len a (suc n))) e (contains_first a (range_with_len (a + 1) n))
@@ -114,7 +114,7 @@ first_is : (x a : ℕ) (xs : List ℕ) (n : ℕ) → x ∷ xs ≡ range_with_len
 first_is x a xs zero e = cc
 first_is x a xs (suc n) e = (n, cc, cc)
 
-once : (q : ℕ) (xs : List IntervalRecord) (a n : ℕ) → indices_by xs q ≡ range_with_len a n → (i j : IntervalRecord) → Contains xs i → Contains xs j
+pub once : (q : ℕ) (xs : List IntervalRecord) (a n : ℕ) → indices_by xs q ≡ range_with_len a n → (i j : IntervalRecord) → Contains xs i → Contains xs j
     → i.node ≡ q → j.node ≡ q → index_of i ≡ index_of j → i ≡ j
 once q [] a n e i j ci cj qi qj same = absurd (contains_none i ci)
 once q (x ∷ xs) a n e i j ci cj qi qj same = elim (cases_eq x.node q) [

@@ -1,2 +1,4 @@
 pub mod Made
 pub mod Written
+pub mod Known
+pub mod Requested

@@ -1,4 +1,8 @@
-//! What the nodes of a run of the protocol machine store, tell one another and hold of the pages: coherence. Laws alone.
+//! What the nodes of a run of the protocol machine store, tell one another and hold of the pages, coherence, and what follows of
+//! every run: lazy reading, and sequential consistency where it has no race. Laws alone.
 #![tactic(auto)]
 
 pub mod made;
+pub mod requests;
+pub mod theorem;
+pub mod traces;

@@ -119,10 +119,10 @@ Own p k = entry p.locks.time p.me ≡ k + awaits_acquire p.wait
 larger : (a b : ℕ) → b ≤ a → max a b ≡ a
 larger a b le = omega (arith, le)
 
-ticked_entry : (me : ℕ) (time : List ℕ) → me < length time → entry (next_time me time) me ≡ entry time me + 1
+pub ticked_entry : (me : ℕ) (time : List ℕ) → me < length time → entry (next_time me time) me ≡ entry time me + 1
 ticked_entry me time lt = entry-set_same time me (entry time me + 1) lt
 
-learned_entry : (p : Part) (time : List ℕ) → Learnable p time → entry (joined p.locks.time time) p.me ≡ entry p.locks.time p.me
+pub learned_entry : (p : Part) (time : List ℕ) → Learnable p time → entry (joined p.locks.time time) p.me ≡ entry p.locks.time p.me
 learned_entry p time k = entry-joined p.locks.time time p.me ∙ larger (entry p.locks.time p.me) (entry time p.me) k.own
 
 module _ (p : Part) (lt : p.me < length p.locks.time) (fits : FixesNext p.wait (next_in p.course)) (k : ℕ) (own : Own p k) where

@@ -107,7 +107,7 @@ module _ (segments : List Segment) (i : ℕ) (old new : Segment) (access : Acces
   IsKept-set p a = (kept_forth p a, kept_back p a)
 
 -- one access stands at a position
-one_access : (run : List Act) (n : ℕ) (v w : Bool) (p q x y : ℕ) → AccessesBy v run n p x → AccessesBy w run n q y → (v ≡ w) × (p ≡ q) × (x ≡ y)
+pub one_access : (run : List Act) (n : ℕ) (v w : Bool) (p q x y : ℕ) → AccessesBy v run n p x → AccessesBy w run n q y → (v ≡ w) × (p ≡ q) × (x ≡ y)
 one_access run n true true p q x y (v, a) (w, b) = let e = Does-one_deed a b in let same : x ≡ y = cc in (refl, Does-one_node a b, same)
 one_access run n false false p q x y (v, a) (w, b) = let e = Does-one_deed a b in let same : x ≡ y = cc in (refl, Does-one_node a b, same)
 one_access run n true false p q x y (v, a) (w, b) = let e = Does-one_deed a b in let never : ⊥ = cc in absurd never

@@ -61,7 +61,7 @@ dropped-whole nodes words (written values twin) h = h
 dropped-whole nodes words (invalid values since) h = tt
 dropped-whole nodes words absent h = tt
 
-readable-long : (nodes words : ℕ) (copy : Copy) → is_readable copy ≡ true → IsWhole nodes words copy → length (values_of copy) ≡ words
+pub readable-long : (nodes words : ℕ) (copy : Copy) → is_readable copy ≡ true → IsWhole nodes words copy → length (values_of copy) ≡ words
 readable-long nodes words (valid values) r h = h
 readable-long nodes words (written values twin) r h = h.0
 readable-long nodes words (invalid values since) r h = cc

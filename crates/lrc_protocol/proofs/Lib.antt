@@ -7,3 +7,4 @@ pub mod Skips
 pub mod Texts
 pub mod Induction
 pub mod Times
+pub mod Traces

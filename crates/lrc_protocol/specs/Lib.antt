@@ -15,3 +15,4 @@ pub mod Turn
 pub mod Log
 pub mod World
 pub mod Follows
+pub mod Traced

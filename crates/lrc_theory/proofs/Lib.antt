@@ -10,3 +10,4 @@ pub mod UpToRace
 pub mod InOrder
 pub mod OneNode
 pub mod Waiting
+pub mod Racing

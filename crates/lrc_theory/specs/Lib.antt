@@ -1,3 +1,4 @@
 pub mod Follows
 pub mod Kinds
 pub mod InOrder
+pub mod Racing

@@ -12,6 +12,7 @@ ghost use Rattle.lrc_exec.specs.Plain.{plain};
 ghost use Rattle.lrc_theory.specs.Follows.{FollowsText, nodes_of};
 ghost use Rattle.lrc_theory.specs.Kinds.{PlainUpTo};
 ghost use Rattle.lrc_theory.specs.InOrder.{ReadsInOrder};
+ghost use Rattle.lrc_theory.specs.Racing.{HasNoRace, PlainToRace};
 
 /// The sequential-consistency theorem's last step. Where each node's acts are those of the text, the run is well
 /// synchronized and reads lazily, and no two conflicting accesses are unordered, the plain machine, led by the order of
@@ -29,6 +30,22 @@ pub fn lazy_run_is_plain_up_to_its_first_race()
         → IsWellSynchronized nodes run → ReadsLazily run
         → ((i j : ℕ) → Races run i j → position ≤ j)
         → PlainUpTo program nodes run position }
+{}
+
+/// The race to which this leads is one of the plain machine: its act there, which is of the same kind, races with the same
+/// earlier positions.
+pub fn the_first_race_is_one_of_the_plain_machine()
+    ensures { (program : Program) (nodes : ℕ) (run : List Act) (position : ℕ) → FollowsText program nodes run
+        → IsWellSynchronized nodes run → ReadsLazily run
+        → ((i j : ℕ) → Races run i j → position ≤ j)
+        → PlainToRace program nodes run position }
+{}
+
+/// Races belong to the program: where no order gives the plain machine a run with a race, a run that follows the text, is
+/// well synchronized and reads lazily has none.
+pub fn races_of_lazy_runs_belong_to_the_program()
+    ensures { (program : Program) (nodes : ℕ) (run : List Act) → FollowsText program nodes run
+        → IsWellSynchronized nodes run → ReadsLazily run → HasNoRace program nodes → IsRaceFree run }
 {}
 
 /// What the plain machine makes follows the text, is well synchronized, and reads what was written last.

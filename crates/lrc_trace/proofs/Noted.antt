@@ -92,11 +92,11 @@ from_in trace access s there is =
     record { segment = s; there = there; epoch = is.epoch; interval = is.interval; time = is.time; has = is.has }
 
 -- the access that is noted
-abbrev this_access : ℕ → ℕ → List ℕ → ℕ → Bool → NotedAccess
+abbrev pub this_access : ℕ → ℕ → List ℕ → ℕ → Bool → NotedAccess
 this_access epoch interval time word is_write =
     record { epoch = epoch; interval = interval; time = time; word = word; is_write = is_write }
 
-same_access : (access : NotedAccess) (epoch interval : ℕ) (time : List ℕ) (word : ℕ) (is_write : Bool) → access.epoch ≡ epoch
+pub same_access : (access : NotedAccess) (epoch interval : ℕ) (time : List ℕ) (word : ℕ) (is_write : Bool) → access.epoch ≡ epoch
     → access.interval ≡ interval → access.time ≡ time → access.word ≡ word → access.is_write ≡ is_write
     → access ≡ this_access epoch interval time word is_write
 same_access access epoch interval time word is_write e i t w b =
@@ -148,7 +148,7 @@ no_access size epoch interval time true word there = false≢true there
 no_access size epoch interval time false word there = false≢true there
 
 -- the last of the segments is of the interval, or not
-first_of_segments : (segments : List Segment) (interval : ℕ)
+pub first_of_segments : (segments : List Segment) (interval : ℕ)
     → (((d : Segment) → 0 < length segments → (get_or segments (length segments - 1) d).interval ≢ interval)
     ⊎ ((d : Segment) × (0 < length segments) × ((get_or segments (length segments - 1) d).interval ≡ interval)))
 first_of_segments [] interval = inl (λ d some. absurd (omega arith))

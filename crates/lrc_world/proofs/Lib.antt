@@ -6,3 +6,4 @@ pub mod Marks
 pub mod Events
 pub mod EndsLemmas
 pub mod Driven
+pub mod Theorem

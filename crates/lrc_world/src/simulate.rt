@@ -1,6 +1,12 @@
 // Runs of a program, by a list of events or by rounds.
 
-ghost use Rattle.std.specs.Prelude.{◌≡◌, ◌<◌, ◌≤◌, ◌↔◌, ◌⊎◌, List, length, IfOk, MatchResult, Err};
+ghost use Rattle.std.specs.Prelude.{◌≡◌, ℕ, ◌<◌, ◌≤◌, ◌↔◌, ◌⊎◌, List, Some, length, IfOk, MatchResult, Err};
+ghost use Rattle.lrc_trace.specs.Conflict.{IsRaceFree, IsFirstRace};
+ghost use Rattle.lrc_trace.specs.Reading.{ReadsLazily};
+ghost use Rattle.lrc_trace.specs.Synchronization.{IsWellSynchronized};
+ghost use Rattle.lrc_exec.specs.Plain.{plain};
+ghost use Rattle.lrc_theory.specs.Follows.{nodes_of};
+ghost use Rattle.lrc_theory.specs.Racing.{HasNoRace, PlainToRace};
 ghost use Rattle.lrc_protocol.specs.declared.event.Event.{Event as AnyEvent};
 ghost use Rattle.lrc_world.specs.Range.{AreNodes, AreSteps};
 ghost use Rattle.lrc_world.specs.Report.{AreAll, IsReportOf, IsWornBy};
@@ -17,6 +23,10 @@ use std::alloc::Global;
 
 /// The run that these events make. An event that names no ready node, and no message in flight that its receiver expects, is
 /// skipped.
+///
+/// The sequential-consistency theorem is among its promises: where no two conflicting accesses are unordered by program, lock
+/// and barrier order, the plain machine, led by the order of the acts, makes the same acts. Every run is plain up to its first
+/// race; and where no order gives the plain machine a race, no run has one.
 pub fn simulate(
     alloc: Global,
     program: &Program,
@@ -25,6 +35,15 @@ pub fn simulate(
     events: &[Event],
 ) -> Result<Report, SimFault>
     ensures report { IfOk result (IsReportOf program.now nodes options.now events.now) }
+
+    ensures synchronized { IfOk result (λ report. IsWellSynchronized nodes report.acts.items) }
+    ensures lazy { IfOk result (λ report. ReadsLazily report.acts.items) }
+    ensures consistent { IfOk result (λ report. IsRaceFree report.acts.items
+        → plain program.now nodes (nodes_of report.acts.items) ≡ Some report.acts.items) }
+    ensures first { IfOk result (λ report. (position : ℕ) → IsFirstRace report.acts.items position
+        → PlainToRace program.now nodes report.acts.items position) }
+    ensures unraced { IfOk result (λ report. HasNoRace program.now nodes → IsRaceFree report.acts.items) }
+
     ensures worn { result ≡ Err SimFault.Worn → IsWornBy program.now nodes options.now events.now }
     ensures bad_nodes { (result ≡ Err SimFault.BadNodes) ↔ (¬ AreNodes nodes) }
     ensures bad_steps { (result ≡ Err SimFault.BadSteps) ↔ (AreNodes nodes × ¬ AreSteps options.now.steps) }
@@ -50,6 +69,15 @@ pub fn drive(
     picker: Picker,
 ) -> Result<(Vec<Event>, Report), SimFault>
     ensures report { IfOk result (λ done. IsReportOf program.now nodes options.now done.0.items done.1) }
+
+    ensures synchronized { IfOk result (λ done. IsWellSynchronized nodes done.1.acts.items) }
+    ensures lazy { IfOk result (λ done. ReadsLazily done.1.acts.items) }
+    ensures consistent { IfOk result (λ done. IsRaceFree done.1.acts.items
+        → plain program.now nodes (nodes_of done.1.acts.items) ≡ Some done.1.acts.items) }
+    ensures first { IfOk result (λ done. (position : ℕ) → IsFirstRace done.1.acts.items position
+        → PlainToRace program.now nodes done.1.acts.items position) }
+    ensures unraced { IfOk result (λ done. HasNoRace program.now nodes → IsRaceFree done.1.acts.items) }
+
     // Unless there are 100,000,000 events, no node is ready and no message is in flight after them.
     ensures few { IfOk result (λ done. length done.0.items ≤ 100000000) }
     ensures over { IfOk result (λ done. length done.0.items < 100000000 → AreAll program.now nodes options.now done.0.items) }

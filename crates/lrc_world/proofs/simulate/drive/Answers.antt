@@ -9,6 +9,7 @@ use Rattle.lrc_world.specs.Rounds.{Drives, GoesTo, NoneReady}
 use Rattle.lrc_world.specs.World.{Shows}
 use Rattle.lrc_world.proofs.Events.{handed_on}
 use Rattle.lrc_world.proofs.Driven.{begins, in_range, over}
+use Rattle.lrc_world.proofs.Theorem.{in_order, reads_lazily, consistent, to_first_race, race_free}
 use Rattle.lrc_world.proofs.Worlds.{acts_of_nodes}
 use Rattle.lrc_world.proofs.simulate.drive.Goals as goal
 
@@ -75,3 +76,23 @@ report-requires c =
     let r = c.in_ok-drive.ensures.goes.drives start d in
     acts_of_nodes c.args.program.now c.args.nodes c.args.options.now c.drive.new.self.events.items r.0 c.drive.new.self.world r.1 r.2
     c.in_ok-count.ensures.1.1
+
+pub returns-clause-synchronized : goal.returns-clause-synchronized
+returns-clause-synchronized c =
+    in_order c.args.program.now c.args.nodes c.args.options.now c.in_ok-report.field-0.0.items c.in_ok-report.field-0.1 (returns-clause-report c)
+
+pub returns-clause-lazy : goal.returns-clause-lazy
+returns-clause-lazy c =
+    reads_lazily c.args.program.now c.args.nodes c.args.options.now c.in_ok-report.field-0.0.items c.in_ok-report.field-0.1 (returns-clause-report c)
+
+pub returns-clause-consistent : goal.returns-clause-consistent
+returns-clause-consistent c =
+    consistent c.args.program.now c.args.nodes c.args.options.now c.in_ok-report.field-0.0.items c.in_ok-report.field-0.1 (returns-clause-report c)
+
+pub returns-clause-first : goal.returns-clause-first
+returns-clause-first c =
+    to_first_race c.args.program.now c.args.nodes c.args.options.now c.in_ok-report.field-0.0.items c.in_ok-report.field-0.1 (returns-clause-report c)
+
+pub returns-clause-unraced : goal.returns-clause-unraced
+returns-clause-unraced c =
+    race_free c.args.program.now c.args.nodes c.args.options.now c.in_ok-report.field-0.0.items c.in_ok-report.field-0.1 (returns-clause-report c)

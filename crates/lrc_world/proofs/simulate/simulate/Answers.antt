@@ -2,6 +2,7 @@ use Rattle.std.proofs.Common.{◌≡◌, ◌∙◌, sym, ap, rules, arith, take}
 use Rattle.lrc_protocol.specs.World.{run_of}
 use Rattle.lrc_world.specs.declared.report.SimFault.TheVariants.{Worn}
 use Rattle.lrc_world.proofs.Events.{goes_on, wears_out, handed_on, take_whole, get_at}
+use Rattle.lrc_world.proofs.Theorem.{in_order, reads_lazily, consistent, to_first_race, race_free}
 use Rattle.lrc_world.proofs.Worlds.{acts_of_nodes}
 use Rattle.lrc_world.proofs.simulate.simulate.Goals as goal
 
@@ -26,3 +27,23 @@ pub report-requires : goal.report-requires
 report-requires c =
     let runs = c.loop-event.invariant in
     acts_of_nodes c.args.program.now c.args.nodes c.args.options.now (take c.loop-event.event-index c.args.events.now) runs.0 c.loop-event.world runs.1 runs.2 c.in_ok-count.ensures.1.1
+
+pub returns-clause-synchronized : goal.returns-clause-synchronized
+returns-clause-synchronized c =
+    in_order c.args.program.now c.args.nodes c.args.options.now c.args.events.now c.in_ok-report.field-0 (returns-clause-report c)
+
+pub returns-clause-lazy : goal.returns-clause-lazy
+returns-clause-lazy c =
+    reads_lazily c.args.program.now c.args.nodes c.args.options.now c.args.events.now c.in_ok-report.field-0 (returns-clause-report c)
+
+pub returns-clause-consistent : goal.returns-clause-consistent
+returns-clause-consistent c =
+    consistent c.args.program.now c.args.nodes c.args.options.now c.args.events.now c.in_ok-report.field-0 (returns-clause-report c)
+
+pub returns-clause-first : goal.returns-clause-first
+returns-clause-first c =
+    to_first_race c.args.program.now c.args.nodes c.args.options.now c.args.events.now c.in_ok-report.field-0 (returns-clause-report c)
+
+pub returns-clause-unraced : goal.returns-clause-unraced
+returns-clause-unraced c =
+    race_free c.args.program.now c.args.nodes c.args.options.now c.args.events.now c.in_ok-report.field-0 (returns-clause-report c)
