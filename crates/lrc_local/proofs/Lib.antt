@@ -33,3 +33,5 @@ pub mod Acted
 pub mod Always
 pub mod Wrote
 pub mod Comes
+pub mod Steps
+pub mod Noting

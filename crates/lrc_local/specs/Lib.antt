@@ -8,3 +8,4 @@ pub mod Own
 pub mod Opened
 pub mod Sized
 pub mod Remembered
+pub mod Traced

@@ -21,6 +21,7 @@ ghost use Rattle.lrc_local.specs.Reached.{IsReached, LeadsTo};
 ghost use Rattle.lrc_local.specs.Remembered.{IsBetween};
 ghost use Rattle.lrc_local.specs.Sized.{IsSized};
 ghost use Rattle.lrc_local.specs.Stored.{StoresExactly};
+ghost use Rattle.lrc_local.specs.Traced.{IsTraced, CanNoteAct};
 ghost use Rattle.lrc_local.specs.Waits.{IsQuiet};
 ghost use Rattle.lrc_lock.specs.Held.{lock_at, is_free, is_held};
 ghost use Rattle.lrc_lock.specs.declared.state.LockState.TheVariants.{Away};
@@ -35,6 +36,8 @@ ghost use Rattle.lrc_protocol.specs.Log.{Input, Local, outcome_of};
 ghost use Rattle.lrc_protocol.specs.Mail.{nothing, grant, needs_of, access};
 ghost use Rattle.lrc_protocol.specs.Memory.{lacking, copy_at};
 ghost use Rattle.lrc_protocol.specs.Node.{Node, OptionsRecord, fresh_node};
+ghost use Rattle.lrc_protocol.specs.Traced.{untraced, with_act};
+ghost use Rattle.lrc_trace.specs.Trace.{TraceRecord};
 ghost use Rattle.lrc_protocol.specs.Turn.{TurnRecord, done, run_turn, take_turn};
 ghost use Rattle.lrc_store.specs.Interval.{IntervalRecord};
 ghost use Rattle.lrc_store.specs.Store.{IsStore, notice_at, unread, changes_at};
@@ -198,4 +201,15 @@ pub fn what_comes_can_be_repaired()
     ensures page { (node : Node) (from : ℕ) (m : PageReplyRecord) (need : Need) → IsReached node
         → is_expected node from (PageReply m) ≡ true → with_needs (with_page m.page m.values) node.mail.wait ≡ access need
         → CanBeRepaired node need }
+{}
+
+/// Each access that a turn of a node makes may be noted of the trace that the node keeps, in the interval that is open then;
+/// that interval's index is at most the number of steps that the node may make. And then the trace is what it keeps.
+pub fn accesses_can_be_noted()
+    ensures fresh { (program : Program) (nodes : ℕ) (options : OptionsRecord) (me : ℕ) → me < nodes
+        → IsTraced (fresh_node program nodes options me) (untraced (fresh_node program nodes options me)).trace }
+    ensures can { (node after : Node) (trace : TraceRecord) (input : Input) (turn : TurnRecord) → IsTraced node trace
+        → outcome_of node input ≡ done turn after → CanNoteAct after trace turn.act }
+    ensures kept { (node after : Node) (trace : TraceRecord) (input : Input) (turn : TurnRecord) → IsTraced node trace
+        → outcome_of node input ≡ done turn after → IsTraced after (with_act after turn.act trace) }
 {}

@@ -1,14 +1,19 @@
 -- What comes of an input to a node with its log.
 use Rattle.std.proofs.Common.{◌≡◌, ℕ, Bool, true, false, Option, Some, None, List, [], ◌∷◌, ◌++◌, Result, Ok, Err, refl, sym, ap, ◌∙◌, subst}
-use Rattle.std.specs.Prelude.{is_some, nat_le, if◌then◌else◌, IfOk, IfErr, MatchResult}
+use Rattle.std.specs.Prelude.{is_some, nat_le, if◌then◌else◌, IfOk, IfErr, OnErr, MatchResult}
+use Rattle.std.proofs.Common.{length, get_or}
+use Rattle.std.proofs.Math.Seq.{get_or-append_seam}
+use Rattle.std.proofs.lemmas.Option.{same_Some}
+use Rattle.lrc_trace.specs.Trace.{TraceRecord}
+use Rattle.lrc_protocol.specs.Traced.{with_act}
 use Rattle.lrc_protocol.specs.Node.{Node}
 use Rattle.lrc_protocol.specs.Turn.{TurnRecord, Outcome, done}
 use Rattle.lrc_protocol.specs.Log.{Input, EntryRecord, Logged, logged, too_large, logging, next_stamp, MOST_STAMP}
 use Rattle.lrc_node.specs.declared.fault.NodeFault.{NodeFault}
 use Rattle.lrc_node.specs.declared.fault.NodeFault.TheVariants.{Failed, NotReady, Unexpected, Worn, NoMemory}
 use Rattle.lrc_node.specs.Fault.{is_final}
-use Rattle.lrc_node.specs.Node.{Answers, unready, unawaited, too_large as too_large_answer, without_memory}
-use Rattle.lrc_node.specs.Logged.{LoggedNode, Logs, Enters}
+use Rattle.lrc_node.specs.Node.{TracedNode, Answers, unready, unawaited, too_large as too_large_answer, without_memory}
+use Rattle.lrc_node.specs.Logged.{LoggedNode, TracedLog, Logs, Enters, NotesIn}
 
 -- a refusal of the node is one of the node with its log
 pub logs_refused : (l : Logged) (input : Input) (stamp : ℕ) (o : Outcome) (fault : NodeFault) (new : Option Node) → Answers o l.node fault new
@@ -96,3 +101,55 @@ fails_settled node log input came o mid new (Err fault) result same refuses sett
     subst (λ (r : Result (Unit {0}) NodeFault). IfErr r (λ f. is_final f ≡ true → new ≡ record { node = None; log = log })) (sym settled.0)
     (λ e. settled.1 ∙ ap (λ (g : List EntryRecord). let m : LoggedNode = record { node = mid.node; log = g } in m) same
     ∙ ap (λ (n : Option Node). let m : LoggedNode = record { node = n; log = log } in m) (fails_refused node o fault mid.node refuses e))
+
+-- ---- the trace
+
+same_last : {A : Type 0} (xs : List A) (a b : A) → xs ++ a ∷ [] ≡ xs ++ b ∷ [] → a ≡ b
+same_last xs a b e =
+    sym (get_or-append_seam xs a [] a) ∙ ap (λ l. get_or l (length xs) a) e ∙ get_or-append_seam xs b [] a
+
+notes_refused : (old new : TracedLog) (fault : NodeFault) → new.trace ≡ old.trace → NotesIn old new (Err fault)
+notes_refused old new Failed e = e
+notes_refused old new NotReady e = e
+notes_refused old new Unexpected e = e
+notes_refused old new Worn e = tt
+notes_refused old new NoMemory e = tt
+
+-- what was logged was noted, where what was noted is the access of the turn
+notes_entered : (old new : TracedLog) (mid : TracedNode) (log : List EntryRecord) (input : Input) (came : ℕ) (turn : TurnRecord) (after : Node)
+    (result : Result (Unit {0}) NodeFault) → log ≡ old.logged.log → mid ≡ record { node = Some after; trace = with_act after turn.act old.trace }
+    → Enters (record { node = mid.node; log = log }) input came turn new.logged result → new.trace ≡ mid.trace → NotesIn old new result
+notes_entered old new mid log input came turn after (Ok tt) same made h kept = λ node entry at logged.
+    let mine : EntryRecord = record { input = input; stamp = next_stamp log came; turn = turn } in
+    let is_after : after ≡ node =
+    same_Some after node (sym (ap (λ (m : TracedNode). m.node) made) ∙ sym (ap (λ (l : LoggedNode). l.node) h.1) ∙ at) in
+    let is_entry : mine ≡ entry =
+    same_last log mine entry (sym (ap (λ (l : LoggedNode). l.log) h.1) ∙ logged ∙ ap (λ (g : List EntryRecord). g ++ entry ∷ []) (sym same)) in
+    kept ∙ ap (λ (m : TracedNode). m.trace) made
+    ∙ ap (λ (n : Node). with_act n turn.act old.trace) is_after
+    ∙ ap (λ (e : EntryRecord). with_act node e.turn.act old.trace) is_entry
+notes_entered old new mid log input came turn after (Err Worn) same made h kept = tt
+notes_entered old new mid log input came turn after (Err NoMemory) same made h kept = tt
+notes_entered old new mid log input came turn after (Err Failed) same made h kept = absurd h
+notes_entered old new mid log input came turn after (Err NotReady) same made h kept = absurd h
+notes_entered old new mid log input came turn after (Err Unexpected) same made h kept = absurd h
+
+pub notes_settled : (old new : TracedLog) (mid : TracedNode) (log : List EntryRecord) (input : Input) (came : ℕ) (o : Outcome)
+    (r : Result TurnRecord NodeFault) (result : Result (Unit {0}) NodeFault) (trace : TraceRecord) → trace ≡ old.trace → log ≡ old.logged.log
+    → IfOk r (λ turn. (after : Node) × (o ≡ done turn after) × (mid ≡ record { node = Some after; trace = with_act after turn.act trace }))
+    → OnErr r (mid.trace ≡ trace)
+    → MatchResult r (λ turn. Enters (record { node = mid.node; log = log }) input came turn new.logged result)
+    (λ fault. (result ≡ Err fault) × (new.logged ≡ record { node = mid.node; log = log }))
+    → new.trace ≡ mid.trace → NotesIn old new result
+notes_settled old new mid log input came o (Ok turn) result trace at same made refused settled kept =
+    notes_entered old new mid log input came turn made.0 result same
+    (made.2 ∙ ap (λ (t : TraceRecord). let m : TracedNode = record { node = Some made.0; trace = with_act made.0 turn.act t } in m) at) settled kept
+notes_settled old new mid log input came o (Err fault) result trace at same made refused settled kept =
+    subst (NotesIn old new) (sym settled.0) (notes_refused old new fault (kept ∙ refused ∙ at))
+
+-- without the trace
+pub seen_made : (mid : TracedNode) (o : Outcome) (trace : TraceRecord) (r : Result TurnRecord NodeFault)
+    → IfOk r (λ turn. (after : Node) × (o ≡ done turn after) × (mid ≡ record { node = Some after; trace = with_act after turn.act trace }))
+    → IfOk r (λ turn. (after : Node) × (o ≡ done turn after) × (mid.node ≡ Some after))
+seen_made mid o trace (Ok turn) made = (made.0, made.1, ap (λ (m : TracedNode). m.node) made.2)
+seen_made mid o trace (Err fault) made = tt

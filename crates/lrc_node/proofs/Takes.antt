@@ -2,7 +2,8 @@
 use Rattle.std.proofs.Common.{◌≡◌, Bool, true, false, cond, ◌⊎◌, ⊎_elim, Some, None, sym, ap, ◌∙◌, subst}
 use Rattle.std.specs.Prelude.{if◌then◌else◌, Result, Ok, Err, IfErr}
 use Rattle.lrc_wire.specs.Envelope.{EnvelopeRecord}
-use Rattle.lrc_local.specs.Reached.{IsReached}
+use Rattle.lrc_trace.specs.Trace.{TraceRecord}
+use Rattle.lrc_local.specs.Traced.{IsTraced}
 use Rattle.lrc_protocol.specs.Expected.{is_expected}
 use Rattle.lrc_protocol.specs.Node.{Node}
 use Rattle.lrc_protocol.specs.Take.{take_effect}
@@ -49,11 +50,11 @@ answers_take _ _ too_large = answers_too_large
 answers_take _ _ without_memory = answers_without_memory
 
 -- a node that goes on is as it was
-pub reached_take : {outcome : Outcome} {fault : NodeFault} (node after : Node) → RefusesTake outcome node fault after
-    → IsReached node → is_final fault ≡ false → IsReached after
-reached_take _ _ unawaited r e = r
-reached_take _ _ too_large r e = cc
-reached_take _ _ without_memory r e = cc
+pub traced_take : {outcome : Outcome} {fault : NodeFault} (node after : Node) (trace : TraceRecord) → RefusesTake outcome node fault after
+    → IsTraced node trace → is_final fault ≡ false → IsTraced after trace
+traced_take _ _ trace unawaited t e = t
+traced_take _ _ trace too_large t e = cc
+traced_take _ _ trace without_memory t e = cc
 
 -- what holds of an error for a weaker reason
 pub weaker : {A : Type 0} (r : Result A NodeFault) (P Q : NodeFault → Type 0) → ((fault : NodeFault) → P fault → Q fault) → IfErr r P → IfErr r Q

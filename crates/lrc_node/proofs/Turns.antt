@@ -1,12 +1,22 @@
 -- What comes of a turn that is asked of a node.
-use Rattle.std.proofs.Common.{◌≡◌, false, cond, Some, None, refl, sym, subst}
+use Rattle.std.proofs.Common.{◌≡◌, ◌∙◌, Bool, false, cond, Some, None, refl, sym, ap, subst}
+use Rattle.std.specs.Prelude.{Result, Ok, Err, IfErr}
+use Rattle.std.specs.Result.{IsErrAnd}
+use Rattle.std.proofs.lemmas.Option.{same_Some}
+use Rattle.lrc_trace.specs.Trace.{TraceRecord}
 use Rattle.lrc_protocol.specs.Node.{Node}
-use Rattle.lrc_protocol.specs.Turn.{Outcome, not_ready}
-use Rattle.lrc_local.specs.Reached.{IsReached}
+use Rattle.lrc_protocol.specs.Traced.{with_act}
+use Rattle.lrc_protocol.specs.Turn.{TurnRecord, Outcome, not_ready}
+use Rattle.lrc_local.specs.Traced.{IsTraced}
 use Rattle.lrc_node.specs.declared.fault.NodeFault.{NodeFault}
 use Rattle.lrc_node.specs.Fault.{is_final}
 use Rattle.lrc_node.specs.Effects.{RefusesRun, unready, too_large, without_memory}
-use Rattle.lrc_node.specs.Node.{Answers, unready as answers_unready, too_large as answers_too_large, without_memory as answers_without_memory}
+use Rattle.lrc_node.specs.Node.{TracedNode, seen_node, Answers, unready as answers_unready, too_large as answers_too_large, without_memory as answers_without_memory}
+
+-- a fault that is handed up
+pub fault_up : {T : Type 0} (r : Result T NodeFault) (fault : NodeFault) (P : NodeFault → Type 0) → IsErrAnd r (λ f. f ≡ fault) → P fault → IfErr r P
+fault_up (Ok x) fault P is h = tt
+fault_up (Err f) fault P is h = subst P (sym is) h
 
 -- with the fault that is answered the node is as it was, or it has failed
 pub answers_run : {outcome : Outcome} {fault : NodeFault} (node after : Node) → RefusesRun outcome fault
@@ -16,8 +26,26 @@ answers_run node after too_large same = answers_too_large
 answers_run node after without_memory same = answers_without_memory
 
 -- a node that goes on is as it was
-pub reached_run : {outcome : Outcome} {fault : NodeFault} (node after : Node) → RefusesRun outcome fault
-    → (outcome ≡ not_ready → after ≡ node) → IsReached node → is_final fault ≡ false → IsReached after
-reached_run node after unready same r e = subst IsReached (sym (same refl)) r
-reached_run node after too_large same r e = cc
-reached_run node after without_memory same r e = cc
+pub traced_run : {outcome : Outcome} {fault : NodeFault} (node after : Node) (trace : TraceRecord) → RefusesRun outcome fault
+    → (outcome ≡ not_ready → after ≡ node) → IsTraced node trace → is_final fault ≡ false → IsTraced after trace
+traced_run node after trace unready same t e = subst (λ (n : Node). IsTraced n trace) (sym (same refl)) t
+traced_run node after trace too_large same t e = cc
+traced_run node after trace without_memory same t e = cc
+
+-- ---- what a caller sees
+
+-- a node that has not failed
+pub seen_there : (failed : Bool) (state node : Node) (trace : TraceRecord) (now : TracedNode) → failed ≡ false
+    → record { node = seen_node failed state; trace = trace } ≡ now → now.node ≡ Some node → state ≡ node
+seen_there failed state node trace now fine view e =
+    same_Some state node (sym (ap (λ (b : Bool). seen_node b state) fine) ∙ ap (λ (t : TracedNode). t.node) view ∙ e)
+
+-- after a turn, with its access noted
+pub seen_turn : (failed : Bool) (state after : Node) (trace noted : TraceRecord) (now : TracedNode) (turn : TurnRecord) → failed ≡ false
+    → record { node = seen_node failed state; trace = trace } ≡ now → noted ≡ with_act after turn.act trace
+    → (let seen : TracedNode = record { node = seen_node failed after; trace = noted } in
+    seen ≡ record { node = Some after; trace = with_act after turn.act now.trace })
+seen_turn failed state after trace noted now turn fine view is =
+    ap (λ (b : Bool). let t : TracedNode = record { node = seen_node b after; trace = noted } in t) fine
+    ∙ ap (λ (x : TraceRecord). let t : TracedNode = record { node = Some after; trace = x } in t)
+    (is ∙ ap (λ (t : TracedNode). with_act after turn.act t.trace) view)

@@ -1,7 +1,9 @@
 -- A node with its log, as contracts see it.
 use Rattle.std.specs.Prelude.{◌≡◌, ℕ, true, false, nat_le, Option, Some, None, is_some, List, [], ◌∷◌, ◌++◌, Result, Ok, Err}
+use Rattle.lrc_trace.specs.Trace.{TraceRecord}
 use Rattle.lrc_protocol.specs.Node.{Node}
 use Rattle.lrc_protocol.specs.Log.{Input, run, taken, EntryRecord, Logged, Logging, logged, refused, too_large, logs, next_stamp, MOST_STAMP}
+use Rattle.lrc_protocol.specs.Traced.{with_act}
 use Rattle.lrc_protocol.specs.Turn.{TurnRecord}
 use Rattle.lrc_node.specs.declared.fault.NodeFault.{NodeFault}
 use Rattle.lrc_node.specs.declared.fault.NodeFault.TheVariants.{Failed, NotReady, Unexpected, Worn, NoMemory}
@@ -16,6 +18,11 @@ pub record LoggedNode : Type 0 where
 -- a node that has not failed, with its log
 abbrev pub sound : Logged → LoggedNode
 sound l = record { node = Some l.node; log = l.log }
+
+-- the same, and the trace of the accesses that the node made
+pub record TracedLog : Type 0 where
+  pub logged : LoggedNode
+  pub trace : TraceRecord
 
 -- what makes a turn, as the protocol has it
 abbrev pub seen_input : Given → Input
@@ -34,6 +41,15 @@ Logs l outcome new (Err Failed) = ⊥
 
 abbrev pub LogsTo : LoggedNode → Input → ℕ → LoggedNode → Result (Unit {0}) NodeFault → Type 0
 LogsTo old input came new result = (l : Logged) → old ≡ sound l → Logs l (logs l input came) new result
+
+-- the access of a turn that is logged is noted in the trace, which stays as it is where the input is refused
+abbrev pub NotesIn : TracedLog → TracedLog → Result (Unit {0}) NodeFault → Type 0
+NotesIn old new (Ok done) =
+    (node : Node) (entry : EntryRecord) → new.logged.node ≡ Some node → new.logged.log ≡ old.logged.log ++ entry ∷ []
+    → new.trace ≡ with_act node entry.turn.act old.trace
+NotesIn old new (Err Worn) = Unit {0}
+NotesIn old new (Err NoMemory) = Unit {0}
+NotesIn old new (Err fault) = new.trace ≡ old.trace
 
 -- ---- the steps of a call
 

@@ -1,5 +1,6 @@
 -- What a caller sees of a node.
 use Rattle.std.specs.Prelude.{Bool, Option, Some, None, if◌then◌else◌}
+use Rattle.lrc_trace.specs.Trace.{TraceRecord}
 use Rattle.lrc_protocol.specs.Node.{Node}
 use Rattle.lrc_protocol.specs.Turn.{Outcome, not_ready, unexpected, worn}
 use Rattle.lrc_node.specs.declared.end.End.{End}
@@ -11,6 +12,11 @@ use Rattle.lrc_node.specs.declared.fault.NodeFault.TheVariants.{NotReady, Unexpe
 -- a node as the protocol has it, none once it has failed
 abbrev pub seen_node : Bool → Node → Option Node
 seen_node failed node = if failed then None else Some node
+
+-- the same, and the trace of the accesses that it made
+pub record TracedNode : Type 0 where
+  pub node : Option Node
+  pub trace : TraceRecord
 
 -- What comes of a turn that is asked of a node: it is made; it is refused, and the node is as it was; or the node fails.
 pub data Answers : Outcome → Node → NodeFault → Option Node → Type 0 where

@@ -1,13 +1,13 @@
 // A node's clock, the tokens that it has or awaits, and the locks that it manages.
 
-ghost use Rattle.std.specs.Prelude.{◌≡◌, ℕ, ◌<◌, ◌≤◌, List, IfOk, IfSome, IsTrue, length};
+ghost use Rattle.std.specs.Prelude.{◌≡◌, ℕ, ◌+◌, ◌<◌, ◌≤◌, List, IfOk, IfSome, IsTrue, length};
 ghost use Rattle.lrc_time.specs.Time.{entry};
 ghost use Rattle.lrc_lock.specs.Held.{answer_of, asked, forwarded, grant_answer, granted, held_after, is_free, is_held, lock_at, pass_of, released, taken};
 ghost use Rattle.lrc_lock.specs.Lock.{IsPass};
 ghost use Rattle.lrc_lock.specs.Managed.{managed_after, requested, answer_of as request_answer};
 ghost use Rattle.lrc_lock.specs.declared.state.LockState.TheVariants.{Away};
 ghost use Rattle.lrc_protocol.specs.Expected.{is_taken};
-ghost use Rattle.lrc_protocol.specs.Locks.{fresh_locks, ticked, with_held, with_managed, with_time};
+ghost use Rattle.lrc_protocol.specs.Locks.{fresh_locks, next_time, ticked, with_held, with_managed, with_time};
 ghost use Rattle.lrc_protocol.specs.Mail.{MOST_NUMBER};
 ghost use Rattle.lrc_node.specs.Clock.{IsClock, SameClock};
 
@@ -67,14 +67,26 @@ impl Clock {
         self.time.at(self.me)
     }
 
+    /// The stamp that the open interval has or would have: the node's time, its own entry one greater.
+    pub(crate) fn next(&self) -> Time
+        requires { entry self.now.time self.now.held.me < MOST_NUMBER }
+        ensures stamp { result ≡ next_time self.now.held.me self.now.time }
+        ensures own { entry result self.now.held.me ≡ entry self.now.time self.now.held.me + 1 }
+        ensures counted { length result ≡ length self.now.time }
+    {
+        let mut time = self.time.copy();
+        let next = time.at(self.me) + 1;
+        time.raise(self.me, next);
+        time
+    }
+
     /// The open interval is closed.
     pub(crate) fn tick(&mut self)
         requires { entry self.old.time self.old.held.me < MOST_NUMBER }
         ensures clock { self.new ≡ ticked self.old.held.me self.old }
         ensures same { SameClock self.old self.new }
     {
-        let next = self.time.at(self.me) + 1;
-        self.time.raise(self.me, next);
+        self.time = self.next();
     }
 
     /// The node learns what this time knows.

@@ -1,6 +1,6 @@
 // When a node expects a message.
 
-ghost use Rattle.std.specs.Prelude.{◌≡◌, ℕ, ◌<◌, IfOk, is_some, length};
+ghost use Rattle.std.specs.Prelude.{◌≡◌, ℕ, ◌<◌, is_some, length};
 ghost use Rattle.std.specs.List.{list_all};
 ghost use Rattle.lrc_page.specs.Place.{pages_of};
 ghost use Rattle.lrc_store.specs.Store.{notice_at};
@@ -17,15 +17,14 @@ use lrc_wire::{
     Arrive, ChangesReply, ChangesRequest, Clean, Depart, Discard, LockForward, LockGrant,
     LockRequest, Message, News, PageReply, PageRequest,
 };
-use std::alloc::AllocError;
 
 impl State<'_> {
     /// Whether the node expects a message from one of the nodes.
-    pub(crate) fn expects(&self, from: u8, message: &Message) -> Result<bool, AllocError>
+    pub(crate) fn expects(&self, from: u8, message: &Message) -> bool
         requires { from < self.now.setting.nodes }
-        ensures { IfOk result (λ expects. expects ≡ is_expected self.now from message.now) }
+        ensures { result ≡ is_expected self.now from message.now }
     {
-        Ok(match message {
+        match message {
             Message::LockRequest(m) => self.expects_request(m),
             Message::LockForward(m) => self.expects_forward(from, m),
             Message::LockGrant(m) => self.expects_grant(m),
@@ -33,11 +32,11 @@ impl State<'_> {
             Message::Depart(m) => self.expects_departure(from, m),
             Message::Clean(m) => self.expects_clean(from, m),
             Message::Discard(m) => self.expects_discard(from, m),
-            Message::ChangesRequest(m) => return self.expects_changes_request(m),
+            Message::ChangesRequest(m) => self.expects_changes_request(m),
             Message::ChangesReply(m) => self.expects_changes(from, m),
             Message::PageRequest(m) => self.expects_page_request(from, m),
             Message::PageReply(m) => self.expects_page(from, m),
-        })
+        }
     }
 
     /// How many pages there are.
@@ -146,13 +145,11 @@ impl State<'_> {
     }
 
     /// A request of changes: each index is of a stored interval of this node that names the page.
-    fn expects_changes_request(&self, m: &ChangesRequest) -> Result<bool, AllocError>
-        ensures { (from : ℕ) → IfOk result (λ expects. expects ≡ is_expected self.now from (messages.ChangesRequest m.now)) }
+    fn expects_changes_request(&self, m: &ChangesRequest) -> bool
+        ensures { (from : ℕ) → result ≡ is_expected self.now from (messages.ChangesRequest m.now) }
     {
-        if m.page >= self.pages() {
-            return Ok(false);
-        }
-        has_notices(&self.memory, self.me, m.page, m.indices.as_slice())
+        m.page < self.pages()
+            && has_notices(&self.memory, self.me, m.page, m.indices.as_slice())
     }
 
     /// Changes: just these of that page are awaited from their sender.
@@ -183,13 +180,13 @@ impl State<'_> {
 }
 
 /// Whether each of these intervals of a node is stored and names the page.
-fn has_notices(memory: &Memory, node: u8, page: u16, indices: &[u32]) -> Result<bool, AllocError>
-    ensures { IfOk result (λ has. has ≡ list_all (λ index. is_some (notice_at memory.now.memory.store (record { node = node; index = index; page = page }))) indices.now) }
+fn has_notices(memory: &Memory, node: u8, page: u16, indices: &[u32]) -> bool
+    ensures { result ≡ list_all (λ index. is_some (notice_at memory.now.memory.store (record { node = node; index = index; page = page }))) indices.now }
 {
     for index in indices {
         if !memory.has_notice(node, *index, page) {
-            return Ok(false);
+            return false;
         }
     }
-    Ok(true)
+    true
 }

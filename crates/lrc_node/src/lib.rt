@@ -14,6 +14,7 @@ mod letters;
 mod logged;
 mod news;
 mod node;
+mod note;
 mod options;
 mod ranges;
 mod reach;

@@ -1,22 +1,20 @@
 // A node with its log.
 
-ghost use Rattle.std.specs.Prelude.{◌≡◌, ◌≢◌, ◌⊎◌, ◌<◌, ◌≤◌, Err, IfErr, IfOk, MatchResult, None, Some, [], true};
+ghost use Rattle.std.specs.Prelude.{◌≡◌, Err, IfErr, MatchResult, None, [], true};
 ghost use Rattle.lrc_protocol.specs.Log as log;
-ghost use Rattle.lrc_protocol.specs.Node.{fresh_node};
 ghost use Rattle.lrc_protocol.specs.Turn.{is_ready};
 ghost use Rattle.lrc_node.specs.Fault.{is_final};
-ghost use Rattle.lrc_node.specs.Logged.{Enters, LogsTo, MakesRoom, seen_input, sound};
+ghost use Rattle.lrc_node.specs.Logged.{Enters, LogsTo, MakesRoom, NotesIn, seen_input, sound};
 ghost use Rattle.lrc_node.specs.Text.{end_of};
-ghost use Rattle.lrc_node.specs.declared.fault.NodeFault.TheVariants.{Failed, NoMemory, NotReady, Unexpected};
+ghost use Rattle.lrc_node.specs.declared.fault.NodeFault.TheVariants.{Failed};
 
 use crate::end::End;
 use crate::fault::NodeFault;
 use crate::node::Node;
-use crate::options::Options;
 use crate::turn::Turn;
-use lrc_exec::code::Code;
+use lrc_trace::trace::Trace;
 use lrc_wire::Envelope;
-use std::alloc::{AllocError, Global};
+use std::alloc::Global;
 use std::marker::Model;
 
 /// What makes a turn.
@@ -60,43 +58,36 @@ impl<'c> Model for Logged<'c> {
     ghost use Rattle.std.specs.Coded.{codes};
     ghost use Rattle.lrc_lang.specs.contracts.program.Statement as statement;
     ghost use Rattle.lrc_protocol.specs.Log.{last_stamp};
-    ghost use Rattle.lrc_node.specs.Logged.{LoggedNode};
+    ghost use Rattle.lrc_node.specs.Logged.{TracedLog};
 
-    ghost Value = { LoggedNode };
+    ghost Value = { TracedLog };
 
     ghost coded = { Prim.hlevel (codes, statement.the_row.coded) };
 
-    ghost view = { λ l. record { node = l.node; log = l.log.items } };
+    ghost view = { λ l. record { logged = record { node = l.node.node; log = l.log.items }; trace = l.node.trace } };
 
     ghost invariant = { λ l. l.stamp ≡ last_stamp l.log.items };
 }
 
 impl<'c> Logged<'c> {
-    /// Node `me` of `nodes`, at most 16, at the beginning of a program.
-    pub fn new(
-        alloc: Global,
-        code: &'c Code<'_>,
-        me: u8,
-        nodes: u8,
-        options: &Options,
-    ) -> Result<Logged<'c>, AllocError>
-        requires here { me < nodes }
-        requires few { nodes ≤ 16 }
-        ensures { IfOk result (λ logged. logged ≡ record { node = Some (fresh_node code.now nodes options.now me); log = [] }) }
+    /// A node that has made no turn, with its log.
+    pub fn new(alloc: Global, node: Node<'c>) -> Logged<'c>
+        ensures { result ≡ record { logged = record { node = node.entry.node; log = [] }; trace = node.entry.trace } }
     {
-        Ok(Logged {
-            node: Node::new(alloc, code, me, nodes, options)?,
+        Logged {
+            node,
             stamp: 0,
             log: Vec::new(alloc),
-        })
+        }
     }
 
     /// The node goes on by itself. `Failed` and `NotReady` change nothing; after `Worn` and `NoMemory` the node has
     /// failed. There is no memory for the log before it is looked whether the node is ready.
     pub fn run(&mut self) -> Result<(), NodeFault>
-        ensures logs { LogsTo self.old log.run 0 self.new result }
-        ensures failed { self.old.node ≡ None → (result ≡ Err Failed) × (self.new ≡ self.old) }
-        ensures fails { IfErr result (λ fault. is_final fault ≡ true → self.new ≡ record { node = None; log = self.old.log }) }
+        ensures logs { LogsTo self.old.logged log.run 0 self.new.logged result }
+        ensures notes { NotesIn self.old self.new result }
+        ensures failed { self.old.logged.node ≡ None → (result ≡ Err Failed) × (self.new ≡ self.old) }
+        ensures fails { IfErr result (λ fault. is_final fault ≡ true → self.new.logged ≡ record { node = None; log = self.old.logged.log }) }
     {
         self.make_room()?;
         let outcome = self.node.run();
@@ -106,9 +97,10 @@ impl<'c> Logged<'c> {
     /// The node takes a message, which came with the stamp of the turn that sent it. `Failed` and `Unexpected` change
     /// nothing; after `Worn` and `NoMemory` the node has failed.
     pub fn take(&mut self, envelope: Envelope, stamp: u64) -> Result<(), NodeFault>
-        ensures logs { LogsTo self.old (log.taken envelope) stamp self.new result }
-        ensures failed { self.old.node ≡ None → (result ≡ Err Failed) × (self.new ≡ self.old) }
-        ensures fails { IfErr result (λ fault. is_final fault ≡ true → self.new ≡ record { node = None; log = self.old.log }) }
+        ensures logs { LogsTo self.old.logged (log.taken envelope) stamp self.new.logged result }
+        ensures notes { NotesIn self.old self.new result }
+        ensures failed { self.old.logged.node ≡ None → (result ≡ Err Failed) × (self.new ≡ self.old) }
+        ensures fails { IfErr result (λ fault. is_final fault ≡ true → self.new.logged ≡ record { node = None; log = self.old.logged.log }) }
     {
         self.make_room()?;
         let outcome = self.node.take(&envelope);
@@ -117,7 +109,8 @@ impl<'c> Logged<'c> {
 
     /// Makes room in the log for one turn more. Without memory the node fails.
     fn make_room(&mut self) -> Result<(), NodeFault>
-        ensures { MakesRoom self.old self.new result }
+        ensures room { MakesRoom self.old.logged self.new.logged result }
+        ensures trace { self.new.trace ≡ self.old.trace }
     {
         if self.node.has_failed() {
             return Err(NodeFault::Failed);
@@ -136,9 +129,10 @@ impl<'c> Logged<'c> {
         came: u64,
         outcome: Result<Turn, NodeFault>,
     ) -> Result<(), NodeFault>
-        ensures { MatchResult outcome
-            (λ turn. Enters self.old (seen_input input) came turn self.new result)
-            (λ fault. (result ≡ Err fault) × (self.new ≡ self.old)) }
+        ensures settled { MatchResult outcome
+            (λ turn. Enters self.old.logged (seen_input input) came turn self.new.logged result)
+            (λ fault. (result ≡ Err fault) × (self.new.logged ≡ self.old.logged)) }
+        ensures trace { self.new.trace ≡ self.old.trace }
     {
         match outcome {
             Ok(turn) => self.enter(input, came, turn),
@@ -148,7 +142,8 @@ impl<'c> Logged<'c> {
 
     /// Adds a turn with its stamp. Where the stamp would be too large the node fails.
     fn enter(&mut self, input: Input, came: u64, turn: Turn) -> Result<(), NodeFault>
-        ensures { Enters self.old (seen_input input) came turn self.new result }
+        ensures enters { Enters self.old.logged (seen_input input) came turn self.new.logged result }
+        ensures trace { self.new.trace ≡ self.old.trace }
     {
         let Some(stamp) = self.stamp.max(came).checked_add(1) else {
             self.node.fail();
@@ -164,29 +159,42 @@ impl<'c> Logged<'c> {
 
     /// Whether the node would go on if it were named.
     pub fn ready(&self) -> bool
-        ensures { (l : log.Logged) → self.now ≡ sound l → result ≡ is_ready l.node }
+        ensures { (l : log.Logged) → self.now.logged ≡ sound l → result ≡ is_ready l.node }
     {
         self.node.ready()
     }
 
     /// How the node ended.
     pub fn end(&self) -> End
-        ensures { (l : log.Logged) → self.now ≡ sound l → result ≡ end_of l.node.course }
+        ensures { (l : log.Logged) → self.now.logged ≡ sound l → result ≡ end_of l.node.course }
     {
         self.node.end()
     }
 
+    /// The accesses that the node made, by interval.
+    pub fn trace(&self) -> &Trace
+        ensures { result.now ≡ self.now.trace }
+    {
+        self.node.trace()
+    }
+
     /// The turns so far, with their stamps.
     pub fn log(&self) -> &[Entry]
-        ensures { result.now ≡ self.now.log }
+        ensures { result.now ≡ self.now.logged.log }
     {
         self.log.as_slice()
     }
 
-    /// The turns with their stamps, once the run is over. Takes no memory.
-    pub fn into_log(self) -> Vec<Entry>
-        ensures { result.items ≡ self.entry.log }
+    /// The turns with their stamps, and the trace, once the run is over. Takes no memory.
+    pub fn into_parts(self) -> (Vec<Entry>, Trace)
+        ensures log { result.0.items ≡ self.entry.logged.log }
+        ensures trace { result.1 ≡ self.entry.trace }
     {
-        self.log
+        let Logged {
+            node,
+            stamp: _,
+            log,
+        } = self;
+        (log, node.into_trace())
     }
 }

@@ -15,13 +15,12 @@ use lrc_wire::Envelope;
 
 impl State<'_> {
     /// Takes a message. A repeat of one that was taken is an empty turn. `Unexpected`, with nothing changed, where the
-    /// message is for another node, from none, or not expected; `Worn` where a number would be too large; `NoMemory`,
-    /// which may come before the test of what is expected.
+    /// message is for another node, from none, or not expected; `Worn` where a number would be too large.
     pub(crate) fn take(&mut self, envelope: &Envelope) -> Result<Turn, NodeFault>
         requires { IsReached self.old }
         ensures done { IfOk result (λ turn. take_turn self.old envelope.now ≡ done turn self.new) }
         ensures refused { IfErr result (λ fault. RefusesTake (take_turn self.old envelope.now) self.old fault self.new) }
-        ensures unexpected { take_turn self.old envelope.now ≡ unexpected → (result ≡ Err Unexpected) ⊎ (result ≡ Err NoMemory) }
+        ensures unexpected { take_turn self.old envelope.now ≡ unexpected → result ≡ Err Unexpected }
     {
         let from = envelope.from;
         if !self.is_addressed(envelope) {
@@ -33,11 +32,10 @@ impl State<'_> {
                 out: Vec::new(self.alloc),
             });
         }
-        match self.expects(from, &envelope.message) {
-            Ok(true) => self.take_anew(envelope),
-            Ok(false) => Err(NodeFault::Unexpected),
-            Err(_) => Err(NodeFault::NoMemory),
+        if !self.expects(from, &envelope.message) {
+            return Err(NodeFault::Unexpected);
         }
+        self.take_anew(envelope)
     }
 
     /// Whether a message is for this node, and from one of the nodes.

@@ -47,18 +47,23 @@ pub traced_more : (start : Node) (inputs : List Input) (input : Input) (turn : T
 traced_more start inputs input turn after e =
     fold-append traced_step (untraced start) inputs (input ∷ []) ∙ ap (traced_by (traced start inputs)) e
 
--- one entry more in the log of a node
+-- one entry more in the log of a node that started like this
+module _ (start : Node) (l after : Logged) (input : Input) (entry : EntryRecord) (i : IsEntry l input entry after)
+    (at : (traced start (inputs_of l.log)).node ≡ l.node) where
+  pub traced_entry : traced start (inputs_of after.log) ≡ record { node = after.node; trace = with_act after.node entry.turn.act (trace_of start l.log) }
+  traced_entry =
+      ap (λ log. traced start (inputs_of log)) i.log_is
+      ∙ ap (traced start) (map-append (λ (x : EntryRecord). x.input) l.log (entry ∷ []))
+      ∙ ap (λ x. traced start (inputs_of l.log ++ x ∷ [])) i.input_is
+      ∙ traced_more start (inputs_of l.log) input entry.turn after.node
+      (subst (λ (node : Node). outcome_of node input ≡ done entry.turn after.node) (sym at) i.turn_is)
+
+-- the same of a node of a program
 pub trace_more : (program : Program) (nodes : ℕ) (options : OptionsRecord) (me : ℕ) (l after : Logged) (input : Input) (entry : EntryRecord)
     → IsEntry l input entry after
     → local program nodes options me (inputs_of l.log) ≡ Some (record { node = l.node; turns = turns_of l.log })
     → trace_of (fresh_node program nodes options me) after.log
     ≡ with_act after.node entry.turn.act (trace_of (fresh_node program nodes options me) l.log)
 trace_more program nodes options me l after input entry i replayed =
-    let start : Node = fresh_node program nodes options me in
-    let at : (traced start (inputs_of l.log)).node ≡ l.node = traced_node program nodes options me (inputs_of l.log) _ replayed in
-    let turn : outcome_of (traced start (inputs_of l.log)).node input ≡ done entry.turn after.node =
-    subst (λ (node : Node). outcome_of node input ≡ done entry.turn after.node) (sym at) i.turn_is in
-    ap (λ log. trace_of start log) i.log_is
-    ∙ ap (λ inputs. (traced start inputs).trace) (map-append (λ (x : EntryRecord). x.input) l.log (entry ∷ []))
-    ∙ ap (λ x. (traced start (inputs_of l.log ++ x ∷ [])).trace) i.input_is
-    ∙ ap (λ (t : Traced). t.trace) (traced_more start (inputs_of l.log) input entry.turn after.node turn)
+    ap (λ (t : Traced). t.trace)
+    (traced_entry (fresh_node program nodes options me) l after input entry i (traced_node program nodes options me (inputs_of l.log) _ replayed))

@@ -1,16 +1,16 @@
 -- Lemmas on segments, for the crates above too.
-use Rattle.std.proofs.Common.{ℕ, ◌≢◌, inl, inr, ◌≡◌, ◌<◌, ◌-◌, ◌++◌, ◌∷◌, [], ◌∙◌, Bool, true, false, List, Some, length, get_or, set, ap, sym, refl, arith}
+use Rattle.std.proofs.Common.{ℕ, ◌≢◌, inl, inr, ◌≡◌, ◌<◌, ◌+◌, ◌-◌, ◌++◌, ◌∷◌, [], ◌∙◌, Bool, true, false, List, Some, length, get_or, set, ap, sym, refl, subst, arith, length-set, ⊎_elim}
 use Rattle.std.specs.Prelude.{slice_get}
 use Rattle.std.specs.Option.{ForSome}
-use Rattle.std.proofs.lemmas.Bool.{eq-eqb, ne_eqb}
-use Rattle.std.proofs.lemmas.List.{get_or_default, get_or-map, length-map, map-append}
+use Rattle.std.proofs.lemmas.Bool.{cases_eq, eq-eqb, ne_eqb}
+use Rattle.std.proofs.lemmas.List.{get_or_default, get_or-map, get_or-set_same, length-append, length-map, map-append}
 use Rattle.lrc_page.specs.Pages.{last_page}
 use Rattle.std.proofs.lemmas.List.Elements.{All-set, All-push}
-use Rattle.std.proofs.lemmas.Option.{slice_get-get_or}
-use Rattle.std.proofs.Math.Seq.{map-set_same}
+use Rattle.std.proofs.lemmas.Option.{same_Some, slice_get-get_or}
+use Rattle.std.proofs.Math.Seq.{get_or-append_seam, map-set_same}
 use Rattle.lrc_page.proofs.PageLists.{rising-push}
 use Rattle.lrc_trace.specs.declared.trace.Segment.{Segment}
-use Rattle.lrc_trace.specs.Segments.{opened, with_access, IsSegment, AreSegments, intervals_of}
+use Rattle.lrc_trace.specs.Segments.{MayFollow, opened, with_access, IsSegment, AreSegments, intervals_of}
 use Rattle.lrc_trace.specs.Touched.{IsTouched}
 use Rattle.lrc_trace.specs.Trace.{is_of, last_segment, noted_in, MayNote}
 use Rattle.lrc_trace.proofs.TouchedPages.{touched-with_word}
@@ -106,3 +106,58 @@ note-later segments epoch interval time may other d some =
       | inl less ↦ less
       | inr same ↦ absurd (other d some same.0)
     ]
+
+-- ---- a further access of the interval
+
+same_fields : (page offset : ℕ) (is_write : Bool) (s : Segment) (epoch interval : ℕ) (time : List ℕ)
+    → (s.interval ≡ interval) × (s.epoch ≡ epoch) × (s.time ≡ time) → MayFollow (with_access page offset is_write s) epoch interval time
+same_fields page offset true s epoch interval time same = inr same
+same_fields page offset false s epoch interval time same = inr same
+
+last_set : (segments : List Segment) (s t : Segment) → 0 < length segments → last_segment (set segments (length segments - 1) s) ≡ Some t → s ≡ t
+last_set segments s t some is =
+    let long : length (set segments (length segments - 1) s) ≡ length segments = length-set segments (length segments - 1) s in
+    let at : last_segment (set segments (length segments - 1) s) ≡ Some s =
+    last_is (set segments (length segments - 1) s) s (omega (arith, some, long))
+    ∙ ap (λ n. Some (get_or (set segments (length segments - 1) s) (n - 1) s)) long
+    ∙ ap Some (get_or-set_same segments (length segments - 1) s s (omega (arith, some))) in
+    same_Some s t (sym at ∙ is)
+
+last_push : (segments : List Segment) (s t : Segment) → last_segment (segments ++ s ∷ []) ≡ Some t → s ≡ t
+last_push segments s t is =
+    let long : length (segments ++ s ∷ []) ≡ length segments + 1 = length-append segments (s ∷ []) in
+    let place : length (segments ++ s ∷ []) - 1 ≡ length segments = omega (arith, long) in
+    let at : last_segment (segments ++ s ∷ []) ≡ Some s =
+    last_is (segments ++ s ∷ []) s (omega (arith, long))
+    ∙ ap (λ n. Some (get_or (segments ++ s ∷ []) n s)) place
+    ∙ ap Some (get_or-append_seam segments s [] s) in
+    same_Some s t (sym at ∙ is)
+
+-- where an access of an interval was noted, another may be noted
+pub noted-again : (segments : List Segment) (epoch interval : ℕ) (time : List ℕ) (page offset : ℕ) (is_write : Bool)
+    → MayNote segments epoch interval time → MayNote (noted_in segments epoch interval time page offset is_write) epoch interval time
+noted-again [] epoch interval time page offset is_write may t is =
+    subst (λ (t : Segment). MayFollow t epoch interval time) (same_Some (with_access page offset is_write (opened epoch interval time)) t is)
+    (same_fields page offset is_write (opened epoch interval time) epoch interval time (refl, refl, refl))
+noted-again (first ∷ rest) epoch interval time page offset is_write may t is =
+    let segments : List Segment = first ∷ rest in
+    let last : Segment = get_or segments (length segments - 1) first in
+    let last_there : last_segment segments ≡ Some last = last_is segments first (omega arith) in
+    ⊎_elim
+    (λ (here : last.interval ≡ interval).
+    let put : Segment = with_access page offset is_write last in
+    let same : (last.interval ≡ interval) × (last.epoch ≡ epoch) × (last.time ≡ time) =
+    ⊎_elim (λ (less : last.interval < interval). absurd (omega (arith, less, here))) (λ same. same) (may last last_there) in
+    let is_put : put ≡ t =
+    last_set segments put t (omega arith)
+    (ap last_segment (sym (noted-open segments epoch interval time page offset is_write first (omega arith) here)) ∙ is) in
+    subst (λ (t : Segment). MayFollow t epoch interval time) is_put (same_fields page offset is_write last epoch interval time same))
+    (λ (apart : last.interval ≢ interval).
+    let added : Segment = with_access page offset is_write (opened epoch interval time) in
+    let other : (d : Segment) → 0 < length segments → (get_or segments (length segments - 1) d).interval ≢ interval =
+    λ d some same. apart (ap (λ (s : Segment). s.interval) (get_or_default segments (length segments - 1) first d (omega (arith, some))) ∙ same) in
+    let is_added : added ≡ t =
+    last_push segments added t (ap last_segment (sym (noted-fresh segments epoch interval time page offset is_write other)) ∙ is) in
+    subst (λ (t : Segment). MayFollow t epoch interval time) is_added
+    (same_fields page offset is_write (opened epoch interval time) epoch interval time (refl, refl, refl)))
+    (cases_eq last.interval interval)

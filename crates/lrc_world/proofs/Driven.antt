@@ -19,27 +19,27 @@ use Rattle.lrc_world.specs.declared.rounds.Driver.{Driver}
 use Rattle.lrc_world.specs.declared.world.World.{World}
 use Rattle.lrc_world.specs.Report.{AreAll}
 use Rattle.lrc_world.specs.Rounds.{Drives, Goes, GoesTo, IsStill, IsAsleep, NoneReady}
-use Rattle.lrc_world.specs.World.{Shows, PlaysTo, seen, shown}
+use Rattle.lrc_world.specs.World.{Starts, Shows, PlaysTo, seen, shown}
 use Rattle.lrc_world.proofs.Lists.{same_length}
 
 -- ---- from one moment to another
 
 pub goes-nowhere : (d : Driver) → Goes d d
-goes-nowhere d = record { drives = λ start h. h; few = λ h. h; more = omega arith }
+goes-nowhere d = record { drives = λ starts start h. h; few = λ h. h; more = omega arith }
 
 pub goes-twice : (a b c : Driver) → Goes a b → Goes b c → Goes a c
 goes-twice a b c g h = record {
-  drives = λ start d. h.drives start (g.drives start d);
+  drives = λ starts start d. h.drives starts start (g.drives starts start d);
   few = λ few. h.few (g.few few);
   more = omega (arith, g.more, h.more);
 }
 
 pub goes-after : (a b c : Driver) (result : Result (Unit {0}) SimFault) → Goes a b → GoesTo b c result → GoesTo a c result
 goes-after a b c (Ok u) g h = goes-twice a b c g h
-goes-after a b c (Err Worn) g h = λ start d. h start (g.drives start d)
+goes-after a b c (Err Worn) g h = λ starts start d. h starts start (g.drives starts start d)
 goes-after a b c (Err NoMemory) g h = tt
-goes-after a b c (Err BadNodes) g h = λ start d. h start (g.drives start d)
-goes-after a b c (Err BadSteps) g h = λ start d. h start (g.drives start d)
+goes-after a b c (Err BadNodes) g h = λ starts start d. h starts start (g.drives starts start d)
+goes-after a b c (Err BadSteps) g h = λ starts start d. h starts start (g.drives starts start d)
 
 -- a fault that is handed on is one met before
 pub fails-after : (a b c : Driver) (fault : SimFault) (result : Result (Unit {0}) SimFault) → IsErrAnd result (λ f. f ≡ fault) → Goes a b → GoesTo b c (Err fault)
@@ -54,16 +54,17 @@ pub still-after : (a b c : Driver) → Goes a b → IsStill a c → IsStill b c
 still-after a b c g s = record { none = omega (arith, s.none, g.more); room = s.room }
 
 -- before any event
-pub begins : (start : Run) (d : Driver) (world : World) → Shows world start → d.world ≡ world → d.events.items ≡ [] → Drives start d
-begins start d world shows is none = (start, ap (played start) none, subst (λ w. Shows w start) (sym is) shows)
+pub begins : (starts : Starts) (start : Run) (d : Driver) (world : World) → Shows starts world start → d.world ≡ world → d.events.items ≡ []
+    → Drives starts start d
+begins starts start d world shows is none = (start, ap (played start) none, subst (λ w. Shows starts w start) (sym is) shows)
 
 -- what is driven is not out of range
-pub in_range : (old new : Driver) (start : Run) (fault : SimFault) → Drives start old → GoesTo old new (Err fault)
+pub in_range : (old new : Driver) (starts : Starts) (start : Run) (fault : SimFault) → Drives starts start old → GoesTo old new (Err fault)
     → (fault ≡ BadNodes → ⊥) × (fault ≡ BadSteps → ⊥)
-in_range old new start BadNodes d g = absurd (g start d)
-in_range old new start BadSteps d g = absurd (g start d)
-in_range old new start Worn d g = (λ e. cc, λ e. cc)
-in_range old new start NoMemory d g = (λ e. cc, λ e. cc)
+in_range old new starts start BadNodes d g = absurd (g starts start d)
+in_range old new starts start BadSteps d g = absurd (g starts start d)
+in_range old new starts start Worn d g = (λ e. cc, λ e. cc)
+in_range old new starts start NoMemory d g = (λ e. cc, λ e. cc)
 
 -- ---- one event more
 
@@ -78,13 +79,13 @@ module _ (old new : Driver) (event : Event) (events : new.events.items ≡ old.e
       ∙ ap (λ w. step_of w event) so_far
 
   pub plays_on : (result : Result (Unit {0}) SimFault) → length old.events.items < MOST_EVENTS
-      → ((run : Run) → Shows old.world run → PlaysTo new.world (event_on run event) result) → GoesTo old new result
+      → ((starts : Starts) (run : Run) → Shows starts old.world run → PlaysTo starts new.world (event_on run event) result) → GoesTo old new result
   plays_on (Ok u) room plays = record {
-    drives = λ start d. let p = plays d.0 d.2 in (p.0, one_more start d.0 d.1 ∙ p.1, p.2);
+    drives = λ starts start d. let p = plays starts d.0 d.2 in (p.0, one_more start d.0 d.1 ∙ p.1, p.2);
     few = λ few. omega (arith, room, longer);
     more = omega (arith, longer);
   }
-  plays_on (Err Worn) room plays = λ start d. (
+  plays_on (Err Worn) room plays = λ starts start d. (
     old.events.items ++ event ∷ [],
     record {
       before = old.events.items;
@@ -93,12 +94,12 @@ module _ (old new : Driver) (event : Event) (events : new.events.items ≡ old.e
       run = d.0;
       split = refl;
       plays = d.1;
-      wears = plays d.0 d.2;
+      wears = plays starts d.0 d.2;
     },
   )
   plays_on (Err NoMemory) room plays = tt
-  plays_on (Err BadNodes) room plays = λ start d. plays d.0 d.2
-  plays_on (Err BadSteps) room plays = λ start d. plays d.0 d.2
+  plays_on (Err BadNodes) room plays = λ starts start d. plays starts d.0 d.2
+  plays_on (Err BadSteps) room plays = λ starts start d. plays starts d.0 d.2
 
   pub moved : IsStill old new → ⊥
   moved s = omega (arith, s.none, longer)
@@ -148,16 +149,16 @@ within [] n x e = cc
 within (y ∷ xs) zero x e = omega arith
 within (y ∷ xs) (suc n) x e = let rest : n < length xs = within xs n x e in omega (arith, rest)
 
-pub over : (program : Program) (nodes : ℕ) (options : OptionsRecord) (events : List Event) (run : Run) (world : World)
-    → run_of program nodes options events ≡ Some run → Shows world run → NoneReady nodes world → world.flight.items ≡ []
+pub over : (program : Program) (nodes : ℕ) (options : OptionsRecord) (events : List Event) (starts : Starts) (run : Run) (world : World)
+    → run_of program nodes options events ≡ Some run → Shows starts world run → NoneReady nodes world → world.flight.items ≡ []
     → AreAll program nodes options events
-over program nodes options events run world runs shows none landed = (
+over program nodes options events starts run world runs shows none landed = (
   run,
   runs,
   record {
     idle = none_ready run.nodes (λ n l at.
         let below : n < nodes = subst (λ k. n < k) (run-whole program nodes options events run runs).count (within run.nodes n l at) in
-        sym (ap (λ (o : Option Logged). option_map_or (λ (l : Logged). is_ready l.node) o false) at) ∙ none n below run shows);
+        sym (ap (λ (o : Option Logged). option_map_or (λ (l : Logged). is_ready l.node) o false) at) ∙ none n below starts run shows);
     taken = none_long run.flight
         (omega (arith, same_length seen shown world.flight.items run.flight shows.flight, ap length landed));
   },

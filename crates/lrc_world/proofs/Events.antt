@@ -4,18 +4,19 @@ use Rattle.std.specs.Prelude.{slice_get, slice_index_or}
 use Rattle.std.proofs.lemmas.List.Sums.{fold-append}
 use Rattle.lrc_lang.specs.declared.program.Program.{Program}
 use Rattle.lrc_protocol.specs.declared.event.Event.{Event}
-use Rattle.lrc_protocol.specs.Node.{OptionsRecord}
+use Rattle.lrc_protocol.specs.Node.{OptionsRecord, fresh_node}
 use Rattle.lrc_protocol.specs.World.{World as Run, fresh_world, event_on, step_of, run_of}
 use Rattle.lrc_theory.proofs.Ahead.{take_ahead}
 use Rattle.lrc_world.specs.declared.world.World.{World}
 use Rattle.lrc_world.specs.declared.report.SimFault.{SimFault}
 use Rattle.lrc_world.specs.declared.report.SimFault.TheVariants.{Worn}
-use Rattle.lrc_world.specs.World.{Shows, PlaysTo}
+use Rattle.lrc_world.specs.World.{Starts, Shows, PlaysTo}
 use Rattle.lrc_world.specs.Report.{IsWornBy}
 
 -- the run of the events so far, which the world shows
 abbrev pub Runs : Program → ℕ → OptionsRecord → List Event → World → Type 0
-Runs program nodes options events world = (run : Run) × (run_of program nodes options events ≡ Some run) × Shows world run
+Runs program nodes options events world =
+    (run : Run) × (run_of program nodes options events ≡ Some run) × Shows (fresh_node program nodes options) world run
 
 module _ (program : Program) (nodes : ℕ) (options : OptionsRecord) (events : List Event) (k : ℕ) (event : Event) (at : slice_get events k ≡ Some event) where
   one_more : (run : Run) → run_of program nodes options (take k events) ≡ Some run
@@ -28,10 +29,11 @@ module _ (program : Program) (nodes : ℕ) (options : OptionsRecord) (events : L
       ∙ ap (λ w. step_of w event) so_far
 
   pub goes_on : (old new : World) (result : Result (Unit {0}) SimFault) (u : Unit {0}) → Runs program nodes options (take k events) old
-      → ((run : Run) → Shows old run → PlaysTo new (event_on run event) result) → result ≡ Ok u
+      → ((starts : Starts) (run : Run) → Shows starts old run → PlaysTo starts new (event_on run event) result) → result ≡ Ok u
       → Runs program nodes options (take (k + 1) events) new
   goes_on old new result u runs plays ok =
-      let p = subst (PlaysTo new (event_on runs.0 event)) ok (plays runs.0 runs.2) in
+      let first = fresh_node program nodes options in
+      let p = subst (PlaysTo first new (event_on runs.0 event)) ok (plays first runs.0 runs.2) in
       (p.0, one_more runs.0 runs.1 ∙ p.1, p.2)
 
 split_at : {X : Type 0} (xs : List X) (k : ℕ) (x : X) → slice_get xs k ≡ Some x → xs ≡ take k xs ++ x ∷ drop (suc k) xs
@@ -41,7 +43,7 @@ split_at (y ∷ xs) (suc k) x at = ap (λ more. y ∷ more) (split_at xs k x at)
 
 pub wears_out : (program : Program) (nodes : ℕ) (options : OptionsRecord) (events : List Event) (k : ℕ) (event : Event) → slice_get events k ≡ Some event
     → (old new : World) (result : Result (Unit {0}) SimFault) → Runs program nodes options (take k events) old
-    → ((run : Run) → Shows old run → PlaysTo new (event_on run event) result) → result ≡ Err Worn
+    → ((starts : Starts) (run : Run) → Shows starts old run → PlaysTo starts new (event_on run event) result) → result ≡ Err Worn
     → IsWornBy program nodes options events
 wears_out program nodes options events k event at old new result runs plays worn = record {
   before = take k events;
@@ -50,7 +52,8 @@ wears_out program nodes options events k event at old new result runs plays worn
   run = runs.0;
   split = split_at events k event at;
   plays = runs.1;
-  wears = subst (PlaysTo new (event_on runs.0 event)) worn (plays runs.0 runs.2);
+  wears =
+      subst (PlaysTo (fresh_node program nodes options) new (event_on runs.0 event)) worn (plays (fresh_node program nodes options) runs.0 runs.2);
 }
 
 -- a fault that is handed on

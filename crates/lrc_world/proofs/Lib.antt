@@ -1,3 +1,4 @@
+pub mod Kept
 pub mod Worlds
 pub mod Turned
 pub mod Lists

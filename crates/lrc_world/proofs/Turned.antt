@@ -1,61 +1,81 @@
 -- One node's turn, in the list of all nodes.
-use Rattle.std.proofs.Common.{◌≡◌, ◌∙◌, ℕ, zero, suc, ◌<◌, ◌≤◌, arith, map, List, [], ◌∷◌, Option, Some, None, Result, Ok, Err, refl, sym, ap, subst, length}
+use Rattle.std.proofs.Common.{◌≡◌, ◌∙◌, ℕ, zero, suc, ◌<◌, ◌≤◌, arith, map, List, [], ◌∷◌, ◌++◌, Option, Some, None, Result, Ok, Err, refl, sym, ap, subst, length}
 use Rattle.std.specs.Prelude.{slice_get, slice_set, slice_index_or, option_map}
 use Rattle.std.proofs.lemmas.List.{set-get_or}
-use Rattle.std.proofs.lemmas.List.{length-map}
-use Rattle.std.proofs.lemmas.Option.{get_or_from_slice_get, slice_get_past}
+use Rattle.std.proofs.lemmas.Option.{get_or_from_slice_get, same_Some, slice_get-get_or, slice_get_past}
 use Rattle.lrc_protocol.specs.Log.{Input, Logged, logs}
 use Rattle.lrc_node.specs.declared.fault.NodeFault.{NodeFault}
 use Rattle.lrc_node.specs.declared.fault.NodeFault.TheVariants.{Failed, NotReady, Unexpected, Worn, NoMemory}
-use Rattle.lrc_node.specs.Logged.{LoggedNode, sound, Logs, LogsTo}
-use Rattle.lrc_world.specs.World.{TurnsBy, TurnsTo}
-use Rattle.lrc_world.proofs.Lists.{map-get}
+use Rattle.lrc_trace.specs.Trace.{TraceRecord}
+use Rattle.lrc_node.specs.Logged.{LoggedNode, TracedLog, sound, Logs, LogsTo, NotesIn}
+use Rattle.lrc_world.specs.World.{TurnsBy, TurnsTo, after_turn}
+use Rattle.lrc_world.proofs.Kept.{entry_of}
+use Rattle.lrc_world.proofs.Lists.{map-get, same_length}
 
 pub not_none : {X : Type 0} (xs : List X) (n : ℕ) → n < length xs → slice_get xs n ≡ None → ⊥
 not_none [] n within none = omega (arith, within)
 not_none (x ∷ xs) zero within none = cc
 not_none (x ∷ xs) (suc n) within none = not_none xs n (omega (arith, within)) none
 
-turned_by : (items : List LoggedNode) (n : ℕ) (new : LoggedNode) (input : Input) (came : ℕ) (l : Logged)
-    → slice_index_or items n (sound l) ≡ sound l → (result : Result (Unit {0}) NodeFault) → Logs l (logs l input came) new result
+same_kept : (a b : TracedLog) → a.logged ≡ b.logged → a.trace ≡ b.trace → a ≡ b
+same_kept a b logged trace =
+    ap (λ (l : LoggedNode). let t : TracedLog = record { logged = l; trace = a.trace } in t) logged
+    ∙ ap (λ (x : TraceRecord). let t : TracedLog = record { logged = b.logged; trace = x } in t) trace
+
+-- what is not changed
+unchanged : (items : List TracedLog) (n : ℕ) (x new : TracedLog) → slice_get items n ≡ Some x → new ≡ x → slice_set items n new ≡ items
+unchanged items n x new there same =
+    ap (slice_set items n) (same ∙ sym (get_or_from_slice_get items n x x there)) ∙ set-get_or items n x
+
+turned_by : (items : List TracedLog) (n : ℕ) (x new : TracedLog) (input : Input) (came : ℕ) (l : Logged) → slice_get items n ≡ Some x
+    → x.logged ≡ sound l → (result : Result (Unit {0}) NodeFault) → Logs l (logs l input came) new.logged result → NotesIn x new result
     → TurnsBy items (slice_set items n new) n input came (Some l) result
-turned_by items n new input came l is (Ok done) h = record { entry = h.0; after = h.1; turn = h.2; nodes = ap (slice_set items n) h.3 }
-turned_by items n new input came l is (Err NotReady) h =
-    (h.0, ap (slice_set items n) (h.1 ∙ sym is) ∙ set-get_or items n (sound l))
-turned_by items n new input came l is (Err Unexpected) h =
-    (h.0, ap (slice_set items n) (h.1 ∙ sym is) ∙ set-get_or items n (sound l))
-turned_by items n new input came l is (Err Worn) h = h
-turned_by items n new input came l is (Err NoMemory) h = tt
-turned_by items n new input came l is (Err Failed) h = h
-
--- a node that is there makes its turn
-pub turned : (items : List LoggedNode) (n : ℕ) (x new : LoggedNode) (input : Input) (came : ℕ) (result : Result (Unit {0}) NodeFault)
-    → n < length items → x ≡ slice_index_or items n x → LogsTo x input came new result → TurnsTo items (slice_set items n new) n input came result
-turned items n x new input came result within is logs_to nodes e = go (slice_get nodes n) refl
-  where
-    go : (o : Option Logged) → slice_get nodes n ≡ o → TurnsBy items (slice_set items n new) n input came o result
-    go None none =
-        let past : slice_get items n ≡ None = ap (λ xs. slice_get xs n) e ∙ map-get sound nodes n ∙ ap (option_map sound) none in
-        absurd (not_none items n within past)
-    go (Some l) there =
-        let there' : slice_get items n ≡ Some (sound l) = ap (λ xs. slice_get xs n) e ∙ map-get sound nodes n ∙ ap (option_map sound) there in
-        let x_is : x ≡ sound l = is ∙ get_or_from_slice_get items n (sound l) x there' in
-        turned_by items n new input came l (get_or_from_slice_get items n (sound l) (sound l) there') result (logs_to l x_is)
-
--- one that is not there makes none
-pub unturned : (items : List LoggedNode) (n : ℕ) (input : Input) (came : ℕ) → length items ≤ n → TurnsTo items items n input came (Err NotReady)
-unturned items n input came past nodes e =
-    let few : length nodes ≤ n = omega (arith, ap length e, length-map nodes sound) in
-    subst (λ o. TurnsBy items items n input came o (Err NotReady)) (sym (slice_get_past nodes n few)) refl
+turned_by items n x new input came l there is (Ok done) h notes =
+    let log : new.logged.log ≡ x.logged.log ++ h.0 ∷ [] =
+    ap (λ (m : LoggedNode). m.log) h.3 ∙ (entry_of l input came h.0 h.1 h.2).log_is
+    ∙ ap (λ (m : LoggedNode). m.log ++ h.0 ∷ []) (sym is) in
+    record {
+      entry = h.0;
+      after = h.1;
+      before = x;
+      turn = h.2;
+      stood = there;
+      nodes = ap (slice_set items n) (same_kept new (after_turn h.0 h.1 x) h.3 (notes h.1.node h.0 (ap (λ (m : LoggedNode). m.node) h.3) log));
+    }
+turned_by items n x new input came l there is (Err NotReady) h notes = (h.0, unchanged items n x new there (same_kept new x (h.1 ∙ sym is) notes))
+turned_by items n x new input came l there is (Err Unexpected) h notes = (h.0, unchanged items n x new there (same_kept new x (h.1 ∙ sym is) notes))
+turned_by items n x new input came l there is (Err Worn) h notes = h
+turned_by items n x new input came l there is (Err NoMemory) h notes = tt
+turned_by items n x new input came l there is (Err Failed) h notes = h
 
 -- the node at a place, as the run has it
-pub stands_at : (items : List LoggedNode) (nodes : List Logged) (n : ℕ) (x : LoggedNode) → items ≡ map sound nodes → n < length items
-    → x ≡ slice_index_or items n x → (l : Logged) × (slice_get nodes n ≡ Some l) × (x ≡ sound l)
+pub stands_at : (items : List TracedLog) (nodes : List Logged) (n : ℕ) (x : TracedLog) → map (λ (t : TracedLog). t.logged) items ≡ map sound nodes
+    → n < length items → x ≡ slice_index_or items n x → (l : Logged) × (slice_get nodes n ≡ Some l) × (x.logged ≡ sound l)
 stands_at items nodes n x e within is = go (slice_get nodes n) refl
   where
-    seen : slice_get items n ≡ option_map sound (slice_get nodes n)
-    seen = ap (λ xs. slice_get xs n) e ∙ map-get sound nodes n
+    there : slice_get items n ≡ Some x
+    there = slice_get-get_or items n x within ∙ ap Some (sym is)
 
-    go : (o : Option Logged) → slice_get nodes n ≡ o → (l : Logged) × (slice_get nodes n ≡ Some l) × (x ≡ sound l)
-    go None none = absurd (not_none items n within (seen ∙ ap (option_map sound) none))
-    go (Some l) there = (l, there, is ∙ get_or_from_slice_get items n (sound l) x (seen ∙ ap (option_map sound) there))
+    seen : Some x.logged ≡ option_map sound (slice_get nodes n)
+    seen = sym (map-get (λ (t : TracedLog). t.logged) items n ∙ ap (option_map (λ (t : TracedLog). t.logged)) there)
+        ∙ ap (λ xs. slice_get xs n) e ∙ map-get sound nodes n
+
+    go : (o : Option Logged) → slice_get nodes n ≡ o → (l : Logged) × (slice_get nodes n ≡ Some l) × (x.logged ≡ sound l)
+    go None none = let past : Some x.logged ≡ None = seen ∙ ap (option_map sound) none in cc
+    go (Some l) at = (l, at, same_Some x.logged (sound l) (seen ∙ ap (option_map sound) at))
+
+-- a node that is there makes its turn
+pub turned : (items : List TracedLog) (n : ℕ) (x new : TracedLog) (input : Input) (came : ℕ) (result : Result (Unit {0}) NodeFault)
+    → n < length items → x ≡ slice_index_or items n x → LogsTo x.logged input came new.logged result → NotesIn x new result
+    → TurnsTo items (slice_set items n new) n input came result
+turned items n x new input came result within is logs_to notes nodes e =
+    let at = stands_at items nodes n x e within is in
+    let there : slice_get items n ≡ Some x = slice_get-get_or items n x within ∙ ap Some (sym is) in
+    subst (λ o. TurnsBy items (slice_set items n new) n input came o result) (sym at.1)
+    (turned_by items n x new input came at.0 there at.2 result (logs_to at.0 at.2) notes)
+
+-- one that is not there makes none
+pub unturned : (items : List TracedLog) (n : ℕ) (input : Input) (came : ℕ) → length items ≤ n → TurnsTo items items n input came (Err NotReady)
+unturned items n input came past nodes e =
+    let few : length nodes ≤ n = omega (arith, same_length (λ (t : TracedLog). t.logged) sound items nodes e) in
+    subst (λ o. TurnsBy items items n input came o (Err NotReady)) (sym (slice_get_past nodes n few)) refl

@@ -13,7 +13,7 @@ use Rattle.lrc_world.specs.declared.report.TheConstants.{MOST_EVENTS}
 use Rattle.lrc_world.specs.declared.rounds.Driver.{Driver}
 use Rattle.lrc_world.specs.declared.world.World.{World}
 use Rattle.lrc_world.specs.Report.{IsWornFrom}
-use Rattle.lrc_world.specs.World.{Shows}
+use Rattle.lrc_world.specs.World.{Starts, Shows}
 
 -- the place of the newest message, as far as an event can name it
 abbrev pub newest_place : ℕ → ℕ
@@ -35,28 +35,28 @@ ready_at run n = option_map_or (λ l. is_ready l.node) (slice_get run.nodes n) f
 
 -- this node is not ready
 abbrev pub IsAsleep : ℕ → World → Type 0
-IsAsleep n world = (run : Run) → Shows world run → ready_at run n ≡ false
+IsAsleep n world = (starts : Starts) (run : Run) → Shows starts world run → ready_at run n ≡ false
 
 -- none of the nodes below this number is ready
 abbrev pub NoneReady : ℕ → World → Type 0
 NoneReady nodes world = (n : ℕ) → n < nodes → IsAsleep n world
 
 -- the world that is driven is that of the events so far, from a world on
-abbrev pub Drives : Run → Driver → Type 0
-Drives start driver = (run : Run) × (played start driver.events.items ≡ Some run) × Shows driver.world run
+abbrev pub Drives : Starts → Run → Driver → Type 0
+Drives starts start driver = (run : Run) × (played start driver.events.items ≡ Some run) × Shows starts driver.world run
 
 -- what is driven from one moment to another: events are added, of which there are no more than there may be
 pub record Goes (old new : Driver) : Type 0 where
-  pub drives : (start : Run) → Drives start old → Drives start new
+  pub drives : (starts : Starts) (start : Run) → Drives starts start old → Drives starts start new
   pub few : length old.events.items ≤ MOST_EVENTS → length new.events.items ≤ MOST_EVENTS
   pub more : length old.events.items ≤ length new.events.items
 
 -- the same, or a number or a message was too large, or no memory is left
 abbrev pub GoesTo : Driver → Driver → Result (Unit {0}) SimFault → Type 0
 GoesTo old new (Ok done) = Goes old new
-GoesTo old new (Err Worn) = (start : Run) → Drives start old → (events : List Event) × IsWornFrom start events
+GoesTo old new (Err Worn) = (starts : Starts) (start : Run) → Drives starts start old → (events : List Event) × IsWornFrom start events
 GoesTo old new (Err NoMemory) = Unit {0}
-GoesTo old new (Err _) = (start : Run) → ¬ Drives start old
+GoesTo old new (Err _) = (starts : Starts) (start : Run) → ¬ Drives starts start old
 
 -- no event was added, though there was room for one
 pub record IsStill (old new : Driver) : Type 0 where

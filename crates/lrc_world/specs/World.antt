@@ -1,6 +1,6 @@
 -- What is kept of a run, beside the run of the protocol machine: messages in flight are bytes.
 use Rattle.std.specs.Prelude.{◌≡◌, ◌⊎◌, ℕ, Bool, true, false, Option, Some, None, List, [], ◌∷◌, ◌++◌, Result, Ok, Err, length, map, nat_lt, slice_get, slice_set}
-use Rattle.std.specs.List.{list_any}
+use Rattle.std.specs.List.{enumerate_from, list_any}
 use Rattle.std.specs.Option.{option_to_list}
 use Rattle.lrc_wire.specs.Envelope.{EnvelopeRecord}
 use Rattle.lrc_wire.specs.Reading.{envelope_of}
@@ -10,11 +10,14 @@ use Rattle.lrc_wire.specs.declared.fault.WireFault.{WireFault}
 use Rattle.lrc_wire.specs.declared.limits.TheConstants.{MOST_BODY_BYTES}
 use Rattle.lrc_wire.specs.declared.version.Version.TheVariants.{Two}
 use Rattle.lrc_protocol.specs.Log.{EntryRecord, Logged, Input, taken, logged, refused, too_large, logs}
+use Rattle.lrc_protocol.specs.Follows.{inputs_of}
+use Rattle.lrc_protocol.specs.Node.{Node}
+use Rattle.lrc_protocol.specs.Traced.{traced, trace_of, with_act}
 use Rattle.lrc_protocol.specs.World.{World as Run, Flying as Sent, delivers}
 use Rattle.lrc_node.specs.declared.fault.NodeFault.{NodeFault}
 use Rattle.lrc_node.specs.declared.fault.NodeFault.TheVariants as NodeFaults
 use Rattle.lrc_node.specs.declared.fault.NodeFault.TheVariants.{Failed, NotReady, Unexpected}
-use Rattle.lrc_node.specs.Logged.{LoggedNode, sound}
+use Rattle.lrc_node.specs.Logged.{TracedLog, sound}
 use Rattle.lrc_world.specs.declared.flying.Flying.{Flying}
 use Rattle.lrc_world.specs.declared.report.SimFault.{SimFault}
 use Rattle.lrc_world.specs.declared.report.SimFault.TheVariants.{Worn, NoMemory}
@@ -59,25 +62,35 @@ IsSendFault out _ = ⊥
 
 -- ---- worlds
 
--- the nodes with their logs, the messages in flight and the acts are those of the run, in which no message was too long
-pub record Shows (world : World) (run : Run) : Type 0 where
-  pub nodes : world.nodes.items ≡ map sound run.nodes
+-- how each node starts
+abbrev pub Starts : Type 0
+Starts = ℕ → Node
+
+-- a node of a run, with its log and its trace
+abbrev pub kept_of : Starts → ℕ × Logged → TracedLog
+kept_of starts at = record { logged = sound at.1; trace = trace_of (starts at.0) at.1.log }
+
+-- the nodes with their logs and traces, the messages in flight and the acts are those of the run, in which each node's log leads
+-- to it from how it starts, and no message was too long
+pub record Shows (starts : Starts) (world : World) (run : Run) : Type 0 where
+  pub nodes : world.nodes.items ≡ map (kept_of starts) (enumerate_from 0 run.nodes)
+  pub replayed : (n : ℕ) (l : Logged) → slice_get run.nodes n ≡ Some l → (traced (starts n) (inputs_of l.log)).node ≡ l.node
   pub flight : map seen world.flight.items ≡ map shown run.flight
   pub acts : world.acts.items ≡ run.acts
   pub short : sends_long run ≡ false
 
 -- What was played comes to this, if it comes to a run: the world shows it; or a number or a message was too large; or no memory
 -- is left.
-abbrev pub PlaysTo : World → Option Run → Result (Unit {0}) SimFault → Type 0
-PlaysTo new outcome (Ok done) = (run : Run) × (outcome ≡ Some run) × Shows new run
-PlaysTo new outcome (Err Worn) = (outcome ≡ None) ⊎ ((run : Run) × (outcome ≡ Some run) × (sends_long run ≡ true))
-PlaysTo new outcome (Err NoMemory) = Unit {0}
-PlaysTo new outcome (Err _) = ⊥
+abbrev pub PlaysTo : Starts → World → Option Run → Result (Unit {0}) SimFault → Type 0
+PlaysTo starts new outcome (Ok done) = (run : Run) × (outcome ≡ Some run) × Shows starts new run
+PlaysTo starts new outcome (Err Worn) = (outcome ≡ None) ⊎ ((run : Run) × (outcome ≡ Some run) × (sends_long run ≡ true))
+PlaysTo starts new outcome (Err NoMemory) = Unit {0}
+PlaysTo starts new outcome (Err _) = ⊥
 
 -- the newest entry in a node's log is this
 abbrev pub LogsLast : World → ℕ → EntryRecord → Type 0
 LogsLast world n entry =
-    (l : LoggedNode) × (slice_get world.nodes.items n ≡ Some l) × (before : List EntryRecord) × (l.log ≡ before ++ entry ∷ [])
+    (l : TracedLog) × (slice_get world.nodes.items n ≡ Some l) × (before : List EntryRecord) × (l.logged.log ≡ before ++ entry ∷ [])
 
 -- What a turn did was added: its act, and its messages in flight.
 pub record Adds (old new : World) (entry : EntryRecord) : Type 0 where
@@ -101,15 +114,21 @@ made_of (Err NodeFaults.Worn) = Err Worn
 made_of (Err NodeFaults.NoMemory) = Err NoMemory
 made_of (Err Failed) = Err NoMemory
 
+-- a node with its log after a turn, whose access is noted
+abbrev pub after_turn : EntryRecord → Logged → TracedLog → TracedLog
+after_turn entry after before = record { logged = sound after; trace = with_act after.node entry.turn.act before.trace }
+
 -- What comes of an input to the node at a place: it makes a turn; it is not there, not ready, or does not expect the message, and
 -- nothing changes; a number is too large; or no memory is left.
-pub record IsTurn (old new : List LoggedNode) (n : ℕ) (input : Input) (came : ℕ) (node : Logged) : Type 0 where
+pub record IsTurn (old new : List TracedLog) (n : ℕ) (input : Input) (came : ℕ) (node : Logged) : Type 0 where
   pub entry : EntryRecord
   pub after : Logged
+  pub before : TracedLog
   pub turn : logs node input came ≡ logged entry after
-  pub nodes : new ≡ slice_set old n (sound after)
+  pub stood : slice_get old n ≡ Some before
+  pub nodes : new ≡ slice_set old n (after_turn entry after before)
 
-abbrev pub TurnsBy : List LoggedNode → List LoggedNode → ℕ → Input → ℕ → Option Logged → Result (Unit {0}) NodeFault → Type 0
+abbrev pub TurnsBy : List TracedLog → List TracedLog → ℕ → Input → ℕ → Option Logged → Result (Unit {0}) NodeFault → Type 0
 TurnsBy old new n input came None (Err NotReady) = new ≡ old
 TurnsBy old new n input came None _ = ⊥
 TurnsBy old new n input came (Some node) (Ok done) = IsTurn old new n input came node
@@ -119,8 +138,9 @@ TurnsBy old new n input came (Some node) (Err NodeFaults.Worn) = logs node input
 TurnsBy old new n input came (Some node) (Err NodeFaults.NoMemory) = Unit {0}
 TurnsBy old new n input came (Some node) (Err Failed) = ⊥
 
-abbrev pub TurnsTo : List LoggedNode → List LoggedNode → ℕ → Input → ℕ → Result (Unit {0}) NodeFault → Type 0
-TurnsTo old new n input came result = (nodes : List Logged) → old ≡ map sound nodes → TurnsBy old new n input came (slice_get nodes n) result
+abbrev pub TurnsTo : List TracedLog → List TracedLog → ℕ → Input → ℕ → Result (Unit {0}) NodeFault → Type 0
+TurnsTo old new n input came result =
+    (nodes : List Logged) → map (λ t. t.logged) old ≡ map sound nodes → TurnsBy old new n input came (slice_get nodes n) result
 
 -- the message at a place of the run was taken: by this node, which made this turn, and nothing else changed
 pub record IsTaken (old new : World) (run : Run) (place to : ℕ) : Type 0 where
@@ -128,19 +148,21 @@ pub record IsTaken (old new : World) (run : Run) (place to : ℕ) : Type 0 where
   pub node : Logged
   pub entry : EntryRecord
   pub after : Logged
+  pub before : TracedLog
   pub there : slice_get run.flight place ≡ Some sent
   pub receiver : sent.envelope.to ≡ to
   pub stands : slice_get run.nodes to ≡ Some node
   pub turn : logs node (taken sent.envelope) sent.stamp ≡ logged entry after
-  pub nodes : new.nodes.items ≡ slice_set old.nodes.items to (sound after)
+  pub stood : slice_get old.nodes.items to ≡ Some before
+  pub nodes : new.nodes.items ≡ slice_set old.nodes.items to (after_turn entry after before)
   pub flight : new.flight ≡ old.flight
   pub acts : new.acts ≡ old.acts
 
 -- What comes of the message at a place: nothing, where it is not there or not expected; a turn of its receiver; or a number too
 -- large; or no memory is left.
-abbrev pub ReceivesTo : World → World → Run → ℕ → Result (Option ℕ) SimFault → Type 0
-ReceivesTo old new run place (Ok None) = Shows new run × ((flight : List Sent) → delivers run flight (slice_get run.flight place) ≡ Some run)
-ReceivesTo old new run place (Ok (Some to)) = IsTaken old new run place to
-ReceivesTo old new run place (Err Worn) = (flight : List Sent) → delivers run flight (slice_get run.flight place) ≡ None
-ReceivesTo old new run place (Err NoMemory) = Unit {0}
-ReceivesTo old new run place (Err _) = ⊥
+abbrev pub ReceivesTo : Starts → World → World → Run → ℕ → Result (Option ℕ) SimFault → Type 0
+ReceivesTo starts old new run place (Ok None) = Shows starts new run × ((flight : List Sent) → delivers run flight (slice_get run.flight place) ≡ Some run)
+ReceivesTo starts old new run place (Ok (Some to)) = IsTaken old new run place to
+ReceivesTo starts old new run place (Err Worn) = (flight : List Sent) → delivers run flight (slice_get run.flight place) ≡ None
+ReceivesTo starts old new run place (Err NoMemory) = Unit {0}
+ReceivesTo starts old new run place (Err _) = ⊥

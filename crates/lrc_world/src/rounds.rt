@@ -5,7 +5,7 @@ ghost use Rattle.lrc_judge.specs.declared.TheConstants.{NODES};
 ghost use Rattle.lrc_protocol.specs.World.{World as Run};
 ghost use Rattle.lrc_world.specs.Report.{IsReport};
 ghost use Rattle.lrc_world.specs.Rounds.{GoesTo, IsAsleep, IsStill, NoneReady};
-ghost use Rattle.lrc_world.specs.World.{Shows};
+ghost use Rattle.lrc_world.specs.World.{Starts, Shows};
 
 use crate::report::{MOST_EVENTS, Report, SimFault};
 use crate::world::World;
@@ -52,7 +52,7 @@ impl<'c> Driver<'c> {
     pub(crate) fn report(self) -> Result<(Vec<Event>, Report), AllocError>
         requires { All (λ act. act.node < NODES) self.world.acts.items }
         ensures events { IfOk result (λ done. done.0 ≡ self.entry.events) }
-        ensures report { IfOk result (λ done. (run : Run) → Shows self.entry.world run → IsReport done.1 run) }
+        ensures report { IfOk result (λ done. (starts : Starts) (run : Run) → Shows starts self.entry.world run → IsReport done.1 run) }
     {
         let Driver { world, events } = self;
         let report = world.report()?;

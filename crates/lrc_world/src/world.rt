@@ -5,6 +5,7 @@ ghost use Rattle.std.specs.List.{list_any};
 ghost use Rattle.std.specs.Option.{option_to_list};
 ghost use Rattle.lrc_judge.specs.declared.TheConstants.{NODES};
 ghost use Rattle.lrc_wire.specs.Reading.{envelope_of};
+ghost use Rattle.lrc_protocol.specs.Node.{fresh_node};
 ghost use Rattle.lrc_protocol.specs.World.{World as Run, Flying as Sent, fresh_world, event_on, with_mark};
 ghost use Rattle.lrc_protocol.specs.declared.event.Event.TheVariants as events;
 ghost use Rattle.lrc_protocol.specs.Log.{EntryRecord};
@@ -12,13 +13,13 @@ ghost use Rattle.lrc_protocol.specs.Log as log;
 ghost use Rattle.lrc_node.specs.Logged.{sound};
 ghost use Rattle.lrc_world.specs.Report.{IsReport, end_of_logged};
 ghost use Rattle.lrc_world.specs.Rounds.{delivery_of, is_delivered, newest_place, ready_at};
-ghost use Rattle.lrc_world.specs.World.{Shows, PlaysTo, AddsTo, LogsLast, ReceivesTo, TurnsTo, made_of, IsSendFault, seen, shown, shown_new, is_long};
+ghost use Rattle.lrc_world.specs.World.{Starts, Shows, PlaysTo, AddsTo, LogsLast, ReceivesTo, TurnsTo, made_of, IsSendFault, seen, shown, shown_new, is_long};
 
 use crate::flying::Flying;
 use crate::report::{Report, SimFault};
 use bytes::Bytes;
 use lrc_exec::code::Code;
-use lrc_node::{End, Entry, Logged, NodeFault, Options};
+use lrc_node::{End, Entry, Logged, Node, NodeFault, Options};
 use lrc_protocol::Event;
 use lrc_race::first_race;
 use lrc_trace::act::Act;
@@ -44,11 +45,12 @@ impl<'c> World<'c> {
         options: &Options,
     ) -> Result<World<'c>, AllocError>
         requires few { nodes ≤ 16 }
-        ensures { IfOk result (λ world. Shows world (fresh_world code.now nodes options.now)) }
+        ensures { IfOk result (λ world. Shows (fresh_node code.now nodes options.now) world (fresh_world code.now nodes options.now)) }
     {
         let mut made = Vec::with_capacity(alloc, nodes as usize)?;
         for me in 0..nodes {
-            made.push(Logged::new(alloc, code, me, nodes, options)?)?;
+            let node = Node::new(alloc, code, me, nodes, options)?;
+            made.push(Logged::new(alloc, node))?;
         }
         Ok(World {
             alloc,
@@ -60,7 +62,7 @@ impl<'c> World<'c> {
 
     /// Plays an event, which is skipped where it names no ready node and no message that its receiver takes.
     pub(crate) fn play(&mut self, event: Event) -> Result<(), SimFault>
-        ensures { (run : Run) → Shows self.old run → PlaysTo self.new (event_on run event) result }
+        ensures { (starts : Starts) (run : Run) → Shows starts self.old run → PlaysTo starts self.new (event_on run event) result }
     {
         match event {
             Event::Run(node) => self.go_on(node as usize),
@@ -71,7 +73,7 @@ impl<'c> World<'c> {
 
     /// Whether the node is there and ready.
     pub(crate) fn is_ready(&self, node: usize) -> bool
-        ensures { (run : Run) → Shows self.now run → result ≡ ready_at run node }
+        ensures { (starts : Starts) (run : Run) → Shows starts self.now run → result ≡ ready_at run node }
     {
         match self.nodes.get(node) {
             Some(logged) => logged.ready(),
@@ -88,7 +90,7 @@ impl<'c> World<'c> {
 
     /// The delivery that comes next.
     pub(crate) fn next_delivery(&self, picker: Picker) -> Event
-        ensures { (run : Run) → Shows self.now run → result ≡ delivery_of picker run.flight }
+        ensures { (starts : Starts) (run : Run) → Shows starts self.now run → result ≡ delivery_of picker run.flight }
     {
         match picker {
             Picker::Oldest => Event::Deliver(0),
@@ -105,7 +107,7 @@ impl<'c> World<'c> {
 
     // Whether the oldest message was delivered already.
     fn is_oldest_delivered(&self) -> bool
-        ensures { (run : Run) → Shows self.now run → result ≡ is_delivered (slice_get run.flight 0) }
+        ensures { (starts : Starts) (run : Run) → Shows starts self.now run → result ≡ is_delivered (slice_get run.flight 0) }
     {
         match self.flight.get(0) {
             Some(flying) => flying.delivered,
@@ -115,7 +117,7 @@ impl<'c> World<'c> {
 
     // The node goes on, if it is there and ready.
     fn go_on(&mut self, node: usize) -> Result<(), SimFault>
-        ensures { (run : Run) → Shows self.old run → PlaysTo self.new (event_on run (events.Run node)) result }
+        ensures { (starts : Starts) (run : Run) → Shows starts self.old run → PlaysTo starts self.new (event_on run (events.Run node)) result }
     {
         let outcome = run_at(&mut self.nodes, node);
         if is_made(outcome)? {
@@ -127,7 +129,7 @@ impl<'c> World<'c> {
 
     // The message at the place is delivered, if it is there and its receiver takes it.
     fn deliver(&mut self, place: usize) -> Result<(), SimFault>
-        ensures { (run : Run) → Shows self.old run → PlaysTo self.new (event_on run (events.Deliver place)) result }
+        ensures { (starts : Starts) (run : Run) → Shows starts self.old run → PlaysTo starts self.new (event_on run (events.Deliver place)) result }
     {
         match self.receive(place)? {
             Some(to) => {
@@ -140,7 +142,7 @@ impl<'c> World<'c> {
 
     // The same, but the message stays in flight.
     fn repeat(&mut self, place: usize) -> Result<(), SimFault>
-        ensures { (run : Run) → Shows self.old run → PlaysTo self.new (event_on run (events.Repeat place)) result }
+        ensures { (starts : Starts) (run : Run) → Shows starts self.old run → PlaysTo starts self.new (event_on run (events.Repeat place)) result }
     {
         match self.receive(place)? {
             Some(to) => {
@@ -153,7 +155,7 @@ impl<'c> World<'c> {
 
     // The receiver of the message at the place takes it, if both are there and the receiver expects it. Which node that was.
     fn receive(&mut self, place: usize) -> Result<Option<usize>, SimFault>
-        ensures { (run : Run) → Shows self.old run → ReceivesTo self.old self.new run place result }
+        ensures { (starts : Starts) (run : Run) → Shows starts self.old run → ReceivesTo starts self.old self.new run place result }
     {
         let Some(flying) = self.flight.get(place) else {
             return Ok(None);
@@ -171,7 +173,7 @@ impl<'c> World<'c> {
     /// What is reported of the run.
     pub(crate) fn report(self) -> Result<Report, AllocError>
         requires { All (λ act. act.node < NODES) self.acts.items }
-        ensures { (run : Run) → Shows self.entry run → IfOk result (λ report. IsReport report run) }
+        ensures { (starts : Starts) (run : Run) → Shows starts self.entry run → IfOk result (λ report. IsReport report run) }
     {
         let first_race = first_race(self.alloc, &self.acts)?;
         let World {
@@ -328,7 +330,7 @@ fn forget(flight: &mut VecDeque<Flying>, place: usize)
 
 // How each node ended.
 fn ends_of(alloc: Global, nodes: &[Logged<'_>]) -> Result<Vec<End>, AllocError>
-    ensures { (all : List log.Logged) → nodes.now ≡ map sound all → IfOk result (λ ends. ends.items ≡ map end_of_logged all) }
+    ensures { (all : List log.Logged) → map (λ node. node.logged) nodes.now ≡ map sound all → IfOk result (λ ends. ends.items ≡ map end_of_logged all) }
 {
     let mut ends = Vec::with_capacity(alloc, nodes.len())?;
     for node in nodes {
@@ -339,11 +341,12 @@ fn ends_of(alloc: Global, nodes: &[Logged<'_>]) -> Result<Vec<End>, AllocError>
 
 // The turns of each node.
 fn logs_of(alloc: Global, nodes: Vec<Logged<'_>>) -> Result<Vec<Vec<Entry>>, AllocError>
-    ensures { IfOk result (λ logs. map (λ log. log.items) logs.items ≡ map (λ node. node.log) nodes.entry.items) }
+    ensures { IfOk result (λ logs. map (λ log. log.items) logs.items ≡ map (λ node. node.logged.log) nodes.entry.items) }
 {
     let mut logs = Vec::with_capacity(alloc, nodes.len())?;
     for node in nodes {
-        logs.push(node.into_log())?;
+        let (log, _trace) = node.into_parts();
+        logs.push(log)?;
     }
     Ok(logs)
 }

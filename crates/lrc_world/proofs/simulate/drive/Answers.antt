@@ -1,6 +1,6 @@
 use Rattle.std.proofs.Common.{◌≡◌, ◌∙◌, ◌<◌, ℕ, [], length, Err, ap, subst}
 use Rattle.lrc_lang.specs.declared.program.Program.{Program}
-use Rattle.lrc_protocol.specs.Node.{OptionsRecord}
+use Rattle.lrc_protocol.specs.Node.{OptionsRecord, fresh_node}
 use Rattle.lrc_protocol.specs.World.{fresh_world, played}
 use Rattle.lrc_world.specs.declared.report.SimFault.TheVariants.{BadNodes, BadSteps, Worn}
 use Rattle.lrc_world.specs.declared.rounds.Driver.{Driver}
@@ -15,10 +15,12 @@ use Rattle.lrc_world.proofs.simulate.drive.Goals as goal
 
 -- the driver before any event
 first : (program code : Program) (nodes count : ℕ) (options : OptionsRecord) (d : Driver) (world : World) → code ≡ program → count ≡ nodes
-    → Shows world (fresh_world code count options) → d.world ≡ world → d.events.items ≡ [] → Drives (fresh_world program nodes options) d
+    → Shows (fresh_node code count options) world (fresh_world code count options) → d.world ≡ world → d.events.items ≡ []
+    → Drives (fresh_node program nodes options) (fresh_world program nodes options) d
 first program code nodes count options d world coded counted shows is none =
-    begins (fresh_world program nodes options) d world
-    (subst (λ p. Shows world (fresh_world p nodes options)) coded (subst (λ n. Shows world (fresh_world code n options)) counted shows)) is none
+    begins (fresh_node program nodes options) (fresh_world program nodes options) d world
+    (subst (λ p. Shows (fresh_node p nodes options) world (fresh_world p nodes options)) coded
+    (subst (λ n. Shows (fresh_node code n options) world (fresh_world code n options)) counted shows)) is none
 
 pub returns-in_err-drive-clause-worn : goal.returns-in_err-drive-clause-worn
 returns-in_err-drive-clause-worn c = λ e.
@@ -27,13 +29,13 @@ returns-in_err-drive-clause-worn c = λ e.
     let same = handed_on c.from_residual-in_err-drive.result c.in_err-drive.field-0.0 Worn c.from_residual-in_err-drive.ensures.1 e in
     let goes : GoesTo c.new-driver.result c.drive.new.self (Err Worn) =
     subst (λ f. GoesTo c.new-driver.result c.drive.new.self (Err f)) same c.in_err-drive.ensures.goes in
-    goes (fresh_world c.args.program.now c.args.nodes c.args.options.now) d
+    goes (fresh_node c.args.program.now c.args.nodes c.args.options.now) (fresh_world c.args.program.now c.args.nodes c.args.options.now) d
 
 pub returns-in_err-drive-clause-bad_nodes : goal.returns-in_err-drive-clause-bad_nodes
 returns-in_err-drive-clause-bad_nodes c =
     let d = first c.args.program.now c.in_ok-code.code c.args.nodes c.in_ok-count.count c.args.options.now c.new-driver.result c.in_ok-world.world
     c.in_ok-code.ensures c.in_ok-count.ensures.0 c.in_ok-world.ensures c.new-driver.ensures.world c.new-driver.ensures.events in
-    let ranged = in_range c.new-driver.result c.drive.new.self (fresh_world c.args.program.now c.args.nodes c.args.options.now) c.in_err-drive.field-0.0 d
+    let ranged = in_range c.new-driver.result c.drive.new.self (fresh_node c.args.program.now c.args.nodes c.args.options.now) (fresh_world c.args.program.now c.args.nodes c.args.options.now) c.in_err-drive.field-0.0 d
     c.in_err-drive.ensures.goes in (
       λ e good. ranged.0 (handed_on c.from_residual-in_err-drive.result c.in_err-drive.field-0.0 BadNodes c.from_residual-in_err-drive.ensures.1 e),
       λ bad. absurd (bad c.in_ok-count.ensures.1),
@@ -43,7 +45,7 @@ pub returns-in_err-drive-clause-bad_steps : goal.returns-in_err-drive-clause-bad
 returns-in_err-drive-clause-bad_steps c =
     let d = first c.args.program.now c.in_ok-code.code c.args.nodes c.in_ok-count.count c.args.options.now c.new-driver.result c.in_ok-world.world
     c.in_ok-code.ensures c.in_ok-count.ensures.0 c.in_ok-world.ensures c.new-driver.ensures.world c.new-driver.ensures.events in
-    let ranged = in_range c.new-driver.result c.drive.new.self (fresh_world c.args.program.now c.args.nodes c.args.options.now) c.in_err-drive.field-0.0 d
+    let ranged = in_range c.new-driver.result c.drive.new.self (fresh_node c.args.program.now c.args.nodes c.args.options.now) (fresh_world c.args.program.now c.args.nodes c.args.options.now) c.in_err-drive.field-0.0 d
     c.in_err-drive.ensures.goes in (
       λ e. absurd (ranged.1 (handed_on c.from_residual-in_err-drive.result c.in_err-drive.field-0.0 BadSteps c.from_residual-in_err-drive.ensures.1 e)),
       λ bad. absurd (bad.1 c.in_ok-count.ensures.2),
@@ -54,17 +56,17 @@ returns-clause-report c =
     let start = fresh_world c.args.program.now c.args.nodes c.args.options.now in
     let d = first c.args.program.now c.in_ok-code.code c.args.nodes c.in_ok-count.count c.args.options.now c.new-driver.result c.in_ok-world.world
     c.in_ok-code.ensures c.in_ok-count.ensures.0 c.in_ok-world.ensures c.new-driver.ensures.world c.new-driver.ensures.events in
-    let r = c.in_ok-drive.ensures.goes.drives start d in
-    (r.0, ap (λ v. played start v.items) c.in_ok-report.ensures.events ∙ r.1, c.in_ok-report.ensures.report r.0 r.2)
+    let r = c.in_ok-drive.ensures.goes.drives (fresh_node c.args.program.now c.args.nodes c.args.options.now) start d in
+    (r.0, ap (λ v. played start v.items) c.in_ok-report.ensures.events ∙ r.1, c.in_ok-report.ensures.report (fresh_node c.args.program.now c.args.nodes c.args.options.now) r.0 r.2)
 
 pub returns-clause-over : goal.returns-clause-over
 returns-clause-over c = λ few.
     let start = fresh_world c.args.program.now c.args.nodes c.args.options.now in
     let d = first c.args.program.now c.in_ok-code.code c.args.nodes c.in_ok-count.count c.args.options.now c.new-driver.result c.in_ok-world.world
     c.in_ok-code.ensures c.in_ok-count.ensures.0 c.in_ok-world.ensures c.new-driver.ensures.world c.new-driver.ensures.events in
-    let r = c.in_ok-drive.ensures.goes.drives start d in
+    let r = c.in_ok-drive.ensures.goes.drives (fresh_node c.args.program.now c.args.nodes c.args.options.now) start d in
     let still = c.in_ok-drive.ensures.over (subst (λ v. length v.items < 100000000) c.in_ok-report.ensures.events few) in
-    over c.args.program.now c.args.nodes c.args.options.now c.in_ok-report.field-0.0.items r.0 c.drive.new.self.world
+    over c.args.program.now c.args.nodes c.args.options.now c.in_ok-report.field-0.0.items (fresh_node c.args.program.now c.args.nodes c.args.options.now) r.0 c.drive.new.self.world
     (ap (λ v. played start v.items) c.in_ok-report.ensures.events ∙ r.1) r.2
     (subst (λ n. NoneReady n c.drive.new.self.world) c.in_ok-count.ensures.0 still.0) still.1
 
@@ -73,8 +75,9 @@ report-requires c =
     let start = fresh_world c.args.program.now c.args.nodes c.args.options.now in
     let d = first c.args.program.now c.in_ok-code.code c.args.nodes c.in_ok-count.count c.args.options.now c.new-driver.result c.in_ok-world.world
     c.in_ok-code.ensures c.in_ok-count.ensures.0 c.in_ok-world.ensures c.new-driver.ensures.world c.new-driver.ensures.events in
-    let r = c.in_ok-drive.ensures.goes.drives start d in
-    acts_of_nodes c.args.program.now c.args.nodes c.args.options.now c.drive.new.self.events.items r.0 c.drive.new.self.world r.1 r.2
+    let r = c.in_ok-drive.ensures.goes.drives (fresh_node c.args.program.now c.args.nodes c.args.options.now) start d in
+    acts_of_nodes c.args.program.now c.args.nodes c.args.options.now c.drive.new.self.events.items
+    (fresh_node c.args.program.now c.args.nodes c.args.options.now) r.0 c.drive.new.self.world r.1 r.2
     c.in_ok-count.ensures.1.1
 
 pub returns-clause-synchronized : goal.returns-clause-synchronized

@@ -1,4 +1,5 @@
 use Rattle.std.proofs.Common.{◌≡◌, ◌∙◌, sym, ap, rules, arith, take}
+use Rattle.lrc_protocol.specs.Node.{fresh_node}
 use Rattle.lrc_protocol.specs.World.{run_of}
 use Rattle.lrc_world.specs.declared.report.SimFault.TheVariants.{Worn}
 use Rattle.lrc_world.proofs.Events.{goes_on, wears_out, handed_on, take_whole, get_at}
@@ -21,12 +22,13 @@ pub returns-clause-report : goal.returns-clause-report
 returns-clause-report c =
     let runs = c.loop-event.invariant in
     let all : take c.loop-event.event-index c.args.events.now ≡ c.args.events.now = take_whole c.args.events.now c.loop-event.event-index (omega (arith, c.loop-event-test.false)) in
-    (runs.0, ap (run_of c.args.program.now c.args.nodes c.args.options.now) (sym all) ∙ runs.1, c.in_ok-report.ensures runs.0 runs.2)
+    (runs.0, ap (run_of c.args.program.now c.args.nodes c.args.options.now) (sym all) ∙ runs.1, c.in_ok-report.ensures (fresh_node c.args.program.now c.args.nodes c.args.options.now) runs.0 runs.2)
 
 pub report-requires : goal.report-requires
 report-requires c =
     let runs = c.loop-event.invariant in
-    acts_of_nodes c.args.program.now c.args.nodes c.args.options.now (take c.loop-event.event-index c.args.events.now) runs.0 c.loop-event.world runs.1 runs.2 c.in_ok-count.ensures.1.1
+    acts_of_nodes c.args.program.now c.args.nodes c.args.options.now (take c.loop-event.event-index c.args.events.now)
+    (fresh_node c.args.program.now c.args.nodes c.args.options.now) runs.0 c.loop-event.world runs.1 runs.2 c.in_ok-count.ensures.1.1
 
 pub returns-clause-synchronized : goal.returns-clause-synchronized
 returns-clause-synchronized c =

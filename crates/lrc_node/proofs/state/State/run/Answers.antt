@@ -1,8 +1,6 @@
 use Rattle.std.proofs.Common.{◌≡◌, sym, ◌∙◌, ap, subst}
-use Rattle.std.specs.Prelude.{None, option_map, Result, Ok, Err, IfErr}
-use Rattle.std.specs.Result.{IsErrAnd}
+use Rattle.std.specs.Prelude.{None, option_map}
 use Rattle.std.proofs.lemmas.Result.{IfErr-weaker}
-use Rattle.lrc_node.specs.declared.fault.NodeFault.{NodeFault}
 use Rattle.lrc_exec.specs.Ask.{ask_of}
 use Rattle.lrc_protocol.specs.Node.{Node, begins}
 use Rattle.lrc_protocol.specs.Turn.{turn_if, run_turn}
@@ -11,12 +9,8 @@ use Rattle.lrc_node.specs.Effects.{effect_asked, CanBegin, RefusesRun, unready}
 use Rattle.lrc_node.specs.State.{seen_effect}
 use Rattle.lrc_node.specs.Text.{asked_in}
 use Rattle.lrc_node.proofs.Effects.{run_asked, run_none, begins_asked, begun_ready, can_begun, refuses_begun, refuses_sent}
+use Rattle.lrc_node.proofs.Turns.{fault_up}
 use Rattle.lrc_node.proofs.state.State.run.Goals as goal
-
--- a fault that is handed up
-fault_up : {T : Type 0} (r : Result T NodeFault) (fault : NodeFault) (P : NodeFault → Type 0) → IsErrAnd r (λ f. f ≡ fault) → P fault → IfErr r P
-fault_up (Ok x) fault P is h = tt
-fault_up (Err f) fault P is h = subst P (sym is) h
 
 pub returns-in_default-clause-refused : goal.returns-in_default-clause-refused
 returns-in_default-clause-refused c =

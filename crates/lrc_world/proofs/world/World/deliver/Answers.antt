@@ -6,13 +6,13 @@ use Rattle.lrc_world.proofs.Lists.{map-remove}
 use Rattle.lrc_world.proofs.world.World.deliver.Goals as goal
 
 pub returns-in-Some : goal.returns-in-Some
-returns-in-Some c = λ run shows.
+returns-in-Some c = λ starts run shows.
     let some : c.receive.result ≡ Ok (Some c.in-Some.to) = search rules in
     let t : IsTaken c.args.self.now c.receive.new.self run c.args.place c.in-Some.to =
-    subst (ReceivesTo c.args.self.now c.receive.new.self run c.args.place) some (c.receive.ensures run shows) in
+    subst (ReceivesTo starts c.args.self.now c.receive.new.self run c.args.place) some (c.receive.ensures starts run shows) in
     let flown = ap (λ q. map seen q.items) t.flight ∙ shows.flight in
-    let within : c.args.place < length c.receive.new.self.flight.items = taken_within c.args.self.now c.receive.new.self run c.args.place c.in-Some.to shows t in
-    delivered c.args.self.now c.receive.new.self _ c.follow.new.self run c.args.place c.in-Some.to (remove run.flight c.args.place) c.follow.result shows t
+    let within : c.args.place < length c.receive.new.self.flight.items = taken_within starts c.args.self.now c.receive.new.self run c.args.place c.in-Some.to shows t in
+    delivered starts c.args.self.now c.receive.new.self _ c.follow.new.self run c.args.place c.in-Some.to (remove run.flight c.args.place) c.follow.result shows t
     refl refl
     (ap (map seen) (c.forget.ensures within) ∙ map-remove seen c.receive.new.self.flight.items c.args.place
     ∙ ap (λ xs. remove xs c.args.place) flown ∙ sym (map-remove shown run.flight c.args.place))

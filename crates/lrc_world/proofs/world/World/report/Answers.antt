@@ -1,14 +1,18 @@
-use Rattle.std.proofs.Common.{◌∙◌, MatchOption, ap, subst, rules, map}
+use Rattle.std.proofs.Common.{◌∙◌, MatchOption, sym, ap, subst, map}
 use Rattle.lrc_trace.specs.Conflict.{IsFirstRace, IsRaceFree}
-use Rattle.lrc_node.specs.Logged.{sound}
+use Rattle.lrc_node.specs.Logged.{LoggedNode, TracedLog, sound}
+use Rattle.lrc_world.proofs.Kept.{all_logged}
 use Rattle.lrc_world.proofs.Lists.{map-map}
 use Rattle.lrc_world.proofs.world.World.report.Goals as goal
 
 pub returns : goal.returns
-returns c = λ run shows. record {
+returns c = λ starts run shows. record {
   acts = shows.acts;
   first = subst (λ acts. MatchOption c.in_ok-first_race.first_race (IsRaceFree acts) (IsFirstRace acts)) (c.deref.ensures.value ∙ shows.acts)
       c.in_ok-first_race.ensures;
-  ends = c.in_ok-ends.ensures run.nodes (search rules);
-  logs = c.in_ok-logs.ensures ∙ ap (map (λ node. node.log)) shows.nodes ∙ map-map (λ node. node.log) sound run.nodes;
+  ends = c.in_ok-ends.ensures run.nodes
+      (ap (map (λ (t : TracedLog). t.logged)) c.deref-2.ensures.value ∙ all_logged starts c.args.self.nodes.items run.nodes shows.nodes);
+  logs = c.in_ok-logs.ensures ∙ sym (map-map (λ (l : LoggedNode). l.log) (λ (t : TracedLog). t.logged) c.args.self.nodes.items)
+      ∙ ap (map (λ (l : LoggedNode). l.log)) (all_logged starts c.args.self.nodes.items run.nodes shows.nodes)
+      ∙ map-map (λ (l : LoggedNode). l.log) sound run.nodes;
 }

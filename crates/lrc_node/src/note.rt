@@ -1,0 +1,96 @@
+// How a node notes its accesses.
+
+ghost use Rattle.std.specs.Prelude.{◌≡◌, IfErr, IfOk, OnErr, OnOk};
+ghost use Rattle.lrc_local.specs.Traced.{CanNote, CanNoteAct, IsTraced};
+ghost use Rattle.lrc_protocol.specs.Traced.{with_access_by, with_act};
+ghost use Rattle.lrc_protocol.specs.Turn.{done, not_ready, run_turn, take_turn, unexpected};
+ghost use Rattle.lrc_node.specs.Effects.{RefusesRun};
+ghost use Rattle.lrc_node.specs.Taken.{RefusesTake};
+ghost use Rattle.lrc_node.specs.declared.fault.NodeFault.TheVariants.{NotReady, Unexpected};
+
+use crate::fault::NodeFault;
+use crate::state::State;
+use crate::turn::Turn;
+use lrc_trace::act::{Act, Deed};
+use lrc_trace::trace::Trace;
+use lrc_wire::Envelope;
+use std::alloc::AllocError;
+
+impl State<'_> {
+    /// Goes on as `run` does, and notes the access that is made, if one is. After an error the trace is as it was.
+    pub(crate) fn run_noting(&mut self, trace: &mut Trace) -> Result<Turn, NodeFault>
+        requires { IsTraced self.old trace.old }
+        ensures done { IfOk result (λ turn. run_turn self.old ≡ done turn self.new) }
+        ensures noted { IfOk result (λ turn. trace.new ≡ with_act self.new turn.act trace.old) }
+        ensures kept { OnErr result (trace.new ≡ trace.old) }
+        ensures ready { run_turn self.old ≡ not_ready → (result ≡ Err NotReady) × (self.new ≡ self.old) }
+        ensures refused { IfErr result (λ fault. RefusesRun (run_turn self.old) fault) }
+    {
+        let turn = self.run()?;
+        self.note(trace, turn.act)?;
+        Ok(turn)
+    }
+
+    /// Takes a message as `take` does, and notes the access that is made, if one is. After an error the trace is as it was.
+    pub(crate) fn take_noting(
+        &mut self,
+        trace: &mut Trace,
+        envelope: &Envelope,
+    ) -> Result<Turn, NodeFault>
+        requires { IsTraced self.old trace.old }
+        ensures done { IfOk result (λ turn. take_turn self.old envelope.now ≡ done turn self.new) }
+        ensures noted { IfOk result (λ turn. trace.new ≡ with_act self.new turn.act trace.old) }
+        ensures kept { OnErr result (trace.new ≡ trace.old) }
+        ensures refused { IfErr result (λ fault. RefusesTake (take_turn self.old envelope.now) self.old fault self.new) }
+        ensures unexpected { take_turn self.old envelope.now ≡ unexpected → result ≡ Err Unexpected }
+    {
+        let turn = self.take(envelope)?;
+        self.note(trace, turn.act)?;
+        Ok(turn)
+    }
+
+    /// Notes the access of an act, which the node has just made, if it is one. An error leaves the trace as it was.
+    fn note(&self, trace: &mut Trace, act: Option<Act>) -> Result<(), AllocError>
+        requires { CanNoteAct self.now trace.old act }
+        ensures noted { OnOk result (trace.new ≡ with_act self.now act trace.old) }
+        ensures kept { OnErr result (trace.new ≡ trace.old) }
+    {
+        let Some(act) = act else {
+            return Ok(());
+        };
+        match act.deed {
+            Deed::Read(word, _) => self.note_access(trace, word, false),
+            Deed::Write(word, _) => self.note_access(trace, word, true),
+            Deed::Quiet
+            | Deed::Print(_)
+            | Deed::Acquire(_)
+            | Deed::Release(_)
+            | Deed::Arrive
+            | Deed::Depart
+            | Deed::Trap(_)
+            | Deed::End => Ok(()),
+        }
+    }
+
+    /// Notes an access that the node has just made, in the interval that is open. An error leaves the trace as it was.
+    fn note_access(
+        &self,
+        trace: &mut Trace,
+        word: u32,
+        is_write: bool,
+    ) -> Result<(), AllocError>
+        requires { CanNote self.now trace.old word }
+        ensures noted { OnOk result (trace.new ≡ with_access_by self.now word is_write trace.old) }
+        ensures kept { OnErr result (trace.new ≡ trace.old) }
+    {
+        let _steps = self.options.steps;
+        let time = self.clock.next();
+        trace.note(
+            self.barrier.episode(),
+            time.at(self.me),
+            &time,
+            word,
+            is_write,
+        )
+    }
+}

@@ -1,0 +1,118 @@
+-- The nodes of a run with their logs and traces.
+use Rattle.std.proofs.Common.{◌≡◌, ◌∙◌, ℕ, zero, suc, ◌+◌, arith, List, [], ◌∷◌, Some, refl, sym, ap, subst, map, ⊎_elim, ◌≢◌}
+use Rattle.std.proofs.lemmas.Bool.{cases_eq}
+use Rattle.std.proofs.lemmas.Option.{same_Some}
+use Rattle.std.specs.Prelude.{slice_get, slice_set, option_map}
+use Rattle.std.specs.List.{enumerate_from, range_with_len}
+use Rattle.lrc_protocol.specs.Follows.{inputs_of}
+use Rattle.lrc_protocol.specs.Log.{Input, EntryRecord, Logged, logged, logs}
+use Rattle.lrc_protocol.specs.Node.{Node}
+use Rattle.lrc_protocol.specs.Traced.{Traced, traced, trace_of, with_act}
+use Rattle.lrc_protocol.proofs.Traces.{traced_entry}
+use Rattle.lrc_protocol.proofs.Worlds.{IsEntry, Entries, logs-entries, get_set_same, get_set_other}
+use Rattle.lrc_node.specs.Logged.{TracedLog, sound}
+use Rattle.lrc_world.specs.World.{Starts, kept_of, after_turn}
+
+-- a turn that is logged
+pub entry_of : (l : Logged) (input : Input) (came : ℕ) (entry : EntryRecord) (after : Logged) → logs l input came ≡ logged entry after
+    → IsEntry l input entry after
+entry_of l input came entry after e = subst (Entries l input) e (logs-entries l input came)
+
+-- a node with no turns
+abbrev pub unlogged : Node → Logged
+unlogged node = record { node = node; log = [] }
+
+module _ (starts : Starts) where
+  kept_logged : (i : ℕ) (nodes : List Logged) → map (λ (t : TracedLog). t.logged) (map (kept_of starts) (enumerate_from i nodes)) ≡ map sound nodes
+  kept_logged i [] = refl
+  kept_logged i (l ∷ nodes) = ap (λ more. sound l ∷ more) (kept_logged (i + 1) nodes)
+
+  -- without their traces
+  pub all_logged : (items : List TracedLog) (nodes : List Logged) → items ≡ map (kept_of starts) (enumerate_from 0 nodes)
+      → map (λ (t : TracedLog). t.logged) items ≡ map sound nodes
+  all_logged items nodes e = ap (map (λ (t : TracedLog). t.logged)) e ∙ kept_logged 0 nodes
+
+  get_from : (i : ℕ) (nodes : List Logged) (n : ℕ)
+      → slice_get (map (kept_of starts) (enumerate_from i nodes)) n ≡ option_map (λ l. kept_of starts (i + n, l)) (slice_get nodes n)
+  get_from i [] n = refl
+  get_from i (l ∷ nodes) zero = let same : i ≡ i + 0 = omega arith in ap (λ k. Some (kept_of starts (k, l))) same
+  get_from i (l ∷ nodes) (suc n) =
+      let same : i + 1 + n ≡ i + suc n = omega arith in
+      get_from (i + 1) nodes n ∙ ap (λ k. option_map (λ l. kept_of starts (k, l)) (slice_get nodes n)) same
+
+  -- the node at a place
+  pub kept_get : (nodes : List Logged) (n : ℕ) (l : Logged) → slice_get nodes n ≡ Some l
+      → slice_get (map (kept_of starts) (enumerate_from 0 nodes)) n ≡ Some (kept_of starts (n, l))
+  kept_get nodes n l there =
+      let same : 0 + n ≡ n = omega arith in
+      get_from 0 nodes n
+      ∙ ap (λ k. option_map (λ l. kept_of starts (k, l)) (slice_get nodes n)) same
+      ∙ ap (option_map (λ l. kept_of starts (n, l))) there
+
+  set_from : (i : ℕ) (nodes : List Logged) (n : ℕ) (l : Logged)
+      → slice_set (map (kept_of starts) (enumerate_from i nodes)) n (kept_of starts (i + n, l)) ≡ map (kept_of starts) (enumerate_from i (slice_set nodes n l))
+  set_from i [] n l = refl
+  set_from i (x ∷ nodes) zero l =
+      let same : i + 0 ≡ i = omega arith in
+      ap (λ k. kept_of starts (k, l) ∷ map (kept_of starts) (enumerate_from (i + 1) nodes)) same
+  set_from i (x ∷ nodes) (suc n) l =
+      let same : i + suc n ≡ i + 1 + n = omega arith in
+      ap (λ k. kept_of starts (i, x) ∷ slice_set (map (kept_of starts) (enumerate_from (i + 1) nodes)) n (kept_of starts (k, l))) same
+      ∙ ap (λ more. kept_of starts (i, x) ∷ more) (set_from (i + 1) nodes n l)
+
+  -- one node's turn
+  module _ (nodes : List Logged) (n : ℕ) (l after : Logged) (input : Input) (entry : EntryRecord) (there : slice_get nodes n ≡ Some l)
+      (i : IsEntry l input entry after)
+      (replayed : (n : ℕ) (l : Logged) → slice_get nodes n ≡ Some l → (traced (starts n) (inputs_of l.log)).node ≡ l.node) where
+    turned_so : traced (starts n) (inputs_of after.log) ≡ record { node = after.node; trace = with_act after.node entry.turn.act (trace_of (starts n) l.log) }
+    turned_so = traced_entry (starts n) l after input entry i (replayed n l there)
+
+    pub kept_after : (before : TracedLog) → slice_get (map (kept_of starts) (enumerate_from 0 nodes)) n ≡ Some before
+        → after_turn entry after before ≡ kept_of starts (n, after)
+    kept_after before stood =
+        let same : before ≡ kept_of starts (n, l) = same_Some before (kept_of starts (n, l)) (sym stood ∙ kept_get nodes n l there) in
+        ap (after_turn entry after) same
+        ∙ ap (λ (t : Traced). let k : TracedLog = record { logged = sound after; trace = t.trace } in k) (sym turned_so)
+
+    pub kept_set : slice_set (map (kept_of starts) (enumerate_from 0 nodes)) n (kept_of starts (n, after))
+        ≡ map (kept_of starts) (enumerate_from 0 (slice_set nodes n after))
+    kept_set =
+        let same : n ≡ 0 + n = omega arith in
+        ap (λ k. slice_set (map (kept_of starts) (enumerate_from 0 nodes)) n (kept_of starts (k, after))) same ∙ set_from 0 nodes n after
+
+    pub replayed_after : (m : ℕ) (k : Logged) → slice_get (slice_set nodes n after) m ≡ Some k → (traced (starts m) (inputs_of k.log)).node ≡ k.node
+    replayed_after m k at =
+        ⊎_elim
+        (λ (here : n ≡ m).
+        let same : after ≡ k =
+        same_Some after k (sym (get_set_same nodes n l after there) ∙ ap (slice_get (slice_set nodes n after)) here ∙ at) in
+        ap (λ (x : Logged). (traced (starts m) (inputs_of x.log)).node) (sym same)
+        ∙ ap (λ j. (traced (starts j) (inputs_of after.log)).node) (sym here)
+        ∙ ap (λ (t : Traced). t.node) turned_so
+        ∙ ap (λ (x : Logged). x.node) same)
+        (λ (apart : n ≢ m). replayed m k (sym (get_set_other nodes n m after apart) ∙ at))
+        (cases_eq n m)
+
+  -- ---- at the start
+
+  fresh_from : (i k : ℕ) → map (λ me. kept_of starts (me, unlogged (starts me))) (range_with_len i k)
+      ≡ map (kept_of starts) (enumerate_from i (map unlogged (map starts (range_with_len i k))))
+  fresh_from i zero = refl
+  fresh_from i (suc k) = ap (λ more. kept_of starts (i, unlogged (starts i)) ∷ more) (fresh_from (i + 1) k)
+
+  pub all_fresh : (nodes : ℕ) → map (λ me. kept_of starts (me, unlogged (starts me))) (range_with_len 0 nodes)
+      ≡ map (kept_of starts) (enumerate_from 0 (map unlogged (map starts (range_with_len 0 nodes))))
+  all_fresh nodes = fresh_from 0 nodes
+
+  fresh_at : (i k n : ℕ) (l : Logged) → slice_get (map unlogged (map starts (range_with_len i k))) n ≡ Some l → unlogged (starts (i + n)) ≡ l
+  fresh_at i zero n l e = cc
+  fresh_at i (suc k) zero l e =
+      let same : i + 0 ≡ i = omega arith in ap (λ j. unlogged (starts j)) same ∙ same_Some (unlogged (starts i)) l e
+  fresh_at i (suc k) (suc n) l e =
+      let same : i + suc n ≡ i + 1 + n = omega arith in ap (λ j. unlogged (starts j)) same ∙ fresh_at (i + 1) k n l e
+
+  pub fresh_replayed : (nodes n : ℕ) (l : Logged) → slice_get (map unlogged (map starts (range_with_len 0 nodes))) n ≡ Some l
+      → (traced (starts n) (inputs_of l.log)).node ≡ l.node
+  fresh_replayed nodes n l e =
+      let same : n ≡ 0 + n = omega arith in
+      subst (λ (x : Logged). (traced (starts n) (inputs_of x.log)).node ≡ x.node) (ap (λ j. unlogged (starts j)) same ∙ fresh_at 0 nodes n l e) refl
