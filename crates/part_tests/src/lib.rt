@@ -18,6 +18,8 @@ mod locks;
 #[cfg(test)]
 mod messages;
 #[cfg(test)]
+mod nodes;
+#[cfg(test)]
 mod pages;
 #[cfg(test)]
 mod protocol;
@@ -35,3 +37,5 @@ mod stores;
 mod tables;
 #[cfg(test)]
 mod times;
+#[cfg(test)]
+mod traces;
