@@ -79,9 +79,9 @@ abbrev pub first_race_text : Option ℕ → List ℕ
 first_race_text None = []
 first_race_text (Some position) = codes "first race at act " ++ decimal position ++ codes "\n"
 
--- what is printed of a run: the lines of its nodes, and its first race
+-- what is printed of a run: the lines of its nodes, its races, and the first of its acts that races with an earlier one
 abbrev pub run_text : Report → List ℕ
-run_text report = report_text report.acts.items report.ends.items ++ first_race_text report.first_race
+run_text report = report_text report.acts.items report.ends.items ++ races_text report.races.items ++ first_race_text report.first_race
 
 -- the status after a run: 3 where there is a race
 abbrev pub run_status_of : Option ℕ → List End → ℕ

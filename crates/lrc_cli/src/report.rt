@@ -42,17 +42,19 @@ fn empty_parts(alloc: Global, count: usize) -> Result<Vec<Vec<u8>>, AllocError>
     Ok(parts)
 }
 
-/// What is printed of a run: the lines of its nodes, and the last line, which names its first race.
+/// What is printed of a run: the lines of its nodes, those of its races, and the last line, which names the first act that
+/// races with an earlier one.
 pub fn run_parts(alloc: Global, report: &Report) -> Result<Vec<Vec<u8>>, AllocError>
     ensures { IfOk result (λ parts. whole_text parts.items ≡ run_text report.now) }
 {
     let mut parts = report_parts(alloc, &report.acts, &report.ends)?;
+    parts.push(races_part(alloc, &report.races)?)?;
     parts.push(first_race_part(alloc, report.first_race)?)?;
     Ok(parts)
 }
 
-/// The lines of races, one for each.
-pub fn races_part(alloc: Global, races: &[Race]) -> Result<Vec<u8>, AllocError>
+// The lines of races, one for each.
+fn races_part(alloc: Global, races: &[Race]) -> Result<Vec<u8>, AllocError>
     ensures { IfOk result (λ part. part.items ≡ races_text races.now) }
 {
     let mut text = Vec::new(alloc);
