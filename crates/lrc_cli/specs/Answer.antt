@@ -5,6 +5,7 @@ use Rattle.lrc_lang.specs.Faults.{HasFirstFault, IsText}
 use Rattle.lrc_lang.specs.Tree.{program_of}
 use Rattle.lrc_lang.specs.declared.program.Program.{Program}
 use Rattle.lrc_trace.specs.declared.act.Act.{Act}
+use Rattle.lrc_judge.specs.Races.{AreNamedRaces}
 use Rattle.lrc_protocol.specs.declared.event.Event.{Event}
 use Rattle.lrc_protocol.specs.Node.{OptionsRecord}
 use Rattle.lrc_world.specs.Ends.{ends_of}
@@ -48,10 +49,11 @@ abbrev pub ArePlayed : Program → Simulation → Option (List ℕ) → List Eve
 ArePlayed program run (Some events_text) events = Reads events_text (Ok events)
 ArePlayed program run None events = IsDriven program run events
 
--- what a run of the program answers: the report of its events
+-- what a run of the program answers: the report of its events, with the races that its acts name
 abbrev pub IsRunOf : Program → Simulation → Option (List ℕ) → Report → Type 0
 IsRunOf program run events_text report = (events : List Event) × ArePlayed program run events_text events
     × IsReportOf program run.nodes.count (options_of run) events report
+    × AreNamedRaces report.acts.items report.races.items
 
 -- the text and the status are those of this report
 abbrev pub IsPrintoutOf : Report → List ℕ → ℕ → Type 0

@@ -7,6 +7,7 @@ use Rattle.lrc_trace.specs.declared.act.Cause.{Cause}
 use Rattle.lrc_trace.specs.declared.act.Cause.TheVariants.{DivisionByZero, WordOutOfRange, LockOutOfRange, LockHeld, LockNotHeld}
 use Rattle.lrc_trace.specs.declared.act.Deed.{Deed}
 use Rattle.lrc_trace.specs.declared.act.Deed.TheVariants.{Print}
+use Rattle.lrc_trace.specs.declared.race.Race.{Race}
 use Rattle.lrc_node.specs.declared.end.End.{End}
 use Rattle.lrc_node.specs.declared.end.End.TheVariants.{Ended, Trapped, Unfinished}
 use Rattle.lrc_world.specs.declared.report.Report.{Report}
@@ -65,14 +66,22 @@ is_ended _ = false
 abbrev pub status_of : List End → ℕ
 status_of ends = if list_all is_ended ends then 0 else 4
 
+-- the line of a race, and those of races
+abbrev pub race_line : Race → List ℕ
+race_line race = codes "race word " ++ decimal race.word ++ codes ": node " ++ decimal race.node_a ++ codes " interval " ++ decimal race.interval_a
+    ++ codes ", node " ++ decimal race.node_b ++ codes " interval " ++ decimal race.interval_b ++ codes "\n"
+
+abbrev pub races_text : List Race → List ℕ
+races_text races = flat_map race_line races
+
 -- the last line of a run with a race: the least position that races with an earlier one
 abbrev pub first_race_text : Option ℕ → List ℕ
 first_race_text None = []
 first_race_text (Some position) = codes "first race at act " ++ decimal position ++ codes "\n"
 
--- what is printed of a run: the lines of its nodes, and its first race
+-- what is printed of a run: the lines of its nodes, its races, and the first of its acts that races with an earlier one
 abbrev pub run_text : Report → List ℕ
-run_text report = report_text report.acts.items report.ends.items ++ first_race_text report.first_race
+run_text report = report_text report.acts.items report.ends.items ++ races_text report.races.items ++ first_race_text report.first_race
 
 -- the status after a run: 3 where there is a race
 abbrev pub run_status_of : Option ℕ → List End → ℕ

@@ -2,12 +2,13 @@
 
 ghost use Rattle.std.specs.Prelude.{◌≡◌, ◌++◌, [], IfOk, OnOk, decimal, replicate};
 ghost use Rattle.lrc_trace.specs.declared.act.Deed.TheVariants.{Print};
-ghost use Rattle.lrc_cli.specs.ReportText.{deed_line, end_words, first_race_text, line_on, report_text, run_status_of, run_text, status_of};
-ghost use Rattle.lrc_cli.specs.ReportText.{texts_of, whole_text};
+ghost use Rattle.lrc_cli.specs.ReportText.{deed_line, end_words, first_race_text, line_on, race_line, races_text, report_text, run_status_of};
+ghost use Rattle.lrc_cli.specs.ReportText.{run_text, status_of, texts_of, whole_text};
 
 use itoa::Buffer;
 use lrc_node::End;
 use lrc_trace::act::{Act, Deed};
+use lrc_trace::race::Race;
 use lrc_world::report::Report;
 use std::alloc::{AllocError, Global};
 
@@ -41,13 +42,37 @@ fn empty_parts(alloc: Global, count: usize) -> Result<Vec<Vec<u8>>, AllocError>
     Ok(parts)
 }
 
-/// What is printed of a run: the lines of its nodes, and the last line, which names its first race.
+/// What is printed of a run: the lines of its nodes, those of its races, and the last line, which names the first act that
+/// races with an earlier one.
 pub fn run_parts(alloc: Global, report: &Report) -> Result<Vec<Vec<u8>>, AllocError>
     ensures { IfOk result (λ parts. whole_text parts.items ≡ run_text report.now) }
 {
     let mut parts = report_parts(alloc, &report.acts, &report.ends)?;
+    parts.push(races_part(alloc, &report.races)?)?;
     parts.push(first_race_part(alloc, report.first_race)?)?;
     Ok(parts)
+}
+
+// The lines of races, one for each.
+fn races_part(alloc: Global, races: &[Race]) -> Result<Vec<u8>, AllocError>
+    ensures { IfOk result (λ part. part.items ≡ races_text races.now) }
+{
+    let mut text = Vec::new(alloc);
+    for race in races {
+        push_race(&mut text, *race)?;
+    }
+    Ok(text)
+}
+
+fn push_race(text: &mut Vec<u8>, race: Race) -> Result<(), AllocError>
+    ensures { OnOk result (text.new.items ≡ text.old.items ++ race_line race) }
+{
+    push_number(text, b"race word ", u64::from(race.word))?;
+    push_number(text, b": node ", u64::from(race.node_a))?;
+    push_number(text, b" interval ", race.interval_a)?;
+    push_number(text, b", node ", u64::from(race.node_b))?;
+    push_number(text, b" interval ", race.interval_b)?;
+    text.extend_from_slice(b"\n")
 }
 
 fn first_race_part(alloc: Global, first: Option<usize>) -> Result<Vec<u8>, AllocError>

@@ -24,6 +24,8 @@ mod protocol;
 #[cfg(test)]
 mod races;
 #[cfg(test)]
+mod rounds;
+#[cfg(test)]
 mod runs;
 #[cfg(test)]
 mod simulations;

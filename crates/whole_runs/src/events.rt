@@ -1,18 +1,18 @@
 // Texts of events.
 
-use crate::shell::played;
+use crate::shell::{ALONE, played};
 use std::alloc::{AllocError, Global};
 
 const PROGRAM: &[u8] = b"words 1; locks 0; [0] = 7; x = [0]; print x + me;";
 
 // Whether the program with these events prints this.
 fn prints(alloc: Global, events: &[u8], out: &[u8], status: u8) -> bool {
-    played(alloc, PROGRAM, events).prints(out, status)
+    played(alloc, ALONE, PROGRAM, events).prints(out, status)
 }
 
 // Whether a text with these events is refused with this line.
 fn complains(alloc: Global, text: &[u8], events: &[u8], line: &[u8]) -> bool {
-    played(alloc, text, events).complains(line)
+    played(alloc, ALONE, text, events).complains(line)
 }
 
 #[test]
@@ -42,7 +42,7 @@ fn the_first_bad_line_is_named(rt: HostRuntime) {
             b"treadmarks: events line 3: bad event\n",
         ),
         (b"deliver", b"treadmarks: events line 1: bad event\n"),
-        (b"repeat 0", b"treadmarks: events line 1: bad event\n"),
+        (b"repeat", b"treadmarks: events line 1: bad event\n"),
     ];
     for (events, line) in cases {
         assert!(rt; complains(rt.alloc(), PROGRAM, events, line));

@@ -6,9 +6,13 @@ mod events;
 #[cfg(test)]
 mod faults;
 #[cfg(test)]
+mod given_events;
+#[cfg(test)]
 mod one_node;
 #[cfg(test)]
 mod plain;
+#[cfg(test)]
+mod several_nodes;
 #[cfg(test)]
 mod shell;
 #[cfg(test)]

@@ -3,14 +3,17 @@
 ghost use Rattle.std.specs.Prelude.{◌≡◌, is_some};
 ghost use Rattle.lrc_cli.specs.Answer.{names_events};
 
-use lrc_cli::choice::{Choice, Nodes, PlainRun, Simulation, Steps};
+use lrc_cli::choice::{Choice, Collect, Nodes, PlainRun, Simulation, Steps};
 use lrc_cli::perform;
+use lrc_page::Size;
+use lrc_wire::Picker;
 use std::alloc::Global;
 
 /// As many steps as a node may be given.
 pub const ALL_STEPS: Steps = Steps { count: 1_000_000 };
 
-const ALONE: Nodes = Nodes { count: 1 };
+/// One node.
+pub const ALONE: Nodes = Nodes { count: 1 };
 
 /// What a command printed, what it wrote to standard error, and its status.
 #[derive(Drop)]
@@ -57,24 +60,44 @@ pub fn in_rounds(alloc: Global, nodes: Nodes, steps: Steps, text: &[u8]) -> Outc
     performed(alloc, &choice, text, None)
 }
 
-/// What `sim` on one node with this many steps makes of a text.
-pub fn driven(alloc: Global, steps: Steps, text: &[u8]) -> Outcome {
+/// `sim` on one node, as it is without options.
+pub const ON_ONE_NODE: Simulation<'static> = Simulation {
+    file: "-",
+    nodes: ALONE,
+    steps: ALL_STEPS,
+    collect: Collect { count: 0 },
+    order: Picker::Oldest,
+    size: Size::Words64,
+    events: None,
+};
+
+/// What `sim` makes of a text.
+pub fn simulated(alloc: Global, run: Simulation<'static>, text: &[u8]) -> Outcome {
     let choice = Choice::Simulate(Simulation {
-        file: "-",
-        nodes: ALONE,
-        steps,
         events: None,
+        ..run
     });
     performed(alloc, &choice, text, None)
 }
 
-/// What `sim` on one node makes of a text with these events.
-pub fn played(alloc: Global, text: &[u8], events: &[u8]) -> Outcome {
+/// What `sim` on so many nodes makes of a text with these events.
+pub fn played(alloc: Global, nodes: Nodes, text: &[u8], events: &[u8]) -> Outcome {
     let choice = Choice::Simulate(Simulation {
-        file: "-",
-        nodes: ALONE,
-        steps: ALL_STEPS,
+        nodes,
         events: Some("events"),
+        ..ON_ONE_NODE
     });
     performed(alloc, &choice, text, Some(events))
+}
+
+/// What `sim` on one node with this many steps makes of a text.
+pub fn driven(alloc: Global, steps: Steps, text: &[u8]) -> Outcome {
+    simulated(
+        alloc,
+        Simulation {
+            steps,
+            ..ON_ONE_NODE
+        },
+        text,
+    )
 }

@@ -2,12 +2,20 @@
 
 use lrc_cli::choice::{Choice, ChooseFault};
 use lrc_cli::choose;
+use lrc_page::Size;
+use lrc_wire::Picker;
 use std::alloc::Global;
 
 // Whether the words ask for the plain machine with this file, and so many nodes and steps.
 fn ask_for_plain(alloc: Global, words: &[&str], file: &str, nodes: u32, steps: u32) -> bool {
     matches!(choose(alloc, words), Ok(Choice::Plain(run))
         if run.file == file && run.nodes.count == nodes && run.steps.count == steps)
+}
+
+// Whether the words ask for a run of the file on three nodes, with these options.
+fn ask_for_options(alloc: Global, words: &[&str], collect: u32, order: Picker, size: Size) -> bool {
+    matches!(choose(alloc, words), Ok(Choice::Simulate(run))
+        if run.nodes.count == 3 && run.collect.count == collect && run.order == order && run.size == size)
 }
 
 // Whether the words ask for a run of this file on one node, with these events.
@@ -37,22 +45,55 @@ fn words_are_read(rt: HostRuntime) {
     assert!(rt; ask_for_check(rt.alloc(), &["check", "a.tm"]));
 }
 
-const OUT_OF_RANGE: [[&str; 4]; 6] = [
+#[test]
+fn options_of_a_run_are_read(rt: HostRuntime) {
+    let newest = [
+        "sim",
+        "-",
+        "--nodes",
+        "3",
+        "--order",
+        "newest",
+        "--page=256",
+        "--collect",
+        "1000000",
+    ];
+    assert!(rt;
+        ask_for_options(
+            rt.alloc(),
+            &newest,
+            1_000_000,
+            Picker::Newest,
+            Size::Words256
+        )
+    );
+    let twice = ["sim", "--order=twice", "--page", "64", "-", "--nodes=3"];
+    assert!(rt; ask_for_options(rt.alloc(), &twice, 0, Picker::Twice, Size::Words64));
+    let oldest = ["sim", "-", "--nodes", "3", "--order", "oldest"];
+    assert!(rt; ask_for_options(rt.alloc(), &oldest, 0, Picker::Oldest, Size::Words64));
+}
+
+const OUT_OF_RANGE: [[&str; 4]; 7] = [
     ["plain", "a.tm", "--nodes", "17"],
     ["plain", "a.tm", "--nodes", "0"],
     ["plain", "a.tm", "--steps", "0"],
     ["plain", "a.tm", "--steps", "1000001"],
     ["sim", "a.tm", "--steps", "1000001"],
+    ["sim", "a.tm", "--collect", "1000001"],
     ["sim", "a.tm", "--nodes", "18446744073709551615"],
 ];
 
-const MISUSED: [[&str; 4]; 6] = [
+const MISUSED: [[&str; 4]; 10] = [
     ["plain", "a.tm", "--nodes", "18446744073709551616"],
     ["plain", "a.tm", "--nodes", "x"],
     ["plain", "a.tm", "--events", "e"],
     ["plain", "a.tm", "b.tm", "c.tm"],
     ["sim", "a.tm", "--steps=1", "--steps=2"],
     ["plan", "a.tm", "--nodes", "1"],
+    ["sim", "a.tm", "--order", "Oldest"],
+    ["sim", "a.tm", "--order", ""],
+    ["sim", "a.tm", "--page", "064"],
+    ["sim", "--nodes=17", "--page=128", "a.tm"],
 ];
 
 fn are_out_of_range(alloc: Global, words: &[&str]) -> bool {
