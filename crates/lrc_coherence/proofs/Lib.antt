@@ -28,3 +28,5 @@ pub mod CollectServes
 pub mod StampAsks
 pub mod StampAskers
 pub mod StampLearn
+pub mod StampFrees
+pub mod StampGrants

@@ -77,7 +77,7 @@ waiter_in (Held next) = next
 waiter_in (Free kept) = None
 waiter_in Away = None
 
-none_some : {X : Type 0} (Y : Type 0) (x : X) → None ≡ Some x → Y
+pub none_some : {X : Type 0} (Y : Type 0) (x : X) → None ≡ Some x → Y
 none_some Y x e = absurd cc
 
 -- another state of one lock
@@ -106,7 +106,7 @@ step-waiter held lock (passes pass) k w e =
     ⊎ ((next : LockState) × (lock ≡ k) × (passes pass ≡ stays next) × (waiter_in next ≡ Some w))) w new.1)
     (set-waiter held lock Away k w e)
 
-stays-same : (a b : LockState) → stays a ≡ stays b → a ≡ b
+pub stays-same : (a b : LockState) → stays a ≡ stays b → a ≡ b
 stays-same a b e = cc
 
 released-waiter : (lock : ℕ) (now : List ℕ) (x next : LockState) (w : Waiter) → released_at lock now x ≡ stays next → waiter_in next ≡ Some w
