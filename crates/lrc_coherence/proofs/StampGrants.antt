@@ -2,7 +2,7 @@
 use Rattle.std.proofs.Common.{◌≡◌, ◌⊎◌, ℕ, zero, suc, ◌+◌, ◌-◌, ◌<◌, ◌≤◌, List, [], ◌∷◌, ◌++◌, Bool, true, false, length, map, refl, sym, ap, subst, ◌∙◌, inl, inr, ⊎_elim, arith}
 use Rattle.std.specs.Prelude.{Option, Some, None, Contains, ◌==◌, slice_get, slice_set, slice_index_or, if◌then◌else◌}
 use Rattle.std.specs.List.{range_with_len}
-use Rattle.std.proofs.lemmas.Bool.{cases_eq, cases_lt, eq-eqb, false≢true}
+use Rattle.std.proofs.lemmas.Bool.{cases_eq, and_from, eq-eqb, lt-ltb, false≢true}
 use Rattle.std.proofs.lemmas.List.{get_or_past, get_or-set_same, get_or-set_other, length-set}
 use Rattle.std.proofs.lemmas.List.Elements.{Contains-append_left, Contains-append_right, Contains-append_cases}
 use Rattle.std.proofs.lemmas.Option.{same_Some}
@@ -28,16 +28,17 @@ use Rattle.lrc_copies.proofs.Members.{Contains-first, Contains-later, cases_Cont
 use Rattle.lrc_protocol.specs.Copy.{Copy, valid, written, invalid, absent}
 use Rattle.lrc_protocol.specs.Barrier.{Barrier}
 use Rattle.lrc_protocol.specs.Course.{Course}
-use Rattle.lrc_protocol.specs.Expected.{indices_by, is_learnable}
+use Rattle.lrc_protocol.specs.Expected.{indices_by, is_learnable, is_expected}
 use Rattle.lrc_protocol.specs.Letters.{letter, grant_of, grants_of, changes_reply_to}
 use Rattle.lrc_protocol.specs.Locks.{Locks, next_time}
-use Rattle.lrc_protocol.specs.Mail.{Letter, Wait, nothing, grant, departure, access, upkeep, discard, is_idle}
+use Rattle.lrc_protocol.specs.Mail.{Letter, Wait, nothing, grant, departure, access, upkeep, discard, is_idle, awaits_grant}
 use Rattle.lrc_protocol.specs.Memory.{Memory, copy_at, with_interval}
 use Rattle.lrc_protocol.specs.Node.{Node, OptionsRecord, begins_of}
 use Rattle.lrc_protocol.specs.Run.{closes}
 use Rattle.lrc_protocol.specs.Turn.{TurnRecord, Outcome, done, run_turn, turn_by}
 use Rattle.lrc_protocol.specs.Log.{Input, run, EntryRecord, Logged}
-use Rattle.lrc_protocol.specs.World.{World, Flying, fresh_world, with_turn, pending}
+use Rattle.lrc_protocol.specs.declared.event.Event.{Event}
+use Rattle.lrc_protocol.specs.World.{World, Flying, fresh_world, with_turn, pending, run_of}
 use Rattle.lrc_protocol.specs.Follows.{turns_of}
 use Rattle.lrc_protocol.proofs.Worlds.{IsEntry, get_set_same, get_set_other, fresh_at}
 use Rattle.lrc_protocol.proofs.Induction.{Comes}
@@ -45,12 +46,13 @@ use Rattle.lrc_invariants.specs.Shape.{HasShape}
 use Rattle.lrc_invariants.proofs.Shape.{NodeShape, shape_at}
 use Rattle.lrc_invariants.proofs.Sends.{Came, by_itself, comes, letter_in, site_of, Sent, Sending, SendingIf, sendings, alone as sent_alone}
 use Rattle.lrc_invariants.proofs.Flows.{Stepped, again as stepped_again, once, stepped}
+use Rattle.lrc_invariants.proofs.LockExpected.{grant_awaited}
 use Rattle.lrc_invariants.proofs.Reached.{IsReached}
 use Rattle.lrc_local.specs.Stored.{StoresExactly}
 use Rattle.lrc_local.proofs.Exact.{closes-exact}
 use Rattle.lrc_local.proofs.Always.{exact_at, ranged_at}
 use Rattle.lrc_coherence.specs.Made.{AllMade, AllTold, AreMade, intervals_in}
-use Rattle.lrc_coherence.proofs.History.{History, one_more, KeptByHistory, by_history, reached_by, closed_by}
+use Rattle.lrc_coherence.proofs.History.{History, one_more, KeptByHistory, by_history, history_of, closed_by}
 use Rattle.lrc_coherence.proofs.Stocks.{StoreChange, same, closed, granted as learned_grant, departing as learned_depart, replied, dropped}
 use Rattle.lrc_coherence.proofs.CollectCovers.{collected_covered}
 use Rattle.lrc_coherence.proofs.StampWorlds.{Placed, placed, each_node, TurnBy, alone, again, anew, turn_at}
@@ -489,3 +491,27 @@ module _ (program : Program) (nodes : ℕ) (options : OptionsRecord) where
       learnable_from program nodes options world made h e.to l at m.time m.intervals news.long news.full
       (subst (λ x. AllMade (map interval_of made) (intervals_in x)) is (told_in (map interval_of made) (pending world) e (all_made program nodes options world made h).told c))
       news.between
+
+  -- and would accept it now
+  get_there : {X : Type 0} (xs : List X) (x : X) → Contains xs x → (k : ℕ) × (slice_get xs k ≡ Some x)
+  get_there [] x c = absurd (none_Contains x c)
+  get_there (y ∷ xs) x c =
+      ⊎_elim
+      (λ (first : y ≡ x). (0, ap Some first))
+      (λ (later : Contains xs x). let rest : (k : ℕ) × (slice_get xs k ≡ Some x) = get_there xs x later in (suc rest.0, rest.1))
+      (cases_Contains y xs x c)
+
+  pub grant_expected : (events : List Event) (world : World) (e : EnvelopeRecord) (m : LockGrantRecord) (l : Logged)
+      → run_of program nodes options events ≡ Some world → Contains (pending world) e → e.message ≡ LockGrant m → slice_get world.nodes e.to ≡ Some l
+      → is_expected l.node e.from e.message ≡ true
+  grant_expected events world e m l runs c is at =
+      let h : (made : List StoredRecord) × History program nodes options world made = history_of program nodes options events world runs in
+      let place : (k : ℕ) × (slice_get (pending world) k ≡ Some e) = get_there (pending world) e c in
+      let awaited : (m.lock < program.locks) × (awaits_grant m.lock l.node.mail.wait ≡ true) =
+      grant_awaited program nodes options events world runs place.0 e place.1 l at m is in
+      let shape : NodeShape (setting_of program nodes e.to) options (record { node = l.node; turns = turns_of l.log }) =
+      shape_at program nodes options events world e.to l runs at in
+      ap (is_expected l.node e.from) is
+      ∙ and_from _ _
+      (and_from _ _ (lt-ltb m.lock l.node.setting.locks (subst (λ (s : Setting). m.lock < s.locks) (sym shape.setting) awaited.0)) awaited.1)
+      (grant_learnable world h.0 h.1 e m l c is at)
