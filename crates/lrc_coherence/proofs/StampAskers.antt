@@ -21,11 +21,11 @@ use Rattle.lrc_lock.specs.Lock.{manager_of}
 use Rattle.lrc_lock.specs.Held.{lock_at, first_state}
 use Rattle.lrc_time.specs.Time.{zeros}
 use Rattle.lrc_copies.proofs.Members.{Contains-first, Contains-later, cases_Contains, none_Contains}
-use Rattle.lrc_protocol.specs.Mail.{Letter, Wait, nothing, grant, departure, access, upkeep, discard, awaits_grant}
+use Rattle.lrc_protocol.specs.Mail.{Wait, nothing, grant, departure, access, upkeep, discard, awaits_grant}
 use Rattle.lrc_protocol.specs.Node.{Node, OptionsRecord}
 use Rattle.lrc_protocol.specs.Turn.{TurnRecord}
-use Rattle.lrc_protocol.specs.Log.{Input, EntryRecord, Logged}
-use Rattle.lrc_protocol.specs.World.{World, Flying, fresh_world, with_turn, pending}
+use Rattle.lrc_protocol.specs.Log.{Logged}
+use Rattle.lrc_protocol.specs.World.{World, fresh_world, with_turn, pending}
 use Rattle.lrc_protocol.specs.Follows.{turns_of}
 use Rattle.lrc_protocol.proofs.Worlds.{get_set_same, get_set_other, fresh_at}
 use Rattle.lrc_invariants.specs.Tokens.{is_awaited}
@@ -34,13 +34,13 @@ use Rattle.lrc_invariants.proofs.TokenWorlds.{state_in, some_node}
 use Rattle.lrc_invariants.proofs.Sends.{Came, by_itself, comes, letter_in, Sent, site_of}
 use Rattle.lrc_invariants.proofs.Pending.{Goes}
 use Rattle.lrc_invariants.proofs.Flows.{AllOf, Brings, Stepped, again, once, stepped, count-cons}
-use Rattle.lrc_invariants.proofs.LockMessages.{Saying, request, forward, grant as says_grant, saying, asks, about, granted_to, said}
+use Rattle.lrc_invariants.proofs.LockMessages.{request, forward, grant as says_grant, saying, asks, about, granted_to, said}
 use Rattle.lrc_invariants.proofs.LockBalance.{awaits, is_waiter, leads_to, Numbers, Balanced}
 use Rattle.lrc_invariants.proofs.LockStands.{saying_so, last_asker, numbers_of, all_balanced}
 use Rattle.lrc_invariants.proofs.LockContents.{IsSound, SoundMessage}
 use Rattle.lrc_invariants.proofs.LockExpected.{all_sound}
 use Rattle.lrc_invariants.proofs.Reached.{IsReached, KeptByReached, by_reached}
-use Rattle.lrc_coherence.proofs.StampWorlds.{Placed, placed}
+use Rattle.lrc_coherence.proofs.StampWorlds.{placed}
 use Rattle.lrc_coherence.proofs.StampAsks.{waiter_in, is_granting, TurnAsks, turn_asks}
 use Rattle.lrc_coherence.proofs.Known.{from_out, letter_out}
 

@@ -1,5 +1,5 @@
 -- What a turn does to what is said of who asks for a lock: to the requests that are made and passed on, and to the successors.
-use Rattle.std.proofs.Common.{◌≡◌, ◌⊎◌, ℕ, ◌<◌, ◌≤◌, List, [], ◌∷◌, Bool, true, false, length, map, refl, sym, ap, subst, ◌∙◌, inl, inr, ⊎_elim, arith}
+use Rattle.std.proofs.Common.{◌≡◌, ◌⊎◌, ℕ, List, [], ◌∷◌, Bool, true, false, length, map, refl, sym, ap, subst, ◌∙◌, inl, inr, ⊎_elim, arith}
 use Rattle.std.specs.Prelude.{Option, Some, None, Contains, ◌==◌, slice_set, if◌then◌else◌}
 use Rattle.std.specs.List.{range_with_len}
 use Rattle.std.proofs.lemmas.Bool.{cases_eq, cases_lt, false≢true}
@@ -12,11 +12,11 @@ use Rattle.lrc_lock.specs.declared.state.Pass.{Pass}
 use Rattle.lrc_lock.specs.declared.state.Waiter.{Waiter}
 use Rattle.lrc_lock.specs.declared.state.LockState.{LockState}
 use Rattle.lrc_lock.specs.declared.state.LockState.TheVariants.{Away, Awaited, Free, Held}
-use Rattle.lrc_lock.specs.Held.{HeldRecord, LockStep, refuses, stays, passes, lock_at, with_lock, is_free, taken, asked, released, released_at, forwarded, forwarded_at, granted, granted_at, held_after}
+use Rattle.lrc_lock.specs.Held.{HeldRecord, LockStep, refuses, stays, passes, lock_at, with_lock, is_free, released, released_at, forwarded, forwarded_at, granted, granted_at, held_after}
 use Rattle.lrc_barrier.specs.declared.departure.Departure.{Departure}
 use Rattle.lrc_copies.proofs.Members.{cases_Contains, none_Contains}
 use Rattle.lrc_protocol.specs.Barrier.{Barrier}
-use Rattle.lrc_protocol.specs.Letters.{letter, departure_of, discards_to}
+use Rattle.lrc_protocol.specs.Letters.{departure_of, discards_to}
 use Rattle.lrc_protocol.specs.Locks.{Locks, next_time}
 use Rattle.lrc_protocol.specs.Mail.{Letter, Wait, nothing, grant, departure, access, upkeep, discard}
 use Rattle.lrc_invariants.proofs.Sends.{is_other, AreOthers, Grants, Came, by_itself, comes, Site, Sends, plain, misses, takes, asks, releasing, arriving, manages, forwarding, grants, gathers, lets_depart, departing, collecting, clean_at_once, notes_clean, lets_discard, discarding, serves, accessing, still_misses, still_collects, cleaning}

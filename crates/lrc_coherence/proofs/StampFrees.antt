@@ -1,66 +1,23 @@
 -- What a turn does to the times that are kept with free tokens.
-use Rattle.std.proofs.Common.{◌≡◌, ◌⊎◌, ℕ, zero, suc, ◌+◌, ◌-◌, ◌<◌, ◌≤◌, List, [], ◌∷◌, ◌++◌, Bool, true, false, length, map, refl, sym, ap, subst, ◌∙◌, inl, inr, ⊎_elim, arith}
-use Rattle.std.specs.Prelude.{Option, Some, None, Contains, ◌==◌, slice_get, slice_set, slice_index_or, if◌then◌else◌}
-use Rattle.std.specs.List.{range_with_len}
-use Rattle.std.proofs.lemmas.Bool.{cases_eq, cases_lt, eq-eqb, false≢true}
+use Rattle.std.proofs.Common.{◌≡◌, ◌⊎◌, ℕ, List, [], ◌∷◌, Bool, true, false, length, refl, sym, ap, subst, ◌∙◌, inl, inr, ⊎_elim, arith}
+use Rattle.std.specs.Prelude.{Option, Some, None, Contains, ◌==◌, slice_set, if◌then◌else◌}
+use Rattle.std.proofs.lemmas.Bool.{cases_eq, cases_lt, false≢true}
 use Rattle.std.proofs.lemmas.List.{get_or_past, get_or-set_same, get_or-set_other, length-set}
-use Rattle.std.proofs.lemmas.List.Elements.{Contains-append_cases}
 use Rattle.std.proofs.lemmas.Option.{same_Some}
-use Rattle.lrc_lang.specs.declared.program.Program.{Program}
-use Rattle.lrc_exec.specs.Meaning.{Setting, Next, quiet, prints, reads, writes, acquires, releases, arrives, departs, traps, ends}
-use Rattle.lrc_exec.specs.Plain.{setting_of}
-use Rattle.lrc_time.specs.Time.{entry, zeros, joined, Covers}
-use Rattle.lrc_time.proofs.Times.{length-zeros, covers-refl, covers-trans, covers-raised, covers-joined_first}
-use Rattle.lrc_store.specs.Store.{StoreRecord, StoredRecord, interval_of, newer_of}
-use Rattle.lrc_wire.specs.Envelope.{EnvelopeRecord}
-use Rattle.lrc_wire.specs.Records.{LockForwardRecord, LockGrantRecord}
 use Rattle.lrc_wire.specs.declared.message.Message.{Message}
 use Rattle.lrc_wire.specs.declared.message.Message.TheVariants.{LockRequest, LockForward, LockGrant, Arrive, Depart, Clean, Discard, ChangesRequest, ChangesReply, PageRequest, PageReply}
 use Rattle.lrc_lock.specs.declared.fault.LockFault.TheVariants.{NotMine}
-use Rattle.lrc_lock.specs.declared.state.Pass.{Pass}
 use Rattle.lrc_lock.specs.declared.state.Waiter.{Waiter}
 use Rattle.lrc_lock.specs.declared.state.LockState.{LockState}
 use Rattle.lrc_lock.specs.declared.state.LockState.TheVariants.{Away, Awaited, Free, Held}
-use Rattle.lrc_lock.specs.Lock.{manager_of}
-use Rattle.lrc_lock.specs.Held.{HeldRecord, LockStep, refuses, stays, passes, lock_at, with_lock, is_free, taken, asked, first_state, released, released_at, forwarded, forwarded_at, granted, granted_at, held_after, pass_of, pass_to}
-use Rattle.lrc_copies.proofs.Members.{Contains-first, Contains-later, cases_Contains, none_Contains}
-use Rattle.lrc_protocol.specs.Copy.{Copy, valid, written, invalid, absent}
+use Rattle.lrc_lock.specs.Held.{HeldRecord, LockStep, refuses, stays, passes, lock_at, with_lock, is_free, released, released_at, forwarded, forwarded_at, granted, granted_at, held_after}
+use Rattle.lrc_copies.proofs.Members.{cases_Contains, none_Contains}
 use Rattle.lrc_protocol.specs.Barrier.{Barrier}
-use Rattle.lrc_protocol.specs.Course.{Course}
-use Rattle.lrc_protocol.specs.Expected.{indices_by, is_learnable}
-use Rattle.lrc_protocol.specs.Letters.{letter, grant_of, grants_of, changes_reply_to}
 use Rattle.lrc_protocol.specs.Locks.{Locks, next_time}
-use Rattle.lrc_protocol.specs.Mail.{Letter, Wait, nothing, grant, departure, access, upkeep, discard, is_idle}
-use Rattle.lrc_protocol.specs.Memory.{Memory, copy_at, with_interval}
-use Rattle.lrc_protocol.specs.Node.{Node, OptionsRecord, begins_of}
-use Rattle.lrc_protocol.specs.Run.{closes}
-use Rattle.lrc_protocol.specs.Turn.{TurnRecord, Outcome, done, run_turn, turn_by}
-use Rattle.lrc_protocol.specs.Log.{Input, run, EntryRecord, Logged}
-use Rattle.lrc_protocol.specs.World.{World, Flying, fresh_world, with_turn, pending}
-use Rattle.lrc_protocol.specs.Follows.{turns_of}
-use Rattle.lrc_protocol.proofs.Worlds.{IsEntry, get_set_same, get_set_other, fresh_at}
-use Rattle.lrc_protocol.proofs.Induction.{Comes}
-use Rattle.lrc_invariants.specs.Shape.{HasShape}
-use Rattle.lrc_invariants.proofs.Shape.{NodeShape, shape_at}
-use Rattle.lrc_invariants.proofs.Sends.{is_other, AreOthers, Came, by_itself, comes, letter_in, Site, site_of, Sent, Sending, SendingIf, sendings, alone as sent_alone, Sends, plain, misses, takes, asks, releasing, arriving, manages, forwarding, grants, gathers, lets_depart, departing, collecting, clean_at_once, notes_clean, lets_discard, discarding, serves, accessing, still_misses, still_collects, cleaning}
-use Rattle.lrc_invariants.proofs.Flows.{Stepped, again as stepped_again, once, stepped}
-use Rattle.lrc_invariants.proofs.Reached.{IsReached}
-use Rattle.lrc_local.specs.Stored.{StoresExactly}
-use Rattle.lrc_local.proofs.Exact.{closes-exact}
-use Rattle.lrc_local.proofs.Always.{exact_at, ranged_at}
-use Rattle.lrc_coherence.specs.Made.{AllMade, AllTold, AreMade, intervals_in}
-use Rattle.lrc_coherence.proofs.History.{History, one_more, KeptByHistory, by_history, reached_by, closed_by}
-use Rattle.lrc_coherence.proofs.CollectCovers.{collected_covered}
-use Rattle.lrc_coherence.proofs.StampWorlds.{Placed, placed, each_node, TurnBy, alone, again, anew, turn_at}
-use Rattle.lrc_coherence.proofs.StampMade.{AreListed, all_made, all_listed}
-use Rattle.lrc_coherence.proofs.StampTurns.{is_lock_grant, AllSilent, SinceIn, Timely, Turned, Says as SaysTo, RunSays, GoesSaying, run-turned, took-turned}
-use Rattle.lrc_coherence.proofs.StampCuts.{IsFull, Counted, zeros-full, full_still}
-use Rattle.lrc_coherence.proofs.StampTimes.{AreCuts, all_cuts}
-use Rattle.lrc_coherence.proofs.StampNewer.{newer-indices}
-use Rattle.lrc_coherence.proofs.StampAsks.{waiter_in, is_granting, none_some, stays-same, TurnAsks, turn_asks}
-use Rattle.lrc_coherence.proofs.StampAskers.{Says, by_forward, by_waiter, asks_granting, grant_granting, all_ask_so}
-use Rattle.lrc_coherence.proofs.StampLearn.{learnable_from}
-use Rattle.lrc_coherence.proofs.Known.{letter_out, only_letter}
+use Rattle.lrc_protocol.specs.Mail.{Letter, Wait}
+use Rattle.lrc_invariants.proofs.Sends.{is_other, AreOthers, Came, by_itself, Site, Sends, plain, misses, takes, asks, releasing, arriving, manages, forwarding, grants, gathers, lets_depart, departing, collecting, clean_at_once, notes_clean, lets_discard, discarding, serves, accessing, still_misses, still_collects, cleaning}
+use Rattle.lrc_coherence.proofs.StampTurns.{is_lock_grant}
+use Rattle.lrc_coherence.proofs.StampAsks.{none_some, stays-same}
 
 -- ---- the time that is kept with a free token
 
