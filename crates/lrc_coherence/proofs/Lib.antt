@@ -74,3 +74,5 @@ pub mod StampAskers
 pub mod StampLearn
 pub mod RequestNewer
 pub mod RequestAskTurns
+pub mod StampFrees
+pub mod StampGrants

@@ -11,9 +11,9 @@ use Rattle.std.proofs.lemmas.Option.{same_Some}
 use Rattle.lrc_lang.specs.declared.program.Program.{Program}
 use Rattle.lrc_exec.specs.Plain.{setting_of}
 use Rattle.lrc_wire.specs.Envelope.{EnvelopeRecord}
-use Rattle.lrc_wire.specs.Records.{LockRequestRecord, LockForwardRecord}
+use Rattle.lrc_wire.specs.Records.{LockRequestRecord, LockForwardRecord, LockGrantRecord}
 use Rattle.lrc_wire.specs.declared.message.Message.{Message}
-use Rattle.lrc_wire.specs.declared.message.Message.TheVariants.{LockRequest, LockForward}
+use Rattle.lrc_wire.specs.declared.message.Message.TheVariants.{LockRequest, LockForward, LockGrant}
 use Rattle.lrc_lock.specs.declared.state.Waiter.{Waiter}
 use Rattle.lrc_lock.specs.declared.state.LockState.{LockState}
 use Rattle.lrc_lock.specs.declared.state.LockState.TheVariants.{Away, Awaited, Free, Held}
@@ -21,11 +21,11 @@ use Rattle.lrc_lock.specs.Lock.{manager_of}
 use Rattle.lrc_lock.specs.Held.{lock_at, first_state}
 use Rattle.lrc_time.specs.Time.{zeros}
 use Rattle.lrc_copies.proofs.Members.{Contains-first, Contains-later, cases_Contains, none_Contains}
-use Rattle.lrc_protocol.specs.Mail.{Letter, Wait, nothing, grant, departure, access, upkeep, discard, awaits_grant}
+use Rattle.lrc_protocol.specs.Mail.{Wait, nothing, grant, departure, access, upkeep, discard, awaits_grant}
 use Rattle.lrc_protocol.specs.Node.{Node, OptionsRecord}
 use Rattle.lrc_protocol.specs.Turn.{TurnRecord}
-use Rattle.lrc_protocol.specs.Log.{Input, EntryRecord, Logged}
-use Rattle.lrc_protocol.specs.World.{World, Flying, fresh_world, with_turn, pending}
+use Rattle.lrc_protocol.specs.Log.{Logged}
+use Rattle.lrc_protocol.specs.World.{World, fresh_world, with_turn, pending}
 use Rattle.lrc_protocol.specs.Follows.{turns_of}
 use Rattle.lrc_protocol.proofs.Worlds.{get_set_same, get_set_other, fresh_at}
 use Rattle.lrc_invariants.specs.Tokens.{is_awaited}
@@ -34,13 +34,13 @@ use Rattle.lrc_invariants.proofs.TokenWorlds.{state_in, some_node}
 use Rattle.lrc_invariants.proofs.Sends.{Came, by_itself, comes, letter_in, Sent, site_of}
 use Rattle.lrc_invariants.proofs.Pending.{Goes}
 use Rattle.lrc_invariants.proofs.Flows.{AllOf, Brings, Stepped, again, once, stepped, count-cons}
-use Rattle.lrc_invariants.proofs.LockMessages.{Saying, request, forward, saying, asks, about, said}
+use Rattle.lrc_invariants.proofs.LockMessages.{request, forward, grant as says_grant, saying, asks, about, granted_to, said}
 use Rattle.lrc_invariants.proofs.LockBalance.{awaits, is_waiter, leads_to, Numbers, Balanced}
 use Rattle.lrc_invariants.proofs.LockStands.{saying_so, last_asker, numbers_of, all_balanced}
 use Rattle.lrc_invariants.proofs.LockContents.{IsSound, SoundMessage}
 use Rattle.lrc_invariants.proofs.LockExpected.{all_sound}
 use Rattle.lrc_invariants.proofs.Reached.{IsReached, KeptByReached, by_reached}
-use Rattle.lrc_coherence.proofs.StampWorlds.{Placed, placed}
+use Rattle.lrc_coherence.proofs.StampWorlds.{placed}
 use Rattle.lrc_coherence.proofs.StampAsks.{waiter_in, is_granting, TurnAsks, turn_asks}
 use Rattle.lrc_coherence.proofs.Known.{from_out, letter_out}
 
@@ -91,6 +91,9 @@ passed_awaits n recent k s b some = let stands = b.stands in omega (arith, stand
 
 pointed_awaits : (n recent : ℕ) (k : Numbers) (s : LockState) → Balanced n recent k s → 0 < k.pointed → 0 < awaits s
 pointed_awaits n recent k s b some = let stands = b.stands in omega (arith, stands, some)
+
+granted_awaits : (n recent : ℕ) (k : Numbers) (s : LockState) → Balanced n recent k s → 0 < k.granted → 0 < awaits s
+granted_awaits n recent k s b some = let stands = b.stands in omega (arith, stands, some)
 
 awaited_so : (s : LockState) → 0 < awaits s → is_awaited s ≡ true
 awaited_so (Awaited next) some = refl
@@ -174,6 +177,22 @@ module _ (program : Program) (nodes : ℕ) (options : OptionsRecord) where
         granting_at b l at k
         (pointed_awaits b (last_asker nodes k world.nodes) (numbers_of k b (pending world) world.nodes) (lock_at l.node.locks.held k)
         (balance b l at k (lock_within n k x w there is)) (omega (arith, one, sum)))
+
+    -- and so does who is granted one
+    pub grant_granting : (e : EnvelopeRecord) (m : LockGrantRecord) (l : Logged) → Contains (pending world) e → e.message ≡ LockGrant m
+        → slice_get world.nodes e.to ≡ Some l → is_granting l.node.mail.wait ≡ true
+    grant_granting e m l c is at =
+        let sound : SoundMessage nodes program.locks e =
+        all_there (SoundMessage nodes program.locks) (pending world) e (all_sound program nodes options r.events world r.runs) c in
+        let lt : m.lock < program.locks = subst (IsSound nodes program.locks e.from e.to) is sound in
+        let test : EnvelopeRecord → Bool = λ x. granted_to e.to x.from x.to (saying m.lock x.message) in
+        let counted : test e ≡ true =
+        ap (λ message. granted_to e.to e.from e.to (saying m.lock message)) is ∙ ap (granted_to e.to e.from e.to) (said m.lock m.lock says_grant refl)
+        ∙ eq-eqb e.to e.to refl in
+        let some : 0 < saying_so m.lock (granted_to e.to) (pending world) = counted_there test (pending world) e c counted in
+        granting_at e.to l at m.lock
+        (granted_awaits e.to (last_asker nodes m.lock world.nodes) (numbers_of m.lock e.to (pending world) world.nodes) (lock_at l.node.locks.held m.lock)
+        (balance e.to l at m.lock lt) some)
 
   -- ---- one turn
 

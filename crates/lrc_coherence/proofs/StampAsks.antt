@@ -1,5 +1,5 @@
 -- What a turn does to what is said of who asks for a lock: to the requests that are made and passed on, and to the successors.
-use Rattle.std.proofs.Common.{◌≡◌, ◌⊎◌, ℕ, ◌<◌, ◌≤◌, List, [], ◌∷◌, Bool, true, false, length, map, refl, sym, ap, subst, ◌∙◌, inl, inr, ⊎_elim, arith}
+use Rattle.std.proofs.Common.{◌≡◌, ◌⊎◌, ℕ, List, [], ◌∷◌, Bool, true, false, length, map, refl, sym, ap, subst, ◌∙◌, inl, inr, ⊎_elim, arith}
 use Rattle.std.specs.Prelude.{Option, Some, None, Contains, ◌==◌, slice_set, if◌then◌else◌}
 use Rattle.std.specs.List.{range_with_len}
 use Rattle.std.proofs.lemmas.Bool.{cases_eq, cases_lt, false≢true}
@@ -12,11 +12,11 @@ use Rattle.lrc_lock.specs.declared.state.Pass.{Pass}
 use Rattle.lrc_lock.specs.declared.state.Waiter.{Waiter}
 use Rattle.lrc_lock.specs.declared.state.LockState.{LockState}
 use Rattle.lrc_lock.specs.declared.state.LockState.TheVariants.{Away, Awaited, Free, Held}
-use Rattle.lrc_lock.specs.Held.{HeldRecord, LockStep, refuses, stays, passes, lock_at, with_lock, is_free, taken, asked, released, released_at, forwarded, forwarded_at, granted, granted_at, held_after}
+use Rattle.lrc_lock.specs.Held.{HeldRecord, LockStep, refuses, stays, passes, lock_at, with_lock, is_free, released, released_at, forwarded, forwarded_at, granted, granted_at, held_after}
 use Rattle.lrc_barrier.specs.declared.departure.Departure.{Departure}
 use Rattle.lrc_copies.proofs.Members.{cases_Contains, none_Contains}
 use Rattle.lrc_protocol.specs.Barrier.{Barrier}
-use Rattle.lrc_protocol.specs.Letters.{letter, departure_of, discards_to}
+use Rattle.lrc_protocol.specs.Letters.{departure_of, discards_to}
 use Rattle.lrc_protocol.specs.Locks.{Locks, next_time}
 use Rattle.lrc_protocol.specs.Mail.{Letter, Wait, nothing, grant, departure, access, upkeep, discard}
 use Rattle.lrc_invariants.proofs.Sends.{is_other, AreOthers, Grants, Came, by_itself, comes, Site, Sends, plain, misses, takes, asks, releasing, arriving, manages, forwarding, grants, gathers, lets_depart, departing, collecting, clean_at_once, notes_clean, lets_discard, discarding, serves, accessing, still_misses, still_collects, cleaning}
@@ -77,7 +77,7 @@ waiter_in (Held next) = next
 waiter_in (Free kept) = None
 waiter_in Away = None
 
-none_some : {X : Type 0} (Y : Type 0) (x : X) → None ≡ Some x → Y
+pub none_some : {X : Type 0} (Y : Type 0) (x : X) → None ≡ Some x → Y
 none_some Y x e = absurd cc
 
 -- another state of one lock
@@ -106,7 +106,7 @@ step-waiter held lock (passes pass) k w e =
     ⊎ ((next : LockState) × (lock ≡ k) × (passes pass ≡ stays next) × (waiter_in next ≡ Some w))) w new.1)
     (set-waiter held lock Away k w e)
 
-stays-same : (a b : LockState) → stays a ≡ stays b → a ≡ b
+pub stays-same : (a b : LockState) → stays a ≡ stays b → a ≡ b
 stays-same a b e = cc
 
 released-waiter : (lock : ℕ) (now : List ℕ) (x next : LockState) (w : Waiter) → released_at lock now x ≡ stays next → waiter_in next ≡ Some w

@@ -1,6 +1,6 @@
 -- News that a node can learn: a time that covers only what was closed, and the closed intervals between the node's time and that one.
 use Rattle.std.proofs.Common.{◌≡◌, ℕ, zero, ◌+◌, ◌-◌, ◌<◌, ◌≤◌, List, [], ◌∷◌, ◌++◌, Bool, true, false, length, map, refl, sym, ap, subst, ◌∙◌, ⊎_elim, arith, append-nil}
-use Rattle.std.specs.Prelude.{Some, All, Contains, slice_get, nat_lt, nat_le, ◌==◌, ◌&&◌, if◌then◌else◌}
+use Rattle.std.specs.Prelude.{Some, All, Contains, slice_get, ◌==◌, if◌then◌else◌}
 use Rattle.std.specs.List.{list_all, range_with_len}
 use lib.Pointwise.{pointwise}
 use Rattle.std.proofs.lemmas.Bool.{and_from, eq-eqb, lt-ltb, le-leb, cases_lt}
@@ -10,27 +10,25 @@ use Rattle.lrc_exec.specs.Meaning.{Setting}
 use Rattle.lrc_exec.specs.Plain.{setting_of}
 use Rattle.lrc_time.specs.Time.{entry, Covers, covers}
 use Rattle.lrc_time.proofs.Times.{covers-holds}
-use Rattle.lrc_page.specs.declared.changes.Change.{Change}
 use Rattle.lrc_page.specs.Place.{pages_of}
 use Rattle.lrc_store.specs.Interval.{IntervalRecord, index_of as interval_index}
 use Rattle.lrc_store.specs.Store.{StoredRecord, interval_of}
 use Rattle.lrc_copies.specs.Stamps.{index_of}
 use Rattle.lrc_copies.proofs.Members.{Contains-first, Contains-later, none_Contains}
 use Rattle.lrc_copies.proofs.Stamping.{le-covered}
-use Rattle.lrc_protocol.specs.Expected.{is_node, is_time, is_page, is_interval, is_news, indices_by, are_between, is_learnable}
-use Rattle.lrc_protocol.specs.Memory.{all_changes}
-use Rattle.lrc_protocol.specs.Node.{Node, OptionsRecord}
-use Rattle.lrc_protocol.specs.Log.{Input, EntryRecord, Logged}
-use Rattle.lrc_protocol.specs.World.{World, Flying, with_turn}
+use Rattle.lrc_protocol.specs.Expected.{is_page, is_interval, is_news, indices_by, are_between, is_learnable}
+use Rattle.lrc_protocol.specs.Node.{OptionsRecord}
+use Rattle.lrc_protocol.specs.Log.{Logged}
+use Rattle.lrc_protocol.specs.World.{World}
 use Rattle.lrc_protocol.specs.Follows.{turns_of}
 use Rattle.lrc_invariants.proofs.Shape.{NodeShape, shape_at}
 use Rattle.lrc_invariants.proofs.Reached.{IsReached}
 use Rattle.lrc_local.proofs.Ranges.{pages-closed}
 use Rattle.lrc_local.proofs.Always.{ranged_at}
-use Rattle.lrc_coherence.specs.Made.{AllMade, AreMade}
+use Rattle.lrc_coherence.specs.Made.{AllMade}
 use Rattle.lrc_coherence.specs.Written.{made_stamps}
 use Rattle.lrc_coherence.proofs.Stored.{Member, made_at, index_in, from_range}
-use Rattle.lrc_coherence.proofs.History.{History, KeptByHistory, by_history, reached_by, closed_record, closed_by}
+use Rattle.lrc_coherence.proofs.History.{History, KeptByHistory, by_history, reached_by, closed_record}
 use Rattle.lrc_coherence.proofs.StampLists.{HasRecord, interval-from, closed-interval}
 use Rattle.lrc_coherence.proofs.StampWorlds.{Placed, placed}
 use Rattle.lrc_coherence.proofs.StampMade.{AreListed, all_made, all_listed}
