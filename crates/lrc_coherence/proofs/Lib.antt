@@ -42,3 +42,4 @@ pub mod CollectHeld
 pub mod CollectLaw
 pub mod RequestNewer
 pub mod RequestAskTurns
+pub mod RequestAskers
