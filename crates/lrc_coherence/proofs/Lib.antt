@@ -40,6 +40,3 @@ pub mod CollectBases
 pub mod CollectServes
 pub mod CollectHeld
 pub mod CollectLaw
-pub mod RequestNewer
-pub mod RequestAskTurns
-pub mod RequestAskers
