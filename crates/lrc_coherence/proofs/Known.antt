@@ -78,7 +78,7 @@ grants-replied : (made : List StoredRecord) (out : List EnvelopeRecord) (node : 
     → AllReplied made out
 grants-replied made out node pass is = none-replied made out (subst NoReplies (sym is) (grants-replies node pass))
 
-from_out : (me : ℕ) (out : List EnvelopeRecord) → AllFrom me out → (e : EnvelopeRecord) → Contains out e → e.from ≡ me
+pub from_out : (me : ℕ) (out : List EnvelopeRecord) → AllFrom me out → (e : EnvelopeRecord) → Contains out e → e.from ≡ me
 from_out me [] f e c = absurd (none_Contains e c)
 from_out me (x ∷ out) f e c =
     ⊎_elim
@@ -86,7 +86,7 @@ from_out me (x ∷ out) f e c =
     (λ (later : Contains out e). from_out me out f.1 e later)
     (cases_Contains x out e c)
 
-letter_out : (out : List EnvelopeRecord) (e : EnvelopeRecord) → Contains out e → Contains (map letter_in out) (letter_in e)
+pub letter_out : (out : List EnvelopeRecord) (e : EnvelopeRecord) → Contains out e → Contains (map letter_in out) (letter_in e)
 letter_out [] e c = absurd (none_Contains e c)
 letter_out (x ∷ out) e c =
     ⊎_elim
@@ -95,7 +95,7 @@ letter_out (x ∷ out) e c =
     (cases_Contains x out e c)
 
 -- one letter alone
-only_letter : (x y : Letter) → Contains (x ∷ []) y → x ≡ y
+pub only_letter : (x y : Letter) → Contains (x ∷ []) y → x ≡ y
 only_letter x y c = ⊎_elim (λ (first : x ≡ y). first) (λ (later : Contains [] y). absurd (none_Contains y later)) (cases_Contains x [] y c)
 
 -- ---- one turn

@@ -40,3 +40,8 @@ pub mod CollectBases
 pub mod CollectServes
 pub mod CollectHeld
 pub mod CollectLaw
+pub mod StampAsks
+pub mod StampAskers
+pub mod StampLearn
+pub mod StampFrees
+pub mod StampGrants

@@ -1,13 +1,13 @@
 -- What a store tells between two times: of each node the indices above the first and up to the second, in order.
 use Rattle.std.proofs.Common.{◌≡◌, ℕ, zero, suc, ◌+◌, ◌-◌, ◌<◌, ◌≤◌, List, [], ◌∷◌, Bool, true, false, refl, sym, ap, subst, ◌∙◌, inl, inr, ⊎_elim, arith}
-use Rattle.std.specs.Prelude.{All, not, cond, filter, nat_lt, nat_le, ◌==◌, ◌&&◌, ◌||◌, if◌then◌else◌}
+use Rattle.std.specs.Prelude.{All, not, cond, filter, nat_lt, nat_le, ◌==◌, ◌&&◌, if◌then◌else◌}
 use Rattle.std.specs.List.{range_with_len}
 use Rattle.std.proofs.lemmas.Bool.{cases_eq, cases_lt, and_from, eq-eqb, lt-ltb, le-leb, lt-leb, or_right, false≢true}
-use Rattle.std.proofs.lemmas.List.Elements.{All-head, All-tail, All-filter}
-use Rattle.lrc_time.specs.Time.{entry, knows, Covers}
+use Rattle.std.proofs.lemmas.List.Elements.{All-head, All-filter}
+use Rattle.lrc_time.specs.Time.{entry}
 use Rattle.lrc_store.specs.Interval.{IntervalRecord, index_of, by_node}
 use Rattle.lrc_store.specs.Order.{placed, ascending_part}
-use Rattle.lrc_store.specs.Store.{StoreRecord, intervals_of, is_newer, newer_of}
+use Rattle.lrc_store.specs.Store.{intervals_of, is_newer, newer_of}
 use Rattle.lrc_protocol.specs.Expected.{indices_by}
 use Rattle.lrc_protocol.specs.Memory.{Memory}
 use Rattle.lrc_local.specs.Stored.{StoresExactly}

@@ -1,0 +1,20 @@
+// What grants bring, in every run. Each function is a theorem: its body is empty, and its clauses are the law.
+
+ghost use Rattle.std.specs.Prelude.{◌≡◌, ℕ, List, Some, true, Contains, slice_get};
+ghost use Rattle.lrc_lang.specs.declared.program.Program.{Program};
+ghost use Rattle.lrc_wire.specs.Envelope.{EnvelopeRecord};
+ghost use Rattle.lrc_wire.specs.Records.{LockGrantRecord};
+ghost use Rattle.lrc_wire.specs.declared.message.Message.TheVariants.{LockGrant};
+ghost use Rattle.lrc_protocol.specs.declared.event.Event.{Event};
+ghost use Rattle.lrc_protocol.specs.Expected.{is_expected};
+ghost use Rattle.lrc_protocol.specs.Node.{OptionsRecord};
+ghost use Rattle.lrc_protocol.specs.Log.{Logged};
+ghost use Rattle.lrc_protocol.specs.World.{World, pending, run_of};
+
+/// In every run each pending grant would be accepted by its receiver now: it awaits the token of that lock, and the grant tells of
+/// just the intervals, of each node, above the receiver's time and up to the grant's. (Keleher, Cox and Zwaenepoel 1992.)
+pub fn grants_are_accepted()
+    ensures { (program : Program) (nodes : ℕ) (options : OptionsRecord) (events : List Event) (world : World) (e : EnvelopeRecord)
+        (m : LockGrantRecord) (l : Logged) → run_of program nodes options events ≡ Some world → Contains (pending world) e
+        → e.message ≡ LockGrant m → slice_get world.nodes e.to ≡ Some l → is_expected l.node e.from e.message ≡ true }
+{}
