@@ -76,3 +76,4 @@ pub mod RequestNewer
 pub mod RequestAskTurns
 pub mod StampFrees
 pub mod StampGrants
+pub mod RequestDeparts
