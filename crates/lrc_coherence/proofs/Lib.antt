@@ -72,8 +72,6 @@ pub mod Whole
 pub mod StampAsks
 pub mod StampAskers
 pub mod StampLearn
-pub mod RequestNewer
-pub mod RequestAskTurns
 pub mod StampFrees
 pub mod StampGrants
 pub mod RequestDeparts
