@@ -13,7 +13,8 @@ pub at_start : (program : Program) (nodes : ℕ) (options : OptionsRecord) (me :
 at_start program nodes options me lt = record { among = lt; inputs = []; made = refl }
 
 -- one input more, if it is a turn
-pub local_more : (program : Program) (nodes : ℕ) (options : OptionsRecord) (me : ℕ) (inputs : List Input) (l : Local) (input : Input) (turn : TurnRecord) (after : Node)
+pub local_more : (program : Program) (nodes : ℕ) (options : OptionsRecord) (me : ℕ) (inputs : List Input) (l : Local)
+    (input : Input) (turn : TurnRecord) (after : Node)
     → local program nodes options me inputs ≡ Some l → outcome_of l.node input ≡ done turn after
     → local program nodes options me (inputs ++ input ∷ []) ≡ Some (record { node = after; turns = l.turns ++ turn ∷ [] })
 local_more program nodes options me inputs l input turn after made e =

@@ -125,7 +125,8 @@ module _ (most : ℕ) where
       → Spends most (acts_by letters node c)
   acts_by-spends letters node (going thread) next n h =
       let same : next_of thread ≡ next = same_Some (next_of thread) next n in
-      let counted : accesses (Some (deed_of (value_read node (next_of thread)) (next_of thread))) ≡ accesses_next next = deed_accesses (value_read node (next_of thread)) (next_of thread) ∙ ap accesses_next same in
+      let counted : accesses (Some (deed_of (value_read node (next_of thread)) (next_of thread))) ≡ accesses_next next =
+      deed_accesses (value_read node (next_of thread)) (next_of thread) ∙ ap accesses_next same in
       omega (arith, counted, h)
   acts_by-spends letters node (trapped cause) next n h = cc
   acts_by-spends letters node ended next n h = cc
@@ -229,7 +230,8 @@ module _ (most : ℕ) where
   known node time k = omega (arith, entry-joined node.locks.time time node.setting.me, k.own)
 
   depart-spends : (node : Node) (collect : Bool) (time : List ℕ) (intervals : List IntervalRecord) → node.mail.wait ≡ departure
-      → FixesNext node.mail.wait (next_in node.course) → Learnable (part_of node) time → spent node ≤ most → Spends most (take_departure node collect time intervals)
+      → FixesNext node.mail.wait (next_in node.course) → Learnable (part_of node) time → spent node ≤ most
+      → Spends most (take_departure node collect time intervals)
   depart-spends node collect time intervals e f k h =
       let same = known node time k in
       let knowing : Node = learns time intervals node in
@@ -298,8 +300,8 @@ effect_if-spends : (most : ℕ) (o : Option Effect) → SpendsIf most o → Spen
 effect_if-spends most None h = tt
 effect_if-spends most (Some e) h = effect-spends most e h
 
-begun-spends : (most : ℕ) (node : Node) (next : Next) (b : Bool) → (b ≡ true → cost_of next ≤ node.left) → node.mail.wait ≡ nothing → next_in node.course ≡ Some next
-    → spent node ≤ most → SpendsAfter most (turn_by node (if b then Some next else None))
+begun-spends : (most : ℕ) (node : Node) (next : Next) (b : Bool) → (b ≡ true → cost_of next ≤ node.left) → node.mail.wait ≡ nothing
+    → next_in node.course ≡ Some next → spent node ≤ most → SpendsAfter most (turn_by node (if b then Some next else None))
 begun-spends most node next true may w n h =
     effect_if-spends most (run_effect (charged node next) next) (run-spends most (charged node next) w next n (omega (arith, may refl, h)))
 begun-spends most node next false may w n h = tt

@@ -13,3 +13,4 @@ pub mod Replied
 pub mod Logging
 pub mod Takes
 pub mod Requests
+pub mod Leading

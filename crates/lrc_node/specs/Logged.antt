@@ -3,7 +3,8 @@ use Rattle.std.specs.Prelude.{◌≡◌, ℕ, true, false, nat_le, Option, Some,
 use Rattle.lrc_trace.specs.Trace.{TraceRecord}
 use Rattle.lrc_protocol.specs.Node.{Node}
 use Rattle.lrc_protocol.specs.Log.{Input, run, taken, EntryRecord, Logged, Logging, logged, refused, too_large, logs, next_stamp, MOST_STAMP}
-use Rattle.lrc_protocol.specs.Traced.{with_act}
+use Rattle.lrc_protocol.specs.Follows.{inputs_of}
+use Rattle.lrc_protocol.specs.Traced.{traced, trace_of, with_act}
 use Rattle.lrc_protocol.specs.Turn.{TurnRecord}
 use Rattle.lrc_node.specs.declared.fault.NodeFault.{NodeFault}
 use Rattle.lrc_node.specs.declared.fault.NodeFault.TheVariants.{Failed, NotReady, Unexpected, Worn, NoMemory}
@@ -50,6 +51,12 @@ NotesIn old new (Ok done) =
 NotesIn old new (Err Worn) = Unit {0}
 NotesIn old new (Err NoMemory) = Unit {0}
 NotesIn old new (Err fault) = new.trace ≡ old.trace
+
+-- the log leads the node on from how it started, and the trace is what it keeps of that
+pub record LeadsFrom (start : Node) (l : Logged) (seen : TracedLog) : Type 0 where
+  pub sound_so : seen.logged ≡ sound l
+  pub replayed : (traced start (inputs_of l.log)).node ≡ l.node
+  pub trace_is : seen.trace ≡ trace_of start l.log
 
 -- ---- the steps of a call
 

@@ -10,6 +10,7 @@ mod collect;
 mod end;
 mod expected;
 mod fault;
+pub mod laws;
 mod letters;
 mod logged;
 mod news;

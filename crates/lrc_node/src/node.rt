@@ -54,7 +54,10 @@ impl<'c> Node<'c> {
     ) -> Result<Node<'c>, AllocError>
         requires here { me < nodes }
         requires few { nodes ≤ 16 }
-        ensures { IfOk result (λ node. node ≡ record { node = Some (fresh_node code.now nodes options.now me); trace = record { node = me; size = options.now.size; segments = [] } }) }
+        ensures { IfOk result (λ node. node ≡ record {
+          node = Some (fresh_node code.now nodes options.now me);
+          trace = record { node = me; size = options.now.size; segments = [] };
+        }) }
     {
         Ok(Node {
             state: State::new(alloc, code, me, nodes, options)?,
@@ -68,7 +71,9 @@ impl<'c> Node<'c> {
     /// `NoMemory`. After the last two the node has failed. The access that is made, if one is, is noted in the trace.
     pub fn run(&mut self) -> Result<Turn, NodeFault>
         ensures failed { self.old.node ≡ None → (result ≡ Err Failed) × (self.new ≡ self.old) }
-        ensures done { (node : NodeRecord) → self.old.node ≡ Some node → IfOk result (λ turn. (after : NodeRecord) × (run_turn node ≡ done turn after) × (self.new ≡ record { node = Some after; trace = with_act after turn.act self.old.trace })) }
+        ensures done { (node : NodeRecord) → self.old.node ≡ Some node
+            → IfOk result (λ turn. (after : NodeRecord) × (run_turn node ≡ done turn after)
+            × (self.new ≡ record { node = Some after; trace = with_act after turn.act self.old.trace })) }
         ensures refused { (node : NodeRecord) → self.old.node ≡ Some node → IfErr result (λ fault. Answers (run_turn node) node fault self.new.node) }
         ensures ready { (node : NodeRecord) → self.old.node ≡ Some node → run_turn node ≡ not_ready → result ≡ Err NotReady }
         ensures kept { OnErr result (self.new.trace ≡ self.old.trace) }
@@ -90,8 +95,11 @@ impl<'c> Node<'c> {
     /// `NoMemory`. After the last two the node has failed. The access that is made, if one is, is noted in the trace.
     pub fn take(&mut self, envelope: &Envelope) -> Result<Turn, NodeFault>
         ensures failed { self.old.node ≡ None → (result ≡ Err Failed) × (self.new ≡ self.old) }
-        ensures done { (node : NodeRecord) → self.old.node ≡ Some node → IfOk result (λ turn. (after : NodeRecord) × (take_turn node envelope.now ≡ done turn after) × (self.new ≡ record { node = Some after; trace = with_act after turn.act self.old.trace })) }
-        ensures refused { (node : NodeRecord) → self.old.node ≡ Some node → IfErr result (λ fault. Answers (take_turn node envelope.now) node fault self.new.node) }
+        ensures done { (node : NodeRecord) → self.old.node ≡ Some node
+            → IfOk result (λ turn. (after : NodeRecord) × (take_turn node envelope.now ≡ done turn after)
+            × (self.new ≡ record { node = Some after; trace = with_act after turn.act self.old.trace })) }
+        ensures refused { (node : NodeRecord) → self.old.node ≡ Some node
+            → IfErr result (λ fault. Answers (take_turn node envelope.now) node fault self.new.node) }
         ensures unexpected { (node : NodeRecord) → self.old.node ≡ Some node → take_turn node envelope.now ≡ unexpected → result ≡ Err Unexpected }
         ensures kept { OnErr result (self.new.trace ≡ self.old.trace) }
     {

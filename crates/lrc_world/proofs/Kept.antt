@@ -5,18 +5,13 @@ use Rattle.std.proofs.lemmas.Option.{same_Some}
 use Rattle.std.specs.Prelude.{slice_get, slice_set, option_map}
 use Rattle.std.specs.List.{enumerate_from, range_with_len}
 use Rattle.lrc_protocol.specs.Follows.{inputs_of}
-use Rattle.lrc_protocol.specs.Log.{Input, EntryRecord, Logged, logged, logs}
+use Rattle.lrc_protocol.specs.Log.{Input, EntryRecord, Logged}
 use Rattle.lrc_protocol.specs.Node.{Node}
 use Rattle.lrc_protocol.specs.Traced.{Traced, traced, trace_of, with_act}
 use Rattle.lrc_protocol.proofs.Traces.{traced_entry}
-use Rattle.lrc_protocol.proofs.Worlds.{IsEntry, Entries, logs-entries, get_set_same, get_set_other}
+use Rattle.lrc_protocol.proofs.Worlds.{IsEntry, get_set_same, get_set_other}
 use Rattle.lrc_node.specs.Logged.{TracedLog, sound}
 use Rattle.lrc_world.specs.World.{Starts, kept_of, after_turn}
-
--- a turn that is logged
-pub entry_of : (l : Logged) (input : Input) (came : ℕ) (entry : EntryRecord) (after : Logged) → logs l input came ≡ logged entry after
-    → IsEntry l input entry after
-entry_of l input came entry after e = subst (Entries l input) e (logs-entries l input came)
 
 -- a node with no turns
 abbrev pub unlogged : Node → Logged

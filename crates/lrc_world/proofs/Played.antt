@@ -13,7 +13,8 @@ use Rattle.lrc_node.specs.declared.fault.NodeFault.{NodeFault}
 use Rattle.lrc_node.specs.declared.fault.NodeFault.TheVariants as NodeFaults
 use Rattle.lrc_node.specs.declared.fault.NodeFault.TheVariants.{Failed, NotReady, Unexpected}
 use Rattle.lrc_world.specs.declared.flying.Flying.{Flying}
-use Rattle.lrc_world.proofs.Kept.{entry_of, all_logged, kept_get, kept_after, kept_set, replayed_after}
+use Rattle.lrc_node.proofs.Leading.{entry_of}
+use Rattle.lrc_world.proofs.Kept.{all_logged, kept_get, kept_after, kept_set, replayed_after}
 use Rattle.lrc_world.proofs.Turned.{not_none}
 use Rattle.std.proofs.lemmas.Option.{get_or_from_slice_get, same_Some, slice_get_within}
 use Rattle.lrc_world.specs.declared.world.World.{World}

@@ -9,7 +9,7 @@ use Rattle.lrc_node.specs.declared.fault.NodeFault.TheVariants.{Failed, NotReady
 use Rattle.lrc_trace.specs.Trace.{TraceRecord}
 use Rattle.lrc_node.specs.Logged.{LoggedNode, TracedLog, sound, Logs, LogsTo, NotesIn}
 use Rattle.lrc_world.specs.World.{TurnsBy, TurnsTo, after_turn}
-use Rattle.lrc_world.proofs.Kept.{entry_of}
+use Rattle.lrc_node.proofs.Leading.{entry_of}
 use Rattle.lrc_world.proofs.Lists.{map-get, same_length}
 
 pub not_none : {X : Type 0} (xs : List X) (n : ℕ) → n < length xs → slice_get xs n ≡ None → ⊥

@@ -12,8 +12,10 @@ returns-clause-logs c = λ l e.
     let at : before ≡ sound l = ap (λ (t : TracedLog). t.logged) c.self.view_is ∙ c.in_ok-make_room.ensures.room.1 ∙ e in
     let node : c.self.inside.node.node ≡ Some l.node = ap (λ (m : LoggedNode). m.node) at in
     let same : c.self.inside.log.items ≡ l.log = ap (λ (m : LoggedNode). m.log) at in
-    logs_settled l (taken c.args.envelope) c.args.stamp (take_turn l.node c.args.envelope) mid c.settle.new.self.logged c.take-outcome.result c.settle.result same
-    (seen_made c.take-outcome.new.self (take_turn l.node c.args.envelope) c.self.inside.node.trace c.take-outcome.result (c.take-outcome.ensures.done l.node node))
+    logs_settled l (taken c.args.envelope) c.args.stamp (take_turn l.node c.args.envelope) mid c.settle.new.self.logged c.take-outcome.result
+    c.settle.result same
+    (seen_made c.take-outcome.new.self (take_turn l.node c.args.envelope) c.self.inside.node.trace c.take-outcome.result
+    (c.take-outcome.ensures.done l.node node))
     (c.take-outcome.ensures.refused l.node node) c.settle.ensures.settled
 
 pub returns-clause-notes : goal.returns-clause-notes
@@ -24,7 +26,8 @@ returns-clause-notes c =
     let node : c.self.inside.node.node ≡ Some some.0 = ap (λ (m : LoggedNode). m.node) at ∙ some.1 in
     let same : c.self.inside.log.items ≡ c.args.self.now.logged.log = ap (λ (m : LoggedNode). m.log) at in
     let trace : c.self.inside.node.trace ≡ c.args.self.now.trace = ap (λ (t : TracedLog). t.trace) c.self.view_is ∙ c.in_ok-make_room.ensures.trace in
-    notes_settled c.args.self.now c.settle.new.self c.take-outcome.new.self c.self.inside.log.items (taken c.args.envelope) c.args.stamp (take_turn some.0 c.args.envelope)
+    notes_settled c.args.self.now c.settle.new.self c.take-outcome.new.self c.self.inside.log.items (taken c.args.envelope) c.args.stamp
+    (take_turn some.0 c.args.envelope)
     c.take-outcome.result c.settle.result c.self.inside.node.trace trace same (c.take-outcome.ensures.done some.0 node) c.take-outcome.ensures.kept
     c.settle.ensures.settled c.settle.ensures.trace
 
@@ -36,5 +39,6 @@ returns-clause-fails c =
     let at : before ≡ c.args.self.now.logged = ap (λ (t : TracedLog). t.logged) c.self.view_is ∙ c.in_ok-make_room.ensures.room.1 in
     let node : c.self.inside.node.node ≡ Some some.0 = ap (λ (m : LoggedNode). m.node) at ∙ some.1 in
     let same : c.self.inside.log.items ≡ c.args.self.now.logged.log = ap (λ (m : LoggedNode). m.log) at in
-    fails_settled some.0 c.args.self.now.logged.log (taken c.args.envelope) c.args.stamp (take_turn some.0 c.args.envelope) mid c.settle.new.self.logged c.take-outcome.result c.settle.result same
+    fails_settled some.0 c.args.self.now.logged.log (taken c.args.envelope) c.args.stamp (take_turn some.0 c.args.envelope) mid c.settle.new.self.logged
+    c.take-outcome.result c.settle.result same
     (c.take-outcome.ensures.refused some.0 node) c.settle.ensures.settled

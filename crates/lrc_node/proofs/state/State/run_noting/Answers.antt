@@ -19,4 +19,5 @@ note-requires c =
 
 pub returns-in_err-note-clause-refused : goal.returns-in_err-note-clause-refused
 returns-in_err-note-clause-refused c =
-    fault_up c.from_residual-in_err-note.result NoMemory (λ fault. RefusesRun (run_turn c.args.self.now) fault) c.from_residual-in_err-note.ensures.1 without_memory
+    fault_up c.from_residual-in_err-note.result NoMemory (λ fault. RefusesRun (run_turn c.args.self.now) fault)
+    c.from_residual-in_err-note.ensures.1 without_memory

@@ -15,5 +15,6 @@ note-requires c =
 
 pub returns-in_err-note-clause-refused : goal.returns-in_err-note-clause-refused
 returns-in_err-note-clause-refused c =
-    fault_up c.from_residual-in_err-note.result NoMemory (λ fault. RefusesTake (take_turn c.args.self.now c.args.envelope.now) c.args.self.now fault c.take.new.self)
+    fault_up c.from_residual-in_err-note.result NoMemory
+    (λ fault. RefusesTake (take_turn c.args.self.now c.args.envelope.now) c.args.self.now fault c.take.new.self)
     c.from_residual-in_err-note.ensures.1 without_memory
