@@ -2,7 +2,7 @@
 
 ghost use Rattle.std.specs.Prelude.{◌≡◌, ◌<◌, OnOk, All, length};
 
-use lrc_mail::{Base, Letter, Mail, MailFault, Need, Wait, requests};
+use lrc_mail::{Asked, Base, Letter, Mail, MailFault, Need, Wait, requests};
 use lrc_page::{Page, Size};
 use lrc_store::Key;
 use lrc_wire::{Clean, Message};
@@ -47,9 +47,12 @@ fn takes_numbers_in_any_order(rt: HostRuntime) -> Result<(), Fail> {
     take(&mut mail, 1)?;
     let after = taken(&mail);
     assert!(rt; after == [true; 6]);
-    assert!(rt; !mail.was_taken(0, 2));
-    assert!(rt; !mail.was_taken(1, 0));
-    assert!(rt; !mail.was_taken(1, 7));
+    let others = [
+        mail.was_taken(0, 2),
+        mail.was_taken(1, 0),
+        mail.was_taken(1, 7),
+    ];
+    assert!(rt; others == [false; 3]);
     Ok(())
 }
 
@@ -142,41 +145,66 @@ fn absent_page(alloc: Global) -> Result<Need, AllocError> {
     Need::new(alloc, 3, 3, Base::Due(2), keys, &unknown)
 }
 
-#[test]
-fn asks_the_keeper_and_each_maker(rt: HostRuntime) -> Result<(), Fail> {
-    let need = absent_page(rt.alloc())?;
-    let letters = need.requests(rt.alloc())?;
+/// To whom the first three of these letters go.
+fn receivers(letters: &[Letter]) -> [u8; 3] {
     let mut to = [9; 3];
     for (place, letter) in letters.iter().enumerate() {
         if place < 3 {
             to[place] = letter.to;
         }
     }
-    assert!(rt; letters.len() == 3);
-    assert!(rt; to == [2, 1, 2]);
-    let makers = need.asked();
-    assert!(rt; makers.len() == 2);
-    assert!(rt; makers[0].indices.as_slice() == [7, 9].as_slice());
-    assert!(rt; makers[1].indices.as_slice() == [4].as_slice());
-    assert!(rt; need.missing().len() == 4);
+    to
+}
+
+/// A maker, how many changes are asked of it, and the first and the last of their indices.
+fn shown(asked: &Asked) -> Option<(u8, usize, u32, u32)> {
+    let indices = asked.indices.as_slice();
+    Some((
+        asked.maker,
+        indices.len(),
+        *indices.first()?,
+        *indices.last()?,
+    ))
+}
+
+/// The first and the last of those that are asked, and how many there are.
+fn shown_all(makers: &[Asked]) -> Option<[(u8, usize, u32, u32); 2]> {
+    match makers {
+        [first, last] => Some([shown(first)?, shown(last)?]),
+        _ => None,
+    }
+}
+
+#[test]
+fn asks_the_keeper_and_each_maker(rt: HostRuntime) -> Result<(), Fail> {
+    let need = absent_page(rt.alloc())?;
+    let letters = need.requests(rt.alloc())?;
+    let counts = [letters.len(), need.missing().len()];
+    assert!(rt; (receivers(letters.as_slice()), counts) == ([2, 1, 2], [3, 4]));
+    assert!(rt; shown_all(need.asked()) == Some([(1, 2, 7, 9), (2, 1, 4, 4)]));
     Ok(())
+}
+
+/// Whether a wait is over, whether it is for page 3 of node 2 and of node 1, and whether all needs are met.
+fn state(wait: &Wait) -> [bool; 4] {
+    [
+        wait.is_idle(),
+        wait.awaits_page(3, 2),
+        wait.awaits_page(3, 1),
+        wait.needs().iter().all(|need| need.is_met()),
+    ]
 }
 
 #[test]
 fn waits_until_all_has_come(rt: HostRuntime) -> Result<(), Fail> {
-    let need = absent_page(rt.alloc())?;
-    let mut wait = Wait::Access(need);
-    assert!(rt; !wait.is_idle());
-    assert!(rt; wait.awaits_page(3, 2));
-    assert!(rt; !wait.awaits_page(3, 1));
+    let mut wait = Wait::Access(absent_page(rt.alloc())?);
     wait.take_changes(3, 1);
     wait.take_changes(3, 2);
-    let changes_came = wait.needs().iter().all(|need| need.is_met());
-    assert!(rt; !changes_came);
+    let before = state(&wait);
     let copy = Box::new(rt.alloc(), Page::zero(Size::Words64))?;
     wait.take_page(3, copy);
-    let all_came = wait.needs().iter().all(|need| need.is_met());
-    assert!(rt; all_came);
+    let after = state(&wait);
+    assert!(rt; [before, after] == [[false, true, false, false], [false, false, false, true]]);
     let more = requests(rt.alloc(), wait.needs())?;
     assert!(rt; more.is_empty());
     Ok(())
