@@ -1,4 +1,5 @@
 pub mod Kept
+pub mod Races
 pub mod Worlds
 pub mod Turned
 pub mod Lists

@@ -5,6 +5,7 @@ ghost use Rattle.lrc_world.specs.declared.report.SimFault.TheVariants.{NoMemory}
 
 use lrc_node::{End, Entry};
 use lrc_trace::act::Act;
+use lrc_trace::race::Race;
 use std::alloc::{AllocError, AllocFailed};
 use thiserror::Error;
 
@@ -21,6 +22,8 @@ pub struct Report {
     pub acts: Vec<Act>,
     /// How each node ended, from node 0 up.
     pub ends: Vec<End>,
+    /// The races, by words, nodes and intervals, each once.
+    pub races: Vec<Race>,
     /// The turns of each node with their stamps, from node 0 up.
     pub logs: Vec<Vec<Entry>>,
     /// The least position of an act that races with an earlier one, where there is one.

@@ -1,6 +1,7 @@
 // A run in rounds.
 
-ghost use Rattle.std.specs.Prelude.{◌≡◌, ◌<◌, ◌≤◌, [], All, IfOk, OnOk, length};
+ghost use Rattle.std.specs.Prelude.{◌≡◌, ℕ, ◌<◌, ◌≤◌, [], All, IfOk, OnOk, length, map};
+ghost use Rattle.lrc_race.specs.Races.{AreRacesOf, AreTracesOf};
 ghost use Rattle.lrc_judge.specs.declared.TheConstants.{NODES};
 ghost use Rattle.lrc_protocol.specs.World.{World as Run};
 ghost use Rattle.lrc_world.specs.Report.{IsReport};
@@ -50,9 +51,11 @@ impl<'c> Driver<'c> {
 
     /// The events, and what is reported of the run.
     pub(crate) fn report(self) -> Result<(Vec<Event>, Report), AllocError>
-        requires { All (λ act. act.node < NODES) self.world.acts.items }
+        requires acts { All (λ act. act.node < NODES) self.world.acts.items }
+        requires traces { (nodes : ℕ) × AreTracesOf nodes (map (λ node. node.trace) self.world.nodes.items) }
         ensures events { IfOk result (λ done. done.0 ≡ self.entry.events) }
         ensures report { IfOk result (λ done. (starts : Starts) (run : Run) → Shows starts self.entry.world run → IsReport done.1 run) }
+        ensures races { IfOk result (λ done. AreRacesOf (map (λ node. node.trace) self.entry.world.nodes.items) done.1.races.items) }
     {
         let Driver { world, events } = self;
         let report = world.report()?;

@@ -4,6 +4,7 @@ ghost use Rattle.std.specs.Prelude.{◌≡◌, ℕ, ◌<◌, ◌≤◌, ◌↔�
 ghost use Rattle.lrc_trace.specs.Conflict.{IsRaceFree, IsFirstRace};
 ghost use Rattle.lrc_trace.specs.Reading.{ReadsLazily};
 ghost use Rattle.lrc_trace.specs.Synchronization.{IsWellSynchronized};
+ghost use Rattle.lrc_judge.specs.Races.{AreNamedRaces};
 ghost use Rattle.lrc_exec.specs.Plain.{plain};
 ghost use Rattle.lrc_theory.specs.Follows.{nodes_of};
 ghost use Rattle.lrc_theory.specs.Racing.{HasNoRace, PlainToRace};
@@ -35,6 +36,7 @@ pub fn simulate(
     events: &[Event],
 ) -> Result<Report, SimFault>
     ensures report { IfOk result (IsReportOf program.now nodes options.now events.now) }
+    ensures races { IfOk result (λ report. AreNamedRaces report.acts.items report.races.items) }
 
     ensures synchronized { IfOk result (λ report. IsWellSynchronized nodes report.acts.items) }
     ensures lazy { IfOk result (λ report. ReadsLazily report.acts.items) }
@@ -69,6 +71,7 @@ pub fn drive(
     picker: Picker,
 ) -> Result<(Vec<Event>, Report), SimFault>
     ensures report { IfOk result (λ done. IsReportOf program.now nodes options.now done.0.items done.1) }
+    ensures races { IfOk result (λ done. AreNamedRaces done.1.acts.items done.1.races.items) }
 
     ensures synchronized { IfOk result (λ done. IsWellSynchronized nodes done.1.acts.items) }
     ensures lazy { IfOk result (λ done. ReadsLazily done.1.acts.items) }

@@ -1,6 +1,7 @@
 // All nodes of a run, the messages in flight, and what events do to them.
 
-ghost use Rattle.std.specs.Prelude.{◌≡◌, ◌≤◌, ◌<◌, ◌++◌, [], ◌∷◌, All, IfOk, IfErr, OnOk, IsOk, Ok, false, List, length, map, remove, slice_get};
+ghost use Rattle.lrc_race.specs.Races.{AreRacesOf, AreTracesOf};
+ghost use Rattle.std.specs.Prelude.{◌≡◌, ℕ, ◌≤◌, ◌<◌, ◌++◌, [], ◌∷◌, All, IfOk, IfErr, OnOk, IsOk, Ok, false, List, length, map, remove, slice_get};
 ghost use Rattle.std.specs.List.{list_any};
 ghost use Rattle.std.specs.Option.{option_to_list};
 ghost use Rattle.lrc_judge.specs.declared.TheConstants.{NODES};
@@ -21,8 +22,9 @@ use bytes::Bytes;
 use lrc_exec::code::Code;
 use lrc_node::{End, Entry, Logged, Node, NodeFault, Options};
 use lrc_protocol::Event;
-use lrc_race::first_race;
+use lrc_race::{first_race, races};
 use lrc_trace::act::Act;
+use lrc_trace::trace::Trace;
 use lrc_wire::{EncodeFault, Envelope, Picker, WireFault, decode, encode};
 use std::alloc::{AllocError, Global};
 use std::collections::VecDeque;
@@ -170,10 +172,12 @@ impl<'c> World<'c> {
         }
     }
 
-    /// What is reported of the run.
+    /// What is reported of the run. The races are those of the traces that the nodes keep.
     pub(crate) fn report(self) -> Result<Report, AllocError>
-        requires { All (λ act. act.node < NODES) self.acts.items }
-        ensures { (starts : Starts) (run : Run) → Shows starts self.entry run → IfOk result (λ report. IsReport report run) }
+        requires acts { All (λ act. act.node < NODES) self.acts.items }
+        requires traces { (nodes : ℕ) × AreTracesOf nodes (map (λ node. node.trace) self.nodes.items) }
+        ensures report { (starts : Starts) (run : Run) → Shows starts self.entry run → IfOk result (λ report. IsReport report run) }
+        ensures races { IfOk result (λ report. AreRacesOf (map (λ node. node.trace) self.entry.nodes.items) report.races.items) }
     {
         let first_race = first_race(self.alloc, &self.acts)?;
         let World {
@@ -183,10 +187,12 @@ impl<'c> World<'c> {
             acts,
         } = self;
         let ends = ends_of(alloc, &nodes)?;
-        let logs = logs_of(alloc, nodes)?;
+        let (logs, traces) = parts_of(alloc, nodes)?;
+        let races = races(alloc, &traces)?;
         Ok(Report {
             acts,
             ends,
+            races,
             logs,
             first_race,
         })
@@ -339,14 +345,20 @@ fn ends_of(alloc: Global, nodes: &[Logged<'_>]) -> Result<Vec<End>, AllocError>
     Ok(ends)
 }
 
-// The turns of each node.
-fn logs_of(alloc: Global, nodes: Vec<Logged<'_>>) -> Result<Vec<Vec<Entry>>, AllocError>
-    ensures { IfOk result (λ logs. map (λ log. log.items) logs.items ≡ map (λ node. node.logged.log) nodes.entry.items) }
+// The turns of each node, and its trace.
+fn parts_of(
+    alloc: Global,
+    nodes: Vec<Logged<'_>>,
+) -> Result<(Vec<Vec<Entry>>, Vec<Trace>), AllocError>
+    ensures logs { IfOk result (λ parts. map (λ log. log.items) parts.0.items ≡ map (λ node. node.logged.log) nodes.entry.items) }
+    ensures traces { IfOk result (λ parts. parts.1.items ≡ map (λ node. node.trace) nodes.entry.items) }
 {
     let mut logs = Vec::with_capacity(alloc, nodes.len())?;
+    let mut traces = Vec::with_capacity(alloc, nodes.len())?;
     for node in nodes {
-        let (log, _trace) = node.into_parts();
+        let (log, trace) = node.into_parts();
         logs.push(log)?;
+        traces.push(trace)?;
     }
-    Ok(logs)
+    Ok((logs, traces))
 }

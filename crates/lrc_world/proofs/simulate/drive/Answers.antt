@@ -10,6 +10,7 @@ use Rattle.lrc_world.specs.World.{Shows}
 use Rattle.lrc_world.proofs.Events.{handed_on}
 use Rattle.lrc_world.proofs.Driven.{begins, in_range, over}
 use Rattle.lrc_world.proofs.Theorem.{in_order, reads_lazily, consistent, to_first_race, race_free}
+use Rattle.lrc_world.proofs.Races.{kept_traces, kept_races}
 use Rattle.lrc_world.proofs.Worlds.{acts_of_nodes}
 use Rattle.lrc_world.proofs.simulate.drive.Goals as goal
 
@@ -70,8 +71,18 @@ returns-clause-over c = λ few.
     (ap (λ v. played start v.items) c.in_ok-report.ensures.events ∙ r.1) r.2
     (subst (λ n. NoneReady n c.drive.new.self.world) c.in_ok-count.ensures.0 still.0) still.1
 
-pub report-requires : goal.report-requires
-report-requires c =
+pub returns-clause-races : goal.returns-clause-races
+returns-clause-races c =
+    let start = fresh_world c.args.program.now c.args.nodes c.args.options.now in
+    let d = first c.args.program.now c.in_ok-code.code c.args.nodes c.in_ok-count.count c.args.options.now c.new-driver.result c.in_ok-world.world
+    c.in_ok-code.ensures c.in_ok-count.ensures.0 c.in_ok-world.ensures c.new-driver.ensures.world c.new-driver.ensures.events in
+    let r = c.in_ok-drive.ensures.goes.drives (fresh_node c.args.program.now c.args.nodes c.args.options.now) start d in
+    let told = c.in_ok-report.ensures.report (fresh_node c.args.program.now c.args.nodes c.args.options.now) r.0 r.2 in
+    kept_races c.args.program.now c.args.nodes c.args.options.now c.drive.new.self.events.items r.0 r.1 c.drive.new.self.world r.2
+    c.in_ok-report.field-0.1.acts.items c.in_ok-report.field-0.1.races.items told.acts c.in_ok-report.ensures.races
+
+pub report-requires-clause-acts : goal.report-requires-clause-acts
+report-requires-clause-acts c =
     let start = fresh_world c.args.program.now c.args.nodes c.args.options.now in
     let d = first c.args.program.now c.in_ok-code.code c.args.nodes c.in_ok-count.count c.args.options.now c.new-driver.result c.in_ok-world.world
     c.in_ok-code.ensures c.in_ok-count.ensures.0 c.in_ok-world.ensures c.new-driver.ensures.world c.new-driver.ensures.events in
@@ -79,6 +90,14 @@ report-requires c =
     acts_of_nodes c.args.program.now c.args.nodes c.args.options.now c.drive.new.self.events.items
     (fresh_node c.args.program.now c.args.nodes c.args.options.now) r.0 c.drive.new.self.world r.1 r.2
     c.in_ok-count.ensures.1.1
+
+pub report-requires-clause-traces : goal.report-requires-clause-traces
+report-requires-clause-traces c =
+    let start = fresh_world c.args.program.now c.args.nodes c.args.options.now in
+    let d = first c.args.program.now c.in_ok-code.code c.args.nodes c.in_ok-count.count c.args.options.now c.new-driver.result c.in_ok-world.world
+    c.in_ok-code.ensures c.in_ok-count.ensures.0 c.in_ok-world.ensures c.new-driver.ensures.world c.new-driver.ensures.events in
+    let r = c.in_ok-drive.ensures.goes.drives (fresh_node c.args.program.now c.args.nodes c.args.options.now) start d in
+    kept_traces c.args.program.now c.args.nodes c.args.options.now c.drive.new.self.events.items r.0 r.1 c.drive.new.self.world r.2
 
 pub returns-clause-synchronized : goal.returns-clause-synchronized
 returns-clause-synchronized c =

@@ -4,6 +4,7 @@ use Rattle.lrc_protocol.specs.World.{run_of}
 use Rattle.lrc_world.specs.declared.report.SimFault.TheVariants.{Worn}
 use Rattle.lrc_world.proofs.Events.{goes_on, wears_out, handed_on, take_whole, get_at}
 use Rattle.lrc_world.proofs.Theorem.{in_order, reads_lazily, consistent, to_first_race, race_free}
+use Rattle.lrc_world.proofs.Races.{kept_traces, kept_races}
 use Rattle.lrc_world.proofs.Worlds.{acts_of_nodes}
 use Rattle.lrc_world.proofs.simulate.simulate.Goals as goal
 
@@ -22,13 +23,25 @@ pub returns-clause-report : goal.returns-clause-report
 returns-clause-report c =
     let runs = c.loop-event.invariant in
     let all : take c.loop-event.event-index c.args.events.now ≡ c.args.events.now = take_whole c.args.events.now c.loop-event.event-index (omega (arith, c.loop-event-test.false)) in
-    (runs.0, ap (run_of c.args.program.now c.args.nodes c.args.options.now) (sym all) ∙ runs.1, c.in_ok-report.ensures (fresh_node c.args.program.now c.args.nodes c.args.options.now) runs.0 runs.2)
+    (runs.0, ap (run_of c.args.program.now c.args.nodes c.args.options.now) (sym all) ∙ runs.1, c.in_ok-report.ensures.report (fresh_node c.args.program.now c.args.nodes c.args.options.now) runs.0 runs.2)
 
-pub report-requires : goal.report-requires
-report-requires c =
+pub returns-clause-races : goal.returns-clause-races
+returns-clause-races c =
+    let runs = c.loop-event.invariant in
+    let told = c.in_ok-report.ensures.report (fresh_node c.args.program.now c.args.nodes c.args.options.now) runs.0 runs.2 in
+    kept_races c.args.program.now c.args.nodes c.args.options.now (take c.loop-event.event-index c.args.events.now) runs.0 runs.1 c.loop-event.world runs.2
+    c.in_ok-report.field-0.acts.items c.in_ok-report.field-0.races.items told.acts c.in_ok-report.ensures.races
+
+pub report-requires-clause-acts : goal.report-requires-clause-acts
+report-requires-clause-acts c =
     let runs = c.loop-event.invariant in
     acts_of_nodes c.args.program.now c.args.nodes c.args.options.now (take c.loop-event.event-index c.args.events.now)
     (fresh_node c.args.program.now c.args.nodes c.args.options.now) runs.0 c.loop-event.world runs.1 runs.2 c.in_ok-count.ensures.1.1
+
+pub report-requires-clause-traces : goal.report-requires-clause-traces
+report-requires-clause-traces c =
+    let runs = c.loop-event.invariant in
+    kept_traces c.args.program.now c.args.nodes c.args.options.now (take c.loop-event.event-index c.args.events.now) runs.0 runs.1 c.loop-event.world runs.2
 
 pub returns-clause-synchronized : goal.returns-clause-synchronized
 returns-clause-synchronized c =

@@ -5,14 +5,14 @@ use Rattle.lrc_world.proofs.Kept.{all_logged}
 use Rattle.lrc_world.proofs.Lists.{map-map}
 use Rattle.lrc_world.proofs.world.World.report.Goals as goal
 
-pub returns : goal.returns
-returns c = λ starts run shows. record {
+pub returns-clause-report : goal.returns-clause-report
+returns-clause-report c = λ starts run shows. record {
   acts = shows.acts;
   first = subst (λ acts. MatchOption c.in_ok-first_race.first_race (IsRaceFree acts) (IsFirstRace acts)) (c.deref.ensures.value ∙ shows.acts)
       c.in_ok-first_race.ensures;
   ends = c.in_ok-ends.ensures run.nodes
       (ap (map (λ (t : TracedLog). t.logged)) c.deref-2.ensures.value ∙ all_logged starts c.args.self.nodes.items run.nodes shows.nodes);
-  logs = c.in_ok-logs.ensures ∙ sym (map-map (λ (l : LoggedNode). l.log) (λ (t : TracedLog). t.logged) c.args.self.nodes.items)
+  logs = c.in_ok-logs.ensures.logs ∙ sym (map-map (λ (l : LoggedNode). l.log) (λ (t : TracedLog). t.logged) c.args.self.nodes.items)
       ∙ ap (map (λ (l : LoggedNode). l.log)) (all_logged starts c.args.self.nodes.items run.nodes shows.nodes)
       ∙ map-map (λ (l : LoggedNode). l.log) sound run.nodes;
 }

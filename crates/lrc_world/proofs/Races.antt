@@ -1,0 +1,43 @@
+-- The races of the traces that the nodes of a run keep.
+use Rattle.std.proofs.Common.{◌≡◌, ◌∙◌, ℕ, List, Some, sym, ap, subst, map}
+use Rattle.std.specs.List.{enumerate_from}
+use Rattle.lrc_lang.specs.declared.program.Program.{Program}
+use Rattle.lrc_trace.specs.declared.act.Act.{Act}
+use Rattle.lrc_trace.specs.declared.race.Race.{Race}
+use Rattle.lrc_trace.specs.Trace.{TraceRecord}
+use Rattle.lrc_judge.specs.Races.{AreNamedRaces}
+use Rattle.lrc_race.specs.Races.{AreTracesOf, AreRacesOf, IsRaceOf}
+use Rattle.lrc_protocol.specs.declared.event.Event.{Event}
+use Rattle.lrc_protocol.specs.Node.{OptionsRecord, fresh_node}
+use Rattle.lrc_protocol.specs.Traced.{traces_of}
+use Rattle.lrc_protocol.specs.World.{World as Run, run_of}
+use Rattle.lrc_coherence.proofs.TraceLaws.{are_traces, races_named}
+use Rattle.lrc_node.specs.Logged.{TracedLog}
+use Rattle.lrc_world.specs.declared.world.World.{World}
+use Rattle.lrc_world.specs.World.{Shows, kept_of}
+use Rattle.lrc_world.proofs.Lists.{map-map}
+
+module _ (program : Program) (nodes : ℕ) (options : OptionsRecord) (events : List Event) (run : Run)
+    (runs : run_of program nodes options events ≡ Some run) (world : World) (shows : Shows (fresh_node program nodes options) world run) where
+  abbrev kept : List TraceRecord
+  kept = map (λ (t : TracedLog). t.trace) world.nodes.items
+
+  same : kept ≡ traces_of program nodes options run
+  same =
+      ap (map (λ (t : TracedLog). t.trace)) shows.nodes
+      ∙ map-map (λ (t : TracedLog). t.trace) (kept_of (fresh_node program nodes options)) (enumerate_from 0 run.nodes)
+
+  pub kept_traces : (n : ℕ) × AreTracesOf n kept
+  kept_traces = (nodes, subst (AreTracesOf nodes) (sym same) (are_traces program nodes options events run runs))
+
+  -- they are those that the run's acts name
+  pub kept_races : (acts : List Act) (races : List Race) → acts ≡ run.acts → AreRacesOf kept races → AreNamedRaces acts races
+  kept_races acts races is r =
+      subst (λ (acts : List Act). AreNamedRaces acts races) (sym is)
+      (record {
+        ascending = r.ascending;
+        exact = λ race. (
+          λ h. (races_named program nodes options events run runs race).0 (subst (λ ts. IsRaceOf ts race) same ((r.exact race).0 h)),
+          λ h. (r.exact race).1 (subst (λ ts. IsRaceOf ts race) (sym same) ((races_named program nodes options events run runs race).1 h)),
+        );
+      })
