@@ -1,4 +1,4 @@
-//! Tests alone: nodes by themselves, and what they wait for.
+//! Tests alone: nodes by themselves, what they wait for, and runs of several nodes by lists of events.
 #![tactic(auto)]
 
 #[cfg(test)]
@@ -7,5 +7,7 @@ mod mails;
 mod nodes;
 #[cfg(test)]
 mod refusals;
+#[cfg(test)]
+mod simulations;
 #[cfg(test)]
 mod traces;

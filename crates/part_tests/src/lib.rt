@@ -26,8 +26,6 @@ mod races;
 #[cfg(test)]
 mod runs;
 #[cfg(test)]
-mod simulations;
-#[cfg(test)]
 mod stores;
 #[cfg(test)]
 mod tables;
