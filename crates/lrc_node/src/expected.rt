@@ -148,8 +148,7 @@ impl State<'_> {
     fn expects_changes_request(&self, m: &ChangesRequest) -> bool
         ensures { (from : ℕ) → result ≡ is_expected self.now from (messages.ChangesRequest m.now) }
     {
-        m.page < self.pages()
-            && has_notices(&self.memory, self.me, m.page, m.indices.as_slice())
+        m.page < self.pages() && has_notices(&self.memory, self.me, m.page, m.indices.as_slice())
     }
 
     /// Changes: just these of that page are awaited from their sender.

@@ -73,12 +73,7 @@ impl State<'_> {
     }
 
     /// Notes an access that the node has just made, in the interval that is open. An error leaves the trace as it was.
-    fn note_access(
-        &self,
-        trace: &mut Trace,
-        word: u32,
-        is_write: bool,
-    ) -> Result<(), AllocError>
+    fn note_access(&self, trace: &mut Trace, word: u32, is_write: bool) -> Result<(), AllocError>
         requires { CanNote self.now trace.old word }
         ensures noted { OnOk result (trace.new ≡ with_access_by self.now word is_write trace.old) }
         ensures kept { OnErr result (trace.new ≡ trace.old) }

@@ -18,24 +18,16 @@ mod locks;
 #[cfg(test)]
 mod messages;
 #[cfg(test)]
-mod nodes;
-#[cfg(test)]
 mod pages;
 #[cfg(test)]
 mod protocol;
 #[cfg(test)]
 mod races;
 #[cfg(test)]
-mod rounds;
-#[cfg(test)]
 mod runs;
-#[cfg(test)]
-mod simulations;
 #[cfg(test)]
 mod stores;
 #[cfg(test)]
 mod tables;
 #[cfg(test)]
 mod times;
-#[cfg(test)]
-mod traces;

@@ -7,5 +7,5 @@ use Rattle.lrc_world.proofs.simulate.simulate.Given as goal
 -- the world shows the run of the events so far
 abbrev pub invariant-loop-event : goal.invariant-loop-event
 invariant-loop-event l =
-    (run : Run) × (run_of l.program l.nodes l.options (take l.event-index l.events) ≡ Some run) 
+    (run : Run) × (run_of l.program l.nodes l.options (take l.event-index l.events) ≡ Some run)
     × Shows (fresh_node l.program l.nodes l.options) l.world run

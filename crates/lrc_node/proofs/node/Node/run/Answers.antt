@@ -25,7 +25,7 @@ returns-in-Ok-clause-done c = λ node e.
       c.run_noting.new.self,
       subst (λ n. run_turn n ≡ done c.in-Ok.turn c.run_noting.new.self) same c.in-Ok.ensures.done,
       seen_turn c.self.inside.failed c.self.inside.state c.run_noting.new.self c.self.inside.trace c.run_noting.new.trace c.args.self.now c.in-Ok.turn
-      c.if-self.false c.self.view_is c.in-Ok.ensures.noted,
+          c.if-self.false c.self.view_is c.in-Ok.ensures.noted,
     )
 
 pub returns-in-Err-clause-refused : goal.returns-in-Err-clause-refused
