@@ -24,11 +24,7 @@ mod protocol;
 #[cfg(test)]
 mod races;
 #[cfg(test)]
-mod rounds;
-#[cfg(test)]
 mod runs;
-#[cfg(test)]
-mod simulations;
 #[cfg(test)]
 mod stores;
 #[cfg(test)]

@@ -1,0 +1,15 @@
+//! Tests alone: nodes by themselves, what they wait for, and runs of several nodes by lists of events.
+#![tactic(auto)]
+
+#[cfg(test)]
+mod mails;
+#[cfg(test)]
+mod nodes;
+#[cfg(test)]
+mod refusals;
+#[cfg(test)]
+mod rounds;
+#[cfg(test)]
+mod simulations;
+#[cfg(test)]
+mod traces;

@@ -1,0 +1,211 @@
+// What a node waits for, and the messages that it has sent and taken.
+
+ghost use Rattle.std.specs.Prelude.{◌≡◌, ◌<◌, OnOk, All, length};
+
+use lrc_mail::{Asked, Base, Letter, Mail, MailFault, Need, Wait, requests};
+use lrc_page::{Page, Size};
+use lrc_store::Key;
+use lrc_wire::{Clean, Message};
+use std::alloc::{AllocError, Global};
+use std::test::Fail;
+
+/// Whether the numbers 1 to 6 were taken from node 1.
+fn taken(mail: &Mail) -> [bool; 6]
+    requires { 1 < length mail.now.taken }
+{
+    [
+        mail.was_taken(1, 1),
+        mail.was_taken(1, 2),
+        mail.was_taken(1, 3),
+        mail.was_taken(1, 4),
+        mail.was_taken(1, 5),
+        mail.was_taken(1, 6),
+    ]
+}
+
+/// Takes a number from node 1 that was not taken.
+fn take(mail: &mut Mail, number: u32) -> Result<(), AllocError>
+    requires { 1 < length mail.old.taken }
+    ensures { length mail.new.taken ≡ length mail.old.taken }
+{
+    if mail.was_taken(1, number) {
+        return Ok(());
+    }
+    mail.note_taken(1, number)
+}
+
+#[test]
+fn takes_numbers_in_any_order(rt: HostRuntime) -> Result<(), Fail> {
+    let mut mail = Mail::new(rt.alloc(), 2)?;
+    take(&mut mail, 2)?;
+    take(&mut mail, 4)?;
+    take(&mut mail, 3)?;
+    take(&mut mail, 6)?;
+    let before = taken(&mail);
+    assert!(rt; before == [false, true, true, true, false, true]);
+    take(&mut mail, 5)?;
+    take(&mut mail, 1)?;
+    let after = taken(&mail);
+    assert!(rt; after == [true; 6]);
+    let others = [
+        mail.was_taken(0, 2),
+        mail.was_taken(1, 0),
+        mail.was_taken(1, 7),
+    ];
+    assert!(rt; others == [false; 3]);
+    Ok(())
+}
+
+/// A letter for a node.
+fn letter(to: u8) -> Letter
+    ensures { result.to ≡ to }
+{
+    Letter {
+        to,
+        message: Message::Clean(Clean { episode: 1 }),
+    }
+}
+
+/// The numbers that letters for nodes 1, 0 and 1 get, from `first` on.
+fn numbers(alloc: Global, mail: &mut Mail, first: u32) -> Result<[u32; 3], MailFault>
+    requires { length mail.old.sent ≡ 2 }
+    ensures { length mail.new.sent ≡ length mail.old.sent }
+{
+    let letters = vec![in alloc; letter(1), letter(0), letter(1)]?;
+    let out = mail.number(0, first, letters)?;
+    let mut numbers = [0; 3];
+    for (place, envelope) in out.iter().take(3).enumerate() {
+        if place < 3 {
+            numbers[place] = envelope.number;
+        }
+    }
+    Ok(numbers)
+}
+
+#[test]
+fn numbers_letters_for_each_node_by_itself(rt: HostRuntime) -> Result<(), Fail> {
+    let mut mail = Mail::new(rt.alloc(), 2)?;
+    let first = numbers(rt.alloc(), &mut mail, 7);
+    assert!(rt; first == Ok([7, 7, 8]));
+    let second = numbers(rt.alloc(), &mut mail, 7);
+    assert!(rt; second == Ok([9, 8, 10]));
+    Ok(())
+}
+
+#[test]
+fn wears_where_a_number_is_too_large(rt: HostRuntime) -> Result<(), Fail> {
+    let mut mail = Mail::new(rt.alloc(), 2)?;
+    let worn = numbers(rt.alloc(), &mut mail, 4_294_967_295);
+    assert!(rt; worn == Err(MailFault::Worn));
+    Ok(())
+}
+
+/// What an absent page 3 needs at a node among three: its base copy of node 2, and changes of nodes 1 and 2, of which the
+/// one of node 1's interval 5 is known.
+fn absent_page(alloc: Global) -> Result<Need, AllocError> {
+    let keys = vec![in alloc;
+        Key {
+            node: 2,
+            index: 4,
+            page: 3
+        },
+        Key {
+            node: 1,
+            index: 5,
+            page: 3
+        },
+        Key {
+            node: 1,
+            index: 9,
+            page: 3
+        },
+        Key {
+            node: 1,
+            index: 7,
+            page: 3
+        },
+    ]?;
+    let unknown = [
+        Key {
+            node: 2,
+            index: 4,
+            page: 3,
+        },
+        Key {
+            node: 1,
+            index: 9,
+            page: 3,
+        },
+        Key {
+            node: 1,
+            index: 7,
+            page: 3,
+        },
+    ];
+    Need::new(alloc, 3, 3, Base::Due(2), keys, &unknown)
+}
+
+/// To whom the first three of these letters go.
+fn receivers(letters: &[Letter]) -> [u8; 3] {
+    let mut to = [9; 3];
+    for (place, letter) in letters.iter().enumerate() {
+        if place < 3 {
+            to[place] = letter.to;
+        }
+    }
+    to
+}
+
+/// A maker, how many changes are asked of it, and the first and the last of their indices.
+fn shown(asked: &Asked) -> Option<(u8, usize, u32, u32)> {
+    let indices = asked.indices.as_slice();
+    Some((
+        asked.maker,
+        indices.len(),
+        *indices.first()?,
+        *indices.last()?,
+    ))
+}
+
+/// The first and the last of those that are asked, and how many there are.
+fn shown_all(makers: &[Asked]) -> Option<[(u8, usize, u32, u32); 2]> {
+    match makers {
+        [first, last] => Some([shown(first)?, shown(last)?]),
+        _ => None,
+    }
+}
+
+#[test]
+fn asks_the_keeper_and_each_maker(rt: HostRuntime) -> Result<(), Fail> {
+    let need = absent_page(rt.alloc())?;
+    let letters = need.requests(rt.alloc())?;
+    let counts = [letters.len(), need.missing().len()];
+    assert!(rt; (receivers(letters.as_slice()), counts) == ([2, 1, 2], [3, 4]));
+    assert!(rt; shown_all(need.asked()) == Some([(1, 2, 7, 9), (2, 1, 4, 4)]));
+    Ok(())
+}
+
+/// Whether a wait is over, whether it is for page 3 of node 2 and of node 1, and whether all needs are met.
+fn state(wait: &Wait) -> [bool; 4] {
+    [
+        wait.is_idle(),
+        wait.awaits_page(3, 2),
+        wait.awaits_page(3, 1),
+        wait.needs().iter().all(|need| need.is_met()),
+    ]
+}
+
+#[test]
+fn waits_until_all_has_come(rt: HostRuntime) -> Result<(), Fail> {
+    let mut wait = Wait::Access(absent_page(rt.alloc())?);
+    wait.take_changes(3, 1);
+    wait.take_changes(3, 2);
+    let before = state(&wait);
+    let copy = Box::new(rt.alloc(), Page::zero(Size::Words64))?;
+    wait.take_page(3, copy);
+    let after = state(&wait);
+    assert!(rt; [before, after] == [[false, true, false, false], [false, false, false, true]]);
+    let more = requests(rt.alloc(), wait.needs())?;
+    assert!(rt; more.is_empty());
+    Ok(())
+}
