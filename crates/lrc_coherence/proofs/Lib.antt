@@ -30,3 +30,4 @@ pub mod StampAskers
 pub mod StampLearn
 pub mod StampFrees
 pub mod StampGrants
+pub mod StampBars
