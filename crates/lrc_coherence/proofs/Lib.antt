@@ -31,3 +31,4 @@ pub mod StampLearn
 pub mod StampFrees
 pub mod StampGrants
 pub mod StampBars
+pub mod StampSent
