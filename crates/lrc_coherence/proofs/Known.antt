@@ -240,7 +240,7 @@ module _ (nodes n : ℕ) (node : Node) (made : List StoredRecord) (p : Placed no
   run-replied (reads word after) out s = silent-replied made out s
   run-replied (writes word value after) out s = silent-replied made out s
   run-replied (acquires lock after) out s = silent-replied made out s
-  run-replied (arrives after) out s = silent-replied made out s
+  run-replied (arrives after) out s = none-replied made out (subst NoReplies (sym s) (refl, tt))
   run-replied (departs after) out s = silent-replied made out s
   run-replied (traps cause) out s = silent-replied made out s
   run-replied ends out s = silent-replied made out s

@@ -75,3 +75,5 @@ pub mod StampLearn
 pub mod StampFrees
 pub mod StampGrants
 pub mod RequestDeparts
+pub mod StampBars
+pub mod StampSent

@@ -26,7 +26,7 @@ use Rattle.lrc_lock.specs.Held.{refuses, lock_at, first_state, released, release
 use Rattle.lrc_copies.proofs.Members.{Contains-first, Contains-later, cases_Contains, none_Contains}
 use Rattle.lrc_protocol.specs.Copy.{Copy, valid, written, invalid, absent}
 use Rattle.lrc_protocol.specs.Expected.{indices_by, is_learnable, is_expected}
-use Rattle.lrc_protocol.specs.Letters.{grant_of, grants_of, changes_reply_to}
+use Rattle.lrc_protocol.specs.Letters.{grant_of, grants_of, changes_reply_to, arrival_of}
 use Rattle.lrc_protocol.specs.Locks.{next_time}
 use Rattle.lrc_protocol.specs.Mail.{Letter, Wait, nothing, grant, departure, access, upkeep, discard, is_idle, awaits_grant}
 use Rattle.lrc_protocol.specs.Memory.{Memory, copy_at}
@@ -108,7 +108,7 @@ silent_out [] s e c = absurd (none_Contains e c)
 silent_out (x ∷ out) s e c =
     ⊎_elim
     (λ (first : x ≡ e). subst (λ (y : EnvelopeRecord). is_lock_grant y.message ≡ false) first s.1)
-    (λ (later : Contains out e). silent_out out s.2 e later)
+    (λ (later : Contains out e). silent_out out s.3 e later)
     (cases_Contains x out e c)
 
 silent-none : (Y : Type 0) (out : List EnvelopeRecord) → AllSilent (map letter_in out) → (e : EnvelopeRecord) (m : LockGrantRecord) → Contains out e
@@ -392,7 +392,10 @@ module _ (program : Program) (nodes : ℕ) (options : OptionsRecord) where
     by_run turn e m lb o (reads word rest) s c is at_b = silent-none (News e m lb) turn.out s e m c is
     by_run turn e m lb o (writes word value rest) s c is at_b = silent-none (News e m lb) turn.out s e m c is
     by_run turn e m lb o (acquires lock rest) s c is at_b = silent-none (News e m lb) turn.out s e m c is
-    by_run turn e m lb o (arrives rest) s c is at_b = silent-none (News e m lb) turn.out s e m c is
+    by_run turn e m lb o (arrives rest) s c is at_b =
+        let arrival : Letter = arrival_of (closes l.node) (l.node.barrier.episode + 1) in
+        let one : arrival ≡ letter_in e = only_letter arrival (letter_in e) (subst (λ ls. Contains ls (letter_in e)) s (letter_out turn.out e c)) in
+        absurd (false≢true (ap (λ (x : Letter). is_lock_grant x.message) one ∙ ap is_lock_grant is))
     by_run turn e m lb o (departs rest) s c is at_b = silent-none (News e m lb) turn.out s e m c is
     by_run turn e m lb o (traps cause) s c is at_b = silent-none (News e m lb) turn.out s e m c is
     by_run turn e m lb o ends s c is at_b = silent-none (News e m lb) turn.out s e m c is

@@ -1,6 +1,6 @@
 -- What a turn does to the times that a node's memory keeps, the collected one and those remembered of invalid copies: they stay, or
 -- become the node's time from before the turn. And only a request of changes is answered by a reply of changes.
-use Rattle.std.proofs.Common.{◌≡◌, ℕ, ◌<◌, ◌≤◌, List, [], ◌∷◌, ◌++◌, Bool, true, false, length, refl, sym, subst, ⊎_elim, arith}
+use Rattle.std.proofs.Common.{◌≡◌, ℕ, ◌+◌, ◌<◌, ◌≤◌, List, [], ◌∷◌, ◌++◌, Bool, true, false, length, refl, sym, subst, ⊎_elim, arith}
 use Rattle.std.specs.Prelude.{Option, Some, None, fold, map, flat_map, nat_lt, if◌then◌else◌}
 use Rattle.std.specs.List.{list_all, enumerate_from, range_with_len}
 use Rattle.std.proofs.lemmas.Bool.{cases_lt}
@@ -23,7 +23,7 @@ use Rattle.lrc_protocol.specs.Mail.{Letter, Wait, nothing, grant, departure, acc
 use Rattle.lrc_protocol.specs.Course.{Course, going, trapped, ended}
 use Rattle.lrc_protocol.specs.Locks.{next_time}
 use Rattle.lrc_protocol.specs.Node.{Node, Effect, begins, sends, acts, acts_by, memory_after, with_memory, waiting}
-use Rattle.lrc_protocol.specs.Letters.{letter, requests_of, page_request_of, changes_request_of, changes_reply_to, grants_of, departure_of, discards_to}
+use Rattle.lrc_protocol.specs.Letters.{letter, requests_of, page_request_of, changes_request_of, changes_reply_to, grants_of, departure_of, discards_to, arrival_of}
 use Rattle.lrc_protocol.specs.Waits.{waits_or_goes_on, with_needs, clean_memory}
 use Rattle.lrc_protocol.specs.Run.{charged, own_index, closes, reaches, acquire_at, release_at, arrive_at, run_effect}
 use Rattle.lrc_protocol.specs.Take.{take_departure, request_by, learns, arrive_by, clean_by, discard_by, page_reply_by, take_effect, needs_to_keep, with_part}
@@ -45,22 +45,26 @@ abbrev pub is_lock_grant : Message → Bool
 is_lock_grant (LockGrant m) = true
 is_lock_grant _ = false
 
+abbrev pub is_arrival : Message → Bool
+is_arrival (Arrive m) = true
+is_arrival _ = false
+
 abbrev pub AllSilent : List Letter → Type 0
 AllSilent [] = Unit {0}
-AllSilent (x ∷ letters) = (is_changes_reply x.message ≡ false) × (is_lock_grant x.message ≡ false) × AllSilent letters
+AllSilent (x ∷ letters) = (is_changes_reply x.message ≡ false) × (is_lock_grant x.message ≡ false) × (is_arrival x.message ≡ false) × AllSilent letters
 
 silent-append : (xs ys : List Letter) → AllSilent xs → AllSilent ys → AllSilent (xs ++ ys)
 silent-append [] ys h k = k
-silent-append (x ∷ xs) ys h k = (h.0, h.1, silent-append xs ys h.2 k)
+silent-append (x ∷ xs) ys h k = (h.0, h.1, h.2, silent-append xs ys h.3 k)
 
 page_request-silent : (page : ℕ) (base : Base) → AllSilent (page_request_of page base)
 page_request-silent page unneeded = tt
-page_request-silent page (due keeper) = (refl, refl, tt)
+page_request-silent page (due keeper) = (refl, refl, refl, tt)
 page_request-silent page (come values) = tt
 
 changes_requests-silent : (page : ℕ) (asked : List Asked) → AllSilent (map (changes_request_of page) asked)
 changes_requests-silent page [] = tt
-changes_requests-silent page (a ∷ asked) = (refl, refl, changes_requests-silent page asked)
+changes_requests-silent page (a ∷ asked) = (refl, refl, refl, changes_requests-silent page asked)
 
 requests-silent : (need : Need) → AllSilent (requests_of need)
 requests-silent need =
@@ -73,11 +77,11 @@ all_requests-silent (need ∷ needs) = silent-append (requests_of need) (flat_ma
 
 departures-silent : (departures : List Departure) → AllSilent (map departure_of departures)
 departures-silent [] = tt
-departures-silent (d ∷ departures) = (refl, refl, departures-silent departures)
+departures-silent (d ∷ departures) = (refl, refl, refl, departures-silent departures)
 
 discards-silent : (nodes : List ℕ) (episode : ℕ) → AllSilent (discards_to nodes episode)
 discards-silent [] episode = tt
-discards-silent (n ∷ nodes) episode = (refl, refl, discards-silent nodes episode)
+discards-silent (n ∷ nodes) episode = (refl, refl, refl, discards-silent nodes episode)
 
 -- none of them tells of changes
 abbrev pub NoReplies : List Letter → Type 0
@@ -86,7 +90,7 @@ NoReplies (x ∷ letters) = (is_changes_reply x.message ≡ false) × NoReplies 
 
 pub silent-replies : (letters : List Letter) → AllSilent letters → NoReplies letters
 silent-replies [] h = tt
-silent-replies (x ∷ letters) h = (h.0, silent-replies letters h.2)
+silent-replies (x ∷ letters) h = (h.0, silent-replies letters h.3)
 
 pub grants-replies : (node : Node) (pass : Option Pass) → NoReplies (grants_of node pass)
 grants-replies node None = tt
@@ -225,7 +229,7 @@ module _ (C : List ℕ → Type 0) where
       either (list_all is_met needs) _ _
       (rested (letter 0 (Clean x.barrier.episode) ∷ [])
       (waiting (discard collection) (with_memory x (clean_memory needs collection.kept x.memory)))
-      (clean-timely needs collection.kept x.memory h) (refl, refl, tt))
+      (clean-timely needs collection.kept x.memory h) (refl, refl, refl, tt))
       (rested letters (waiting (upkeep collection needs) x) h s)
   goes_on letters x nothing h s = rested letters (waiting nothing x) h s
   goes_on letters x (grant lock) h s = rested letters (waiting (grant lock) x) h s
@@ -248,12 +252,13 @@ module _ (C : List ℕ → Type 0) where
 
   acquire-keeps : (node : Node) (lock : ℕ) → Timely node.memory → Keeps (acquire_at lock (closes node))
   acquire-keeps node lock h =
-      either (is_free (lock_at node.locks.held lock)) _ _ (acted [] _ (closes-timely node h) tt) (rested _ _ (closes-timely node h) (refl, refl, tt))
+      either (is_free (lock_at node.locks.held lock)) _ _ (acted [] _ (closes-timely node h) tt) (rested _ _ (closes-timely node h) (refl, refl, refl, tt))
 
-  -- a release may grant the lock; whatever else is begun is silent
+  -- a release may grant the lock, and an arrival is sent; whatever else is begun is silent
   abbrev pub RunSays : Node → Next → List Letter → Type 0
   RunSays node (releases lock after) letters =
       letters ≡ grants_of (closes node) (pass_of (released node.locks.held lock (next_time node.setting.me node.locks.time)))
+  RunSays node (arrives after) letters = letters ≡ arrival_of (closes node) (node.barrier.episode + 1) ∷ []
   RunSays node _ letters = AllSilent letters
 
   record Begins (node : Node) (next : Next) (e : Effect) : Type 0 where
@@ -271,14 +276,17 @@ module _ (C : List ℕ → Type 0) where
   optional node next true x k = k
   optional node next false x k = tt
 
-  -- a release's letters are as they are
+  -- the letters of an act are as they are
+  acts_letters : (letters : List Letter) (x : Node) (c : Course) → (acts_by letters x c).letters ≡ letters
+  acts_letters letters x (going t) = refl
+  acts_letters letters x (trapped cause) = refl
+  acts_letters letters x ended = refl
+
   releases-says : (node : Node) (lock : ℕ) (after : Thread) → RunSays node (releases lock after) (release_at lock (closes node)).letters
   releases-says node lock after = acts_letters _ _ node.course
-    where
-      acts_letters : (letters : List Letter) (x : Node) (c : Course) → (acts_by letters x c).letters ≡ letters
-      acts_letters letters x (going t) = refl
-      acts_letters letters x (trapped cause) = refl
-      acts_letters letters x ended = refl
+
+  arrives-says : (node : Node) (after : Thread) → RunSays node (arrives after) (arrive_at (closes node)).letters
+  arrives-says node after = acts_letters _ _ node.course
 
   run-keeps : (node : Node) (next : Next) → Timely node.memory → BeginsIf node next (run_effect node next)
   run-keeps node (quiet after) h = begins_so node (quiet after) _ (λ s. s) (acted [] node h tt)
@@ -295,7 +303,7 @@ module _ (C : List ℕ → Type 0) where
       (record { timely = released-timely node lock h; says = releases-says node lock after })
   run-keeps node (arrives after) h =
       optional node (arrives after) (nat_lt (own_index node) MOST_NUMBER) (arrive_at (closes node))
-      (begins_so node (arrives after) _ (λ s. s) (acted _ _ (closes-timely node h) (refl, refl, tt)))
+      (record { timely = course_timely _ _ node.course (closes-timely node h); says = arrives-says node after })
   run-keeps node (departs after) h = begins_so node (departs after) _ (λ s. s) (acted [] node h tt)
   run-keeps node (traps cause) h = begins_so node (traps cause) _ (λ s. s) (acted [] node h tt)
   run-keeps node ends h = begins_so node ends _ (λ s. s) (acted [] node h tt)
@@ -304,7 +312,7 @@ module _ (C : List ℕ → Type 0) where
 
   request-keeps : (node : Node) (from lock : ℕ) (time : List ℕ) (r : Requested) → Timely node.memory → Keeps (request_by node from lock time r)
   request-keeps node from lock time (refuses_request fault) h = rested [] node h tt
-  request-keeps node from lock time (forwards to managed) h = rested _ _ h (refl, refl, tt)
+  request-keeps node from lock time (forwards to managed) h = rested _ _ h (refl, refl, refl, tt)
 
   arrive-keeps : (node : Node) (step : Option ArriveStep) → Timely node.memory → Keeps (arrive_by node step)
   arrive-keeps node None h = rested [] node h tt
@@ -329,7 +337,7 @@ module _ (C : List ℕ → Type 0) where
 
   page-keeps : (node : Node) (from page : ℕ) (base : Option (List ℕ)) → Timely node.memory → Keeps (page_reply_by node from page base)
   page-keeps node from page None h = rested [] node h tt
-  page-keeps node from page (Some values) h = rested _ node h (refl, refl, tt)
+  page-keeps node from page (Some values) h = rested _ node h (refl, refl, refl, tt)
 
   depart-keeps : (node : Node) (collect : Bool) (time : List ℕ) (intervals : List IntervalRecord) → C node.locks.time → Timely node.memory
       → Keeps (take_departure node collect time intervals)
