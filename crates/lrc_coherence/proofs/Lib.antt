@@ -46,3 +46,5 @@ pub mod StampLearn
 pub mod StampFrees
 pub mod StampGrants
 pub mod RequestDeparts
+pub mod RequestLines
+pub mod RequestFormer
