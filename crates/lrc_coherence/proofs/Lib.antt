@@ -77,3 +77,5 @@ pub mod StampGrants
 pub mod RequestDeparts
 pub mod StampBars
 pub mod StampSent
+pub mod RequestLines
+pub mod RequestFormer

@@ -1,14 +1,14 @@
 -- What a departure tells: of each node's own intervals, as the arrivals brought them, just those that the node does not know.
-use Rattle.std.proofs.Common.{◌≡◌, ℕ, zero, suc, ◌+◌, ◌-◌, ◌<◌, ◌≤◌, max, List, [], ◌∷◌, ◌++◌, Bool, true, false, cond, length, map, refl, sym, ap, subst, ◌∙◌, ⊎_elim, inl, inr, arith, append-nil}
-use Rattle.std.specs.Prelude.{◌==◌, Contains, not, filter, fold, nat_le, if◌then◌else◌}
-use Rattle.std.specs.List.{flat_map, range_with_len}
-use Rattle.std.proofs.lemmas.Bool.{cases_eq, cases_lt, le-leb, lt-leb, cond_both}
-use Rattle.lrc_time.specs.Time.{entry, joined, knows, zeros}
-use Rattle.lrc_time.proofs.Times.{entry-joined, entry-zeros}
+use Rattle.std.proofs.Common.{◌≡◌, ℕ, zero, suc, ◌+◌, ◌-◌, ◌<◌, ◌≤◌, max, List, [], ◌∷◌, ◌++◌, Bool, true, false, cond, length, refl, sym, ap, subst, ◌∙◌, ⊎_elim, arith, append-nil}
+use Rattle.std.specs.Prelude.{Contains, not, filter, fold, nat_le}
+use Rattle.std.specs.List.{range_with_len}
+use Rattle.std.proofs.lemmas.Bool.{cases_eq, cases_lt, le-leb, lt-leb}
+use Rattle.lrc_time.specs.Time.{entry, joined}
+use Rattle.lrc_time.proofs.Times.{entry-joined}
 use Rattle.lrc_store.specs.Interval.{IntervalRecord, index_of}
 use Rattle.lrc_store.proofs.Orders.{Contains-first, Contains-later, cases_Contains, none_Contains}
 use Rattle.lrc_barrier.specs.declared.arrival.Arrival.{Arrival}
-use Rattle.lrc_barrier.specs.Barrier.{is_news, joined_time, intervals_of}
+use Rattle.lrc_barrier.specs.Barrier.{is_news, intervals_of}
 use Rattle.lrc_protocol.specs.Expected.{indices_by}
 use Rattle.lrc_local.proofs.Indices.{indices-append, indices-here, indices-there}
 
