@@ -118,7 +118,8 @@ module _ (made : List IntervalRecord) (node : Node) (within : node.setting.me < 
       made_then made node.setting.me node.locks.time node.memory within exact stored came after.memory.store after.locks.time k.change so in
       let all : List IntervalRecord = made ++ new in
       let managed : ManagedSo all after.barrier sent.letters =
-      managed_so all (site_of node) (manager-more made new node.barrier.manager kept) came sent.acts after.mail.wait after.locks after.barrier sent.letters (arrives new) sent.sent in
+      managed_so all (site_of node) (manager-more made new node.barrier.manager kept) came sent.acts after.mail.wait after.locks after.barrier
+      sent.letters (arrives new) sent.sent in
       record {
         own = m.own;
         others = m.others;

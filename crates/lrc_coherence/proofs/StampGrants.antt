@@ -316,7 +316,8 @@ module _ (program : Program) (nodes : ℕ) (options : OptionsRecord) where
         let covered : Covers lb.node.locks.time l.node.memory.collected =
         collected_covered program nodes options world r n q l lb at before in
         subst (IsNewsFor nodes now_made lb.node.locks.time) is
-        (subst (λ t. IsNewsFor nodes now_made t (record { lock = pass.lock; time = pass.upto; intervals = newer_of memory.store pass.since pass.upto })) (sym time_is)
+        (subst (λ t. IsNewsFor nodes now_made t (record { lock = pass.lock; time = pass.upto; intervals = newer_of memory.store pass.since pass.upto }))
+        (sym time_is)
         (told_news nodes now_made time memory pass.lock pass.since pass.upto exact
         (subst (λ t. Covers t memory.collected) time_is (subst (Covers lb.node.locks.time) (sym collected) covered)) high long full))
 
