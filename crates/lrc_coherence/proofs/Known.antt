@@ -90,7 +90,8 @@ pub letter_out : (out : List EnvelopeRecord) (e : EnvelopeRecord) → Contains o
 letter_out [] e c = absurd (none_Contains e c)
 letter_out (x ∷ out) e c =
     ⊎_elim
-    (λ (first : x ≡ e). subst (λ (y : EnvelopeRecord). Contains (map letter_in (x ∷ out)) (letter_in y)) first (Contains-first (letter_in x) (map letter_in out)))
+    (λ (first : x ≡ e). subst (λ (y : EnvelopeRecord). Contains (map letter_in (x ∷ out)) (letter_in y)) first (Contains-first (letter_in x)
+    (map letter_in out)))
     (λ (later : Contains out e). Contains-later (letter_in x) (map letter_in out) (letter_in e) (letter_out out e later))
     (cases_Contains x out e c)
 

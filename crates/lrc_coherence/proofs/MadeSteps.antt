@@ -64,24 +64,25 @@ module _ (made : List IntervalRecord) (me : ℕ) (time : List ℕ) (memory : Mem
 
   one_made : (store : StoreRecord) → intervals_of store ≡ intervals_of memory.store ++ interval ∷ []
       → MadeThen made (closed_between me time memory stamp) me store stamp
-  one_made store is = subst (λ b. MadeThen made (if b then [] else interval ∷ []) me store stamp) (sym (ne_eqb (entry stamp me) (entry time me) grows)) (record {
-    own =
-        let n : ℕ = entry time me in
-        let next : range_with_len (1 + n) 1 ≡ entry stamp me ∷ [] = ap (λ k. k ∷ []) (one_more n ∙ sym index_is) in
-        indices-append made (interval ∷ []) me
-        ∙ ap (λ xs. xs ++ indices_by (interval ∷ []) me) exact
-        ∙ ap (λ xs. range_with_len 1 n ++ xs) (indices-here interval [] me refl ∙ sym next)
-        ∙ range-join 1 n 1
-        ∙ ap (range_with_len 1) (sym index_is);
-    others = λ q ne.
-        indices-append made (interval ∷ []) q
-        ∙ ap (λ xs. indices_by made q ++ xs) (indices-there interval [] q ne)
-        ∙ append-nil (indices_by made q);
-    stored =
-        subst (AllMade (made ++ interval ∷ [])) (sym is)
-        (made-append (made ++ interval ∷ []) (intervals_of memory.store) (interval ∷ []) (made-more made (interval ∷ []) (intervals_of memory.store) stored)
-        (Contains-push made interval, tt));
-  })
+  one_made store is = subst (λ b. MadeThen made (if b then [] else interval ∷ []) me store stamp) (sym (ne_eqb (entry stamp me)
+      (entry time me) grows)) (record {
+        own =
+            let n : ℕ = entry time me in
+            let next : range_with_len (1 + n) 1 ≡ entry stamp me ∷ [] = ap (λ k. k ∷ []) (one_more n ∙ sym index_is) in
+            indices-append made (interval ∷ []) me
+            ∙ ap (λ xs. xs ++ indices_by (interval ∷ []) me) exact
+            ∙ ap (λ xs. range_with_len 1 n ++ xs) (indices-here interval [] me refl ∙ sym next)
+            ∙ range-join 1 n 1
+            ∙ ap (range_with_len 1) (sym index_is);
+        others = λ q ne.
+            indices-append made (interval ∷ []) q
+            ∙ ap (λ xs. indices_by made q ++ xs) (indices-there interval [] q ne)
+            ∙ append-nil (indices_by made q);
+        stored =
+            subst (AllMade (made ++ interval ∷ [])) (sym is)
+            (made-append (made ++ interval ∷ []) (intervals_of memory.store) (interval ∷ []) (made-more made (interval ∷ []) (intervals_of memory.store) stored)
+            (Contains-push made interval, tt));
+      })
     where
       grows : entry stamp me ≡ entry time me → ⊥
       grows e = let is : entry stamp me ≡ entry time me + 1 = index_is in absurd (omega (arith, e, is))

@@ -118,7 +118,8 @@ module _ (made : List IntervalRecord) (node : Node) (within : node.setting.me < 
       made_then made node.setting.me node.locks.time node.memory within exact stored came after.memory.store after.locks.time k.change so in
       let all : List IntervalRecord = made ++ new in
       let managed : ManagedSo all after.barrier sent.letters =
-      managed_so all (site_of node) (manager-more made new node.barrier.manager kept) came sent.acts after.mail.wait after.locks after.barrier sent.letters (arrives new) sent.sent in
+      managed_so all (site_of node) (manager-more made new node.barrier.manager kept) came sent.acts after.mail.wait after.locks after.barrier
+      sent.letters (arrives new) sent.sent in
       record {
         own = m.own;
         others = m.others;
@@ -145,7 +146,8 @@ module _ (made : List IntervalRecord) (node : Node) (within : node.setting.me < 
       turn_made by_itself turn after now (alone_so made node.setting.me node.locks.time) (λ new. tt) sent k
       (λ new h. subst (AllTold (made ++ new)) (sym g) (told-append (made ++ new) was turn.out (told-more made new was told) h))
   step_made _ _ _ now (repeats e is) k g =
-      subst (λ b. TurnMade made (if b then [] else closed_interval node.setting.me (next_time node.setting.me node.locks.time) node.memory ∷ []) node.setting.me node now)
+      subst (λ b. TurnMade made (if b then [] else closed_interval node.setting.me
+      (next_time node.setting.me node.locks.time) node.memory ∷ []) node.setting.me node now)
       (sym (eq-eqb (entry node.locks.time node.setting.me) (entry node.locks.time node.setting.me) refl)) (record {
         own = ap (λ all. indices_by all node.setting.me) (append-nil made) ∙ exact;
         others = λ q ne. ap (λ all. indices_by all q) (append-nil made);

@@ -220,7 +220,8 @@ module _ (program : Program) (nodes : ℕ) (options : OptionsRecord) where
       (λ (sent : Contains out e). inr sent)
       (Contains-append_cases (g.front ++ g.back) out e (subst (λ es. Contains es e) g.after c))
 
-  module _ (all : List Logged) (n : ℕ) (l after : Logged) (at : slice_get all n ≡ Some l) (me_is : after.node.setting.me ≡ n) (was now : List EnvelopeRecord) where
+  module _ (all : List Logged) (n : ℕ) (l after : Logged) (at : slice_get all n ≡ Some l) (me_is : after.node.setting.me ≡ n)
+      (was now : List EnvelopeRecord) where
     -- it was said before, or the node asks now
     abbrev SaidBefore : ℕ → List ℕ → Type 0
     SaidBefore b time = Says was all b time ⊎ ((n ≡ b) × (after.node.locks.time ≡ time))

@@ -205,12 +205,14 @@ module _ (s : Site) where
       (inr (inl (idle nothing w refl)))
   turn_asks _ _ wait locks _ letters (asks lock w n f) = record {
     requests = λ x m c e. ⊎_elim
-        (λ first. let is : LockRequest (record { lock = lock; time = next_time s.me s.locks.time }) ≡ LockRequest m = ap (λ (x : Letter). x.message) first ∙ e in
+        (λ first. let is : LockRequest (record { lock = lock; time = next_time s.me s.locks.time }) ≡ LockRequest m = ap (λ
+        (x : Letter). x.message) first ∙ e in
         same_time m is)
         (λ later. absurd (none_Contains x later))
         (cases_Contains _ [] x c);
     forwards = λ x m c e. ⊎_elim
-        (λ first. let is : LockRequest (record { lock = lock; time = next_time s.me s.locks.time }) ≡ LockForward m = ap (λ (x : Letter). x.message) first ∙ e in
+        (λ first. let is : LockRequest (record { lock = lock; time = next_time s.me s.locks.time }) ≡ LockForward m = ap (λ
+        (x : Letter). x.message) first ∙ e in
         absurd cc)
         (λ later. absurd (none_Contains x later))
         (cases_Contains _ [] x c);

@@ -1,10 +1,10 @@
 -- What a turn does to what a node sent with its arrivals, and to what the manager has of arrivals.
-use Rattle.std.proofs.Common.{◌≡◌, ◌⊎◌, ℕ, zero, suc, ◌+◌, ◌≤◌, max, List, [], ◌∷◌, Bool, true, false, length, map, refl, sym, ap, subst, ◌∙◌, inl, inr, arith}
+use Rattle.std.proofs.Common.{◌≡◌, ◌⊎◌, ℕ, zero, suc, ◌≤◌, max, List, [], ◌∷◌, Bool, true, false, length, map, refl, sym, ap, subst, ◌∙◌, inl, inr, arith}
 use Rattle.std.specs.Prelude.{Option, Some, None, is_some, replicate, slice_index_or, slice_set, if◌then◌else◌}
 use Rattle.std.specs.List.{list_all, range_with_len}
 use Rattle.lrc_time.specs.Time.{entry, joined}
 use Rattle.lrc_time.proofs.Times.{entry-joined}
-use Rattle.lrc_wire.specs.Records.{ArriveRecord, DepartRecord}
+use Rattle.lrc_wire.specs.Records.{ArriveRecord}
 use Rattle.lrc_wire.specs.declared.message.Message.{Message}
 use Rattle.lrc_wire.specs.declared.message.Message.TheVariants.{LockRequest, LockForward, LockGrant, Arrive, Depart, Clean, Discard, ChangesRequest, ChangesReply, PageRequest, PageReply}
 use Rattle.lrc_lock.specs.declared.state.Pass.{Pass}
@@ -15,7 +15,7 @@ use Rattle.lrc_barrier.specs.Barrier.{ManagerRecord, ArriveStep, refuses, waits,
 use Rattle.lrc_protocol.specs.Barrier.{Barrier}
 use Rattle.lrc_protocol.specs.Letters.{departure_of, discards_to}
 use Rattle.lrc_protocol.specs.Locks.{Locks, next_time}
-use Rattle.lrc_protocol.specs.Mail.{Letter, Wait, nothing, grant, departure, access, upkeep, discard}
+use Rattle.lrc_protocol.specs.Mail.{Letter, Wait, nothing}
 use Rattle.lrc_invariants.specs.Counts.{is_inside}
 use Rattle.lrc_invariants.proofs.Arrivals.{get_set}
 use Rattle.lrc_invariants.proofs.Sends.{is_other, AreOthers, Grants, Came, by_itself, comes, arrival_in, Site, Sends, plain, misses, takes, asks, releasing, arriving, manages, forwarding, grants, gathers, lets_depart, departing, collecting, clean_at_once, notes_clean, lets_discard, discarding, serves, accessing, still_misses, still_collects, cleaning}
@@ -81,7 +81,8 @@ arrive-keeps : (manager : ManagerRecord) (from : ℕ) (a : Arrival) → ArriveKe
 arrive-keeps manager from a = by_tests (is_next manager a.episode) (has_arrived manager from)
   where
     all_there : (b : Bool) → ArriveKeeps manager from a
-        (if b then departs (departures_of (arrivals_of (with_arrival manager from a))) (departed (with_arrival manager from a)) else waits (with_arrival manager from a))
+        (if b then departs (departures_of (arrivals_of (with_arrival manager from a))) (departed (with_arrival manager from a)) else waits
+        (with_arrival manager from a))
     all_there true = (refl, (length (with_arrival manager from a).last, refl))
     all_there false = (refl, refl)
 
@@ -187,7 +188,8 @@ module _ (s : Site) where
   with_arrive_step : (from : ℕ) (m : ArriveRecord) (wait : Wait) (barrier : Barrier) (letters : List Letter) (before after : ManagerRecord) → NoArrives letters
       → s.barrier.manager ≡ Some before → barrier.manager ≡ Some after → barrier.sent ≡ s.barrier.sent
       → after.last ≡ slice_set before.last from (entry m.time from)
-      → ((q : ℕ) (a : Arrival) → slice_index_or after.arrivals q None ≡ Some a → (slice_index_or before.arrivals q None ≡ Some a) ⊎ ((from ≡ q) × (arrival_in m ≡ a)))
+      → ((q : ℕ) (a : Arrival) → slice_index_or after.arrivals q None ≡ Some a
+      → (slice_index_or before.arrivals q None ≡ Some a) ⊎ ((from ≡ q) × (arrival_in m ≡ a)))
       → wait ≡ s.wait → Bars s (comes from (Arrive m)) wait s.locks barrier letters
   with_arrive_step from m wait barrier letters before after q was now sent last kept w =
       takes_one from m q sent
@@ -218,7 +220,8 @@ module _ (s : Site) where
       still (comes from (LockForward m)) wait locks letters tt (grants-none _ letters g) (λ i. (i, refl))
   turn_bars _ _ wait locks _ letters (grants from m lt w l) = still (comes from (LockGrant m)) wait locks letters tt tt (out wait locks refl)
   turn_bars _ _ wait _ barrier letters (gathers from m before after e long a) =
-      let k : ArriveKeeps before from (arrival_in m) (waits after) = subst (ArriveKeeps before from (arrival_in m)) a (arrive-keeps before from (arrival_in m)) in
+      let k : ArriveKeeps before from (arrival_in m) (waits after) = subst (ArriveKeeps before from (arrival_in m)) a (arrive-keeps before from
+      (arrival_in m)) in
       with_arrive_step from m wait barrier letters before after tt e refl refl k.0
       (λ q x is. set_kept before.arrivals from m q x (ap (λ arrivals. slice_index_or arrivals q None) (sym k.1) ∙ is)) refl
   turn_bars _ _ wait _ barrier letters (lets_depart from m before after departures e long a) =
@@ -237,10 +240,14 @@ module _ (s : Site) where
   turn_bars _ _ wait _ barrier letters (lets_discard from episode over before after e c) =
       let k : CleanKeeps before (discards over after) = subst (CleanKeeps before) c (clean-keeps before from episode) in
       with_clean (comes from (Clean episode)) wait barrier letters before after tt (discards-none (range_with_len 0 s.nodes) over) e refl refl k refl
-  turn_bars _ _ wait locks _ letters (discarding from episode collection w z e) = still (comes from (Discard episode)) wait locks letters tt tt (out wait locks refl)
-  turn_bars _ _ wait locks _ letters (serves from message is o) = still (comes from message) wait locks letters (other-not from message is) (others-none letters o) (λ i. (i, refl))
-  turn_bars _ _ wait locks _ letters (accessing from message need is w) = still (comes from message) wait locks letters (other-not from message is) tt (out wait locks refl)
-  turn_bars _ _ wait locks _ letters (still_misses from message before is w) = still (comes from message) wait locks letters (other-not from message is) tt (out wait locks refl)
+  turn_bars _ _ wait locks _ letters (discarding from episode collection w z e) = still (comes from (Discard episode)) wait locks letters tt tt
+      (out wait locks refl)
+  turn_bars _ _ wait locks _ letters (serves from message is o) = still (comes from message) wait locks letters (other-not from message is)
+      (others-none letters o) (λ i. (i, refl))
+  turn_bars _ _ wait locks _ letters (accessing from message need is w) = still (comes from message) wait locks letters (other-not from message is) tt
+      (out wait locks refl)
+  turn_bars _ _ wait locks _ letters (still_misses from message before is w) = still (comes from message) wait locks letters
+      (other-not from message is) tt (out wait locks refl)
   turn_bars _ _ wait locks _ letters (still_collects from message before had is w t) =
       still (comes from message) wait locks letters (other-not from message is) tt (λ i. (ap is_inside w, refl))
   turn_bars _ _ wait locks _ letters (cleaning from message before had is w t) =

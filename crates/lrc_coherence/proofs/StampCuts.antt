@@ -41,7 +41,8 @@ zeros-full nodes = record {
 member-more : (made : List StoredRecord) (new : List StoredRecord) (q k : ℕ) → Member q k (map interval_of made) → Member q k (map interval_of (made ++ new))
 member-more made new q k m = record {
   i = m.i;
-  in_list = subst (λ all. Contains all m.i) (sym (map-append interval_of made new)) (Contains-append_left (map interval_of made) (map interval_of new) m.i m.in_list);
+  in_list = subst (λ all. Contains all m.i) (sym (map-append interval_of made new)) (Contains-append_left (map interval_of made)
+      (map interval_of new) m.i m.in_list);
   node_is = m.node_is;
   index_is = m.index_is;
 }
@@ -197,7 +198,8 @@ module _ (nodes n : ℕ) (node : Node) (made : List StoredRecord) (p : Placed no
 
     pub full_closed : IsFull (made_with (next_time me time)) (next_time me time)
     full_closed =
-        subst (λ b. IsFull (made ++ (if b then [] else new ∷ [])) (next_time me time)) (sym (ne_eqb (entry (next_time me time) me) (entry time me) grows)) stamp-full
+        subst (λ b. IsFull (made ++ (if b then [] else new ∷ [])) (next_time me time)) (sym (ne_eqb (entry (next_time me time) me)
+        (entry time me) grows)) stamp-full
       where
         grows : entry (next_time me time) me ≡ entry time me → ⊥
         grows e = omega (arith, e, index_is)

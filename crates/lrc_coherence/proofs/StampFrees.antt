@@ -157,7 +157,8 @@ module _ (s : Site) where
   turn_frees _ _ _ _ _ _ (cleaning from message before had is w t) = λ k kept e. inl e
 
   -- who grants by itself has closed its interval
-  pub released_then : (acts : Bool) (wait : Wait) (locks : Locks) (barrier : Barrier) (letters : List Letter) → Sends s by_itself acts wait locks barrier letters
+  pub released_then : (acts : Bool) (wait : Wait) (locks : Locks) (barrier : Barrier) (letters : List Letter)
+      → Sends s by_itself acts wait locks barrier letters
       → (x : Letter) → Contains letters x → is_lock_grant x.message ≡ true → locks.time ≡ next_time s.me s.locks.time
   released_then _ _ _ _ letters (plain next w n p o) x c g = absurd (no_grant letters o x c g)
   released_then _ _ _ _ letters (misses w n o) x c g = absurd (no_grant letters o x c g)

@@ -84,7 +84,8 @@ turn-grows node was _ turn after now (anew e t k lost) =
     change-grows node.setting.me node.locks.time node.memory (comes e.from e.message) after.memory.store after.locks.time k.change
 
 -- who begins something waits for nothing
-runs-idle : (node : Node) (w : Wait) (turn : TurnRecord) (after : Node) → turn_by node (if is_idle w then begins_of node.left node.course else None) ≡ done turn after
+runs-idle : (node : Node) (w : Wait) (turn : TurnRecord) (after : Node)
+    → turn_by node (if is_idle w then begins_of node.left node.course else None) ≡ done turn after
     → is_granting w ≡ false
 runs-idle node nothing turn after e = refl
 runs-idle node (grant lock) turn after e = absurd cc
@@ -245,7 +246,8 @@ module _ (program : Program) (nodes : ℕ) (options : OptionsRecord) where
 
     keeps_past : KeepsPast world made → KeepsPast next now_made
     keeps_past past q k lq kept at_q is =
-        each_node (λ q (lq : Logged). (k : ℕ) (kept : List ℕ) → free_in (lock_at lq.node.locks.held k) ≡ Some kept → IsPast nodes now_made lq.node.locks.time kept)
+        each_node (λ q (lq : Logged). (k : ℕ) (kept : List ℕ) → free_in (lock_at lq.node.locks.held k) ≡ Some kept
+        → IsPast nodes now_made lq.node.locks.time kept)
         world n l after at own
         (λ q lq at_q k kept is.
         let was : IsPast nodes made lq.node.locks.time kept = past q k lq kept at_q is in
@@ -314,7 +316,8 @@ module _ (program : Program) (nodes : ℕ) (options : OptionsRecord) where
         let covered : Covers lb.node.locks.time l.node.memory.collected =
         collected_covered program nodes options world r n q l lb at before in
         subst (IsNewsFor nodes now_made lb.node.locks.time) is
-        (subst (λ t. IsNewsFor nodes now_made t (record { lock = pass.lock; time = pass.upto; intervals = newer_of memory.store pass.since pass.upto })) (sym time_is)
+        (subst (λ t. IsNewsFor nodes now_made t (record { lock = pass.lock; time = pass.upto; intervals = newer_of memory.store pass.since pass.upto }))
+        (sym time_is)
         (told_news nodes now_made time memory pass.lock pass.since pass.upto exact
         (subst (λ t. Covers t memory.collected) time_is (subst (Covers lb.node.locks.time) (sym collected) covered)) high long full))
 
@@ -360,7 +363,8 @@ module _ (program : Program) (nodes : ℕ) (options : OptionsRecord) where
         sent_of turn (sent_alone k) = k
 
     -- with a request that is passed on
-    by_passing : KeepsPast world made → (e0 : EnvelopeRecord) (f : LockForwardRecord) (turn : TurnRecord) (e : EnvelopeRecord) (m : LockGrantRecord) (lb : Logged)
+    by_passing : KeepsPast world made → (e0 : EnvelopeRecord) (f : LockForwardRecord) (turn : TurnRecord) (e : EnvelopeRecord) (m : LockGrantRecord)
+        (lb : Logged)
         → Contains (pending world) e0 → e0.message ≡ LockForward f
         → map letter_in turn.out ≡ grants_of l.node (pass_of (forwarded l.node.locks.held f.lock f.asker f.time))
         → Contains turn.out e → e.message ≡ LockGrant m → slice_get next.nodes e.to ≡ Some lb → News e m lb
@@ -489,7 +493,8 @@ module _ (program : Program) (nodes : ℕ) (options : OptionsRecord) where
   grant_learnable world made h e m l c is at =
       let news : IsNewsFor nodes made l.node.locks.time m = all_grants world made h e m l c is at in
       learnable_from program nodes options world made h e.to l at m.time m.intervals news.long news.full
-      (subst (λ x. AllMade (map interval_of made) (intervals_in x)) is (told_in (map interval_of made) (pending world) e (all_made program nodes options world made h).told c))
+      (subst (λ x. AllMade (map interval_of made) (intervals_in x)) is (told_in (map interval_of made) (pending world) e
+      (all_made program nodes options world made h).told c))
       news.between
 
   -- and would accept it now

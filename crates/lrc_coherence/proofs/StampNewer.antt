@@ -20,7 +20,8 @@ placed-here : (q : ℕ) (x : IntervalRecord) (xs : List IntervalRecord) → x.no
 placed-here q x [] e h = indices-here x [] q e
 placed-here q x (y ∷ xs) e h = by_test (λ h. placed-here q x xs e h) (by_node x y) refl
   where
-    by_test : (All (λ k. index_of x < k) (indices_by xs q) → indices_by (placed by_node x xs) q ≡ index_of x ∷ indices_by xs q) → (b : Bool) → by_node x y ≡ b → indices_by (if b then x ∷ y ∷ xs else y ∷ placed by_node x xs) q ≡ index_of x ∷ indices_by (y ∷ xs) q
+    by_test : (All (λ k. index_of x < k) (indices_by xs q) → indices_by (placed by_node x xs) q ≡ index_of x ∷ indices_by xs q) → (b : Bool)
+        → by_node x y ≡ b → indices_by (if b then x ∷ y ∷ xs else y ∷ placed by_node x xs) q ≡ index_of x ∷ indices_by (y ∷ xs) q
     by_test rest true t = indices-here x (y ∷ xs) q e
     by_test rest false t = elim (cases_eq y.node q) [
       | inl same ↦
@@ -40,7 +41,8 @@ placed-there : (q : ℕ) (x : IntervalRecord) (xs : List IntervalRecord) → (x.
 placed-there q x [] ne = indices-there x [] q ne
 placed-there q x (y ∷ xs) ne = by_test (placed-there q x xs ne) (by_node x y)
   where
-    by_test : indices_by (placed by_node x xs) q ≡ indices_by xs q → (b : Bool) → indices_by (if b then x ∷ y ∷ xs else y ∷ placed by_node x xs) q ≡ indices_by (y ∷ xs) q
+    by_test : indices_by (placed by_node x xs) q ≡ indices_by xs q → (b : Bool)
+        → indices_by (if b then x ∷ y ∷ xs else y ∷ placed by_node x xs) q ≡ indices_by (y ∷ xs) q
     by_test rest true = indices-there x (y ∷ xs) q ne
     by_test rest false = elim (cases_eq y.node q) [
       | inl same ↦
@@ -65,21 +67,27 @@ part-indices since upto q (x ∷ xs) h = elim (cases_eq x.node q) [
       ∙ ap (filter (between (entry since q) (entry upto q))) (sym (indices-there x xs q other))
 ]
   where
-    here : x.node ≡ q → Ascends (index_of x ∷ indices_by xs q) → indices_by (ascending_part by_node (is_newer since upto) xs) q ≡ filter (between (entry since q) (entry upto q)) (indices_by xs q) → (b : Bool) → is_newer since upto x ≡ b
-        → indices_by (if b then placed by_node x (ascending_part by_node (is_newer since upto) xs) else (ascending_part by_node (is_newer since upto) xs)) q ≡ filter (between (entry since q) (entry upto q)) (index_of x ∷ indices_by xs q)
+    here : x.node ≡ q → Ascends (index_of x ∷ indices_by xs q) → indices_by (ascending_part by_node (is_newer since upto) xs) q ≡ filter (between
+        (entry since q) (entry upto q)) (indices_by xs q) → (b : Bool) → is_newer since upto x ≡ b
+        → indices_by (if b then placed by_node x (ascending_part by_node (is_newer since upto) xs) else (ascending_part by_node
+        (is_newer since upto) xs)) q ≡ filter (between (entry since q) (entry upto q)) (index_of x ∷ indices_by xs q)
     here same split rest true t =
         placed-here q x (ascending_part by_node (is_newer since upto) xs) same
         (subst (All (λ k. index_of x < k)) (sym rest) (All-filter (between (entry since q) (entry upto q)) (λ k. index_of x < k) (indices_by xs q) split.0))
         ∙ ap (λ l. index_of x ∷ l) rest
-        ∙ ap (λ b. cond b (index_of x ∷ filter (between (entry since q) (entry upto q)) (indices_by xs q)) (filter (between (entry since q) (entry upto q)) (indices_by xs q)))
+        ∙ ap (λ b. cond b (index_of x ∷ filter (between (entry since q) (entry upto q)) (indices_by xs q)) (filter (between (entry since q)
+        (entry upto q)) (indices_by xs q)))
         (sym (ap (λ n. between (entry since n) (entry upto n) (index_of x)) (sym same) ∙ t))
     here same split rest false t =
         rest
-        ∙ ap (λ b. cond b (index_of x ∷ filter (between (entry since q) (entry upto q)) (indices_by xs q)) (filter (between (entry since q) (entry upto q)) (indices_by xs q)))
+        ∙ ap (λ b. cond b (index_of x ∷ filter (between (entry since q) (entry upto q)) (indices_by xs q)) (filter (between (entry since q)
+        (entry upto q)) (indices_by xs q)))
         (sym (ap (λ n. between (entry since n) (entry upto n) (index_of x)) (sym same) ∙ t))
 
-    there : (x.node ≡ q → ⊥) → indices_by (ascending_part by_node (is_newer since upto) xs) q ≡ filter (between (entry since q) (entry upto q)) (indices_by xs q) → (b : Bool)
-        → indices_by (if b then placed by_node x (ascending_part by_node (is_newer since upto) xs) else (ascending_part by_node (is_newer since upto) xs)) q ≡ filter (between (entry since q) (entry upto q)) (indices_by xs q)
+    there : (x.node ≡ q → ⊥) → indices_by (ascending_part by_node (is_newer since upto) xs) q ≡ filter (between (entry since q) (entry upto q))
+        (indices_by xs q) → (b : Bool)
+        → indices_by (if b then placed by_node x (ascending_part by_node (is_newer since upto) xs) else (ascending_part by_node
+        (is_newer since upto) xs)) q ≡ filter (between (entry since q) (entry upto q)) (indices_by xs q)
     there other rest true = placed-there q x (ascending_part by_node (is_newer since upto) xs) other ∙ rest
     there other rest false = rest
 

@@ -1,5 +1,5 @@
 -- In every run a node inside a barrier has sent all its intervals with its arrivals, and what a node collected of its own it sent.
-use Rattle.std.proofs.Common.{◌≡◌, ◌⊎◌, ℕ, ◌+◌, ◌≤◌, List, [], Bool, true, false, length, refl, sym, ap, subst, ◌∙◌, inl, inr, ⊎_elim, arith}
+use Rattle.std.proofs.Common.{◌≡◌, ◌⊎◌, ℕ, ◌+◌, ◌≤◌, List, refl, sym, ap, subst, ◌∙◌, inl, inr, ⊎_elim, arith}
 use Rattle.std.specs.Prelude.{Some, slice_get}
 use Rattle.lrc_lang.specs.declared.program.Program.{Program}
 use Rattle.lrc_time.specs.Time.{entry, zeros, Covers}
@@ -9,18 +9,16 @@ use Rattle.lrc_protocol.specs.Locks.{Locks, next_time}
 use Rattle.lrc_protocol.specs.Mail.{Wait, nothing, discard, Collection}
 use Rattle.lrc_protocol.specs.Node.{Node, OptionsRecord}
 use Rattle.lrc_protocol.specs.Turn.{TurnRecord}
-use Rattle.lrc_protocol.specs.Log.{Input, EntryRecord, Logged}
-use Rattle.lrc_protocol.specs.World.{World, Flying, fresh_world, with_turn, pending}
-use Rattle.lrc_protocol.proofs.Worlds.{IsEntry, fresh_at}
-use Rattle.lrc_protocol.proofs.Induction.{Comes}
+use Rattle.lrc_protocol.specs.Log.{Input, Logged}
+use Rattle.lrc_protocol.specs.World.{World, fresh_world, with_turn, pending}
+use Rattle.lrc_protocol.proofs.Worlds.{fresh_at}
 use Rattle.lrc_invariants.specs.Counts.{is_inside}
 use Rattle.lrc_invariants.proofs.Sends.{Came, site_of, Sent}
 use Rattle.lrc_invariants.proofs.Flows.{Stepped, again as stepped_again, once, stepped}
 use Rattle.lrc_invariants.proofs.Reached.{IsReached, KeptByReached, by_reached}
 use Rattle.lrc_local.specs.Ranges.{CollectsAt}
-use Rattle.lrc_local.specs.Stored.{StoresExactly}
 use Rattle.lrc_local.proofs.Always.{exact_at, ranged_at}
-use Rattle.lrc_coherence.proofs.CollectTurns.{Steady, Begun, Ended, Kind, steady, begun, ended, Kinds, alone as kind_alone, again as kind_again, anew as kind_anew, KindsIf, turn_kinds}
+use Rattle.lrc_coherence.proofs.CollectTurns.{Kind, steady, begun, ended, Kinds, alone as kind_alone, again as kind_again, anew as kind_anew, KindsIf, turn_kinds}
 use Rattle.lrc_coherence.proofs.StampWorlds.{Placed, placed, each_node}
 use Rattle.lrc_coherence.proofs.StampBars.{Bars, calm, arrives, takes_one, turn_bars}
 

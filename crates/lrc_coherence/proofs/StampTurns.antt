@@ -109,7 +109,8 @@ module _ (C : List ℕ → Type 0) where
     pub collected : C memory.collected
     pub since : (page : ℕ) → SinceIn (copy_at memory page)
 
-  copy-timely : (memory : Memory) (page : ℕ) (copy : Copy) → (SinceIn (copy_at memory page) → SinceIn copy) → Timely memory → Timely (with_copy memory page copy)
+  copy-timely : (memory : Memory) (page : ℕ) (copy : Copy) → (SinceIn (copy_at memory page) → SinceIn copy) → Timely memory
+      → Timely (with_copy memory page copy)
   copy-timely memory page copy k h =
       record { collected = h.collected; since = λ p. set-copy SinceIn memory.copies page p copy k (h.since p) }
 
@@ -162,10 +163,16 @@ module _ (C : List ℕ → Type 0) where
       since page =
           ⊎_elim
           (λ (lt : page < length memory.copies).
-          subst SinceIn (sym (placed-copy (placed_with before intervals) memory.copies page lt)) (named (copy_at memory page) (is_named intervals page) (h.since page)))
+          subst SinceIn (sym (placed-copy (placed_with before intervals) memory.copies page lt)) (named (copy_at memory page)
+          (is_named intervals page) (h.since page)))
           (λ (le : length memory.copies ≤ page).
           subst SinceIn
-          (sym (get_or_past (map (placed_with before intervals) (enumerate_from 0 memory.copies)) page absent (omega (arith, le, length-placed (placed_with before intervals) memory.copies)))) tt)
+          (sym (get_or_past (map (placed_with before intervals) (enumerate_from 0 memory.copies)) page absent (omega (
+            arith,
+            le,
+            length-placed
+                (placed_with before intervals) memory.copies,
+          )))) tt)
           (cases_lt page (length memory.copies))
 
   dropped-since : (copy : Copy) → SinceIn (dropped copy)
