@@ -48,3 +48,4 @@ pub mod StampGrants
 pub mod RequestDeparts
 pub mod RequestLines
 pub mod RequestFormer
+pub mod RequestNotes
