@@ -49,3 +49,4 @@ pub mod RequestDeparts
 pub mod RequestLines
 pub mod RequestFormer
 pub mod RequestNotes
+pub mod RequestTold

@@ -1,21 +1,19 @@
 -- In every run each node's time covers what every node had told by the end of the former episode, and so does each departure.
-use Rattle.std.proofs.Common.{◌≡◌, ℕ, zero, suc, ◌+◌, ◌-◌, ◌<◌, ◌≤◌, List, [], ◌∷◌, Bool, true, false, cond, length, map, refl, sym, ap, subst, ◌∙◌, ⊎_elim, inl, inr, arith, append-nil}
-use Rattle.std.specs.Prelude.{Option, Some, None, ◌==◌, ◌&&◌, Contains, count_by, is_some, slice_get, slice_set, slice_index_or, unwrap_or, replicate}
-use Rattle.std.proofs.lemmas.Bool.{and_left, cases_eq, cases_lt, eq-eqb, ne_eqb, and_from, eqb-true, and_parts, false≢true}
-use Rattle.std.proofs.lemmas.Option.{same_Some, slice_get_within}
-use Rattle.std.proofs.lemmas.List.{get_or-set_same, get_or-set_other}
+use Rattle.std.proofs.Common.{◌≡◌, ℕ, ◌+◌, ◌<◌, ◌≤◌, List, [], ◌∷◌, Bool, true, false, cond, map, refl, sym, ap, subst, ◌∙◌, ⊎_elim, inl, inr, arith, append-nil}
+use Rattle.std.specs.Prelude.{Option, Some, None, ◌==◌, Contains, count_by, slice_get, slice_set, slice_index_or, unwrap_or}
+use Rattle.std.proofs.lemmas.Bool.{and_left, cases_eq, cases_lt, eqb-true, false≢true}
+use Rattle.std.proofs.lemmas.Option.{same_Some}
 use Rattle.lrc_lang.specs.declared.program.Program.{Program}
 use Rattle.lrc_exec.specs.Meaning.{Setting}
 use Rattle.lrc_exec.specs.Plain.{setting_of}
-use Rattle.lrc_time.specs.Time.{entry, joined, Covers}
+use Rattle.lrc_time.specs.Time.{entry, Covers}
 use Rattle.lrc_time.proofs.Times.{covers-refl}
-use Rattle.lrc_store.proofs.Orders.{Contains-first, Contains-later, cases_Contains, none_Contains}
+use Rattle.lrc_store.proofs.Orders.{Contains-first, Contains-later}
 use Rattle.lrc_wire.specs.Envelope.{EnvelopeRecord}
-use Rattle.lrc_wire.specs.Records.{ArriveRecord, DepartRecord}
-use Rattle.lrc_wire.specs.declared.message.Message.{Message}
+use Rattle.lrc_wire.specs.Records.{DepartRecord}
 use Rattle.lrc_wire.specs.declared.message.Message.TheVariants.{LockRequest, LockForward, LockGrant, Arrive, Depart, Clean, Discard, ChangesRequest, ChangesReply, PageRequest, PageReply}
 use Rattle.lrc_barrier.specs.declared.arrival.Arrival.{Arrival}
-use Rattle.lrc_barrier.specs.Barrier.{ManagerRecord, with_arrival, has_arrived}
+use Rattle.lrc_barrier.specs.Barrier.{ManagerRecord}
 use Rattle.lrc_protocol.specs.Mail.{Letter}
 use Rattle.lrc_protocol.specs.Node.{Node, OptionsRecord}
 use Rattle.lrc_protocol.specs.Turn.{TurnRecord}
@@ -27,19 +25,17 @@ use Rattle.lrc_protocol.proofs.Induction.{Comes}
 use Rattle.lrc_protocol.proofs.Turned.{Turned, Turns, turns}
 use Rattle.lrc_invariants.specs.Barriers.{says_depart, depart_to}
 use Rattle.lrc_invariants.proofs.Shift.{AllFrom}
-use Rattle.lrc_invariants.proofs.Sends.{Came, by_itself, comes, Site, site_of, letter_in, arrival_in}
-use Rattle.lrc_invariants.proofs.Flows.{Brings, IsFromNode, Stepped, again, once, stepped, came_count, count-cons, counts}
+use Rattle.lrc_invariants.proofs.Sends.{Came, by_itself, comes, site_of, letter_in}
+use Rattle.lrc_invariants.proofs.Flows.{Brings, Stepped, again, once, stepped, came_count, count-cons, counts}
 use Rattle.lrc_invariants.proofs.Standing.{depart_test}
 use Rattle.lrc_invariants.proofs.Pending.{Goes}
-use Rattle.lrc_invariants.proofs.Managers.{Gathered, LetGo, Places}
-use Rattle.lrc_invariants.proofs.Moves.{in-now, Brought, brought, sent_from, among_letters, counted_in}
+use Rattle.lrc_invariants.proofs.Moves.{in-now, Brought, brought, among_letters}
 use Rattle.lrc_invariants.proofs.AllStand.{AllStand, its_manager, all_stand}
 use Rattle.lrc_invariants.proofs.AllTimely.{manager_after}
-use Rattle.lrc_invariants.proofs.Arrivals.{get_set}
 use Rattle.lrc_invariants.proofs.Shape.{NodeShape, shape_at}
 use Rattle.lrc_invariants.proofs.Reached.{IsReached}
 use Rattle.lrc_coherence.proofs.RequestDeparts.{IsOwn}
-use Rattle.lrc_coherence.proofs.RequestLines.{Line, same_line, alone, stays_so, keeps_so, lets_so, line, Rises, rises}
+use Rattle.lrc_coherence.proofs.RequestLines.{Line, same_line, alone, line, Rises, rises}
 
 -- what comes is a departure for this node, where that is counted
 came_depart : (b me : ℕ) (came : Came) → 1 ≤ came_count (depart_test b) me came
@@ -171,7 +167,7 @@ module _ (program : Program) (nodes : ℕ) (options : OptionsRecord) where
       none_sent b [] q = refl
       none_sent b (x ∷ letters) q =
           let both : count_by (depart_test b l.node.setting.me) (x ∷ letters)
-              ≡ cond (depart_test b l.node.setting.me x) 1 0 + count_by (depart_test b l.node.setting.me) letters =
+          ≡ cond (depart_test b l.node.setting.me x) 1 0 + count_by (depart_test b l.node.setting.me) letters =
           count-cons (depart_test b l.node.setting.me) x letters in
           let first : cond {A = ℕ} (depart_test b l.node.setting.me x) 1 0 ≡ 0 =
           ap (λ t. cond {A = ℕ} t 1 0) (and_left (says_depart x.message) (x.to == b) (q x (Contains-first x letters))) in
@@ -184,7 +180,7 @@ module _ (program : Program) (nodes : ℕ) (options : OptionsRecord) where
       knows-on b lb at_b none q =
           let w : Was b lb = was b lb at_b in
           let flow : count_by (depart_to b) (pending next) + came_count (depart_test b) l.node.setting.me step.came
-              ≡ count_by (depart_to b) (pending world) + count_by (depart_test b l.node.setting.me) step.letters =
+          ≡ count_by (depart_to b) (pending world) + count_by (depart_test b l.node.setting.me) step.letters =
           counts (depart_test b) l.node.setting.me step.came step.o (pending world) (pending next) entry_is.turn.out step.letters step.brings step.goes step.from
           step.out in
           let unsent : count_by (depart_test b l.node.setting.me) step.letters ≡ 0 = none_sent b step.letters quiet in

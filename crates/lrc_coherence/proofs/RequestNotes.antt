@@ -1,13 +1,12 @@
 -- What the manager of barriers notes of each node's newest arrival, as arrivals are kept.
-use Rattle.std.proofs.Common.{◌≡◌, ℕ, ◌+◌, ◌-◌, ◌<◌, List, Bool, true, false, length, refl, sym, ap, subst, ◌∙◌, inl, inr}
+use Rattle.std.proofs.Common.{◌≡◌, ℕ, ◌+◌, ◌-◌, ◌<◌, false, length, refl, sym, ap, subst, ◌∙◌, inl, inr}
 use Rattle.std.specs.Prelude.{Option, Some, None, is_some, slice_index_or, slice_set}
 use Rattle.std.specs.List.{range_with_len}
-use Rattle.std.proofs.lemmas.Bool.{cases_eq, false≢true}
+use Rattle.std.proofs.lemmas.Bool.{cases_eq}
 use Rattle.std.proofs.lemmas.List.{get_or-set_same, get_or-set_other}
 use Rattle.lrc_time.specs.Time.{entry}
 use Rattle.lrc_barrier.specs.declared.arrival.Arrival.{Arrival}
 use Rattle.lrc_barrier.specs.Barrier.{ManagerRecord, with_arrival, has_arrived}
-use Rattle.lrc_protocol.specs.Expected.{indices_by}
 use Rattle.lrc_invariants.proofs.Managers.{Places}
 use Rattle.lrc_invariants.proofs.Arrivals.{get_set}
 use Rattle.lrc_coherence.proofs.RequestDeparts.{IsOwn}
