@@ -131,7 +131,8 @@ module _ (program : Program) (nodes : ℕ) (options : OptionsRecord) where
     step : LineStep l.node h.stand.manager (pending world) (pending next) entry_is.turn after.node
     step =
         let t : Turned l.node entry_is.turn after.node = subst (Turns l.node) i.turn_is (turns l.node input) in
-        line_step l.node h.stand.manager (its_manager program nodes options world h.stand n l at) (pending world) (pending next) entry_is.turn after.node t.setting
+        line_step l.node h.stand.manager (its_manager program nodes options world h.stand n l at) (pending world)
+        (pending next) entry_is.turn after.node t.setting
         (stepped program nodes options world flight n l after input entry_is at come i r)
 
     -- the node before, and its time
@@ -181,7 +182,8 @@ module _ (program : Program) (nodes : ℕ) (options : OptionsRecord) where
           let w : Was b lb = was b lb at_b in
           let flow : count_by (depart_to b) (pending next) + came_count (depart_test b) l.node.setting.me step.came
           ≡ count_by (depart_to b) (pending world) + count_by (depart_test b l.node.setting.me) step.letters =
-          counts (depart_test b) l.node.setting.me step.came step.o (pending world) (pending next) entry_is.turn.out step.letters step.brings step.goes step.from
+          counts (depart_test b) l.node.setting.me step.came step.o (pending world)
+          (pending next) entry_is.turn.out step.letters step.brings step.goes step.from
           step.out in
           let unsent : count_by (depart_test b l.node.setting.me) step.letters ≡ 0 = none_sent b step.letters quiet in
           let rise : entry w.old.node.locks.time q ≤ entry lb.node.locks.time q = w.above q in

@@ -41,7 +41,8 @@ notes-keep nodes former manager from a p lt first own h = record {
   free = λ q e. elim (cases_eq from q) [
     | inl same ↦
         absurd (some_none a
-        (sym (get_or-set_same manager.arrivals from (Some a) None within) ∙ ap (λ k. slice_index_or (slice_set manager.arrivals from (Some a)) k None) same ∙ e))
+        (sym (get_or-set_same manager.arrivals from (Some a) None within) ∙ ap (λ k. slice_index_or (slice_set manager.arrivals from
+        (Some a)) k None) same ∙ e))
     | inr other ↦
         get_or-set_other manager.last from q (entry a.time from) 0 (λ e. other (sym e))
         ∙ h.free q (sym (get_or-set_other manager.arrivals from q (Some a) None (λ e. other (sym e))) ∙ e)
@@ -49,7 +50,8 @@ notes-keep nodes former manager from a p lt first own h = record {
   kept = λ q x e. elim (get_set manager.arrivals from q a x e) [
     | inl here ↦
         subst (λ k. IsOwn former (entry x.time) k x.intervals × (entry (slice_set manager.last from (entry a.time from)) k ≡ entry x.time k)) here.0
-        (subst (λ (x : Arrival). IsOwn former (entry x.time) from x.intervals × (entry (slice_set manager.last from (entry a.time from)) from ≡ entry x.time from))
+        (subst (λ (x : Arrival). IsOwn former (entry x.time) from x.intervals × (entry (slice_set manager.last from
+        (entry a.time from)) from ≡ entry x.time from))
         here.1 (mine, get_or-set_same manager.last from (entry a.time from) 0 (subst (λ k. from < k) (sym p.last) lt)))
     | inr old ↦
         let it : _ = h.kept q x old in (

@@ -34,7 +34,8 @@ pub told_so : (arrivals rest : List Arrival) (start : ℕ) (l : Letter) (d : Dep
 unfolding time_in told_in
 told_so arrivals [] start l d there e = absurd (none_Contains l there)
 told_so arrivals (a ∷ rest) start l d there e =
-    elim (cases_Contains (departure_of (departure_to arrivals (start, a))) (map departure_of (map (departure_to arrivals) (enumerate_from (start + 1) rest))) l there) [
+    elim (cases_Contains (departure_of (departure_to arrivals (start, a))) (map departure_of (map (departure_to arrivals) (enumerate_from
+    (start + 1) rest))) l there) [
       | inl is ↦
           record {
             place = zero;
