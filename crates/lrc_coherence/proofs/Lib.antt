@@ -79,3 +79,5 @@ pub mod StampBars
 pub mod StampSent
 pub mod RequestLines
 pub mod RequestFormer
+pub mod RequestNotes
+pub mod RequestTold

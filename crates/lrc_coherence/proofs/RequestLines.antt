@@ -28,10 +28,12 @@ pub data Line (s : Site) (manager : ManagerRecord) : Came → Barrier → List L
       → unwrap_or barrier.manager manager ≡ after → LetGo manager from (arrival_in m) after departures
       → Line s manager (comes from (Arrive m)) barrier (map departure_of departures)
 
-pub same_line : (s : Site) (manager : ManagerRecord) (came : Came) (barrier : Barrier) (letters : List Letter) (o : Option ManagerRecord) → s.barrier.manager ≡ o
+pub same_line : (s : Site) (manager : ManagerRecord) (came : Came) (barrier : Barrier) (letters : List Letter) (o : Option ManagerRecord)
+    → s.barrier.manager ≡ o
     → ((x : ManagerRecord) → o ≡ Some x → x ≡ manager) → barrier.manager ≡ s.barrier.manager → Line s manager came barrier letters
 same_line s manager came barrier letters None at is e =
-    stays_so (ap (λ (o : Option ManagerRecord). (unwrap_or o manager).last) (e ∙ at)) (ap (λ (o : Option ManagerRecord). (unwrap_or o manager).arrivals) (e ∙ at))
+    stays_so (ap (λ (o : Option ManagerRecord). (unwrap_or o manager).last) (e ∙ at)) (ap (λ (o : Option ManagerRecord).
+    (unwrap_or o manager).arrivals) (e ∙ at))
 same_line s manager came barrier letters (Some x) at is e =
     stays_so (ap (λ (o : Option ManagerRecord). (unwrap_or o manager).last) (e ∙ at) ∙ ap (λ (m : ManagerRecord). m.last) (is x refl))
     (ap (λ (o : Option ManagerRecord). (unwrap_or o manager).arrivals) (e ∙ at) ∙ ap (λ (m : ManagerRecord). m.arrivals) (is x refl))
@@ -119,11 +121,13 @@ not_depart _ = true
 pub alone : (s : Site) (locks : Locks) → Covers locks.time s.locks.time → Rises s by_itself locks
 alone s locks c = silent s by_itself locks c none_comes
 
-other : (s : Site) (from : ℕ) (message : Message) (locks : Locks) → Covers locks.time s.locks.time → not_depart message ≡ true → Rises s (comes from message) locks
+other : (s : Site) (from : ℕ) (message : Message) (locks : Locks) → Covers locks.time s.locks.time → not_depart message ≡ true
+    → Rises s (comes from message) locks
 unfolding not_depart
 other s from message locks c e = silent s (comes from message) locks c (says_no from message not_depart e (λ m. refl))
 
-of_pages : (s : Site) (from : ℕ) (message : Message) (locks : Locks) → Covers locks.time s.locks.time → is_other message ≡ true → Rises s (comes from message) locks
+of_pages : (s : Site) (from : ℕ) (message : Message) (locks : Locks) → Covers locks.time s.locks.time → is_other message ≡ true
+    → Rises s (comes from message) locks
 of_pages s from message locks c e = silent s (comes from message) locks c (says_no from message is_other e (λ m. refl))
 
 -- every turn
