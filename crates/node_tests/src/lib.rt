@@ -8,6 +8,8 @@ mod nodes;
 #[cfg(test)]
 mod refusals;
 #[cfg(test)]
+mod rounds;
+#[cfg(test)]
 mod simulations;
 #[cfg(test)]
 mod traces;

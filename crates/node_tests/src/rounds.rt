@@ -1,0 +1,81 @@
+// Runs of several nodes in rounds.
+
+use lrc_lang::parse;
+use lrc_node::Options;
+use lrc_page::Size;
+use lrc_protocol::Event;
+use lrc_wire::Picker;
+use lrc_world::report::SimFault;
+use lrc_world::simulate::drive;
+use std::alloc::Global;
+
+const TOLD_AT_A_BARRIER: &[u8] =
+    b"words 1; locks 0; if me == 0 { [0] = 7; } barrier; x = [0]; print x;";
+
+const WRITTEN_BY_ONE: &[u8] =
+    b"words 1; locks 0; if me == 1 { [0] = 5; } barrier; x = [0]; print x;";
+
+fn options(steps: u32, collect: u32, first: u32) -> Options {
+    Options {
+        steps,
+        collect,
+        first,
+        size: Size::Words64,
+    }
+}
+
+// How many messages are delivered for the last time, and how many stay in flight once.
+fn delivered(
+    alloc: Global,
+    nodes: u32,
+    options: Options,
+    text: &[u8],
+    picker: Picker,
+) -> Result<(u32, u32), SimFault> {
+    let program = parse(alloc, text).map_err(|_fault| SimFault::NoMemory)?;
+    let (events, _report) = drive(alloc, &program, nodes, &options, picker)?;
+    let mut deliveries = 0u32;
+    let mut repeats = 0u32;
+    for event in &events {
+        match event {
+            Event::Run(_) => {}
+            Event::Deliver(_) => deliveries = deliveries.saturating_add(1),
+            Event::Repeat(_) => repeats = repeats.saturating_add(1),
+        }
+    }
+    Ok((deliveries, repeats))
+}
+
+// The fault of a run.
+fn fault(alloc: Global, nodes: u32, options: Options) -> Option<SimFault> {
+    delivered(alloc, nodes, options, TOLD_AT_A_BARRIER, Picker::Oldest).err()
+}
+
+#[test]
+fn every_message_is_delivered(rt: HostRuntime) {
+    for (collect, count) in [(0, 10), (1, 16)] {
+        let options = options(1_000_000, collect, 0);
+        for (picker, repeats) in [
+            (Picker::Oldest, 0),
+            (Picker::Newest, 0),
+            (Picker::Twice, count),
+        ] {
+            let found = delivered(rt.alloc(), 3, options, WRITTEN_BY_ONE, picker);
+            assert!(rt; found == Ok((count, repeats)));
+        }
+    }
+}
+
+#[test]
+fn each_refusal_has_its_cause(rt: HostRuntime) {
+    let cases = [
+        (0, options(1, 0, 0), SimFault::BadNodes),
+        (17, options(0, 0, 0), SimFault::BadNodes),
+        (16, options(0, 0, 0), SimFault::BadSteps),
+        (1, options(1_000_001, 0, 0), SimFault::BadSteps),
+        (2, options(1_000_000, 0, 4_294_967_295), SimFault::Worn),
+    ];
+    for (nodes, options, cause) in cases {
+        assert!(rt; fault(rt.alloc(), nodes, options) == Some(cause));
+    }
+}
