@@ -34,25 +34,44 @@ fn take(mail: &mut Mail, number: u32) -> Result<(), AllocError>
     mail.note_taken(1, number)
 }
 
-#[test]
-fn takes_numbers_in_any_order(rt: HostRuntime) -> Result<(), Fail> {
-    let mut mail = Mail::new(rt.alloc(), 2)?;
-    take(&mut mail, 2)?;
-    take(&mut mail, 4)?;
-    take(&mut mail, 3)?;
-    take(&mut mail, 6)?;
-    let before = taken(&mail);
-    assert!(rt; before == [false, true, true, true, false, true]);
-    take(&mut mail, 5)?;
-    take(&mut mail, 1)?;
-    let after = taken(&mail);
-    assert!(rt; after == [true; 6]);
-    let others = [
+/// Takes two numbers from node 1, those that were not taken.
+fn take_two(mail: &mut Mail, first: u32, second: u32) -> Result<(), AllocError>
+    requires { 1 < length mail.old.taken }
+    ensures { length mail.new.taken ≡ length mail.old.taken }
+{
+    take(mail, first)?;
+    take(mail, second)
+}
+
+/// Whether numbers that nobody sent were taken.
+fn others(mail: &Mail) -> [bool; 3]
+    requires { 1 < length mail.now.taken }
+{
+    [
         mail.was_taken(0, 2),
         mail.was_taken(1, 0),
         mail.was_taken(1, 7),
-    ];
-    assert!(rt; others == [false; 3]);
+    ]
+}
+
+/// Whether the numbers 1 to 6 were taken, before the last two of them came and after.
+fn taken_twice(mail: &mut Mail) -> Result<[[bool; 6]; 2], AllocError>
+    requires { 1 < length mail.old.taken }
+    ensures { length mail.new.taken ≡ length mail.old.taken }
+{
+    take_two(mail, 2, 4)?;
+    take_two(mail, 3, 6)?;
+    let before = taken(mail);
+    take_two(mail, 5, 1)?;
+    Ok([before, taken(mail)])
+}
+
+#[test]
+fn takes_numbers_in_any_order(rt: HostRuntime) -> Result<(), Fail> {
+    let mut mail = Mail::new(rt.alloc(), 2)?;
+    let found = taken_twice(&mut mail)?;
+    let before = [false, true, true, true, false, true];
+    assert!(rt; (found, others(&mail)) == ([before, [true; 6]], [false; 3]));
     Ok(())
 }
 
@@ -195,17 +214,34 @@ fn state(wait: &Wait) -> [bool; 4] {
     ]
 }
 
-#[test]
-fn waits_until_all_has_come(rt: HostRuntime) -> Result<(), Fail> {
-    let mut wait = Wait::Access(absent_page(rt.alloc())?);
+/// How a wait for what a page needs stands once the changes have come, and once the base copy has come too, and how many
+/// requests there are then.
+fn comes(
+    alloc: Global,
+    need: Need,
+    copy: Box<Page>,
+) -> Result<([[bool; 4]; 2], usize), AllocError> {
+    let mut wait = Wait::Access(need);
     wait.take_changes(3, 1);
     wait.take_changes(3, 2);
     let before = state(&wait);
-    let copy = Box::new(rt.alloc(), Page::zero(Size::Words64))?;
     wait.take_page(3, copy);
     let after = state(&wait);
-    assert!(rt; [before, after] == [[false, true, false, false], [false, false, false, true]]);
-    let more = requests(rt.alloc(), wait.needs())?;
-    assert!(rt; more.is_empty());
+    let more = requests(alloc, wait.needs())?;
+    Ok(([before, after], more.len()))
+}
+
+#[test]
+fn waits_until_all_has_come(rt: HostRuntime) -> Result<(), Fail> {
+    let copy = Box::new(rt.alloc(), Page::zero(Size::Words64))?;
+    let need = absent_page(rt.alloc())?;
+    let found = comes(rt.alloc(), need, copy)?;
+    assert!(rt;
+        found
+            == (
+                [[false, true, false, false], [false, false, false, true]],
+                0
+            )
+    );
     Ok(())
 }

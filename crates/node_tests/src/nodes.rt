@@ -116,11 +116,15 @@ fn granted_from(
     granted_by(alloc, zero, &mut one)
 }
 
+fn granted_in(alloc: Global, code: &Code<'_>) -> Option<(Bytes, [Outline; 3])> {
+    let mut zero = Node::new(alloc, code, 0, 2, &options(0)).ok()?;
+    granted_from(alloc, code, &mut zero)
+}
+
 fn granted(alloc: Global) -> Option<(Bytes, [Outline; 3])> {
     let program = parse(alloc, ONE_LOCK).ok()?;
     let code = Code::new(alloc, &program).ok()?;
-    let mut zero = Node::new(alloc, &code, 0, 2, &options(0)).ok()?;
-    granted_from(alloc, &code, &mut zero)
+    granted_in(alloc, &code)
 }
 
 #[test]
@@ -133,52 +137,60 @@ fn a_grant_has_the_time_of_the_release(rt: HostRuntime) {
     assert!(rt; outlines == [acquired, empty, asks]);
 }
 
-/// What comes of the runs of a node whose text is one write, and whether it is ready and ended then.
-fn rests(node: &mut Node<'_>) -> ([Outline; 3], bool, End) {
-    let written = run_once(node);
-    let ended = run_once(node);
-    let outlines = [written, ended, run_once(node)];
-    (outlines, node.ready(), node.end())
+/// What comes of four turns of a node by itself, and whether it is ready and how it ended then.
+type Found = ([Outline; 4], bool, End);
+
+/// A node takes the message of a turn where it has one, and else goes on.
+fn go_on(node: &mut Node<'_>, turn: &Turn) -> Outline {
+    if turn.out.is_empty() {
+        return run_once(node);
+    }
+    take_first(node, turn)
 }
 
-fn rested(alloc: Global) -> Option<([Outline; 3], bool, End)> {
-    let program = parse(alloc, ONE_WORD).ok()?;
+/// A node runs, does twice what its first turn leads to, and runs again.
+fn turns(node: &mut Node<'_>) -> Option<[Outline; 4]> {
+    let first = node.run().ok()?;
+    let second = go_on(node, &first);
+    let third = go_on(node, &first);
+    Some([Ok(outline(&first)), second, third, run_once(node)])
+}
+
+/// The same with how the node stands then.
+fn alone(node: &mut Node<'_>) -> Option<Found> {
+    let outlines = turns(node)?;
+    Some((outlines, node.ready(), node.end()))
+}
+
+fn alone_in(alloc: Global, code: &Code<'_>, first: u32) -> Option<Found> {
+    let mut node = Node::new(alloc, code, 0, 1, &options(first)).ok()?;
+    alone(&mut node)
+}
+
+fn found(alloc: Global, text: &[u8], first: u32) -> Option<Found> {
+    let program = parse(alloc, text).ok()?;
     let code = Code::new(alloc, &program).ok()?;
-    let mut node = Node::new(alloc, &code, 0, 1, &options(0)).ok()?;
-    Some(rests(&mut node))
+    alone_in(alloc, &code, first)
 }
 
 #[test]
 fn a_node_at_its_end_is_not_ready(rt: HostRuntime) {
     let written = Ok((Some(Deed::Write(0, 1)), 0));
     let ended = Ok((Some(Deed::End), 0));
-    let outlines = [written, ended, Err(NodeFault::NotReady)];
-    assert!(rt; rested(rt.alloc()) == Some((outlines, false, End::Ended)));
+    let unready = Err(NodeFault::NotReady);
+    let wanted = ([written, ended, unready, unready], false, End::Ended);
+    assert!(rt; found(rt.alloc(), ONE_WORD, 0) == Some(wanted));
 }
 
-/// What comes of a node's arrival, taken twice, and of a run then, and whether it is ready and ended.
-fn wears(node: &mut Node<'_>) -> Option<([Outline; 3], bool, End)> {
-    let arrived = node.run().ok()?;
-    let taken = take_first(node, &arrived);
-    let again = take_first(node, &arrived);
-    let outlines = [taken, again, run_once(node)];
-    Some((outlines, node.ready(), node.end()))
-}
-
-/// The first message has the largest number there is.
-fn worn(alloc: Global) -> Option<([Outline; 3], bool, End)> {
-    let program = parse(alloc, ONE_BARRIER).ok()?;
-    let code = Code::new(alloc, &program).ok()?;
-    let mut node = Node::new(alloc, &code, 0, 1, &options(4_294_967_295)).ok()?;
-    wears(&mut node)
-}
-
+// The node's first message has the largest number there is. It answers with a second one, to itself too.
 #[test]
 fn a_node_fails_where_numbers_are_used_up(rt: HostRuntime) {
-    let outlines = [
-        Err(NodeFault::Worn),
-        Err(NodeFault::Failed),
-        Err(NodeFault::Failed),
-    ];
-    assert!(rt; worn(rt.alloc()) == Some((outlines, false, End::Unfinished)));
+    let arrived = Ok((Some(Deed::Arrive), 1));
+    let failed = Err(NodeFault::Failed);
+    let wanted = (
+        [arrived, Err(NodeFault::Worn), failed, failed],
+        false,
+        End::Unfinished,
+    );
+    assert!(rt; found(rt.alloc(), ONE_BARRIER, 4_294_967_295) == Some(wanted));
 }

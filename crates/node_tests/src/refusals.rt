@@ -127,16 +127,27 @@ fn sends(alloc: Global, node: &mut Node<'_>, bytes: &[u8]) -> Option<usize> {
     Some(turn.out.len())
 }
 
-/// Which false messages a fresh node 1 of two refuses, the act that it makes then, and how many messages it sends when it
-/// takes a true one.
-fn refused(alloc: Global) -> Option<([bool; 14], Act, usize)> {
+/// Which false messages a node refuses; its act then; whether it refuses a departure after that; how many messages it sends
+/// when it takes a true one; and its next act.
+type Found = ([bool; 14], Option<Act>, bool, Option<usize>, Option<Act>);
+
+fn tried(alloc: Global, node: &mut Node<'_>) -> Found {
+    let refused = refuses_each(alloc, node);
+    let act = next_act(node);
+    let refused_later = refuses(alloc, node, DEPART);
+    let sent = sends(alloc, node, TRUE_REQUEST);
+    (refused, act, refused_later, sent, next_act(node))
+}
+
+fn tried_fresh(alloc: Global, code: &Code<'_>) -> Option<Found> {
+    let mut node = Node::new(alloc, code, 1, 2, &OPTIONS).ok()?;
+    Some(tried(alloc, &mut node))
+}
+
+fn found(alloc: Global) -> Option<Found> {
     let program = parse(alloc, ONE_WORD).ok()?;
     let code = Code::new(alloc, &program).ok()?;
-    let mut node = Node::new(alloc, &code, 1, 2, &OPTIONS).ok()?;
-    let refused = refuses_each(alloc, &mut node);
-    let act = next_act(&mut node)?;
-    let sent = sends(alloc, &mut node, TRUE_REQUEST)?;
-    Some((refused, act, sent))
+    tried_fresh(alloc, &code)
 }
 
 #[test]
@@ -145,32 +156,10 @@ fn false_messages_change_nothing(rt: HostRuntime) {
         node: 1,
         deed: Deed::Write(0, 1),
     };
-    assert!(rt; refused(rt.alloc()) == Some(([true; 14], written, 1)));
-}
-
-/// Whether a departure that is not awaited is refused between two acts, and the acts.
-fn goes_on(alloc: Global, node: &mut Node<'_>) -> (Option<Act>, bool, Option<Act>) {
-    let before = next_act(node);
-    let refused = refuses(alloc, node, DEPART);
-    (before, refused, next_act(node))
-}
-
-fn went_on(alloc: Global) -> Option<(Option<Act>, bool, Option<Act>)> {
-    let program = parse(alloc, ONE_WORD).ok()?;
-    let code = Code::new(alloc, &program).ok()?;
-    let mut node = Node::new(alloc, &code, 1, 2, &OPTIONS).ok()?;
-    Some(goes_on(alloc, &mut node))
-}
-
-#[test]
-fn a_departure_that_is_not_awaited_changes_nothing(rt: HostRuntime) {
-    let written = Act {
-        node: 1,
-        deed: Deed::Write(0, 1),
-    };
     let ended = Act {
         node: 1,
         deed: Deed::End,
     };
-    assert!(rt; went_on(rt.alloc()) == Some((Some(written), true, Some(ended))));
+    let wanted = ([true; 14], Some(written), true, Some(1), Some(ended));
+    assert!(rt; found(rt.alloc()) == Some(wanted));
 }

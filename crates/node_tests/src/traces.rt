@@ -82,22 +82,39 @@ fn shown_log(log: &[Entry]) -> Option<(usize, u64)> {
     Some((log.len(), log.last()?.stamp))
 }
 
-/// What a node by itself has in its trace and its log at its end.
-fn ended(alloc: Global, node: Node<'_>) -> Option<([Shown; 3], (usize, u64))> {
-    let mut logged = Logged::new(alloc, node);
-    run_often(&mut logged, 6);
-    take_own(alloc, &mut logged)?;
-    take_own(alloc, &mut logged)?;
-    run_often(&mut logged, 8);
-    let (log, trace) = logged.into_parts();
-    Some((shown_trace(&trace)?, shown_log(log.as_slice())?))
+/// A node by itself comes to its end: it takes its arrival, and its departure.
+fn run_whole(alloc: Global, logged: &mut Logged<'_>) -> Option<()> {
+    run_often(logged, 6);
+    take_own(alloc, logged)?;
+    take_own(alloc, logged)?;
+    run_often(logged, 8);
+    Some(())
 }
 
-fn traced(alloc: Global) -> Option<([Shown; 3], (usize, u64))> {
+/// What a trace and a log show.
+type Found = ([Shown; 3], (usize, u64));
+
+fn shown_both(log: &[Entry], trace: &Trace) -> Option<Found> {
+    Some((shown_trace(trace)?, shown_log(log)?))
+}
+
+/// What a node by itself has in its trace and its log at its end.
+fn ended(alloc: Global, node: Node<'_>) -> Option<Found> {
+    let mut logged = Logged::new(alloc, node);
+    run_whole(alloc, &mut logged)?;
+    let (log, trace) = logged.into_parts();
+    shown_both(log.as_slice(), &trace)
+}
+
+fn traced_in(alloc: Global, code: &Code<'_>) -> Option<Found> {
+    let node = Node::new(alloc, code, 0, 1, &OPTIONS).ok()?;
+    ended(alloc, node)
+}
+
+fn traced(alloc: Global) -> Option<Found> {
     let program = parse(alloc, ONE_BARRIER).ok()?;
     let code = Code::new(alloc, &program).ok()?;
-    let node = Node::new(alloc, &code, 0, 1, &OPTIONS).ok()?;
-    ended(alloc, node)
+    traced_in(alloc, &code)
 }
 
 #[test]
