@@ -34,8 +34,22 @@ impl Model for Mailbox {
 }
 
 impl Mailbox {
-    /// An empty mailbox, which is open. It takes no memory.
-    pub fn new(owner: u8, picker: Picker, alloc: Global) -> Self
+    /// An empty mailbox of a node, which is open, with room for an entry from each of so many nodes. There is none for want of
+    /// memory for that.
+    pub fn new(alloc: Global, owner: u8, nodes: u8, picker: Picker) -> Result<Self, AllocError>
+        ensures { IfOk result (λ mailbox. mailbox ≡ record { owner = owner; picker = picker; closed = false; history = [] }) }
+    {
+        Ok(Mailbox {
+            owner,
+            picker,
+            closed: false,
+            history: Vec::with_capacity(alloc, usize::from(nodes))?,
+            flight: VecDeque::new(alloc),
+        })
+    }
+
+    /// The same without room, which takes no memory.
+    pub(crate) fn empty(owner: u8, picker: Picker, alloc: Global) -> Self
         ensures { result ≡ record { owner = owner; picker = picker; closed = false; history = [] } }
     {
         Mailbox {
@@ -139,6 +153,7 @@ impl Mailbox {
         ensures ok { OnOk result (self.new ≡ with_puts self.old from (parcel ∷ [])) }
         ensures err { OnErr result (self.new ≡ self.old) }
         ensures back { IfErr result (λ refused. refused.1 ≡ parcel) }
+        ensures open { self.old.closed ≡ false → parcel.to ≡ self.old.owner → IfErr result (λ refused. refused.0 ≡ NoMemory) }
     {
         if self.closed || parcel.to != self.owner {
             return Err((PostFault::Closed, parcel));

@@ -8,7 +8,7 @@ pub struct Parcel {
     /// The node that it is for.
     pub to: u8,
     /// The number of the turn in which it was sent, which orders the turns of all nodes.
-    pub stamp: u32,
+    pub stamp: u64,
     /// The bytes of the message, which are shared and not copied.
     pub bytes: Bytes,
 }
@@ -23,7 +23,7 @@ pub enum Wire {
         /// The node that it is for.
         to: u8,
         /// The number of the turn in which it was sent.
-        stamp: u32,
+        stamp: u64,
         /// The bytes of the message.
         bytes: Bytes,
     },

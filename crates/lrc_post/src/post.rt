@@ -42,7 +42,7 @@ impl Post {
         let mut desks = Vec::new(alloc);
         for owner in 0..nodes {
             desks.push(Desk {
-                mailbox: Mutex::new(Mailbox::new(owner, picker, alloc)),
+                mailbox: Mutex::new(Mailbox::new(alloc, owner, nodes, picker)?),
                 arrived: Condvar::new(),
             })?;
         }
@@ -136,7 +136,7 @@ impl Post {
                     self.picker,
                     self.alloc,
                 ),
-                None => Mailbox::new(owner, self.picker, self.alloc),
+                None => Mailbox::empty(owner, self.picker, self.alloc),
             };
             let _ = mailbox.history();
             let Ok(()) = mailboxes.push(mailbox) else {
@@ -178,6 +178,6 @@ fn own_or_empty(mailbox: Mailbox, owner: u8, picker: Picker, alloc: Global) -> M
     if mailbox.owner() == owner {
         mailbox
     } else {
-        Mailbox::new(owner, picker, alloc)
+        Mailbox::empty(owner, picker, alloc)
     }
 }

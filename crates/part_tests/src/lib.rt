@@ -20,8 +20,6 @@ mod messages;
 #[cfg(test)]
 mod pages;
 #[cfg(test)]
-mod posts;
-#[cfg(test)]
 mod protocol;
 #[cfg(test)]
 mod races;

@@ -1,0 +1,220 @@
+// Mailboxes, and the post over them.
+
+ghost use Rattle.std.specs.Prelude.{◌≡◌};
+
+use bytes::Bytes;
+use lrc_post::{Mailbox, Parcel, Post, PostFault};
+use lrc_wire::Picker;
+use std::alloc::{AllocError, Global};
+use std::process::Abort;
+use std::sync::Wait;
+use std::test::Fail;
+use std::thread;
+
+/// Node 0 puts two parcels for node 1, with stamps 1 and 2. Where that is refused: why, and how many came back.
+fn put_two(
+    rt: &impl Abort,
+    alloc: Global,
+    mailbox: &mut Mailbox,
+) -> Result<Option<(PostFault, usize)>, AllocError> {
+    assert!(rt; mailbox.owner() == 1);
+    let first = Parcel {
+        to: 1,
+        stamp: 1,
+        bytes: Bytes::new(),
+    };
+    let second = Parcel {
+        to: 1,
+        stamp: 2,
+        bytes: Bytes::new(),
+    };
+    let parcels = vec![in alloc; first, second]?;
+    Ok(match mailbox.put_all(0, parcels) {
+        Ok(()) => None,
+        Err(unput) => Some((unput.fault, unput.parcels.len())),
+    })
+}
+
+/// The stamp of the parcel that is given next, and 0 for none.
+fn next_stamp(mailbox: &mut Mailbox) -> Result<u64, PostFault> {
+    Ok(match mailbox.give()? {
+        Some(parcel) => parcel.stamp,
+        None => 0,
+    })
+}
+
+/// The stamps of the parcels that a mailbox of node 1 gives in five calls after two were put.
+fn stamps_by(rt: &impl Abort, alloc: Global, picker: Picker) -> Result<[u64; 5], Fail> {
+    let mut mailbox = Mailbox::new(alloc, 1, 2, picker)?;
+    let refused = put_two(rt, alloc, &mut mailbox)?;
+    assert!(rt; refused.is_none());
+    let mut stamps = [0; 5];
+    for place in 0..5usize {
+        stamps[place] = next_stamp(&mut mailbox)?;
+    }
+    Ok(stamps)
+}
+
+#[test]
+fn gives_by_the_picker(rt: HostRuntime) -> Result<(), Fail> {
+    let oldest = stamps_by(&rt, rt.alloc(), Picker::Oldest)?;
+    let newest = stamps_by(&rt, rt.alloc(), Picker::Newest)?;
+    let twice = stamps_by(&rt, rt.alloc(), Picker::Twice)?;
+    assert!(rt; [oldest, newest, twice] == [[1, 2, 0, 0, 0], [2, 1, 0, 0, 0], [1, 1, 2, 2, 0]]);
+    Ok(())
+}
+
+#[test]
+fn refuses_and_gives_nothing_once_closed(rt: HostRuntime) -> Result<(), Fail> {
+    let mut mailbox = Mailbox::new(rt.alloc(), 1, 2, Picker::Oldest)?;
+    let first = put_two(&rt, rt.alloc(), &mut mailbox)?;
+    mailbox.close();
+    let second = put_two(&rt, rt.alloc(), &mut mailbox)?;
+    let given = next_stamp(&mut mailbox)?;
+    assert!(rt;
+        (first, second, given, mailbox.history().len())
+            == (None, Some((PostFault::Closed, 2)), 0, 2)
+    );
+    Ok(())
+}
+
+#[test]
+fn gives_a_thousand_parcels(rt: HostRuntime) -> Result<(), Fail> {
+    let mut mailbox = Mailbox::new(rt.alloc(), 1, 2, Picker::Newest)?;
+    for _ in 0..500u64 {
+        let refused = put_two(&rt, rt.alloc(), &mut mailbox)?;
+        assert!(rt; refused.is_none());
+    }
+    let mut twos = 0u64;
+    for _ in 0..1000u64 {
+        if next_stamp(&mut mailbox)? == 2 && twos < 1000 {
+            twos += 1;
+        }
+    }
+    let left = next_stamp(&mut mailbox)?;
+    assert!(rt; (twos, left, mailbox.history().len()) == (500, 0, 2000));
+    Ok(())
+}
+
+/// The stamp of the parcel that node 1 polls next, and 0 for none.
+fn polled<R: Wait>(rt: &R, post: &Post) -> Result<u64, PostFault> {
+    Ok(match post.poll(rt, 1)? {
+        Some(parcel) => parcel.stamp,
+        None => 0,
+    })
+}
+
+/// Node 0 puts parcels for node 1, with these stamps. Where that is refused: why, and how many came back.
+fn put_stamps<R: Wait>(
+    rt: &R,
+    alloc: Global,
+    post: &Post,
+    stamps: &[u64],
+) -> Result<Option<(PostFault, usize)>, AllocError> {
+    let mut parcels = Vec::new(alloc);
+    for stamp in stamps {
+        parcels.push(Parcel {
+            to: 1,
+            stamp: *stamp,
+            bytes: Bytes::new(),
+        })?;
+    }
+    Ok(match post.put_all(rt, 0, parcels) {
+        Ok(()) => None,
+        Err(unput) => Some((unput.fault, unput.parcels.len())),
+    })
+}
+
+/// The stamps that node 1 polls in five calls after two parcels were put, and how long each history then is.
+fn post_stamps_by<R: Wait + Abort>(
+    rt: &R,
+    alloc: Global,
+    picker: Picker,
+) -> Result<([u64; 5], usize, usize), Fail> {
+    let post = Post::new(alloc, 2, picker)?;
+    let refused = put_stamps(rt, alloc, &post, &[1, 2])?;
+    assert!(rt; refused.is_none());
+    let mut stamps = [0; 5];
+    for place in 0..5usize {
+        stamps[place] = polled(rt, &post)?;
+    }
+    let wires = post.into_wires();
+    let mailboxes = wires.mailboxes();
+    assert!(rt; mailboxes.len() == 2);
+    Ok((
+        stamps,
+        mailboxes[0].history().len(),
+        mailboxes[1].history().len(),
+    ))
+}
+
+#[test]
+fn post_gives_by_the_picker(rt: HostRuntime) -> Result<(), Fail> {
+    let oldest = post_stamps_by(&rt, rt.alloc(), Picker::Oldest)?;
+    let newest = post_stamps_by(&rt, rt.alloc(), Picker::Newest)?;
+    let twice = post_stamps_by(&rt, rt.alloc(), Picker::Twice)?;
+    assert!(rt; oldest == ([1, 2, 0, 0, 0], 0, 4));
+    assert!(rt; newest == ([2, 1, 0, 0, 0], 0, 4));
+    assert!(rt; twice == ([1, 1, 2, 2, 0], 0, 6));
+    Ok(())
+}
+
+#[test]
+fn post_refuses_once_closed(rt: HostRuntime) -> Result<(), Fail> {
+    let post = Post::new(rt.alloc(), 2, Picker::Oldest)?;
+    let first = put_stamps(&rt, rt.alloc(), &post, &[1, 2])?;
+    post.close(&rt);
+    let second = put_stamps(&rt, rt.alloc(), &post, &[3, 4, 5])?;
+    let given = polled(&rt, &post)?;
+    assert!(rt; (first, second, given) == (None, Some((PostFault::Closed, 3)), 0));
+    let taken = post.take(&rt, 1)?;
+    assert!(rt; taken.is_none());
+    Ok(())
+}
+
+/// A node puts five hundred parcels for node 1, one in each call, and then waits for a parcel of its own, which never comes.
+fn put_many<R: Wait>(rt: &R, alloc: Global, post: &Post, me: u8) -> Result<bool, AllocError> {
+    for _ in 0..500u64 {
+        if put_stamps(rt, alloc, post, &[u64::from(me)])?.is_some() {
+            return Ok(false);
+        }
+    }
+    Ok(matches!(post.take(rt, me), Ok(None)))
+}
+
+/// Takes until the post is closed: how many parcels came.
+fn take_many<R: Wait>(rt: &R, post: &Post) -> Option<u64> {
+    let mut taken = 0u64;
+    for _ in 0..2000u64 {
+        match post.take(rt, 1) {
+            Ok(Some(_)) if taken < 2000 => taken += 1,
+            Ok(_) => return Some(taken),
+            Err(_) => return None,
+        }
+    }
+    Some(taken)
+}
+
+#[test]
+fn two_threads_put_a_thousand_and_one_takes_them(rt: HostRuntime) -> Result<(), Fail> {
+    let alloc: Global = rt.alloc();
+    let post = Post::new(alloc, 3, Picker::Oldest)?;
+    let shared = &post;
+    let (puts, taken) = thread::join(
+        &rt,
+        || {
+            thread::join(
+                &rt,
+                || put_many(&rt, alloc, shared, 0),
+                || put_many(&rt, alloc, shared, 2),
+            )
+        },
+        || take_many(&rt, shared),
+    );
+    assert!(rt; puts.0? && puts.1?);
+    assert!(rt; taken == Some(1000));
+    let wires = post.into_wires();
+    assert!(rt; wires.mailboxes().len() == 3);
+    assert!(rt; wires.mailboxes()[1].history().len() == 2000);
+    Ok(())
+}
