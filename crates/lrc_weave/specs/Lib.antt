@@ -1,0 +1,3 @@
+pub mod Logs
+pub mod Matched
+pub mod Woven

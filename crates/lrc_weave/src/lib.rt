@@ -1,0 +1,5 @@
+//! The order in which the turns of nodes that ran side by side can stand in one run, found from the nodes' logs and from
+//! what their mailboxes kept.
+#![tactic(auto)]
+
+pub mod laws;
