@@ -1,2 +1,7 @@
 pub mod Places
 pub mod Played
+pub mod Members
+pub mod Paired
+pub mod Rising
+pub mod Holding
+pub mod Weaving

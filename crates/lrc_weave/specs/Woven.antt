@@ -1,9 +1,10 @@
 -- Turns of all nodes in one order: by their stamps, and where those are the same by their nodes.
-use Rattle.std.specs.Prelude.{◌≡◌, ℕ, ◌+◌, ◌<◌, ◌≤◌, ◌⊎◌, Option, Some, None, List, [], ◌∷◌, ◌++◌, length, replicate, take, drop, remove, slice_get, slice_set, slice_index_or}
+use Rattle.std.specs.Prelude.{◌≡◌, ℕ, ◌+◌, ◌<◌, ◌≤◌, ◌⊎◌, ◌==◌, ◌&&◌, Bool, true, false, Option, Some, None, List, [], ◌∷◌, ◌++◌, length, replicate, take, drop, remove, slice_get, slice_set, slice_index_or}
+use Rattle.std.specs.List.{list_any}
 use Rattle.lrc_wire.specs.Envelope.{EnvelopeRecord}
 use Rattle.lrc_protocol.specs.declared.event.Event.{Event}
 use Rattle.lrc_protocol.specs.declared.event.Event.TheVariants.{Run, Deliver, Repeat}
-use Rattle.lrc_protocol.specs.Log.{run, taken, EntryRecord, next_stamp}
+use Rattle.lrc_protocol.specs.Log.{Input, run, taken, EntryRecord, next_stamp}
 use Rattle.lrc_protocol.specs.World.{Flying, sent_by, with_mark}
 
 -- a stamp and its node come before another stamp and its node, or are the same
@@ -27,9 +28,14 @@ pub record IsNext (logs : List (List EntryRecord)) (come : List ℕ) (n : ℕ) (
   pub next : next_entry logs come n ≡ Some entry
   pub least : (m : ℕ) (other : EntryRecord) → next_entry logs come m ≡ Some other → IsUpTo entry.stamp n other.stamp m
 
--- one of these entries takes a message
-abbrev pub IsTakenIn : EnvelopeRecord → List EntryRecord → Type 0
-IsTakenIn envelope log = (place : ℕ) × (entry : EntryRecord) × (slice_get log place ≡ Some entry) × (entry.input ≡ taken envelope)
+-- an input is this message: one from the same node with the same number
+abbrev pub takes_same : EnvelopeRecord → Input → Bool
+takes_same envelope run = false
+takes_same envelope (taken other) = (other.from == envelope.from) && (other.number == envelope.number)
+
+-- one of these entries takes this message
+abbrev pub is_taken_in : EnvelopeRecord → List EntryRecord → Bool
+is_taken_in envelope log = list_any (λ entry. takes_same envelope entry.input) log
 
 -- the message in flight at a place is what this turn of a node takes, with the stamp that the message's own one gives
 pub record IsTakenAt (n : ℕ) (before : List EntryRecord) (entry : EntryRecord) (flight : List Flying) (place : ℕ) (flying : Flying) : Type 0 where
@@ -42,9 +48,9 @@ pub record IsTakenAt (n : ℕ) (before : List EntryRecord) (entry : EntryRecord)
 -- what is left of that: a message leaves the flight with its last take.
 pub data Makes (n : ℕ) (before after : List EntryRecord) (entry : EntryRecord) (flight : List Flying) : Event → List Flying → Type 0 where
   runs : entry.input ≡ run → Makes n before after entry flight (Run n) flight
-  takes_last : {place : ℕ} {flying : Flying} → IsTakenAt n before entry flight place flying → (IsTakenIn flying.envelope after → ⊥)
+  takes_last : {place : ℕ} {flying : Flying} → IsTakenAt n before entry flight place flying → is_taken_in flying.envelope after ≡ false
       → Makes n before after entry flight (Deliver place) (remove flight place)
-  takes_again : {place : ℕ} {flying : Flying} → IsTakenAt n before entry flight place flying → IsTakenIn flying.envelope after
+  takes_again : {place : ℕ} {flying : Flying} → IsTakenAt n before entry flight place flying → is_taken_in flying.envelope after ≡ true
       → Makes n before after entry flight (Repeat place) (with_mark flight place)
 
 -- How many turns of each node have come, what is in flight, and the events so far: each event makes the turn that is next.
