@@ -4,4 +4,5 @@ pub mod Members
 pub mod Paired
 pub mod Rising
 pub mod Holding
+pub mod Heads
 pub mod Weaving

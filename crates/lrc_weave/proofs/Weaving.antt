@@ -15,6 +15,8 @@ use Rattle.lrc_weave.specs.Logs.{AreLogs}
 use Rattle.lrc_weave.specs.Matched.{AreMatched}
 use Rattle.lrc_weave.specs.Woven.{IsUpTo, log_of, come_of, next_entry, IsNext, is_taken_in, IsTakenAt, Makes, runs, takes_last, takes_again, Woven, nothing_yet, then_one, AreWoven}
 use Rattle.lrc_weave.proofs.Places.{within_outer}
+use Rattle.lrc_weave.specs.Next.{IsNextOf}
+use Rattle.lrc_weave.proofs.Heads.{next_or_none}
 use Rattle.lrc_weave.proofs.Holding.{Holds, holds_start, holds_more, can_take}
 
 -- ---- how many turns are to come
@@ -30,114 +32,6 @@ one_less [] come n entry count at = cc
 one_less (log ∷ logs) [] n entry count at = absurd (omega (arith, count))
 one_less (log ∷ logs) (c ∷ come) zero entry count at = omega (arith, slice_get_within log c entry at)
 one_less (log ∷ logs) (c ∷ come) (suc n) entry count at = omega (arith, one_less logs come n entry (omega (arith, count)) at)
-
--- ---- the next turn
-
-up_to_either : (a n b m : ℕ) → IsUpTo a n b m ⊎ IsUpTo b m a n
-up_to_either a n b m = elim (nat_either a b) [
-  | inl lt ↦ inl (inl lt)
-  | inr (inl lt) ↦ inr (inl lt)
-  | inr (inr e) ↦ elim (nat_either n m) [
-    | inl lt ↦ inl (inr (e, omega (arith, lt)))
-    | inr (inl lt) ↦ inr (inr (sym e, omega (arith, lt)))
-    | inr (inr same) ↦ inl (inr (e, omega (arith, same)))
-  ]
-]
-  where
-    nat_either : (a b : ℕ) → (a < b) ⊎ ((b < a) ⊎ (a ≡ b))
-    nat_either zero zero = inr (inr refl)
-    nat_either zero (suc b) = inl (omega arith)
-    nat_either (suc a) zero = inr (inl (omega arith))
-    nat_either (suc a) (suc b) = elim (nat_either a b) [
-      | inl lt ↦ inl (omega (arith, lt))
-      | inr (inl lt) ↦ inr (inl (omega (arith, lt)))
-      | inr (inr e) ↦ inr (inr (ap suc e))
-    ]
-
-up_to_along : (a n b m c k : ℕ) → IsUpTo a n b m → IsUpTo b m c k → IsUpTo a n c k
-up_to_along a n b m c k (inl x) (inl y) = inl (omega (arith, x, y))
-up_to_along a n b m c k (inl x) (inr (e, y)) = inl (omega (arith, x, e))
-up_to_along a n b m c k (inr (e, x)) (inl y) = inl (omega (arith, e, y))
-up_to_along a n b m c k (inr (e, x)) (inr (f, y)) = inr (e ∙ f, omega (arith, x, y))
-
-module _ (logs : List (List EntryRecord)) (come : List ℕ) where
-  -- the least of the next turns of the nodes below a number
-  record IsLeast (below n : ℕ) (entry : EntryRecord) : Type 0 where
-    next : next_entry logs come n ≡ Some entry
-    least : (m : ℕ) (other : EntryRecord) → m < below → next_entry logs come m ≡ Some other → IsUpTo entry.stamp n other.stamp m
-
-  abbrev Least : ℕ → Type 0
-  Least below = ((n : ℕ) × (entry : EntryRecord) × IsLeast below n entry) ⊎ ((m : ℕ) → m < below → next_entry logs come m ≡ None)
-
-  none_more : (below : ℕ) → next_entry logs come below ≡ None → Least below → Least (suc below)
-  none_more below none (inl (n, entry, l)) = inl (n, entry, record {
-    next = l.next;
-    least = λ m other lt at. elim (cases_eq m below) [
-      | inl e ↦ (let x : None ≡ Some other = sym (subst (λ i. next_entry logs come i ≡ None) (sym e) none) ∙ at in cc)
-      | inr ne ↦ l.least m other (omega (arith, lt, ne)) at
-    ];
-  })
-  none_more below none (inr all) = inr (λ m lt. elim (cases_eq m below) [
-    | inl e ↦ subst (λ i. next_entry logs come i ≡ None) (sym e) none
-    | inr ne ↦ all m (omega (arith, lt, ne))
-  ])
-
-  one_more : (below : ℕ) (entry : EntryRecord) → next_entry logs come below ≡ Some entry → Least below → Least (suc below)
-  one_more below entry at (inr all) = inl (below, entry, record {
-    next = at;
-    least = λ m other lt there. elim (cases_eq m below) [
-      | inl e ↦
-          (let same : Some other ≡ Some entry = sym there ∙ ap (next_entry logs come) e ∙ at in
-          let is : other ≡ entry = cc in
-          inr (ap (λ (x : EntryRecord). x.stamp) (sym is), omega (arith, e)))
-      | inr ne ↦ (let x : None ≡ Some other = sym (all m (omega (arith, lt, ne))) ∙ there in cc)
-    ];
-  })
-  one_more below entry at (inl (n, best, l)) = elim (up_to_either best.stamp n entry.stamp below) [
-    | inl old ↦ inl (n, best, record {
-        next = l.next;
-        least = λ m other lt there. elim (cases_eq m below) [
-          | inl e ↦
-              (let same : Some other ≡ Some entry = sym there ∙ ap (next_entry logs come) e ∙ at in
-              let is : other ≡ entry = cc in
-              subst (λ (x : EntryRecord). IsUpTo best.stamp n x.stamp m) (sym is) (subst (λ i. IsUpTo best.stamp n entry.stamp i) (sym e) old))
-          | inr ne ↦ l.least m other (omega (arith, lt, ne)) there
-        ];
-      })
-    | inr new ↦ inl (below, entry, record {
-        next = at;
-        least = λ m other lt there. elim (cases_eq m below) [
-          | inl e ↦
-              (let same : Some other ≡ Some entry = sym there ∙ ap (next_entry logs come) e ∙ at in
-              let is : other ≡ entry = cc in
-              inr (ap (λ (x : EntryRecord). x.stamp) (sym is), omega (arith, e)))
-          | inr ne ↦ up_to_along entry.stamp below best.stamp n other.stamp m new (l.least m other (omega (arith, lt, ne)) there)
-        ];
-      })
-  ]
-
-  by_next : (below : ℕ) (o : Option EntryRecord) → next_entry logs come below ≡ o → Least below → Least (suc below)
-  by_next below None at l = none_more below at l
-  by_next below (Some entry) at l = one_more below entry at l
-
-  least_below : (below : ℕ) → Least below
-  least_below zero = inr (λ m lt. absurd (omega (arith, lt)))
-  least_below (suc below) = by_next below (next_entry logs come below) refl (least_below below)
-
-  -- a turn is next, or none is left
-  pub next_or_none : ((n : ℕ) × (entry : EntryRecord) × IsNext logs come n entry) ⊎ ((n : ℕ) → next_entry logs come n ≡ None)
-  next_or_none = elim (least_below (length logs)) [
-    | inl (n, entry, l) ↦ inl (n, entry, record {
-        next = l.next;
-        least = λ m other at. l.least m other (within_outer logs m (come_of come m) other at) at;
-      })
-    | inr all ↦ inr (λ n. past n (next_entry logs come n) refl all)
-  ]
-    where
-      past : (n : ℕ) (o : Option EntryRecord) → next_entry logs come n ≡ o → ((m : ℕ) → m < length logs → next_entry logs come m ≡ None)
-          → next_entry logs come n ≡ None
-      past n None at all = at
-      past n (Some entry) at all = all n (within_outer logs n (come_of come n) entry at)
 
 -- ---- the whole weave
 
@@ -167,11 +61,11 @@ module _ (program : Program) (nodes : ℕ) (options : OptionsRecord) (logs : Lis
   -- all turns to come are woven, so many of them
   go_on : (left : ℕ) (come : List ℕ) (flight : List Flying) (events : List Event) → to_come logs come ≡ left → length come ≡ length logs
       → Woven logs come flight events → Holds logs come flight
-      → ((n : ℕ) × (entry : EntryRecord) × IsNext logs come n entry) ⊎ ((n : ℕ) → next_entry logs come n ≡ None) → Whole
-  go_on left come flight events remains counted woven holds (inr none) = (events, flight, record { come = come; woven = woven; all = none })
-  go_on zero come flight events remains counted woven holds (inl (n, entry, next)) =
+      → (o : Option ℕ) → IsNextOf logs come o → Whole
+  go_on left come flight events remains counted woven holds None none = (events, flight, record { come = come; woven = woven; all = none })
+  go_on zero come flight events remains counted woven holds (Some n) (entry, next) =
       absurd (omega (arith, remains, one_less logs come n entry counted next.next))
-  go_on (suc left) come flight events remains counted woven holds (inl (n, entry, next)) =
+  go_on (suc left) come flight events remains counted woven holds (Some n) (entry, next) =
       let made = by_input come flight n entry entry.input refl next holds in
       let new = slice_set come n (come_of come n + 1) in
       go_on left new (made.1 ++ sent_by entry) (events ++ made.0 ∷ [])
@@ -179,9 +73,9 @@ module _ (program : Program) (nodes : ℕ) (options : OptionsRecord) (logs : Lis
       (length-set come n (come_of come n + 1) ∙ counted)
       (then_one woven next made.2)
       (holds_more logs come flight made.1 made.0 n entry counted next.next made.2 holds)
-      (next_or_none logs new)
+      (next_or_none logs new).0 (next_or_none logs new).1
 
   pub whole : Whole
   whole =
       let start = replicate (length logs) 0 in
-      go_on (to_come logs start) start [] [] refl (length-replicate (length logs) 0) nothing_yet (holds_start logs) (next_or_none logs start)
+      go_on (to_come logs start) start [] [] refl (length-replicate (length logs) 0) nothing_yet (holds_start logs) (next_or_none logs start).0 (next_or_none logs start).1
