@@ -6,3 +6,5 @@ pub mod Rising
 pub mod Holding
 pub mod Heads
 pub mod Weaving
+pub mod Stepping
+pub mod Coded

@@ -3,4 +3,8 @@
 #![tactic(auto)]
 
 pub mod laws;
+mod events;
 mod order;
+mod weave;
+
+pub use weave::events_of;
