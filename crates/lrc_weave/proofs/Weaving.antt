@@ -26,7 +26,7 @@ to_come [] come = 0
 to_come (log ∷ logs) [] = length log + to_come logs []
 to_come (log ∷ logs) (c ∷ come) = (length log - c) + to_come logs come
 
-one_less : (logs : List (List EntryRecord)) (come : List ℕ) (n : ℕ) (entry : EntryRecord) → length come ≡ length logs → next_entry logs come n ≡ Some entry
+pub one_less : (logs : List (List EntryRecord)) (come : List ℕ) (n : ℕ) (entry : EntryRecord) → length come ≡ length logs → next_entry logs come n ≡ Some entry
     → to_come logs come ≡ suc (to_come logs (slice_set come n (come_of come n + 1)))
 one_less [] come n entry count at = cc
 one_less (log ∷ logs) [] n entry count at = absurd (omega (arith, count))

@@ -1,6 +1,6 @@
 // The weave of logs.
 
-ghost use Rattle.std.specs.Prelude.{◌≡◌, ◌≤◌, ℕ, List, IfOk, length, map};
+ghost use Rattle.std.specs.Prelude.{◌≡◌, ◌≤◌, ◌<◌, ◌+◌, ℕ, List, IfOk, length, map};
 ghost use Rattle.lrc_lang.specs.declared.program.Program.{Program};
 ghost use Rattle.lrc_post.specs.Mailbox.{MailboxRecord};
 ghost use Rattle.lrc_protocol.specs.Node.{OptionsRecord};
@@ -29,9 +29,19 @@ pub fn events_of(alloc: Global, logs: &[Vec<Entry>]) -> Result<Vec<Event>, Alloc
     let mut flight = Vec::new(alloc);
     let mut events = Vec::new(alloc);
     while let Some(node) = next_turn(logs, come.as_slice()) {
-        let event = turn(&mut flight, node as u8, &logs[node], come[node])?;
+        let log = &logs[node];
+        let place = come[node];
+        let event = turn(&mut flight, node as u8, log, place)?;
         events.push(event)?;
-        come[node] += 1;
+        come[node] = after(log, place);
     }
     Ok(events)
+}
+
+// The place after one in a log.
+fn after(log: &Vec<Entry>, place: usize) -> usize
+    requires there { place < length log.now.items }
+    ensures { result ≡ place + 1 }
+{
+    place + 1
 }

@@ -4,7 +4,7 @@ use Rattle.lrc_weave.proofs.Stepping.{WovenSo}
 use Rattle.lrc_weave.proofs.weave.events_of.Given as goal
 
 abbrev pub invariant-loop-node : goal.invariant-loop-node
-invariant-loop-node g l = (length l.come.items ≡ length l.fn.logs) × WovenSo (map (λ log. log.items) l.fn.logs) l.come.items l.flight.items l.events.items
+invariant-loop-node l = (length l.come.items ≡ length l.fn.logs) × WovenSo (map (λ log. log.items) l.fn.logs) l.come.items l.flight.items l.events.items
 
 abbrev pub decreases-loop-node : goal.decreases-loop-node
-decreases-loop-node g l = to_come (map (λ log. log.items) l.fn.logs) l.come.items
+decreases-loop-node l = to_come (map (λ log. log.items) l.fn.logs) l.come.items
