@@ -1,10 +1,10 @@
 -- What the code's loop keeps, over logs in vectors.
 use Rattle.std.proofs.Common.{◌≡◌, ℕ, zero, suc, ◌+◌, ◌<◌, List, [], ◌∷◌, ◌++◌, length, map, replicate, refl, sym, ap, subst, ◌∙◌, arith}
-use Rattle.std.specs.Prelude.{Option, Some, None, slice_get, slice_set, slice_index_or}
+use Rattle.std.specs.Prelude.{Some, slice_set, slice_index_or}
 use Rattle.std.proofs.lemmas.List.{length-map, length-set, length-replicate}
 use Rattle.std.proofs.lemmas.Option.{slice_get_within, slice_get-get_or, same_Some}
 use Rattle.lrc_protocol.specs.Log.{EntryRecord}
-use Rattle.lrc_weave.specs.Woven.{log_of, come_of, next_entry}
+use Rattle.lrc_weave.specs.Woven.{log_of, come_of}
 use Rattle.lrc_weave.specs.Next.{IsNextOf}
 use Rattle.lrc_protocol.specs.declared.event.Event.{Event}
 use Rattle.lrc_weave.specs.declared.events.Key.{Key}
@@ -47,8 +47,8 @@ module _ {V : Type 0} (f : V → List EntryRecord) where
   so_begin vs come keys events come_is keys_is events_is = (
     ap length come_is ∙ length-replicate (length vs) 0,
     subst (λ c. WovenSo (map f vs) c keys events) (sym (come_is ∙ ap (λ k. replicate k 0) (sym (length-map vs f))))
-    (subst (λ k. WovenSo (map f vs) (replicate (length (map f vs)) 0) k events) (sym keys_is)
-    (subst (λ e. WovenSo (map f vs) (replicate (length (map f vs)) 0) [] e) (sym events_is) (so_start (map f vs)))),
+        (subst (λ k. WovenSo (map f vs) (replicate (length (map f vs)) 0) k events) (sym keys_is)
+        (subst (λ e. WovenSo (map f vs) (replicate (length (map f vs)) 0) [] e) (sym events_is) (so_start (map f vs)))),
   )
 
   pub so_next : (vs : List V) (come : List ℕ) (keys new : List Key) (events more : List Event) (event : Event) (n place x : ℕ) (v : V)
@@ -58,12 +58,11 @@ module _ {V : Type 0} (f : V → List EntryRecord) where
   so_next vs come keys new events more event n place x v so next turn v_is place_is x_is more_is =
       let log_is : f v ≡ log_of (map f vs) n = ap f v_is ∙ sym (log_at vs n v (next_node vs come n next)) in
       let turned : IsTurnOf n (log_of (map f vs) n) (come_of come n) keys new event =
-          subst (λ p. IsTurnOf n (log_of (map f vs) n) p keys new event) place_is (subst (λ l. IsTurnOf n l place keys new event) log_is turn) in
-      let done = so_more (map f vs) come keys new events event n (so.0 ∙ sym (length-map vs f)) next turned so.1 in
-      (
+      subst (λ p. IsTurnOf n (log_of (map f vs) n) p keys new event) place_is (subst (λ l. IsTurnOf n l place keys new event) log_is turn) in
+      let done = so_more (map f vs) come keys new events event n (so.0 ∙ sym (length-map vs f)) next turned so.1 in (
         length-set come n x ∙ so.0,
         subst (λ k. WovenSo (map f vs) (slice_set come n k) new more) (sym (x_is ∙ ap (λ p. p + 1) place_is))
-        (subst (WovenSo (map f vs) (slice_set come n (come_of come n + 1)) new) (sym more_is) done),
+            (subst (WovenSo (map f vs) (slice_set come n (come_of come n + 1)) new) (sym more_is) done),
       )
 
   pub smaller : (vs : List V) (come : List ℕ) (n place x : ℕ) → length come ≡ length vs → IsNextOf (map f vs) come (Some n) → place ≡ come_of come n → x ≡ place + 1
@@ -71,5 +70,5 @@ module _ {V : Type 0} (f : V → List EntryRecord) where
   smaller vs come n place x counted next place_is x_is =
       let less = one_less (map f vs) come n next.0 (counted ∙ sym (length-map vs f)) next.1.next in
       let here : to_come (map f vs) (slice_set come n x) ≡ to_come (map f vs) (slice_set come n (come_of come n + 1)) =
-          ap (λ k. to_come (map f vs) (slice_set come n k)) (x_is ∙ ap (λ p. p + 1) place_is) in
+      ap (λ k. to_come (map f vs) (slice_set come n k)) (x_is ∙ ap (λ p. p + 1) place_is) in
       omega (arith, less, here)

@@ -1,10 +1,10 @@
 -- The least of the next turns.
-use Rattle.std.proofs.Common.{◌≡◌, ℕ, zero, suc, ◌+◌, ◌<◌, ◌≤◌, ◌⊎◌, inl, inr, Bool, true, false, List, [], ◌∷◌, length, refl, sym, ap, subst, ◌∙◌, arith}
-use Rattle.std.specs.Prelude.{Option, Some, None, option_map, nat_le, cond, slice_get, slice_index_or}
+use Rattle.std.proofs.Common.{◌≡◌, ℕ, zero, suc, ◌+◌, ◌<◌, ◌≤◌, inl, inr, Bool, true, false, List, length, refl, ap, subst, arith}
+use Rattle.std.specs.Prelude.{Option, Some, None, option_map, nat_le, cond}
 use Rattle.std.proofs.lemmas.Bool.{cases_eq, leb-true, leb-false}
 use Rattle.lrc_protocol.specs.Log.{EntryRecord}
 use Rattle.lrc_weave.specs.declared.order.Head.{Head}
-use Rattle.lrc_weave.specs.Woven.{IsUpTo, log_of, come_of, next_entry, IsNext}
+use Rattle.lrc_weave.specs.Woven.{IsUpTo, come_of, next_entry}
 use Rattle.lrc_weave.specs.Next.{earlier_of, IsBest, IsNextOf}
 use Rattle.lrc_weave.proofs.Places.{within_outer}
 
@@ -37,31 +37,29 @@ module _ (logs : List (List EntryRecord)) (come : List ℕ) where
   by_stamp : (below : ℕ) (entry : EntryRecord) → next_entry logs come below ≡ Some entry → (head : Head) → IsBest logs come below (Some head)
       → (b : Bool) → nat_le head.stamp entry.stamp ≡ b
       → IsBest logs come (below + 1) (cond b (Some head) (Some (record { stamp = entry.stamp; node = below })))
-  by_stamp below entry at head b true le =
-      (
-        omega (arith, b.0),
-        b.1,
-        b.2,
-        b.3,
-        up_to_this (λ m other. IsUpTo b.1.stamp head.node other.stamp m) below
+  by_stamp below entry at head b true le = (
+    omega (arith, b.0),
+    b.1,
+    b.2,
+    b.3,
+    up_to_this (λ m other. IsUpTo b.1.stamp head.node other.stamp m) below
         (λ other there.
         up_to_if b.1.stamp head.node other.stamp below
         (omega (arith, leb-true head.stamp entry.stamp le, b.3, ap (λ (x : EntryRecord). x.stamp) (same_entry (next_entry logs come below) entry other at there)))
         (omega (arith, b.0)))
         b.4,
-      )
-  by_stamp below entry at head b false more =
-      (
-        omega arith,
-        entry,
-        at,
-        refl,
-        up_to_this (λ m other. IsUpTo entry.stamp below other.stamp m) below
+  )
+  by_stamp below entry at head b false more = (
+    omega arith,
+    entry,
+    at,
+    refl,
+    up_to_this (λ m other. IsUpTo entry.stamp below other.stamp m) below
         (λ other there. inr (ap (λ (x : EntryRecord). x.stamp) (same_entry (next_entry logs come below) entry other at there), omega arith))
         (λ m other lt there.
         below_along entry.stamp below b.1.stamp head.node other.stamp m
         (omega (arith, leb-false head.stamp entry.stamp more, b.3)) (b.4 m other lt there)),
-      )
+  )
 
   by_next : (below : ℕ) (o : Option EntryRecord) → next_entry logs come below ≡ o → (best : Option Head) → IsBest logs come below best
       → IsBest logs come (below + 1) (earlier_of best (option_map (λ (e : EntryRecord). e.stamp) o) below)
@@ -69,25 +67,23 @@ module _ (logs : List (List EntryRecord)) (come : List ℕ) where
     | inl e ↦ subst (λ i. next_entry logs come i ≡ None) e at
     | inr ne ↦ all m (omega (arith, lt, ne))
   ]
-  by_next below None at (Some head) b =
-      (
-        omega (arith, b.0),
-        b.1,
-        b.2,
-        b.3,
-        up_to_this (λ m other. IsUpTo b.1.stamp head.node other.stamp m) below
+  by_next below None at (Some head) b = (
+    omega (arith, b.0),
+    b.1,
+    b.2,
+    b.3,
+    up_to_this (λ m other. IsUpTo b.1.stamp head.node other.stamp m) below
         (λ other there. absurd (not_both (next_entry logs come below) other at there)) b.4,
-      )
-  by_next below (Some entry) at None all =
-      (
-        omega arith,
-        entry,
-        at,
-        refl,
-        up_to_this (λ m other. IsUpTo entry.stamp below other.stamp m) below
+  )
+  by_next below (Some entry) at None all = (
+    omega arith,
+    entry,
+    at,
+    refl,
+    up_to_this (λ m other. IsUpTo entry.stamp below other.stamp m) below
         (λ other there. inr (ap (λ (x : EntryRecord). x.stamp) (same_entry (next_entry logs come below) entry other at there), omega arith))
         (λ m other lt there. absurd (not_both (next_entry logs come m) other (all m lt) there)),
-      )
+  )
   by_next below (Some entry) at (Some head) b = by_stamp below entry at head b (nat_le head.stamp entry.stamp) refl
 
   -- the next node's turn is looked at
@@ -105,10 +101,13 @@ module _ (logs : List (List EntryRecord)) (come : List ℕ) where
       past : (n : ℕ) (o : Option EntryRecord) → next_entry logs come n ≡ o → next_entry logs come n ≡ None
       past n None at = at
       past n (Some entry) at = all n (within_outer logs n (come_of come n) entry at)
-  best_all (Some head) b = (b.1, record {
-    next = b.2;
-    least = λ m other at. b.4 m other (within_outer logs m (come_of come m) other at) at;
-  })
+  best_all (Some head) b = (
+    b.1,
+    record {
+      next = b.2;
+      least = λ m other at. b.4 m other (within_outer logs m (come_of come m) other at) at;
+    },
+  )
 
   best_below : (below : ℕ) → (best : Option Head) × IsBest logs come below best
   best_below zero = (None, best_start)

@@ -1,6 +1,6 @@
 -- What is still to be taken, and was sent, is in flight.
 use Rattle.std.proofs.Common.{◌≡◌, ℕ, zero, suc, ◌+◌, ◌<◌, ◌≤◌, ◌⊎◌, inl, inr, Bool, true, false, cond, List, [], ◌∷◌, ◌++◌, length, map, replicate, take, drop, refl, sym, ap, subst, ◌∙◌, arith}
-use Rattle.std.specs.Prelude.{Option, Some, None, ◌==◌, ◌&&◌, ◌||◌, remove, slice_get, slice_set, slice_index_or}
+use Rattle.std.specs.Prelude.{Some, ◌==◌, ◌&&◌, ◌||◌, slice_get, slice_set}
 use Rattle.std.specs.List.{enumerate_from}
 use Rattle.std.proofs.lemmas.Bool.{cases_eq, eq-eqb}
 use Rattle.std.proofs.lemmas.List.{get_or-replicate, get_or-set_same, get_or-set_other}
@@ -10,11 +10,11 @@ use Rattle.lrc_wire.specs.Envelope.{EnvelopeRecord}
 use Rattle.lrc_post.specs.Mailbox.{MailboxRecord}
 use Rattle.lrc_protocol.specs.declared.event.Event.{Event}
 use Rattle.lrc_protocol.specs.Node.{OptionsRecord}
-use Rattle.lrc_protocol.specs.Log.{Input, run, taken, EntryRecord, next_stamp}
-use Rattle.lrc_protocol.specs.World.{Flying, marked, with_mark, sent_by}
+use Rattle.lrc_protocol.specs.Log.{taken, EntryRecord, next_stamp}
+use Rattle.lrc_protocol.specs.World.{Flying, marked, sent_by}
 use Rattle.lrc_weave.specs.Logs.{AreLogs}
 use Rattle.lrc_weave.specs.Matched.{AreMatched}
-use Rattle.lrc_weave.specs.Woven.{IsUpTo, log_of, come_of, next_entry, IsNext, takes_same, is_taken_in, IsTakenAt, Makes, runs, takes_last, takes_again, Woven, nothing_yet, then_one}
+use Rattle.lrc_weave.specs.Woven.{IsUpTo, log_of, come_of, next_entry, IsNext, takes_same, is_taken_in, IsTakenAt, Makes, runs, takes_last, takes_again}
 use Rattle.lrc_weave.proofs.Places.{within_outer}
 use Rattle.lrc_weave.proofs.Members.{IsIn, in_left, in_right, of_map, stays_in, in_drop}
 use Rattle.lrc_weave.proofs.Paired.{IsSent, paired}
@@ -96,10 +96,10 @@ has_after n before after entry flight left event flying (takes_again {place = pl
     has_marked flight 0 place h.place flying h.found h.there h.envelope h.stamp
 has_after n before after entry flight left event flying (takes_last {place = place} {flying = f} t no_more) again h =
     let other : h.place ≡ place → ⊥ = λ e.
-        let same : h.found ≡ f = same_Some h.found f (sym h.there ∙ ap (slice_get flight) e ∙ t.there) in
-        let message : flying.envelope ≡ f.envelope = sym h.envelope ∙ ap (λ (x : Flying). x.envelope) same in
-        let both : false ≡ true = sym no_more ∙ ap (λ m. is_taken_in m after) (sym message) ∙ again (ap (λ (m : EnvelopeRecord). m.to) message ∙ t.receiver) in
-        false_true both in
+    let same : h.found ≡ f = same_Some h.found f (sym h.there ∙ ap (slice_get flight) e ∙ t.there) in
+    let message : flying.envelope ≡ f.envelope = sym h.envelope ∙ ap (λ (x : Flying). x.envelope) same in
+    let both : false ≡ true = sym no_more ∙ ap (λ m. is_taken_in m after) (sym message) ∙ again (ap (λ (m : EnvelopeRecord). m.to) message ∙ t.receiver) in
+    false_true both in
     let i = stays_in flight h.place place h.found h.there other in
     record { place = i.0; found = h.found; there = i.1; envelope = h.envelope; stamp = h.stamp }
 
@@ -131,18 +131,18 @@ module _ (logs : List (List EntryRecord)) where
         | inr ne ↦ (let x : come_of new n ≡ come_of come n = get_or-set_other come m n (come_of come m + 1) 0 ne in omega (arith, le, x))
       ] in
       let again : flying.envelope.to ≡ m → is_taken_in flying.envelope (drop (come_of come m + 1) (log_of logs m)) ≡ true = λ e.
-          let same : n ≡ m = sym to ∙ e in
-          let past : come_of come m + 1 ≤ k = (let x : come_of new m ≤ k = subst (λ i. come_of new i ≤ k) same le in omega (arith, x, here)) in
-          let i = in_drop (log_of logs m) (come_of come m + 1) k entry (subst (λ i. slice_get (log_of logs i) k ≡ Some entry) same at) past in
-          taken_in (drop (come_of come m + 1) (log_of logs m)) flying.envelope i.0 entry i.1 is in
+      let same : n ≡ m = sym to ∙ e in
+      let past : come_of come m + 1 ≤ k = (let x : come_of new m ≤ k = subst (λ i. come_of new i ≤ k) same le in omega (arith, x, here)) in
+      let i = in_drop (log_of logs m) (come_of come m + 1) k entry (subst (λ i. slice_get (log_of logs i) k ≡ Some entry) same at) past in
+      taken_in (drop (come_of come m + 1) (log_of logs m)) flying.envelope i.0 entry i.1 is in
       let before : j < come_of come sender → Has (left ++ sent_by now) flying = λ earlier.
-          has_left left (sent_by now) flying (has_after m _ _ now flight left event flying makes again
-          (holds n k sender j entry turn flying still at is to earlier there sent)) in
+      has_left left (sent_by now) flying (has_after m _ _ now flight left event flying makes again
+      (holds n k sender j entry turn flying still at is to earlier there sent)) in
       elim (cases_eq sender m) [
         | inl e ↦ elim (cases_eq j (come_of come m)) [
           | inl this ↦
               (let one : slice_get (log_of logs m) (come_of come m) ≡ Some turn =
-                  subst (λ i. slice_get (log_of logs m) i ≡ Some turn) this (subst (λ i. slice_get (log_of logs i) j ≡ Some turn) e there) in
+              subst (λ i. slice_get (log_of logs m) i ≡ Some turn) this (subst (λ i. slice_get (log_of logs i) j ≡ Some turn) e there) in
               let same : turn ≡ now = same_Some turn now (sym one ∙ next) in
               has_right left (sent_by now) flying (subst (λ t. IsIn flying (sent_by t)) same sent))
           | inr not_this ↦
@@ -168,12 +168,12 @@ module _ (logs : List (List EntryRecord)) where
           | inl lt ↦ lt
           | inr le ↦
               (let head = there_is (log_of logs s.sender) (come_of come s.sender)
-                  (omega (arith, le, slice_get_within (log_of logs s.sender) s.place s.turn s.there)) in
+              (omega (arith, le, slice_get_within (log_of logs s.sender) s.place s.turn s.there)) in
               let up : head.0.stamp ≤ s.turn.stamp = rises_at s.sender (come_of come s.sender) s.place head.0 s.turn head.1 s.there le in
               let least : entry.stamp ≤ head.0.stamp = up_to entry.stamp n head.0.stamp s.sender (next.least s.sender head.0 head.1) in
               let sent_at : flying.stamp ≡ s.turn.stamp =
-                  (let from = of_map (λ envelope. record { envelope = envelope; stamp = s.turn.stamp; delivered = false }) s.turn.turn.out flying s.sent.0 s.sent.1 in
-                  sym (ap (λ (f : Flying). f.stamp) from.2)) in
+              (let from = of_map (λ envelope. record { envelope = envelope; stamp = s.turn.stamp; delivered = false }) s.turn.turn.out flying s.sent.0 s.sent.1 in
+              sym (ap (λ (f : Flying). f.stamp) from.2)) in
               let below : flying.stamp < entry.stamp = subst (λ x. flying.stamp < x) (sym s.stamp) (above_came before flying.stamp) in
               absurd (omega (arith, up, least, sent_at, below)))
         ]
@@ -204,8 +204,7 @@ module _ (logs : List (List EntryRecord)) where
         let p = paired logs wires matched count n (come_of come n) entry envelope next.next is in
         let s : IsSent logs n (take (come_of come n) (log_of logs n)) entry p.0 = p.2 in
         let h : Has flight p.0 = holds n (come_of come n) s.sender s.place entry s.turn p.0 (omega arith) next.next (is ∙ ap taken (sym p.1)) s.receiver
-            (has_come come n entry _ p.0 next s) s.there s.sent in
-        (
+        (has_come come n entry _ p.0 next s) s.there s.sent in (
           h.place,
           h.found,
           record {

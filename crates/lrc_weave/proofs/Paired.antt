@@ -1,8 +1,8 @@
 -- Of logs and mailboxes that match, each message that a log takes is one that a log sends.
-use Rattle.std.proofs.Common.{◌≡◌, ℕ, zero, suc, ◌+◌, ◌<◌, ◌≤◌, Bool, true, false, List, [], ◌∷◌, ◌++◌, length, map, filter, take, refl, sym, ap, subst, ◌∙◌, arith, append-nil, append_assoc}
-use Rattle.std.specs.Prelude.{Option, Some, None, Result, Ok, Err, ◌==◌, slice_get, filter_map}
+use Rattle.std.proofs.Common.{◌≡◌, ℕ, zero, suc, ◌<◌, List, [], ◌∷◌, ◌++◌, length, map, filter, take, refl, sym, ap, ◌∙◌, arith, append-nil, append_assoc}
+use Rattle.std.specs.Prelude.{Option, Some, None, ◌==◌, slice_get, filter_map}
 use Rattle.std.proofs.lemmas.Bool.{eq-eqb, eqb-true}
-use Rattle.std.proofs.lemmas.Option.{slice_get-get_or, get_or_from_slice_get}
+use Rattle.std.proofs.lemmas.Option.{slice_get-get_or}
 use Rattle.lrc_wire.specs.Envelope.{EnvelopeRecord}
 use Rattle.lrc_post.specs.declared.parcel.Wire.{Wire}
 use Rattle.lrc_post.specs.declared.parcel.Wire.TheVariants.{Put, Took}
@@ -10,7 +10,7 @@ use Rattle.lrc_post.specs.Mailbox.{MailboxRecord}
 use Rattle.lrc_protocol.specs.Log.{Input, run, taken, EntryRecord, next_stamp}
 use Rattle.lrc_protocol.specs.World.{Flying, sent_by}
 use Rattle.lrc_weave.specs.Logs.{all_sent, sent_to}
-use Rattle.lrc_weave.specs.Matched.{message_of, is_put_by, puts_by, place_taken, message_if, message_at, takes_in, Takes, takes_none, takes_not, takes_one, IsMatched, AreMatched}
+use Rattle.lrc_weave.specs.Matched.{message_of, is_put_by, puts_by, place_taken, message_if, message_at, Takes, takes_none, takes_not, takes_one, IsMatched, AreMatched}
 use Rattle.lrc_weave.specs.Woven.{log_of}
 use Rattle.lrc_weave.proofs.Places.{within_outer}
 use Rattle.lrc_weave.proofs.Members.{IsIn, in_filter, of_filter, in_map, of_map, of_flat}
@@ -80,11 +80,10 @@ paired logs wires are same_count n k entry envelope at is =
     let sender = put.0 in
     let sender_in : sender < length logs = matched.by_nodes from_place.0 sender put.1 put.2 put.3 put.4 in
     let in_log : IsIn flying (sent_to n (log_of logs sender)) =
-        of_some (sent_to n (log_of logs sender)) flying put.5.0
-        (ap (λ xs. slice_get xs put.5.0) (sym (matched.puts sender (log_of logs sender) (slice_get-get_or logs sender [] sender_in))) ∙ put.5.1) in
+    of_some (sent_to n (log_of logs sender)) flying put.5.0
+    (ap (λ xs. slice_get xs put.5.0) (sym (matched.puts sender (log_of logs sender) (slice_get-get_or logs sender [] sender_in))) ∙ put.5.1) in
     let for_n = of_filter (λ (f : Flying). f.envelope.to == n) (all_sent (log_of logs sender)) flying in_log.0 in_log.1 in
-    let turn = of_flat sent_by (log_of logs sender) flying for_n.0.0 for_n.0.1 in
-    (
+    let turn = of_flat sent_by (log_of logs sender) flying for_n.0.0 for_n.0.1 in (
       flying,
       found.2,
       record {

@@ -1,6 +1,6 @@
 -- Woven events play: the run has just the turns of the logs that have come.
 use Rattle.std.proofs.Common.{◌≡◌, ℕ, zero, suc, ◌+◌, ◌<◌, List, [], ◌∷◌, ◌++◌, Bool, true, false, length, map, replicate, take, drop, refl, sym, ap, subst, ◌∙◌, inl, inr, arith}
-use Rattle.std.specs.Prelude.{Option, Some, None, cond, remove, fold, nat_le, slice_get, slice_set, slice_index_or}
+use Rattle.std.specs.Prelude.{Some, cond, remove, nat_le, slice_get, slice_set}
 use Rattle.std.specs.List.{range_with_len}
 use Rattle.std.proofs.lemmas.Bool.{cases_eq}
 use Rattle.std.proofs.lemmas.List.{length-set, length-map, length-replicate, get_or-replicate, get_or-set_same, get_or-set_other}
@@ -9,14 +9,13 @@ use Rattle.std.proofs.lemmas.List.FromFn.{length-range_with_len}
 use Rattle.std.proofs.lemmas.Grind.{fold-append}
 use Rattle.lrc_lang.specs.declared.program.Program.{Program}
 use Rattle.lrc_protocol.specs.declared.event.Event.{Event}
-use Rattle.lrc_protocol.specs.declared.event.Event.TheVariants.{Run, Deliver, Repeat}
 use Rattle.lrc_protocol.specs.Node.{Node, OptionsRecord, fresh_node}
 use Rattle.lrc_protocol.specs.Turn.{TurnRecord, Outcome, done, not_ready, unexpected, worn}
 use Rattle.lrc_protocol.specs.Log.{Input, run, taken, EntryRecord, Logged, logged, too_large, logs as logs', logging, next_stamp, outcome_of, MOST_STAMP}
 use Rattle.lrc_protocol.specs.World.{World, Flying, fresh_world, with_turn, with_mark, sent_by, inputs, input_to, after_input, delivers, event_on, step_of, run_of}
 use Rattle.lrc_protocol.proofs.Worlds.{get_set_same, get_set_other}
 use Rattle.lrc_weave.specs.Logs.{GoesOn, MayCome, AreLogs}
-use Rattle.lrc_weave.specs.Woven.{log_of, come_of, next_entry, IsNext, IsTakenAt, Makes, runs, takes_last, takes_again, Woven, nothing_yet, then_one, AreWoven}
+use Rattle.lrc_weave.specs.Woven.{log_of, come_of, next_entry, IsTakenAt, Makes, runs, takes_last, takes_again, Woven, nothing_yet, then_one, AreWoven}
 use Rattle.lrc_weave.proofs.Places.{taken_more, dropped_less, taken_all, within_outer, mapped_is}
 
 -- ---- one entry
@@ -28,7 +27,7 @@ pub record IsLogged (l : Logged) (came : ℕ) (entry : EntryRecord) (after : Log
 
 by_test : (l : Logged) (input : Input) (came : ℕ) (turn : TurnRecord) (node : Node) (entry : EntryRecord) (after : Logged) (b : Bool)
     → cond b (logged (record { input = input; stamp = next_stamp l.log came; turn = turn })
-      (record { node = node; log = l.log ++ (record { input = input; stamp = next_stamp l.log came; turn = turn }) ∷ [] })) too_large
+    (record { node = node; log = l.log ++ (record { input = input; stamp = next_stamp l.log came; turn = turn }) ∷ [] })) too_large
     ≡ logged entry after → IsLogged l came entry after
 by_test l input came turn node entry after true e =
     let first : EntryRecord = record { input = input; stamp = next_stamp l.log came; turn = turn } in
@@ -88,18 +87,17 @@ module _ (logs : List (List EntryRecord)) where
           | inl e ↦
               let now : come_of new n ≡ k + 1 = get_or-set_same come n (k + 1) 0 (subst (λ x. n < x) (sym at.counted) within) in
               let here : (x : Logged) × (slice_get (slice_set world.nodes n after) n ≡ Some x) × (x.log ≡ take (come_of new n) (log_of logs n))
-                  × GoesOn x (drop (come_of new n) (log_of logs n)) = (
+              × GoesOn x (drop (come_of new n) (log_of logs n)) = (
                 after,
                 get_set_same world.nodes n l after there,
                 more_is ∙ ap (λ xs. xs ++ entry ∷ []) log_is ∙ sym (taken_more (log_of logs n) k entry next) ∙ ap (λ c. take c (log_of logs n)) (sym now),
                 subst (λ c. GoesOn after (drop c (log_of logs n))) (sym now) on,
               ) in
               subst (λ m. (x : Logged) × (slice_get (slice_set world.nodes n after) m ≡ Some x) × (x.log ≡ take (come_of new m) (log_of logs m))
-                  × GoesOn x (drop (come_of new m) (log_of logs m))) e here
+              × GoesOn x (drop (come_of new m) (log_of logs m))) e here
           | inr ne ↦
               let old = at.each m lt in
-              let now : come_of new m ≡ come_of come m = get_or-set_other come n m (k + 1) 0 (λ e. ne (sym e)) in
-              (
+              let now : come_of new m ≡ come_of come m = get_or-set_other come n m (k + 1) 0 (λ e. ne (sym e)) in (
                 old.0,
                 get_set_other world.nodes n m after ne ∙ old.1,
                 old.2 ∙ ap (λ c. take c (log_of logs m)) (sym now),
@@ -115,9 +113,9 @@ module _ (logs : List (List EntryRecord)) where
       → delivers world left (slice_get world.flight place) ≡ Some (with_turn world left n entry after)
   by_message world left flight n place came entry flying l after before flown there log_is t turned =
       let stamps : next_stamp l.log flying.stamp ≡ next_stamp l.log came =
-          ap (λ b. next_stamp b flying.stamp) log_is ∙ sym t.stamp ∙ (is_logged l entry.input came entry after turned).stamp in
+      ap (λ b. next_stamp b flying.stamp) log_is ∙ sym t.stamp ∙ (is_logged l entry.input came entry after turned).stamp in
       let made : logs' l (taken flying.envelope) flying.stamp ≡ logged entry after =
-          same_stamp l (taken flying.envelope) came flying.stamp stamps ∙ ap (λ i. logs' l i came) (sym t.input) ∙ turned in
+      same_stamp l (taken flying.envelope) came flying.stamp stamps ∙ ap (λ i. logs' l i came) (sym t.input) ∙ turned in
       ap (delivers world left) (ap (λ f. slice_get f place) flown ∙ t.there)
       ∙ ap (λ to. inputs world left to (taken flying.envelope) flying.stamp) t.receiver
       ∙ ap (input_to world left n (taken flying.envelope) flying.stamp) there
@@ -146,8 +144,7 @@ module _ (logs : List (List EntryRecord)) where
       let within : n < length logs = within_outer logs n k entry next in
       let old = at.each n within in
       let on : GoesOn old.0 (entry ∷ drop (k + 1) (log_of logs n)) = subst (GoesOn old.0) (dropped_less (log_of logs n) k entry next) old.3 in
-      let turned : logs' old.0 entry.input on.0 ≡ logged entry on.1 = on.3 in
-      (
+      let turned : logs' old.0 entry.input on.0 ≡ logged entry on.1 = on.3 in (
         with_turn world left n entry on.1,
         event_is world flight left n on.0 entry old.0 on.1 _ _ event at.flown old.1 old.2 on.2 turned makes,
         more world come flight left n entry old.0 on.1 at within old.1 next old.2 (is_logged old.0 entry.input on.0 entry on.1 turned).log on.4,
@@ -172,8 +169,7 @@ module _ (logs : List (List EntryRecord)) where
       counted = length-replicate (length logs) 0;
       flown = refl;
       each = λ n lt.
-          let none : come_of (replicate (length logs) 0) n ≡ 0 = get_or-replicate (length logs) n 0 0 lt in
-          (
+          let none : come_of (replicate (length logs) 0) n ≡ 0 = get_or-replicate (length logs) n 0 0 lt in (
             new_at n,
             fresh_there 0 nodes n (subst (λ k. n < k) are.count lt) ∙ ap (λ m. Some (new_at m)) (omega arith),
             ap (λ c. take c (log_of logs n)) (sym none),
@@ -187,8 +183,7 @@ module _ (logs : List (List EntryRecord)) where
     all_played _ _ _ nothing_yet = (fresh_world program nodes options, refl, at_start)
     all_played _ _ _ (then_one {come = come} {flight = flight} {left = left} {events = events} {event = event} {n = n} {entry = entry} woven next makes) =
         let so_far = all_played come flight events woven in
-        let more = by_event so_far.0 come flight left event n entry so_far.2 next.next makes in
-        (
+        let more = by_event so_far.0 come flight left event n entry so_far.2 next.next makes in (
           more.0,
           fold-append step_of (Some (fresh_world program nodes options)) events (event ∷ []) ∙ ap (λ o. step_of o event) so_far.1 ∙ more.1,
           more.2,
@@ -198,8 +193,7 @@ module _ (logs : List (List EntryRecord)) where
     pub whole_run : (events : List Event) (flight : List Flying) → AreWoven logs events flight
         → (world : World) × (run_of program nodes options events ≡ Some world) × (map (λ (l : Logged). l.log) world.nodes ≡ logs) × (world.flight ≡ flight)
     whole_run events flight are_woven =
-        let p = all_played are_woven.come flight events are_woven.woven in
-        (
+        let p = all_played are_woven.come flight events are_woven.woven in (
           p.0,
           p.1,
           mapped_is (λ (l : Logged). l.log) p.0.nodes logs [] p.2.count (λ n lt.

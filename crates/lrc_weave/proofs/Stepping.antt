@@ -1,9 +1,9 @@
 -- A turn that the code makes is the next turn of the weave.
 use Rattle.std.proofs.Common.{◌≡◌, ℕ, zero, suc, ◌+◌, ◌<◌, ◌≤◌, Bool, true, false, cond, List, [], ◌∷◌, ◌++◌, length, map, filter, replicate, take, drop, refl, sym, ap, subst, ◌∙◌, arith}
-use Rattle.std.specs.Prelude.{Option, Some, None, ◌==◌, ◌&&◌, position, remove, slice_get, slice_set, slice_index_or}
+use Rattle.std.specs.Prelude.{Some, None, ◌==◌, ◌&&◌, remove, slice_get, slice_set, slice_index_or}
 use Rattle.std.specs.List.{enumerate_from}
 use Rattle.std.proofs.lemmas.Bool.{and_parts, eqb-true, eq-eqb, ltb-true}
-use Rattle.std.proofs.lemmas.List.{map-append, length-map}
+use Rattle.std.proofs.lemmas.List.{map-append}
 use Rattle.std.proofs.lemmas.List.Quantifiers.{position-Some}
 use Rattle.std.proofs.lemmas.Simd.{map-map}
 use Rattle.std.proofs.lemmas.Option.{slice_get-get_or, same_Some}
@@ -11,17 +11,16 @@ use Rattle.lrc_lang.specs.declared.program.Program.{Program}
 use Rattle.lrc_wire.specs.Envelope.{EnvelopeRecord}
 use Rattle.lrc_post.specs.Mailbox.{MailboxRecord}
 use Rattle.lrc_protocol.specs.declared.event.Event.{Event}
-use Rattle.lrc_protocol.specs.declared.event.Event.TheVariants.{Run, Deliver, Repeat}
 use Rattle.lrc_protocol.specs.Node.{OptionsRecord}
 use Rattle.lrc_protocol.specs.Turn.{Outcome, unexpected, is_addressed, is_repeat, take_anew, empty_turn, done}
 use Rattle.lrc_protocol.specs.Log.{Input, run, taken, EntryRecord, Logged, logged, logs as logs', logging, next_stamp}
-use Rattle.lrc_protocol.specs.World.{World, Flying, marked, with_mark, sent_by}
+use Rattle.lrc_protocol.specs.World.{Flying, marked, with_mark, sent_by}
 use Rattle.lrc_invariants.specs.Numbers.{numbers_between, Rises}
 use Rattle.lrc_invariants.proofs.InFlight.{Sends, all_send}
 use Rattle.lrc_weave.specs.declared.events.Key.{Key}
 use Rattle.lrc_weave.specs.Logs.{GoesOn, AreLogs}
 use Rattle.lrc_weave.specs.Matched.{AreMatched}
-use Rattle.lrc_weave.specs.Woven.{log_of, come_of, next_entry, IsNext, is_taken_in, IsTakenAt, Makes, runs, takes_last, takes_again, Woven, nothing_yet, then_one, AreWoven}
+use Rattle.lrc_weave.specs.Woven.{log_of, come_of, IsNext, is_taken_in, IsTakenAt, Makes, runs, takes_last, takes_again, Woven, nothing_yet, then_one, AreWoven}
 use Rattle.lrc_weave.specs.Next.{IsNextOf}
 use Rattle.lrc_weave.specs.Events.{key_of, is_key, taking, left_by, IsTakenFrom, IsMadeBy, IsTurnOf}
 use Rattle.lrc_weave.proofs.Places.{dropped_less, within_outer}
@@ -86,8 +85,8 @@ addressed : (l : Logged) (envelope : EnvelopeRecord) (came : ℕ) (entry : Entry
     → logs' l (taken envelope) came ≡ logged entry after → envelope.from < l.node.setting.nodes
 addressed l envelope came entry after e =
     let is : is_addressed l.node envelope ≡ true =
-        addressed_if (taken envelope) (next_stamp l.log came) l.log (cond (is_repeat l.node envelope) (done empty_turn l.node) (take_anew l.node envelope))
-        entry after (is_addressed l.node envelope) e in
+    addressed_if (taken envelope) (next_stamp l.log came) l.log (cond (is_repeat l.node envelope) (done empty_turn l.node) (take_anew l.node envelope))
+    entry after (is_addressed l.node envelope) e in
     ltb-true envelope.from l.node.setting.nodes (and_parts _ _ is).1
 
 -- ---- what flight is known by
@@ -190,15 +189,15 @@ module _ (logs : List (List EntryRecord)) (come : List ℕ) (events : List Event
       let can = can_take logs program nodes options are wires matched count come flight node entry envelope next is holds in
       let found = position-Some (is_key envelope) keys t.0 (key_of envelope) t.1 in
       let there : slice_get (map key_at flight) t.0 ≡ Some (slice_index_or keys t.0 (key_of envelope)) =
-          ap (λ ks. slice_get ks t.0) same ∙ slice_get-get_or keys t.0 (key_of envelope) found.0 in
+      ap (λ ks. slice_get ks t.0) same ∙ slice_get-get_or keys t.0 (key_of envelope) found.0 in
       let f = of_map key_at flight (slice_index_or keys t.0 (key_of envelope)) t.0 there in
       let passes : is_key can.1.envelope (key_at f.0) ≡ true =
-          ap (λ e. is_key e (key_at f.0)) can.3 ∙ ap (is_key envelope) f.2 ∙ found.1 in
+      ap (λ e. is_key e (key_at f.0)) can.3 ∙ ap (is_key envelope) f.2 ∙ found.1 in
       let within : node < length logs = within_outer logs node (come_of come node) entry next.next in
       let place_is : t.0 ≡ can.0 =
-          same_place t.0 can.0 f.0 can.1 f.1 can.2.there passes
-          (subst (λ (e : EnvelopeRecord). e.from < nodes) (sym can.3) (from_in envelope is))
-          (subst (λ k. k < nodes) (sym can.2.receiver) (subst (λ k. node < k) are.count within)) in
+      same_place t.0 can.0 f.0 can.1 f.1 can.2.there passes
+      (subst (λ (e : EnvelopeRecord). e.from < nodes) (sym can.3) (from_in envelope is))
+      (subst (λ k. k < nodes) (sym can.2.receiver) (subst (λ k. node < k) are.count within)) in
       by_again keys left event t.0 can.1 (is_taken_in envelope later) same
       (subst (λ p. IsTakenAt node before entry flight p can.1) (sym place_is) can.2)
       (ap (λ e. is_taken_in e later) can.3) t.2 t.3
@@ -214,16 +213,15 @@ module _ (logs : List (List EntryRecord)) (come : List ℕ) (events : List Event
       × Holds logs (slice_set come node (come_of come node + 1)) rest × (map key_at rest ≡ new)
   one_step keys new event same t =
       let entry_is : t.0 ≡ entry = same_Some t.0 entry (sym t.2 ∙ next.next) in
-      let made = made_by keys t.1 event entry.input same refl (subst (λ (e : EntryRecord). IsMadeBy node later keys e.input t.1 (Some event)) entry_is t.3) in
-      (
+      let made = made_by keys t.1 event entry.input same refl (subst (λ (e : EntryRecord). IsMadeBy node later keys e.input t.1 (Some event)) entry_is t.3) in (
         made.0 ++ sent_by entry,
         then_one woven next made.1,
         holds_more logs come flight made.0 event node entry counted next.next made.1 holds,
         map-append key_at made.0 (sent_by entry)
-        ∙ ap (λ ks. ks ++ map key_at (sent_by entry)) made.2
-        ∙ ap (λ ks. t.1 ++ ks) (map-map key_at (λ envelope. record { envelope = envelope; stamp = entry.stamp; delivered = false }) entry.turn.out)
-        ∙ ap (λ (e : EntryRecord). t.1 ++ map key_of e.turn.out) (sym entry_is)
-        ∙ sym t.4,
+            ∙ ap (λ ks. ks ++ map key_at (sent_by entry)) made.2
+            ∙ ap (λ ks. t.1 ++ ks) (map-map key_at (λ envelope. record { envelope = envelope; stamp = entry.stamp; delivered = false }) entry.turn.out)
+            ∙ ap (λ (e : EntryRecord). t.1 ++ map key_of e.turn.out) (sym entry_is)
+            ∙ sym t.4,
       )
 
 -- the next turn is made

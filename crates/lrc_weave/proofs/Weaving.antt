@@ -1,7 +1,6 @@
 -- Logs and mailboxes that match can be woven.
-use Rattle.std.proofs.Common.{◌≡◌, ℕ, zero, suc, ◌+◌, ◌-◌, ◌<◌, ◌≤◌, ◌⊎◌, inl, inr, Bool, true, false, List, [], ◌∷◌, ◌++◌, length, replicate, take, drop, refl, sym, ap, subst, ◌∙◌, arith}
-use Rattle.std.specs.Prelude.{Option, Some, None, remove, slice_get, slice_set, slice_index_or}
-use Rattle.std.proofs.lemmas.Bool.{cases_eq}
+use Rattle.std.proofs.Common.{◌≡◌, ℕ, zero, suc, ◌+◌, ◌-◌, Bool, true, false, List, [], ◌∷◌, ◌++◌, length, replicate, take, drop, refl, ◌∙◌, arith}
+use Rattle.std.specs.Prelude.{Option, Some, None, remove, slice_set}
 use Rattle.std.proofs.lemmas.List.{length-set, length-replicate}
 use Rattle.std.proofs.lemmas.Option.{slice_get_within}
 use Rattle.lrc_lang.specs.declared.program.Program.{Program}
@@ -13,8 +12,7 @@ use Rattle.lrc_protocol.specs.Log.{Input, run, taken, EntryRecord}
 use Rattle.lrc_protocol.specs.World.{Flying, sent_by, with_mark}
 use Rattle.lrc_weave.specs.Logs.{AreLogs}
 use Rattle.lrc_weave.specs.Matched.{AreMatched}
-use Rattle.lrc_weave.specs.Woven.{IsUpTo, log_of, come_of, next_entry, IsNext, is_taken_in, IsTakenAt, Makes, runs, takes_last, takes_again, Woven, nothing_yet, then_one, AreWoven}
-use Rattle.lrc_weave.proofs.Places.{within_outer}
+use Rattle.lrc_weave.specs.Woven.{log_of, come_of, next_entry, IsNext, is_taken_in, IsTakenAt, Makes, runs, takes_last, takes_again, Woven, nothing_yet, then_one, AreWoven}
 use Rattle.lrc_weave.specs.Next.{IsNextOf}
 use Rattle.lrc_weave.proofs.Heads.{next_or_none}
 use Rattle.lrc_weave.proofs.Holding.{Holds, holds_start, holds_more, can_take}

@@ -23,7 +23,12 @@ pub(crate) struct Key {
 
 /// The event that makes the turn at a place of a node's log, with what is in flight before it and after it. None where what the
 /// turn takes is not in flight.
-pub(crate) fn turn(flight: &mut Vec<Key>, node: u8, log: &Vec<Entry>, place: usize) -> Result<Event, AllocError>
+pub(crate) fn turn(
+    flight: &mut Vec<Key>,
+    node: u8,
+    log: &Vec<Entry>,
+    place: usize,
+) -> Result<Event, AllocError>
     requires there { place < length log.now.items }
     ensures { IfOk result (λ event. IsTurnOf node log.now.items place flight.old.items flight.new.items event) }
 {

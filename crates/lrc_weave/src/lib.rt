@@ -2,8 +2,8 @@
 //! what their mailboxes kept.
 #![tactic(auto)]
 
-pub mod laws;
 mod events;
+pub mod laws;
 mod order;
 mod weave;
 

@@ -1,4 +1,4 @@
-use Rattle.std.proofs.Common.{rules, ◌≡◌, ℕ, map, subst, sym, ◌∙◌, refl, length}
+use Rattle.std.proofs.Common.{rules, map, subst, sym, ◌∙◌}
 use Rattle.std.specs.Prelude.{Some}
 use Rattle.std.proofs.lemmas.List.{length-map}
 use Rattle.lrc_weave.specs.Next.{IsNextOf}
@@ -33,22 +33,22 @@ after-requires c = record {
 pub loop-node-smaller : goal.loop-node-smaller
 loop-node-smaller c =
     smaller (λ log. log.items) c.args.logs.now c.loop-node.come.items c.in-Some.node c.index-place.result.now c.after.result c.loop-node.invariant.0
-      (subst (λ xs. IsNextOf (map (λ log. log.items) c.args.logs.now) xs (Some c.in-Some.node)) c.as_slice.ensures.value c.in-Some.ensures)
-      (place_of (λ log. log.items) c.args.logs.now c.loop-node.come.items c.in-Some.node c.index-place.result.now c.loop-node.invariant.0
-      (subst (λ xs. IsNextOf (map (λ log. log.items) c.args.logs.now) xs (Some c.in-Some.node)) c.as_slice.ensures.value c.in-Some.ensures)
-      (search rules))
+    (subst (λ xs. IsNextOf (map (λ log. log.items) c.args.logs.now) xs (Some c.in-Some.node)) c.as_slice.ensures.value c.in-Some.ensures)
+    (place_of (λ log. log.items) c.args.logs.now c.loop-node.come.items c.in-Some.node c.index-place.result.now c.loop-node.invariant.0
+    (subst (λ xs. IsNextOf (map (λ log. log.items) c.args.logs.now) xs (Some c.in-Some.node)) c.as_slice.ensures.value c.in-Some.ensures)
+    (search rules))
     (search rules)
 
 pub loop-node-preserved : goal.loop-node-preserved
 loop-node-preserved c =
     so_next (λ log. log.items) c.args.logs.now c.loop-node.come.items c.loop-node.flight.items c.turn.new.flight.items c.loop-node.events.items
-      c.push.new.self.items c.in_ok-event.event c.in-Some.node c.index-place.result.now c.after.result c.index-logs-node.result c.loop-node.invariant
-      (subst (λ xs. IsNextOf (map (λ log. log.items) c.args.logs.now) xs (Some c.in-Some.node)) c.as_slice.ensures.value c.in-Some.ensures)
-      c.in_ok-event.ensures (search rules)
-      (place_of (λ log. log.items) c.args.logs.now c.loop-node.come.items c.in-Some.node c.index-place.result.now c.loop-node.invariant.0
-      (subst (λ xs. IsNextOf (map (λ log. log.items) c.args.logs.now) xs (Some c.in-Some.node)) c.as_slice.ensures.value c.in-Some.ensures)
-      (search rules))
-      (search rules) (search rules)
+    c.push.new.self.items c.in_ok-event.event c.in-Some.node c.index-place.result.now c.after.result c.index-logs-node.result c.loop-node.invariant
+    (subst (λ xs. IsNextOf (map (λ log. log.items) c.args.logs.now) xs (Some c.in-Some.node)) c.as_slice.ensures.value c.in-Some.ensures)
+    c.in_ok-event.ensures (search rules)
+    (place_of (λ log. log.items) c.args.logs.now c.loop-node.come.items c.in-Some.node c.index-place.result.now c.loop-node.invariant.0
+    (subst (λ xs. IsNextOf (map (λ log. log.items) c.args.logs.now) xs (Some c.in-Some.node)) c.as_slice.ensures.value c.in-Some.ensures)
+    (search rules))
+    (search rules) (search rules)
 
 pub returns : goal.returns
 returns c = λ program nodes options wires are matched count.
