@@ -65,7 +65,8 @@ module _ {V : Type 0} (f : V → List EntryRecord) where
             (subst (WovenSo (map f vs) (slice_set come n (come_of come n + 1)) new) (sym more_is) done),
       )
 
-  pub smaller : (vs : List V) (come : List ℕ) (n place x : ℕ) → length come ≡ length vs → IsNextOf (map f vs) come (Some n) → place ≡ come_of come n → x ≡ place + 1
+  pub smaller : (vs : List V) (come : List ℕ) (n place x : ℕ) → length come ≡ length vs → IsNextOf (map f vs) come (Some n) → place ≡ come_of come n
+      → x ≡ place + 1
       → to_come (map f vs) (slice_set come n x) < to_come (map f vs) come
   smaller vs come n place x counted next place_is x_is =
       let less = one_less (map f vs) come n next.0 (counted ∙ sym (length-map vs f)) next.1.next in

@@ -45,7 +45,12 @@ module _ (logs : List (List EntryRecord)) (come : List ℕ) where
     up_to_this (λ m other. IsUpTo b.1.stamp head.node other.stamp m) below
         (λ other there.
         up_to_if b.1.stamp head.node other.stamp below
-        (omega (arith, leb-true head.stamp entry.stamp le, b.3, ap (λ (x : EntryRecord). x.stamp) (same_entry (next_entry logs come below) entry other at there)))
+        (omega (
+          arith,
+          leb-true head.stamp entry.stamp le,
+          b.3,
+          ap (λ (x : EntryRecord). x.stamp) (same_entry (next_entry logs come below) entry other at there),
+        ))
         (omega (arith, b.0)))
         b.4,
   )

@@ -172,7 +172,8 @@ module _ (logs : List (List EntryRecord)) where
               let up : head.0.stamp ≤ s.turn.stamp = rises_at s.sender (come_of come s.sender) s.place head.0 s.turn head.1 s.there le in
               let least : entry.stamp ≤ head.0.stamp = up_to entry.stamp n head.0.stamp s.sender (next.least s.sender head.0 head.1) in
               let sent_at : flying.stamp ≡ s.turn.stamp =
-              (let from = of_map (λ envelope. record { envelope = envelope; stamp = s.turn.stamp; delivered = false }) s.turn.turn.out flying s.sent.0 s.sent.1 in
+              (let from = of_map (λ envelope. record { envelope = envelope; stamp = s.turn.stamp; delivered = false }) s.turn.turn.out
+              flying s.sent.0 s.sent.1 in
               sym (ap (λ (f : Flying). f.stamp) from.2)) in
               let below : flying.stamp < entry.stamp = subst (λ x. flying.stamp < x) (sym s.stamp) (above_came before flying.stamp) in
               absurd (omega (arith, up, least, sent_at, below)))

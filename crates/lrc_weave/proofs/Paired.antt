@@ -29,8 +29,8 @@ not_taken : (input : Input) (envelope : EnvelopeRecord) → input ≡ run → in
 not_taken input envelope a b = cc
 
 -- the message that an entry takes
-takes_at : {before log : List EntryRecord} {messages : List (Option Flying)} → Takes before log messages → (k : ℕ) (entry : EntryRecord) (envelope : EnvelopeRecord)
-    → slice_get log k ≡ Some entry → entry.input ≡ taken envelope
+takes_at : {before log : List EntryRecord} {messages : List (Option Flying)} → Takes before log messages
+    → (k : ℕ) (entry : EntryRecord) (envelope : EnvelopeRecord) → slice_get log k ≡ Some entry → entry.input ≡ taken envelope
     → (flying : Flying) × IsIn (Some flying) messages × (flying.envelope ≡ envelope) × (entry.stamp ≡ next_stamp (before ++ take k log) flying.stamp)
 takes_at takes_none k entry envelope at is = cc
 takes_at (takes_not {entry = e} i rest) zero entry envelope at is =

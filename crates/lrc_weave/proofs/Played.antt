@@ -107,8 +107,8 @@ module _ (logs : List (List EntryRecord)) where
       }
 
   -- what is taken from flight makes the turn
-  by_message : (world : World) (left flight : List Flying) (n place came : ℕ) (entry : EntryRecord) (flying : Flying) (l after : Logged) (before : List EntryRecord)
-      → world.flight ≡ flight → slice_get world.nodes n ≡ Some l → l.log ≡ before → IsTakenAt n before entry flight place flying
+  by_message : (world : World) (left flight : List Flying) (n place came : ℕ) (entry : EntryRecord) (flying : Flying)
+      → (l after : Logged) (before : List EntryRecord) → world.flight ≡ flight → slice_get world.nodes n ≡ Some l → l.log ≡ before → IsTakenAt n before entry flight place flying
       → logs' l entry.input came ≡ logged entry after
       → delivers world left (slice_get world.flight place) ≡ Some (with_turn world left n entry after)
   by_message world left flight n place came entry flying l after before flown there log_is t turned =

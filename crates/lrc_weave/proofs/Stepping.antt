@@ -102,7 +102,8 @@ keys_marked : (flight : List Flying) (first place : ℕ)
     → map key_at (map (λ (at : ℕ × Flying). cond (at.0 == place) (marked at.1) at.1) (enumerate_from first flight)) ≡ map key_at flight
 keys_marked [] first place = refl
 keys_marked (f ∷ flight) first place =
-    ap (λ k. k ∷ map key_at (map (λ (at : ℕ × Flying). cond (at.0 == place) (marked at.1) at.1) (enumerate_from (first + 1) flight))) (key_marked (first == place) f)
+    ap (λ k. k ∷ map key_at (map (λ (at : ℕ × Flying). cond (at.0 == place) (marked at.1) at.1) (enumerate_from (first + 1) flight)))
+    (key_marked (first == place) f)
     ∙ ap (λ ks. key_at f ∷ ks) (keys_marked flight (first + 1) place)
 
 keys_removed : (flight : List Flying) (place : ℕ) → map key_at (remove flight place) ≡ remove (map key_at flight) place

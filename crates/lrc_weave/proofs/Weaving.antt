@@ -76,4 +76,5 @@ module _ (program : Program) (nodes : ℕ) (options : OptionsRecord) (logs : Lis
   pub whole : Whole
   whole =
       let start = replicate (length logs) 0 in
-      go_on (to_come logs start) start [] [] refl (length-replicate (length logs) 0) nothing_yet (holds_start logs) (next_or_none logs start).0 (next_or_none logs start).1
+      go_on (to_come logs start) start [] [] refl (length-replicate (length logs) 0) nothing_yet (holds_start logs)
+      (next_or_none logs start).0 (next_or_none logs start).1
