@@ -3,7 +3,7 @@ use Rattle.std.proofs.Common.{◌≡◌, ℕ, zero, suc, ◌+◌, ◌<◌, ◌�
 use Rattle.std.specs.Prelude.{Some, None, ◌==◌, ◌&&◌, remove, slice_get, slice_set, slice_index_or}
 use Rattle.std.specs.List.{enumerate_from}
 use Rattle.std.proofs.lemmas.Bool.{and_parts, eqb-true, eq-eqb, ltb-true}
-use Rattle.std.proofs.lemmas.List.{map-append}
+use Rattle.std.proofs.lemmas.List.{map-append, length-map}
 use Rattle.std.proofs.lemmas.List.Quantifiers.{position-Some}
 use Rattle.std.proofs.lemmas.Simd.{map-map}
 use Rattle.std.proofs.lemmas.Option.{slice_get-get_or, same_Some}
@@ -125,10 +125,10 @@ so_start logs program nodes options wires are matched count = ([], nothing_yet, 
 
 pub so_all : (logs : List (List EntryRecord)) (come : List ℕ) (keys : List Key) (events : List Event) → WovenSo logs come keys events → IsNextOf logs come None
     → (program : Program) (nodes : ℕ) (options : OptionsRecord) (wires : List MailboxRecord) → AreLogs program nodes options logs
-    → AreMatched logs wires → length wires ≡ length logs → (flight : List Flying) × AreWoven logs events flight
+    → AreMatched logs wires → length wires ≡ length logs → (flight : List Flying) × AreWoven logs events flight × (length flight ≡ length keys)
 so_all logs come keys events so none program nodes options wires are matched count =
     let s = so program nodes options wires are matched count in
-    (s.0, record { come = come; woven = s.1; all = none })
+    (s.0, record { come = come; woven = s.1; all = none }, sym (length-map s.0 key_at) ∙ ap length s.3)
 
 module _ (logs : List (List EntryRecord)) (come : List ℕ) (events : List Event) (counted : length come ≡ length logs)
     (node : ℕ) (entry : EntryRecord) (next : IsNext logs come node entry)

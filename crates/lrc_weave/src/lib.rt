@@ -7,4 +7,4 @@ pub mod laws;
 mod order;
 mod weave;
 
-pub use weave::events_of;
+pub use weave::{Weave, events_of};

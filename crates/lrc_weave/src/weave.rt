@@ -15,15 +15,22 @@ use lrc_node::Entry;
 use lrc_protocol::Event;
 use std::alloc::{AllocError, Global};
 
+/// Events, and how many messages are in flight after them.
+#[derive(Drop)]
+pub struct Weave {
+    pub events: Vec<Event>,
+    pub in_flight: usize,
+}
+
 /// The events that make all turns of the logs of a program's nodes, ordered by their stamps, and where those are the same by their
 /// nodes: where there are mailboxes that tell of the same messages. A message's last take is delivered, and each one before it
 /// repeated.
-pub fn events_of(alloc: Global, logs: &[Vec<Entry>]) -> Result<Vec<Event>, AllocError>
+pub fn events_of(alloc: Global, logs: &[Vec<Entry>]) -> Result<Weave, AllocError>
     requires few { length logs.now ≤ 16 }
-    ensures { IfOk result (λ events. (program : Program) (nodes : ℕ) (options : OptionsRecord) (wires : List MailboxRecord)
+    ensures { IfOk result (λ weave. (program : Program) (nodes : ℕ) (options : OptionsRecord) (wires : List MailboxRecord)
         → AreLogs program nodes options (map (λ log. log.items) logs.now) → AreMatched (map (λ log. log.items) logs.now) wires
         → length wires ≡ length logs.now
-        → (flight : List Flying) × AreWoven (map (λ log. log.items) logs.now) events.items flight) }
+        → (flight : List Flying) × AreWoven (map (λ log. log.items) logs.now) weave.events.items flight × (length flight ≡ weave.in_flight)) }
 {
     let mut come = vec![in alloc; 0usize; logs.len()]?;
     let mut flight = Vec::new(alloc);
@@ -35,7 +42,10 @@ pub fn events_of(alloc: Global, logs: &[Vec<Entry>]) -> Result<Vec<Event>, Alloc
         events.push(event)?;
         come[node] = after(log, place);
     }
-    Ok(events)
+    Ok(Weave {
+        events,
+        in_flight: flight.len(),
+    })
 }
 
 // The place after one in a log.

@@ -52,7 +52,8 @@ loop-node-preserved c =
 
 pub returns : goal.returns
 returns c = λ program nodes options wires are matched count.
-    so_all (map (λ log. log.items) c.args.logs.now) c.loop-node.come.items c.loop-node.flight.items c.loop-node.events.items c.loop-node.invariant.1
+    let w = so_all (map (λ log. log.items) c.args.logs.now) c.loop-node.come.items c.loop-node.flight.items c.loop-node.events.items c.loop-node.invariant.1
     (subst (λ o. IsNextOf (map (λ log. log.items) c.args.logs.now) c.loop-node.come.items o) c.in_default.is
     (subst (λ xs. IsNextOf (map (λ log. log.items) c.args.logs.now) xs c.next_turn.result) c.as_slice.ensures.value c.next_turn.ensures))
-    program nodes options wires are matched (count ∙ sym (length-map c.args.logs.now (λ log. log.items)))
+    program nodes options wires are matched (count ∙ sym (length-map c.args.logs.now (λ log. log.items))) in
+    (w.0, w.1, w.2 ∙ search rules)
