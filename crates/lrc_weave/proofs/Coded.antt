@@ -1,0 +1,75 @@
+-- What the code's loop keeps, over logs in vectors.
+use Rattle.std.proofs.Common.{◌≡◌, ℕ, zero, suc, ◌+◌, ◌<◌, List, [], ◌∷◌, ◌++◌, length, map, replicate, refl, sym, ap, subst, ◌∙◌, arith}
+use Rattle.std.specs.Prelude.{Some, slice_set, slice_index_or}
+use Rattle.std.proofs.lemmas.List.{length-map, length-set, length-replicate}
+use Rattle.std.proofs.lemmas.Option.{slice_get_within, slice_get-get_or, same_Some}
+use Rattle.lrc_protocol.specs.Log.{EntryRecord}
+use Rattle.lrc_weave.specs.Woven.{log_of, come_of}
+use Rattle.lrc_weave.specs.Next.{IsNextOf}
+use Rattle.lrc_protocol.specs.declared.event.Event.{Event}
+use Rattle.lrc_weave.specs.declared.events.Key.{Key}
+use Rattle.lrc_weave.specs.Events.{IsTurnOf}
+use Rattle.lrc_weave.proofs.Weaving.{to_come, one_less}
+use Rattle.lrc_weave.proofs.Stepping.{WovenSo, so_start, so_more}
+use Rattle.lrc_weave.proofs.Places.{within_outer}
+
+module _ {V : Type 0} (f : V → List EntryRecord) where
+  pub log_at : (vs : List V) (n : ℕ) (v : V) → n < length vs → log_of (map f vs) n ≡ f (slice_index_or vs n v)
+  log_at [] n v lt = absurd (omega (arith, lt))
+  log_at (x ∷ vs) zero v lt = refl
+  log_at (x ∷ vs) (suc n) v lt = log_at vs n v (omega (arith, lt))
+
+  -- the next turn's node is one of them
+  pub next_node : (vs : List V) (come : List ℕ) (n : ℕ) → IsNextOf (map f vs) come (Some n) → n < length vs
+  next_node vs come n next =
+      subst (λ k. n < k) (length-map vs f) (within_outer (map f vs) n (come_of come n) next.0 next.1.next)
+
+  -- and it is there in its log
+  pub next_place : (vs : List V) (come : List ℕ) (n : ℕ) (v : V) → IsNextOf (map f vs) come (Some n) → come_of come n < length (f (slice_index_or vs n v))
+  next_place vs come n v next =
+      subst (λ log. come_of come n < length log) (log_at vs n v (next_node vs come n next))
+      (slice_get_within (log_of (map f vs) n) (come_of come n) next.0 next.1.next)
+
+  -- what the code reads of how many turns have come
+  pub place_of : (vs : List V) (come : List ℕ) (n place : ℕ) → length come ≡ length vs → IsNextOf (map f vs) come (Some n)
+      → place ≡ slice_index_or come n place → place ≡ come_of come n
+  place_of vs come n place counted next is =
+      let within : n < length come = subst (λ k. n < k) (sym counted) (next_node vs come n next) in
+      is ∙ same_Some (slice_index_or come n place) (come_of come n) (sym (slice_get-get_or come n place within) ∙ slice_get-get_or come n 0 within)
+
+  pub below_end : (vs : List V) (come : List ℕ) (n place : ℕ) (v : V) → IsNextOf (map f vs) come (Some n) → place ≡ come_of come n
+      → v ≡ slice_index_or vs n v → place < length (f v)
+  below_end vs come n place v next place_is v_is =
+      subst (λ w. place < length (f w)) (sym v_is) (subst (λ p. p < length (f (slice_index_or vs n v))) (sym place_is) (next_place vs come n v next))
+
+  pub so_begin : (vs : List V) (come : List ℕ) (keys : List Key) (events : List Event) → come ≡ replicate (length vs) 0 → keys ≡ [] → events ≡ []
+      → (length come ≡ length vs) × WovenSo (map f vs) come keys events
+  so_begin vs come keys events come_is keys_is events_is = (
+    ap length come_is ∙ length-replicate (length vs) 0,
+    subst (λ c. WovenSo (map f vs) c keys events) (sym (come_is ∙ ap (λ k. replicate k 0) (sym (length-map vs f))))
+        (subst (λ k. WovenSo (map f vs) (replicate (length (map f vs)) 0) k events) (sym keys_is)
+        (subst (λ e. WovenSo (map f vs) (replicate (length (map f vs)) 0) [] e) (sym events_is) (so_start (map f vs)))),
+  )
+
+  pub so_next : (vs : List V) (come : List ℕ) (keys new : List Key) (events more : List Event) (event : Event) (n place x : ℕ) (v : V)
+      → (length come ≡ length vs) × WovenSo (map f vs) come keys events → IsNextOf (map f vs) come (Some n) → IsTurnOf n (f v) place keys new event
+      → v ≡ slice_index_or vs n v → place ≡ come_of come n → x ≡ place + 1 → more ≡ events ++ event ∷ []
+      → (length (slice_set come n x) ≡ length vs) × WovenSo (map f vs) (slice_set come n x) new more
+  so_next vs come keys new events more event n place x v so next turn v_is place_is x_is more_is =
+      let log_is : f v ≡ log_of (map f vs) n = ap f v_is ∙ sym (log_at vs n v (next_node vs come n next)) in
+      let turned : IsTurnOf n (log_of (map f vs) n) (come_of come n) keys new event =
+      subst (λ p. IsTurnOf n (log_of (map f vs) n) p keys new event) place_is (subst (λ l. IsTurnOf n l place keys new event) log_is turn) in
+      let done = so_more (map f vs) come keys new events event n (so.0 ∙ sym (length-map vs f)) next turned so.1 in (
+        length-set come n x ∙ so.0,
+        subst (λ k. WovenSo (map f vs) (slice_set come n k) new more) (sym (x_is ∙ ap (λ p. p + 1) place_is))
+            (subst (WovenSo (map f vs) (slice_set come n (come_of come n + 1)) new) (sym more_is) done),
+      )
+
+  pub smaller : (vs : List V) (come : List ℕ) (n place x : ℕ) → length come ≡ length vs → IsNextOf (map f vs) come (Some n) → place ≡ come_of come n
+      → x ≡ place + 1
+      → to_come (map f vs) (slice_set come n x) < to_come (map f vs) come
+  smaller vs come n place x counted next place_is x_is =
+      let less = one_less (map f vs) come n next.0 (counted ∙ sym (length-map vs f)) next.1.next in
+      let here : to_come (map f vs) (slice_set come n x) ≡ to_come (map f vs) (slice_set come n (come_of come n + 1)) =
+      ap (λ k. to_come (map f vs) (slice_set come n k)) (x_is ∙ ap (λ p. p + 1) place_is) in
+      omega (arith, less, here)

@@ -1,0 +1,10 @@
+pub mod Places
+pub mod Played
+pub mod Members
+pub mod Paired
+pub mod Rising
+pub mod Holding
+pub mod Heads
+pub mod Weaving
+pub mod Stepping
+pub mod Coded

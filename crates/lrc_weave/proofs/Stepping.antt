@@ -1,0 +1,234 @@
+-- A turn that the code makes is the next turn of the weave.
+use Rattle.std.proofs.Common.{◌≡◌, ℕ, zero, suc, ◌+◌, ◌<◌, ◌≤◌, Bool, true, false, cond, List, [], ◌∷◌, ◌++◌, length, map, filter, replicate, take, drop, refl, sym, ap, subst, ◌∙◌, arith}
+use Rattle.std.specs.Prelude.{Some, None, ◌==◌, ◌&&◌, remove, slice_get, slice_set, slice_index_or}
+use Rattle.std.specs.List.{enumerate_from}
+use Rattle.std.proofs.lemmas.Bool.{and_parts, eqb-true, eq-eqb, ltb-true}
+use Rattle.std.proofs.lemmas.List.{map-append, length-map}
+use Rattle.std.proofs.lemmas.List.Quantifiers.{position-Some}
+use Rattle.std.proofs.lemmas.Simd.{map-map}
+use Rattle.std.proofs.lemmas.Option.{slice_get-get_or, same_Some}
+use Rattle.lrc_lang.specs.declared.program.Program.{Program}
+use Rattle.lrc_wire.specs.Envelope.{EnvelopeRecord}
+use Rattle.lrc_post.specs.Mailbox.{MailboxRecord}
+use Rattle.lrc_protocol.specs.declared.event.Event.{Event}
+use Rattle.lrc_protocol.specs.Node.{OptionsRecord}
+use Rattle.lrc_protocol.specs.Turn.{Outcome, unexpected, is_addressed, is_repeat, take_anew, empty_turn, done}
+use Rattle.lrc_protocol.specs.Log.{Input, run, taken, EntryRecord, Logged, logged, logs as logs', logging, next_stamp}
+use Rattle.lrc_protocol.specs.World.{Flying, marked, with_mark, sent_by}
+use Rattle.lrc_invariants.specs.Numbers.{numbers_between, Rises}
+use Rattle.lrc_invariants.proofs.InFlight.{Sends, all_send}
+use Rattle.lrc_weave.specs.declared.events.Key.{Key}
+use Rattle.lrc_weave.specs.Logs.{GoesOn, AreLogs}
+use Rattle.lrc_weave.specs.Matched.{AreMatched}
+use Rattle.lrc_weave.specs.Woven.{log_of, come_of, IsNext, is_taken_in, IsTakenAt, Makes, runs, takes_last, takes_again, Woven, nothing_yet, then_one, AreWoven}
+use Rattle.lrc_weave.specs.Next.{IsNextOf}
+use Rattle.lrc_weave.specs.Events.{key_of, is_key, taking, left_by, IsTakenFrom, IsMadeBy, IsTurnOf}
+use Rattle.lrc_weave.proofs.Places.{dropped_less, within_outer}
+use Rattle.lrc_weave.proofs.Members.{in_map, of_map}
+use Rattle.lrc_weave.proofs.Played.{all_played}
+use Rattle.lrc_weave.proofs.Holding.{Holds, holds_start, holds_more, can_take}
+
+-- ---- one message in flight for each number
+
+module _ (from to bound : ℕ) where
+  abbrev is_between : EnvelopeRecord → Bool
+  is_between e = (e.from == from) && (e.to == to)
+
+  abbrev chosen : Bool → EnvelopeRecord → List EnvelopeRecord → List ℕ
+  chosen b e es = map (λ (x : EnvelopeRecord). x.number) (cond b (e ∷ filter is_between es) (filter is_between es))
+
+  low_by : (b : Bool) (e y : EnvelopeRecord) (es : List EnvelopeRecord) (least : ℕ) → ((l : ℕ) → Rises l bound (numbers_between from to es) → l ≤ y.number)
+      → Rises least bound (chosen b e es) → least ≤ y.number
+  low_by true e y es least rest r = omega (arith, r.0, rest (e.number + 1) r.2)
+  low_by false e y es least rest r = rest least r
+
+  low : (es : List EnvelopeRecord) (y : EnvelopeRecord) (q least : ℕ) → slice_get es q ≡ Some y → is_between y ≡ true
+      → Rises least bound (numbers_between from to es) → least ≤ y.number
+  low [] y q least at is r = cc
+  low (e ∷ es) y zero least at is r =
+      let same : e ≡ y = cc in
+      let here : Rises least bound (chosen true e es) = subst (λ b. Rises least bound (chosen b e es)) (ap is_between same ∙ is) r in
+      subst (λ (x : EnvelopeRecord). least ≤ x.number) same here.0
+  low (e ∷ es) y (suc q) least at is r = low_by (is_between e) e y es least (λ l rest. low es y q l at is rest) r
+
+  rest_rises : (b : Bool) (e : EnvelopeRecord) (es : List EnvelopeRecord) (least : ℕ) → Rises least bound (chosen b e es)
+      → (l : ℕ) × Rises l bound (numbers_between from to es)
+  rest_rises true e es least r = (e.number + 1, r.2)
+  rest_rises false e es least r = (least, r)
+
+  one_place : (es : List EnvelopeRecord) (p q least : ℕ) (x y : EnvelopeRecord) → slice_get es p ≡ Some x → slice_get es q ≡ Some y
+      → is_between x ≡ true → is_between y ≡ true → x.number ≡ y.number → Rises least bound (numbers_between from to es) → p ≡ q
+  one_place [] p q least x y at_p at_q is_x is_y same r = cc
+  one_place (e ∷ es) zero zero least x y at_p at_q is_x is_y same r = refl
+  one_place (e ∷ es) zero (suc q) least x y at_p at_q is_x is_y same r =
+      let first : e ≡ x = cc in
+      let here : Rises least bound (chosen true e es) = subst (λ b. Rises least bound (chosen b e es)) (ap is_between first ∙ is_x) r in
+      let later : e.number + 1 ≤ y.number = low es y q (e.number + 1) at_q is_y here.2 in
+      absurd (omega (arith, later, same, ap (λ (z : EnvelopeRecord). z.number) first))
+  one_place (e ∷ es) (suc p) zero least x y at_p at_q is_x is_y same r =
+      let first : e ≡ y = cc in
+      let here : Rises least bound (chosen true e es) = subst (λ b. Rises least bound (chosen b e es)) (ap is_between first ∙ is_y) r in
+      let later : e.number + 1 ≤ x.number = low es x p (e.number + 1) at_p is_x here.2 in
+      absurd (omega (arith, later, same, ap (λ (z : EnvelopeRecord). z.number) first))
+  one_place (e ∷ es) (suc p) (suc q) least x y at_p at_q is_x is_y same r =
+      let rest = rest_rises (is_between e) e es least r in
+      ap suc (one_place es p q rest.0 x y at_p at_q is_x is_y same rest.1)
+
+-- ---- a message that is taken is addressed
+
+addressed_if : (input : Input) (stamp : ℕ) (log : List EntryRecord) (o : Outcome) (entry : EntryRecord) (after : Logged) (b : Bool)
+    → logging input stamp log (cond b o unexpected) ≡ logged entry after → b ≡ true
+addressed_if input stamp log o entry after true e = refl
+addressed_if input stamp log o entry after false e = cc
+
+addressed : (l : Logged) (envelope : EnvelopeRecord) (came : ℕ) (entry : EntryRecord) (after : Logged)
+    → logs' l (taken envelope) came ≡ logged entry after → envelope.from < l.node.setting.nodes
+addressed l envelope came entry after e =
+    let is : is_addressed l.node envelope ≡ true =
+    addressed_if (taken envelope) (next_stamp l.log came) l.log (cond (is_repeat l.node envelope) (done empty_turn l.node) (take_anew l.node envelope))
+    entry after (is_addressed l.node envelope) e in
+    ltb-true envelope.from l.node.setting.nodes (and_parts _ _ is).1
+
+-- ---- what flight is known by
+
+abbrev pub key_at : Flying → Key
+key_at flying = key_of flying.envelope
+
+key_marked : (b : Bool) (f : Flying) → key_at (cond b (marked f) f) ≡ key_at f
+key_marked true f = refl
+key_marked false f = refl
+
+keys_marked : (flight : List Flying) (first place : ℕ)
+    → map key_at (map (λ (at : ℕ × Flying). cond (at.0 == place) (marked at.1) at.1) (enumerate_from first flight)) ≡ map key_at flight
+keys_marked [] first place = refl
+keys_marked (f ∷ flight) first place =
+    ap (λ k. k ∷ map key_at (map (λ (at : ℕ × Flying). cond (at.0 == place) (marked at.1) at.1) (enumerate_from (first + 1) flight)))
+    (key_marked (first == place) f)
+    ∙ ap (λ ks. key_at f ∷ ks) (keys_marked flight (first + 1) place)
+
+keys_removed : (flight : List Flying) (place : ℕ) → map key_at (remove flight place) ≡ remove (map key_at flight) place
+keys_removed [] zero = refl
+keys_removed [] (suc place) = refl
+keys_removed (f ∷ flight) zero = refl
+keys_removed (f ∷ flight) (suc place) = ap (λ ks. key_at f ∷ ks) (keys_removed flight place)
+
+-- ---- one turn
+
+-- what the code keeps stands for a part of the weave
+abbrev pub WovenSo : List (List EntryRecord) → List ℕ → List Key → List Event → Type 0
+WovenSo logs come keys events = (program : Program) (nodes : ℕ) (options : OptionsRecord) (wires : List MailboxRecord) → AreLogs program nodes options logs
+    → AreMatched logs wires → length wires ≡ length logs
+    → (flight : List Flying) × Woven logs come flight events × Holds logs come flight × (map key_at flight ≡ keys)
+
+pub so_start : (logs : List (List EntryRecord)) → WovenSo logs (replicate (length logs) 0) [] []
+so_start logs program nodes options wires are matched count = ([], nothing_yet, holds_start logs, refl)
+
+pub so_all : (logs : List (List EntryRecord)) (come : List ℕ) (keys : List Key) (events : List Event) → WovenSo logs come keys events → IsNextOf logs come None
+    → (program : Program) (nodes : ℕ) (options : OptionsRecord) (wires : List MailboxRecord) → AreLogs program nodes options logs
+    → AreMatched logs wires → length wires ≡ length logs → (flight : List Flying) × AreWoven logs events flight × (length flight ≡ length keys)
+so_all logs come keys events so none program nodes options wires are matched count =
+    let s = so program nodes options wires are matched count in
+    (s.0, record { come = come; woven = s.1; all = none }, sym (length-map s.0 key_at) ∙ ap length s.3)
+
+module _ (logs : List (List EntryRecord)) (come : List ℕ) (events : List Event) (counted : length come ≡ length logs)
+    (node : ℕ) (entry : EntryRecord) (next : IsNext logs come node entry)
+    (program : Program) (nodes : ℕ) (options : OptionsRecord) (wires : List MailboxRecord) (are : AreLogs program nodes options logs)
+    (matched : AreMatched logs wires) (count : length wires ≡ length logs) (flight : List Flying) (woven : Woven logs come flight events)
+    (holds : Holds logs come flight) where
+  abbrev before : List EntryRecord
+  before = take (come_of come node) (log_of logs node)
+
+  abbrev later : List EntryRecord
+  later = drop (come_of come node + 1) (log_of logs node)
+
+  -- the turn is made, and what is left in flight is known by these
+  abbrev MadeOf : Event → List Key → Type 0
+  MadeOf event left = (rest : List Flying) × Makes node before later entry flight event rest × (map key_at rest ≡ left)
+
+  from_in : (envelope : EnvelopeRecord) → entry.input ≡ taken envelope → envelope.from < nodes
+  from_in envelope is =
+      let played = all_played logs program nodes options are come flight events woven in
+      let here = played.2.each node (within_outer logs node (come_of come node) entry next.next) in
+      let on : GoesOn here.0 (entry ∷ later) = subst (GoesOn here.0) (dropped_less (log_of logs node) (come_of come node) entry next.next) here.3 in
+      let sends : Sends _ options _ here.0.node = (all_send program nodes options events played.0 played.1).each node here.0 here.1 in
+      subst (λ s. envelope.from < s) (ap (λ (s : _). s.nodes) sends.setting)
+      (addressed here.0 envelope on.0 entry on.1 (ap (λ i. logs' here.0 i on.0) (sym is) ∙ on.3))
+
+  same_place : (p q : ℕ) (f g : Flying) → slice_get flight p ≡ Some f → slice_get flight q ≡ Some g → is_key g.envelope (key_at f) ≡ true
+      → g.envelope.from < nodes → g.envelope.to < nodes → p ≡ q
+  same_place p q f g at_p at_q is from_lt to_lt =
+      let played = all_played logs program nodes options are come flight events woven in
+      let sender = played.2.each g.envelope.from (subst (λ k. g.envelope.from < k) (sym are.count) from_lt) in
+      let sends = (all_send program nodes options events played.0 played.1).each g.envelope.from sender.0 sender.1 in
+      let rises = sends.numbers g.envelope.to to_lt in
+      let outer = and_parts (f.envelope.from == g.envelope.from) _ is in
+      let inner = and_parts (f.envelope.to == g.envelope.to) _ outer.1 in
+      one_place g.envelope.from g.envelope.to _ (map (λ (x : Flying). x.envelope) played.0.flight) p q _ f.envelope g.envelope
+      (in_map (λ (x : Flying). x.envelope) played.0.flight f p (ap (λ fs. slice_get fs p) played.2.flown ∙ at_p))
+      (in_map (λ (x : Flying). x.envelope) played.0.flight g q (ap (λ fs. slice_get fs q) played.2.flown ∙ at_q))
+      (ap (λ b. b && (f.envelope.to == g.envelope.to)) outer.0 ∙ inner.0)
+      (ap (λ b. b && (g.envelope.to == g.envelope.to)) (eq-eqb g.envelope.from g.envelope.from refl) ∙ eq-eqb g.envelope.to g.envelope.to refl)
+      (eqb-true f.envelope.number g.envelope.number inner.1)
+      rises
+
+  by_again : (keys left : List Key) (event : Event) (place : ℕ) (f : Flying) (b : Bool) → map key_at flight ≡ keys → IsTakenAt node before entry flight place f
+      → is_taken_in f.envelope later ≡ b → event ≡ taking b place → left ≡ left_by b place keys → MadeOf event left
+  by_again keys left event place f true same t again event_is left_is = (
+    with_mark flight place,
+    subst (λ e. Makes node before later entry flight e (with_mark flight place)) (sym event_is) (takes_again t again),
+    keys_marked flight 0 place ∙ same ∙ sym left_is,
+  )
+  by_again keys left event place f false same t last event_is left_is = (
+    remove flight place,
+    subst (λ e. Makes node before later entry flight e (remove flight place)) (sym event_is) (takes_last t last),
+    keys_removed flight place ∙ ap (λ ks. remove ks place) same ∙ sym left_is,
+  )
+
+  by_take : (keys left : List Key) (event : Event) (envelope : EnvelopeRecord) → map key_at flight ≡ keys → entry.input ≡ taken envelope
+      → IsTakenFrom keys envelope (is_taken_in envelope later) left (Some event) → MadeOf event left
+  by_take keys left event envelope same is t =
+      let can = can_take logs program nodes options are wires matched count come flight node entry envelope next is holds in
+      let found = position-Some (is_key envelope) keys t.0 (key_of envelope) t.1 in
+      let there : slice_get (map key_at flight) t.0 ≡ Some (slice_index_or keys t.0 (key_of envelope)) =
+      ap (λ ks. slice_get ks t.0) same ∙ slice_get-get_or keys t.0 (key_of envelope) found.0 in
+      let f = of_map key_at flight (slice_index_or keys t.0 (key_of envelope)) t.0 there in
+      let passes : is_key can.1.envelope (key_at f.0) ≡ true =
+      ap (λ e. is_key e (key_at f.0)) can.3 ∙ ap (is_key envelope) f.2 ∙ found.1 in
+      let within : node < length logs = within_outer logs node (come_of come node) entry next.next in
+      let place_is : t.0 ≡ can.0 =
+      same_place t.0 can.0 f.0 can.1 f.1 can.2.there passes
+      (subst (λ (e : EnvelopeRecord). e.from < nodes) (sym can.3) (from_in envelope is))
+      (subst (λ k. k < nodes) (sym can.2.receiver) (subst (λ k. node < k) are.count within)) in
+      by_again keys left event t.0 can.1 (is_taken_in envelope later) same
+      (subst (λ p. IsTakenAt node before entry flight p can.1) (sym place_is) can.2)
+      (ap (λ e. is_taken_in e later) can.3) t.2 t.3
+
+  made_by : (keys left : List Key) (event : Event) (input : Input) → map key_at flight ≡ keys → entry.input ≡ input
+      → IsMadeBy node later keys input left (Some event) → MadeOf event left
+  made_by keys left event run same is m =
+      (flight, subst (λ e. Makes node before later entry flight e flight) (sym m.0) (runs is), same ∙ sym m.1)
+  made_by keys left event (taken envelope) same is m = by_take keys left event envelope same is m
+
+  one_step : (keys new : List Key) (event : Event) → map key_at flight ≡ keys → IsTurnOf node (log_of logs node) (come_of come node) keys new event
+      → (rest : List Flying) × Woven logs (slice_set come node (come_of come node + 1)) rest (events ++ event ∷ [])
+      × Holds logs (slice_set come node (come_of come node + 1)) rest × (map key_at rest ≡ new)
+  one_step keys new event same t =
+      let entry_is : t.0 ≡ entry = same_Some t.0 entry (sym t.2 ∙ next.next) in
+      let made = made_by keys t.1 event entry.input same refl (subst (λ (e : EntryRecord). IsMadeBy node later keys e.input t.1 (Some event)) entry_is t.3) in (
+        made.0 ++ sent_by entry,
+        then_one woven next made.1,
+        holds_more logs come flight made.0 event node entry counted next.next made.1 holds,
+        map-append key_at made.0 (sent_by entry)
+            ∙ ap (λ ks. ks ++ map key_at (sent_by entry)) made.2
+            ∙ ap (λ ks. t.1 ++ ks) (map-map key_at (λ envelope. record { envelope = envelope; stamp = entry.stamp; delivered = false }) entry.turn.out)
+            ∙ ap (λ (e : EntryRecord). t.1 ++ map key_of e.turn.out) (sym entry_is)
+            ∙ sym t.4,
+      )
+
+-- the next turn is made
+pub so_more : (logs : List (List EntryRecord)) (come : List ℕ) (keys new : List Key) (events : List Event) (event : Event) (node : ℕ)
+    → length come ≡ length logs → IsNextOf logs come (Some node) → IsTurnOf node (log_of logs node) (come_of come node) keys new event
+    → WovenSo logs come keys events → WovenSo logs (slice_set come node (come_of come node + 1)) new (events ++ event ∷ [])
+so_more logs come keys new events event node counted next t so program nodes options wires are matched count =
+    let s = so program nodes options wires are matched count in
+    one_step logs come events counted node next.0 next.1 program nodes options wires are matched count s.0 s.1 s.2 keys new event s.3 t

@@ -1,0 +1,59 @@
+use Rattle.std.proofs.Common.{rules, map, subst, sym, ◌∙◌}
+use Rattle.std.specs.Prelude.{Some}
+use Rattle.std.proofs.lemmas.List.{length-map}
+use Rattle.lrc_weave.specs.Next.{IsNextOf}
+use Rattle.lrc_weave.proofs.Stepping.{so_all}
+use Rattle.lrc_weave.proofs.Coded.{place_of, below_end, so_begin, so_next, smaller}
+use Rattle.lrc_weave.proofs.weave.events_of.Goals as goal
+
+pub loop-node-init : goal.loop-node-init
+loop-node-init c =
+    so_begin (λ log. log.items) c.args.logs.now _ _ _ (search rules) (search rules) (search rules)
+
+pub turn-requires : goal.turn-requires
+turn-requires c = record {
+  there = below_end (λ log. log.items) c.args.logs.now c.loop-node.come.items c.in-Some.node c.index-place.result.now c.index-logs-node.result
+      (subst (λ xs. IsNextOf (map (λ log. log.items) c.args.logs.now) xs (Some c.in-Some.node)) c.as_slice.ensures.value c.in-Some.ensures)
+      (place_of (λ log. log.items) c.args.logs.now c.loop-node.come.items c.in-Some.node c.index-place.result.now c.loop-node.invariant.0
+      (subst (λ xs. IsNextOf (map (λ log. log.items) c.args.logs.now) xs (Some c.in-Some.node)) c.as_slice.ensures.value c.in-Some.ensures)
+      (search rules))
+      (search rules);
+}
+
+pub after-requires : goal.after-requires
+after-requires c = record {
+  there = below_end (λ log. log.items) c.args.logs.now c.loop-node.come.items c.in-Some.node c.index-place.result.now c.index-logs-node.result
+      (subst (λ xs. IsNextOf (map (λ log. log.items) c.args.logs.now) xs (Some c.in-Some.node)) c.as_slice.ensures.value c.in-Some.ensures)
+      (place_of (λ log. log.items) c.args.logs.now c.loop-node.come.items c.in-Some.node c.index-place.result.now c.loop-node.invariant.0
+      (subst (λ xs. IsNextOf (map (λ log. log.items) c.args.logs.now) xs (Some c.in-Some.node)) c.as_slice.ensures.value c.in-Some.ensures)
+      (search rules))
+      (search rules);
+}
+
+pub loop-node-smaller : goal.loop-node-smaller
+loop-node-smaller c =
+    smaller (λ log. log.items) c.args.logs.now c.loop-node.come.items c.in-Some.node c.index-place.result.now c.after.result c.loop-node.invariant.0
+    (subst (λ xs. IsNextOf (map (λ log. log.items) c.args.logs.now) xs (Some c.in-Some.node)) c.as_slice.ensures.value c.in-Some.ensures)
+    (place_of (λ log. log.items) c.args.logs.now c.loop-node.come.items c.in-Some.node c.index-place.result.now c.loop-node.invariant.0
+    (subst (λ xs. IsNextOf (map (λ log. log.items) c.args.logs.now) xs (Some c.in-Some.node)) c.as_slice.ensures.value c.in-Some.ensures)
+    (search rules))
+    (search rules)
+
+pub loop-node-preserved : goal.loop-node-preserved
+loop-node-preserved c =
+    so_next (λ log. log.items) c.args.logs.now c.loop-node.come.items c.loop-node.flight.items c.turn.new.flight.items c.loop-node.events.items
+    c.push.new.self.items c.in_ok-event.event c.in-Some.node c.index-place.result.now c.after.result c.index-logs-node.result c.loop-node.invariant
+    (subst (λ xs. IsNextOf (map (λ log. log.items) c.args.logs.now) xs (Some c.in-Some.node)) c.as_slice.ensures.value c.in-Some.ensures)
+    c.in_ok-event.ensures (search rules)
+    (place_of (λ log. log.items) c.args.logs.now c.loop-node.come.items c.in-Some.node c.index-place.result.now c.loop-node.invariant.0
+    (subst (λ xs. IsNextOf (map (λ log. log.items) c.args.logs.now) xs (Some c.in-Some.node)) c.as_slice.ensures.value c.in-Some.ensures)
+    (search rules))
+    (search rules) (search rules)
+
+pub returns : goal.returns
+returns c = λ program nodes options wires are matched count.
+    let w = so_all (map (λ log. log.items) c.args.logs.now) c.loop-node.come.items c.loop-node.flight.items c.loop-node.events.items c.loop-node.invariant.1
+    (subst (λ o. IsNextOf (map (λ log. log.items) c.args.logs.now) c.loop-node.come.items o) c.in_default.is
+    (subst (λ xs. IsNextOf (map (λ log. log.items) c.args.logs.now) xs c.next_turn.result) c.as_slice.ensures.value c.next_turn.ensures))
+    program nodes options wires are matched (count ∙ sym (length-map c.args.logs.now (λ log. log.items))) in
+    (w.0, w.1, w.2 ∙ search rules)

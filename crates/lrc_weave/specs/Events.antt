@@ -1,0 +1,43 @@
+-- What makes the event of one turn.
+use Rattle.std.specs.Prelude.{◌≡◌, ℕ, ◌+◌, ◌==◌, ◌&&◌, Bool, true, false, Option, Some, None, List, ◌++◌, map, drop, remove, position, slice_get}
+use Rattle.lrc_wire.specs.Envelope.{EnvelopeRecord}
+use Rattle.lrc_protocol.specs.declared.event.Event.{Event}
+use Rattle.lrc_protocol.specs.declared.event.Event.TheVariants.{Run, Deliver, Repeat}
+use Rattle.lrc_protocol.specs.Log.{Input, run, taken, EntryRecord}
+use Rattle.lrc_weave.specs.declared.events.Key.{Key}
+use Rattle.lrc_weave.specs.Woven.{is_taken_in}
+
+-- what a message is known by
+abbrev pub key_of : EnvelopeRecord → Key
+key_of envelope = record { from = envelope.from; to = envelope.to; number = envelope.number }
+
+-- whether a message is known by this
+abbrev pub is_key : EnvelopeRecord → Key → Bool
+is_key envelope key = (key.from == envelope.from) && ((key.to == envelope.to) && (key.number == envelope.number))
+
+-- the event that takes a message at a place, for the last time or not
+abbrev pub taking : Bool → ℕ → Event
+taking true place = Repeat place
+taking false place = Deliver place
+
+-- what is left in flight then
+abbrev pub left_by : Bool → ℕ → List Key → List Key
+left_by true place flight = flight
+left_by false place flight = remove flight place
+
+-- a message is taken from flight by this event, if by any
+abbrev pub IsTakenFrom : List Key → EnvelopeRecord → Bool → List Key → Option Event → Type 0
+IsTakenFrom old envelope again new None = Unit {0}
+IsTakenFrom old envelope again new (Some event) =
+    (place : ℕ) × (position (is_key envelope) old ≡ Some place) × (event ≡ taking again place) × (new ≡ left_by again place old)
+
+-- an input of a node is made by this event, if by any
+abbrev pub IsMadeBy : ℕ → List EntryRecord → List Key → Input → List Key → Option Event → Type 0
+IsMadeBy node later old run new None = Unit {0}
+IsMadeBy node later old run new (Some event) = (event ≡ Run node) × (new ≡ old)
+IsMadeBy node later old (taken envelope) new event = IsTakenFrom old envelope (is_taken_in envelope later) new event
+
+-- the turn at a place of a node's log is made by this event, and its messages are in flight then
+abbrev pub IsTurnOf : ℕ → List EntryRecord → ℕ → List Key → List Key → Event → Type 0
+IsTurnOf node log place old new event = (entry : EntryRecord) × (left : List Key) × (slice_get log place ≡ Some entry)
+    × IsMadeBy node (drop (place + 1) log) old entry.input left (Some event) × (new ≡ left ++ map key_of entry.turn.out)

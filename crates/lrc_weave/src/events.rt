@@ -1,0 +1,111 @@
+// The events that make the turns of logs.
+
+ghost use Rattle.std.specs.Prelude.{◌≡◌, ◌<◌, ◌≤◌, ◌++◌, IfOk, OnOk, length, map, position};
+ghost use Rattle.lrc_node.specs.Logged.{seen_input};
+ghost use Rattle.lrc_weave.specs.Events.{is_key, key_of, IsMadeBy, IsTakenFrom, IsTurnOf};
+ghost use Rattle.lrc_weave.specs.Woven as woven;
+
+use lrc_node::{Entry, Input};
+use lrc_protocol::Event;
+use lrc_wire::Envelope;
+use std::alloc::AllocError;
+
+/// A message in flight, by what it is known.
+#[derive(Clone, Copy)]
+pub(crate) struct Key {
+    /// Its sender.
+    pub from: u8,
+    /// Its receiver.
+    pub to: u8,
+    /// Its number among those from the one to the other.
+    pub number: u32,
+}
+
+/// The event that makes the turn at a place of a node's log, with what is in flight before it and after it. None where what the
+/// turn takes is not in flight.
+pub(crate) fn turn(
+    flight: &mut Vec<Key>,
+    node: u8,
+    log: &Vec<Entry>,
+    place: usize,
+) -> Result<Event, AllocError>
+    requires there { place < length log.now.items }
+    ensures { IfOk result (λ event. IsTurnOf node log.now.items place flight.old.items flight.new.items event) }
+{
+    let entry = &log[place];
+    let Some(event) = event_of(flight, node, &entry.input, &log[place + 1..]) else {
+        return Err(AllocError);
+    };
+    send(flight, entry.turn.out.as_slice())?;
+    Ok(event)
+}
+
+// The event of an input.
+fn event_of(flight: &mut Vec<Key>, node: u8, input: &Input, later: &[Entry]) -> Option<Event>
+    ensures { IsMadeBy node later.now flight.old.items (seen_input input.now) flight.new.items result }
+{
+    match input {
+        Input::Run => Some(Event::Run(u32::from(node))),
+        Input::Taken(envelope) => take(flight, envelope, is_taken_in(envelope, later)),
+    }
+}
+
+// Takes a message from flight; it stays there if it is taken again.
+fn take(flight: &mut Vec<Key>, envelope: &Envelope, again: bool) -> Option<Event>
+    ensures { IsTakenFrom flight.old.items envelope.now again flight.new.items result }
+{
+    let place = place_in(flight.as_slice(), envelope)?;
+    let Ok(number) = u32::try_from(place) else {
+        return None;
+    };
+    if again {
+        return Some(Event::Repeat(number));
+    }
+    flight.remove(place);
+    Some(Event::Deliver(number))
+}
+
+// The first place in flight of a message.
+fn place_in(flight: &[Key], envelope: &Envelope) -> Option<usize>
+    ensures { result ≡ position (is_key envelope.now) flight.now }
+{
+    flight.iter().position(|key| is_key(envelope, *key))
+}
+
+// Whether a message is known by this.
+fn is_key(envelope: &Envelope, key: Key) -> bool
+    ensures { result ≡ is_key envelope.now key }
+{
+    key.from == envelope.from && key.to == envelope.to && key.number == envelope.number
+}
+
+// Whether one of these turns takes the message.
+fn is_taken_in(envelope: &Envelope, log: &[Entry]) -> bool
+    ensures { result ≡ woven.is_taken_in envelope.now log.now }
+{
+    log.iter().any(|entry| takes_same(envelope, &entry.input))
+}
+
+// Whether an input is the message.
+fn takes_same(envelope: &Envelope, input: &Input) -> bool
+    ensures { result ≡ woven.takes_same envelope.now (seen_input input.now) }
+{
+    match input {
+        Input::Run => false,
+        Input::Taken(other) => other.from == envelope.from && other.number == envelope.number,
+    }
+}
+
+// Puts messages in flight.
+fn send(flight: &mut Vec<Key>, out: &[Envelope]) -> Result<(), AllocError>
+    ensures { OnOk result (flight.new.items ≡ flight.old.items ++ map key_of out.now) }
+{
+    for envelope in out {
+        flight.push(Key {
+            from: envelope.from,
+            to: envelope.to,
+            number: envelope.number,
+        })?;
+    }
+    Ok(())
+}

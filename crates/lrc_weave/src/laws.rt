@@ -1,0 +1,27 @@
+// What holds of woven events. Each function is a theorem: its body is empty, and its clause is the law.
+
+ghost use Rattle.std.specs.Prelude.{◌≡◌, ℕ, List, Some, length, map};
+ghost use Rattle.lrc_lang.specs.declared.program.Program.{Program};
+ghost use Rattle.lrc_protocol.specs.declared.event.Event.{Event};
+ghost use Rattle.lrc_protocol.specs.Node.{OptionsRecord};
+ghost use Rattle.lrc_protocol.specs.Log.{EntryRecord};
+ghost use Rattle.lrc_protocol.specs.World.{World, Flying, run_of};
+ghost use Rattle.lrc_post.specs.Mailbox.{MailboxRecord};
+ghost use Rattle.lrc_weave.specs.Logs.{AreLogs};
+ghost use Rattle.lrc_weave.specs.Matched.{AreMatched};
+ghost use Rattle.lrc_weave.specs.Woven.{AreWoven};
+
+/// Of logs of a program's nodes, events that make all turns of the logs make a run with just these logs.
+pub fn woven_events_make_the_run_of_the_logs()
+    ensures { (program : Program) (nodes : ℕ) (options : OptionsRecord) (logs : List (List EntryRecord)) (events : List Event) (flight : List Flying)
+        → AreLogs program nodes options logs → AreWoven logs events flight
+        → (world : World) × (run_of program nodes options events ≡ Some world) × (map (λ l. l.log) world.nodes ≡ logs) × (world.flight ≡ flight) }
+{}
+
+/// Logs of a program's nodes and mailboxes that tell of the same messages: there are events that make all turns of the logs, each
+/// in its place. So they make a run with just these logs.
+pub fn logs_that_match_their_mailboxes_can_be_woven()
+    ensures { (program : Program) (nodes : ℕ) (options : OptionsRecord) (logs : List (List EntryRecord)) (wires : List MailboxRecord)
+        → AreLogs program nodes options logs → AreMatched logs wires → length wires ≡ length logs
+        → (events : List Event) × (flight : List Flying) × AreWoven logs events flight }
+{}

@@ -1,0 +1,57 @@
+// The weave of logs.
+
+ghost use Rattle.std.specs.Prelude.{◌≡◌, ◌≤◌, ◌<◌, ◌+◌, ℕ, List, IfOk, length, map};
+ghost use Rattle.lrc_lang.specs.declared.program.Program.{Program};
+ghost use Rattle.lrc_post.specs.Mailbox.{MailboxRecord};
+ghost use Rattle.lrc_protocol.specs.Node.{OptionsRecord};
+ghost use Rattle.lrc_protocol.specs.World.{Flying};
+ghost use Rattle.lrc_weave.specs.Logs.{AreLogs};
+ghost use Rattle.lrc_weave.specs.Matched.{AreMatched};
+ghost use Rattle.lrc_weave.specs.Woven.{AreWoven};
+
+use crate::events::turn;
+use crate::order::next_turn;
+use lrc_node::Entry;
+use lrc_protocol::Event;
+use std::alloc::{AllocError, Global};
+
+/// Events, and how many messages are in flight after them.
+#[derive(Drop)]
+pub struct Weave {
+    pub events: Vec<Event>,
+    pub in_flight: usize,
+}
+
+/// The events that make all turns of the logs of a program's nodes, ordered by their stamps, and where those are the same by their
+/// nodes: where there are mailboxes that tell of the same messages. A message's last take is delivered, and each one before it
+/// repeated.
+pub fn events_of(alloc: Global, logs: &[Vec<Entry>]) -> Result<Weave, AllocError>
+    requires few { length logs.now ≤ 16 }
+    ensures { IfOk result (λ weave. (program : Program) (nodes : ℕ) (options : OptionsRecord) (wires : List MailboxRecord)
+        → AreLogs program nodes options (map (λ log. log.items) logs.now) → AreMatched (map (λ log. log.items) logs.now) wires
+        → length wires ≡ length logs.now
+        → (flight : List Flying) × AreWoven (map (λ log. log.items) logs.now) weave.events.items flight × (length flight ≡ weave.in_flight)) }
+{
+    let mut come = vec![in alloc; 0usize; logs.len()]?;
+    let mut flight = Vec::new(alloc);
+    let mut events = Vec::new(alloc);
+    while let Some(node) = next_turn(logs, come.as_slice()) {
+        let log = &logs[node];
+        let place = come[node];
+        let event = turn(&mut flight, node as u8, log, place)?;
+        events.push(event)?;
+        come[node] = after(log, place);
+    }
+    Ok(Weave {
+        events,
+        in_flight: flight.len(),
+    })
+}
+
+// The place after one in a log.
+fn after(log: &Vec<Entry>, place: usize) -> usize
+    requires there { place < length log.now.items }
+    ensures { result ≡ place + 1 }
+{
+    place + 1
+}
