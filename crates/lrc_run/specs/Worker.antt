@@ -4,6 +4,7 @@ use Rattle.lrc_wire.specs.declared.fault.WireFault.{WireFault}
 use Rattle.lrc_wire.specs.Envelope.{EnvelopeRecord}
 use Rattle.lrc_wire.specs.Reading.{envelope_of}
 use Rattle.lrc_post.specs.declared.parcel.Parcel.{Parcel}
+use Rattle.lrc_protocol.specs.Node.{Node}
 use Rattle.lrc_protocol.specs.Log.{Input, run, taken, EntryRecord, Logged, logged, refused, logs}
 use Rattle.lrc_node.specs.Logged.{LoggedNode, sound}
 use Rattle.lrc_node.specs.declared.fault.NodeFault.{NodeFault}
@@ -52,7 +53,8 @@ pub data Step {S : Type 0} (puts : S → List Parcel → S → Type 0) (takes : 
       → takes s parcel t → IsRefused l parcel.stamp (envelope_of parcel.bytes) → Step puts takes s l t l
 
 -- any number of steps
-pub data Goes {S : Type 0} (puts : S → List Parcel → S → Type 0) (takes : S → Parcel → S → Type 0) (s : S) (l : Logged) : S → Logged → Type 0 where
+pub data Goes {S : Type 0} (puts : S → List Parcel → S → Type 0) (takes : S → Parcel → S → Type 0) (s : S) (l : Logged)
+    : S → Logged → Type 0 where
   stays : Goes puts takes s l s l
   steps : {m t : S} {k j : Logged} → Goes puts takes s l m k → Step puts takes m k t j → Goes puts takes s l t j
 
@@ -67,9 +69,18 @@ pub data Turns (l : Logged) : Logged → Type 0 where
   more : {k j : Logged} {entry : EntryRecord} (input : Input) (came : ℕ)
       → Turns l k → MayCome input came → logs k input came ≡ logged entry j → Turns l j
 
+-- a node that has made no turn
+abbrev pub unmade : Node → Logged
+unmade node = record { node = node; log = [] }
+
+-- a log is that of turns of this node, from its first on
+abbrev pub IsLogOf : Node → List EntryRecord → Type 0
+IsLogOf start log = (l : Logged) × (l.log ≡ log) × Turns (unmade start) l
+
 -- What comes of a thread's steps: its log tells what it put and took. Where the post was closed while the node had messages to
 -- send, its log is still that of its turns. Otherwise the node has failed.
-abbrev pub GoesTo : {S A : Type 0} → (S → List Parcel → S → Type 0) → (S → Parcel → S → Type 0) → S → Logged → S → LoggedNode → Result A Stop → Type 0
+abbrev pub GoesTo : {S A : Type 0} → (S → List Parcel → S → Type 0) → (S → Parcel → S → Type 0)
+    → S → Logged → S → LoggedNode → Result A Stop → Type 0
 GoesTo puts takes s l t new (Ok done) = (j : Logged) × (new ≡ sound j) × Goes puts takes s l t j
 GoesTo puts takes s l t new (Err Closed) = (j : Logged) × (new ≡ sound j) × Turns l j
 GoesTo puts takes s l t new (Err Worn) = Unit {0}
@@ -81,7 +92,8 @@ TakesNext takes s None t = t ≡ s
 TakesNext takes s (Some parcel) t = takes s parcel t
 
 -- what a node made of a parcel that was taken from one state of its mail to another: a step from the first
-abbrev pub TakesIn : {S : Type 0} → (S → List Parcel → S → Type 0) → (S → Parcel → S → Type 0) → S → Parcel → Logged → S → LoggedNode → Result (Unit {0}) Stop → Type 0
+abbrev pub TakesIn : {S : Type 0} → (S → List Parcel → S → Type 0) → (S → Parcel → S → Type 0)
+    → S → Parcel → Logged → S → LoggedNode → Result (Unit {0}) Stop → Type 0
 TakesIn puts takes m parcel l t new result = (s : _) → takes s parcel m → GoesTo puts takes s l t new result
 
 -- the newest entry of a node's log is this

@@ -4,9 +4,11 @@
 mod gate;
 mod mail;
 mod stop;
+mod thread;
 mod worker;
 
 pub use gate::Gate;
 pub use mail::{Line, Mail};
 pub use stop::Stop;
+pub use thread::on_thread;
 pub use worker::work;

@@ -9,4 +9,5 @@ pub returns-in-Ok : goal.returns-in-Ok
 returns-in-Ok c =
     let same : c.envelope.inside.to ≡ c.args.envelope.now.to = search rules in
     ap (λ to. let s : Shown = (to, (c.args.stamp, envelope_of c.in-Ok.bytes)) in s) same
-    ∙ ap (λ said. let s : Shown = (c.args.envelope.now.to, (c.args.stamp, said)) in s) (envelope_again Two c.in-Ok.bytes c.args.envelope.now c.in-Ok.ensures.written)
+    ∙ ap (λ said. let s : Shown = (c.args.envelope.now.to, (c.args.stamp, said)) in s)
+    (envelope_again Two c.in-Ok.bytes c.args.envelope.now c.in-Ok.ensures.written)
