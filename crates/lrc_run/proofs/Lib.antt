@@ -1,0 +1,3 @@
+mod Steps
+mod Turned
+mod Threads

@@ -1,0 +1,31 @@
+use Rattle.std.proofs.Common.{◌≡◌, Ok, true, false, sym, subst, rules}
+use Rattle.std.specs.Prelude.{is_err}
+use Rattle.lrc_wire.specs.Reading.{envelope_of}
+use Rattle.lrc_protocol.specs.Log as log
+use Rattle.lrc_run.specs.Worker.{IsRefused, made_of}
+use Rattle.lrc_run.proofs.Turned.{turned, unturned, sent_take, dropped, unread}
+use Rattle.lrc_run.proofs.worker.take_in.Goals as goal
+
+pub returns-in_default : goal.returns-in_default
+returns-in_default g c = λ l is s took.
+    let says_none : is_err (envelope_of c.args.parcel.now.bytes) ≡ true = search rules in
+    dropped g.M.Mail.puts g.M.Mail.takes s c.args.mail.now l c.args.node.now.logged c.args.parcel.now took
+    (unread l c.args.parcel.now.stamp (envelope_of c.args.parcel.now.bytes) says_none) is
+
+pub returns-then-branch : goal.returns-then-branch
+returns-then-branch g c = λ l is s took.
+    let made : made_of c.take.result ≡ Ok true = search rules in
+    let said : envelope_of c.args.parcel.now.bytes ≡ Ok c.in-Some.envelope = search rules in
+    let i = turned l (log.taken c.in-Some.envelope) c.args.parcel.now.stamp c.args.node.now.logged c.take.new.self.logged c.take.result
+    c.take.ensures.logs is made in
+    sent_take g.M.Mail.puts g.M.Mail.takes s c.args.mail.now c.send_last.new.mail l c.take.new.self.logged c.send_last.result c.args.parcel.now
+    c.in-Some.envelope took said i (c.send_last.ensures i.entry i.last)
+
+pub returns-else-branch : goal.returns-else-branch
+returns-else-branch g c = λ l is s took.
+    let made : made_of c.take.result ≡ Ok false = search rules in
+    let said : envelope_of c.args.parcel.now.bytes ≡ Ok c.in-Some.envelope = search rules in
+    let u = unturned l (log.taken c.in-Some.envelope) c.args.parcel.now.stamp c.args.node.now.logged c.take.new.self.logged c.take.result
+    c.take.ensures.logs is made in
+    dropped g.M.Mail.puts g.M.Mail.takes s c.args.mail.now l c.take.new.self.logged c.args.parcel.now took
+    (subst (IsRefused l c.args.parcel.now.stamp) (sym said) u.0) u.1

@@ -1,0 +1,115 @@
+-- What one node's thread does: its turns, what it puts and what it takes.
+use Rattle.std.specs.Prelude.{◌≡◌, ℕ, Bool, true, false, Option, Some, None, Result, Ok, Err, is_err, List, [], ◌∷◌, ◌++◌, map}
+use Rattle.lrc_wire.specs.declared.fault.WireFault.{WireFault}
+use Rattle.lrc_wire.specs.Envelope.{EnvelopeRecord}
+use Rattle.lrc_wire.specs.Reading.{envelope_of}
+use Rattle.lrc_post.specs.declared.parcel.Parcel.{Parcel}
+use Rattle.lrc_protocol.specs.Node.{Node}
+use Rattle.lrc_protocol.specs.Log.{Input, run, taken, EntryRecord, Logged, logged, refused, logs}
+use Rattle.lrc_node.specs.Logged.{LoggedNode, sound}
+use Rattle.lrc_node.specs.declared.fault.NodeFault.{NodeFault}
+use Rattle.lrc_node.specs.declared.fault.NodeFault.TheVariants as NodeFaults
+use Rattle.lrc_node.specs.declared.fault.NodeFault.TheVariants.{Failed, NotReady, Unexpected}
+use Rattle.lrc_run.specs.declared.stop.Stop.{Stop}
+use Rattle.lrc_run.specs.declared.stop.Stop.TheVariants.{Closed, Worn, NoMemory}
+
+-- for whom a parcel is, its stamp, and what its bytes say
+abbrev pub Shown : Type 0
+Shown = ℕ × (ℕ × Result EnvelopeRecord WireFault)
+
+abbrev pub shown : Parcel → Shown
+shown parcel = (parcel.to, (parcel.stamp, envelope_of parcel.bytes))
+
+-- the same of a message that is sent with a stamp
+abbrev pub shown_sent : ℕ → EnvelopeRecord → Shown
+shown_sent stamp envelope = (envelope.to, (stamp, Ok envelope))
+
+-- these parcels have the messages of a turn, in order, with its stamp
+abbrev pub AreParcels : EntryRecord → List Parcel → Type 0
+AreParcels entry parcels = map shown parcels ≡ map (shown_sent entry.stamp) entry.turn.out
+
+-- a node would refuse what these bytes say, if they say anything
+abbrev pub IsRefused : Logged → ℕ → Result EnvelopeRecord WireFault → Type 0
+IsRefused l stamp (Ok envelope) = logs l (taken envelope) stamp ≡ refused
+IsRefused l stamp (Err fault) = Unit {0}
+
+-- the messages of a turn are put
+abbrev pub Sends : {S : Type 0} → (S → List Parcel → S → Type 0) → S → EntryRecord → S → Type 0
+Sends puts s entry t = (parcels : List Parcel) × AreParcels entry parcels × puts s parcels t
+
+abbrev pub SendsTo : {S : Type 0} → (S → List Parcel → S → Type 0) → S → EntryRecord → S → Result (Unit {0}) Stop → Type 0
+SendsTo puts s entry t (Ok done) = Sends puts s entry t
+SendsTo puts s entry t (Err stop) = Unit {0}
+
+-- One step of a node's thread, from a state of its mail and a node with its log on. The node goes on by itself, and the messages of
+-- its turn are put. Or a parcel is taken, and the node takes its message with the parcel's stamp; or refuses it, and makes no turn.
+pub data Step {S : Type 0} (puts : S → List Parcel → S → Type 0) (takes : S → Parcel → S → Type 0) : S → Logged → S → Logged → Type 0 where
+  goes_on : {s t : S} {l after : Logged} {entry : EntryRecord}
+      → logs l run 0 ≡ logged entry after → Sends puts s entry t → Step puts takes s l t after
+  takes_message : {s m t : S} {l after : Logged} {entry : EntryRecord} {parcel : Parcel} {envelope : EnvelopeRecord}
+      → takes s parcel m → envelope_of parcel.bytes ≡ Ok envelope → logs l (taken envelope) parcel.stamp ≡ logged entry after
+      → Sends puts m entry t → Step puts takes s l t after
+  drops : {s t : S} {l : Logged} {parcel : Parcel}
+      → takes s parcel t → IsRefused l parcel.stamp (envelope_of parcel.bytes) → Step puts takes s l t l
+
+-- any number of steps
+pub data Goes {S : Type 0} (puts : S → List Parcel → S → Type 0) (takes : S → Parcel → S → Type 0) (s : S) (l : Logged)
+    : S → Logged → Type 0 where
+  stays : Goes puts takes s l s l
+  steps : {m t : S} {k j : Logged} → Goes puts takes s l m k → Step puts takes m k t j → Goes puts takes s l t j
+
+-- the stamp with which an input may come: a message comes with that of some turn, and a run with 0
+abbrev pub MayCome : Input → ℕ → Type 0
+MayCome run came = came ≡ 0
+MayCome (taken envelope) came = Unit {0}
+
+-- any number of turns of a node with its log
+pub data Turns (l : Logged) : Logged → Type 0 where
+  none : Turns l l
+  more : {k j : Logged} {entry : EntryRecord} (input : Input) (came : ℕ)
+      → Turns l k → MayCome input came → logs k input came ≡ logged entry j → Turns l j
+
+-- a node that has made no turn
+abbrev pub unmade : Node → Logged
+unmade node = record { node = node; log = [] }
+
+-- a log is that of turns of this node, from its first on
+abbrev pub IsLogOf : Node → List EntryRecord → Type 0
+IsLogOf start log = (l : Logged) × (l.log ≡ log) × Turns (unmade start) l
+
+-- What comes of a thread's steps: its log tells what it put and took. Where the post was closed while the node had messages to
+-- send, its log is still that of its turns. Otherwise the node has failed.
+abbrev pub GoesTo : {S A : Type 0} → (S → List Parcel → S → Type 0) → (S → Parcel → S → Type 0)
+    → S → Logged → S → LoggedNode → Result A Stop → Type 0
+GoesTo puts takes s l t new (Ok done) = (j : Logged) × (new ≡ sound j) × Goes puts takes s l t j
+GoesTo puts takes s l t new (Err Closed) = (j : Logged) × (new ≡ sound j) × Turns l j
+GoesTo puts takes s l t new (Err Worn) = Unit {0}
+GoesTo puts takes s l t new (Err NoMemory) = Unit {0}
+
+-- the next parcel was taken, or there is none and nothing changed
+abbrev pub TakesNext : {S : Type 0} → (S → Parcel → S → Type 0) → S → Option Parcel → S → Type 0
+TakesNext takes s None t = t ≡ s
+TakesNext takes s (Some parcel) t = takes s parcel t
+
+-- what a node made of a parcel that was taken from one state of its mail to another: a step from the first
+abbrev pub TakesIn : {S : Type 0} → (S → List Parcel → S → Type 0) → (S → Parcel → S → Type 0)
+    → S → Parcel → Logged → S → LoggedNode → Result (Unit {0}) Stop → Type 0
+TakesIn puts takes m parcel l t new result = (s : _) → takes s parcel m → GoesTo puts takes s l t new result
+
+-- the newest entry of a node's log is this
+abbrev pub LogsLast : LoggedNode → EntryRecord → Type 0
+LogsLast node entry = (before : List EntryRecord) × (node.log ≡ before ++ entry ∷ [])
+
+-- bytes were read: this is what they say, if they say anything
+abbrev pub IsRead : Option EnvelopeRecord → Result EnvelopeRecord WireFault → Type 0
+IsRead (Some envelope) said = said ≡ Ok envelope
+IsRead None said = is_err said ≡ true
+
+-- whether a node made a turn, by what it answered
+abbrev pub made_of : Result (Unit {0}) NodeFault → Result Bool Stop
+made_of (Ok done) = Ok true
+made_of (Err NotReady) = Ok false
+made_of (Err Unexpected) = Ok false
+made_of (Err NodeFaults.Worn) = Err Worn
+made_of (Err NodeFaults.NoMemory) = Err NoMemory
+made_of (Err Failed) = Err NoMemory

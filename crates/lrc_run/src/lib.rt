@@ -1,0 +1,14 @@
+//! Runs of a program whose nodes are on threads of their own, one for each node, with a post between them.
+#![tactic(auto)]
+
+mod gate;
+mod mail;
+mod stop;
+mod thread;
+mod worker;
+
+pub use gate::Gate;
+pub use mail::{Line, Mail};
+pub use stop::Stop;
+pub use thread::on_thread;
+pub use worker::work;

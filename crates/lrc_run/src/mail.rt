@@ -1,0 +1,59 @@
+// What a node's thread needs of the post.
+
+ghost use Rattle.std.specs.Prelude.{List, IfOk, IfSome, IfNone, OnOk, ◌≡◌};
+ghost use Rattle.lrc_post.specs.declared.parcel.Parcel.{Parcel as AnyParcel};
+
+use lrc_post::{Parcel, Post, PostFault};
+use std::sync::Wait;
+
+/// What a node's thread needs of the post. Its ghost members say what was put and taken between two states.
+pub trait Mail {
+    /// These parcels were put, in order.
+    ghost puts: { Self → List AnyParcel → Self → Type 0 };
+
+    /// This parcel was taken.
+    ghost takes: { Self → AnyParcel → Self → Type 0 };
+
+    /// Puts parcels, in order.
+    fn put_all(&mut self, parcels: Vec<Parcel>) -> Result<(), PostFault>
+        ensures { OnOk result (puts self.old parcels.items self.new) };
+
+    /// The next parcel, where one is there.
+    fn poll(&mut self) -> Result<Option<Parcel>, PostFault>
+        ensures some { IfOk result (λ parcel. IfSome parcel (λ p. takes self.old p self.new)) }
+        ensures none { IfOk result (λ parcel. IfNone parcel (self.new ≡ self.old)) };
+
+    /// The next parcel, once one is there; none if there will be none.
+    fn take(&mut self) -> Result<Option<Parcel>, PostFault>
+        ensures some { IfOk result (λ parcel. IfSome parcel (λ p. takes self.old p self.new)) }
+        ensures none { IfOk result (λ parcel. IfNone parcel (self.new ≡ self.old)) };
+}
+
+/// A node's line to the post.
+#[derive(Drop)]
+pub struct Line<'p, R> {
+    pub rt: &'p R,
+    pub post: &'p Post,
+    pub me: u8,
+}
+
+impl<'p, R: Wait> Mail for Line<'p, R> {
+    ghost puts = { λ before parcels after. Unit {0} };
+
+    ghost takes = { λ before parcel after. Unit {0} };
+
+    fn put_all(&mut self, parcels: Vec<Parcel>) -> Result<(), PostFault> {
+        match self.post.put_all(self.rt, self.me, parcels) {
+            Ok(()) => Ok(()),
+            Err(unput) => Err(unput.fault),
+        }
+    }
+
+    fn poll(&mut self) -> Result<Option<Parcel>, PostFault> {
+        self.post.poll(self.rt, self.me)
+    }
+
+    fn take(&mut self) -> Result<Option<Parcel>, PostFault> {
+        self.post.take(self.rt, self.me)
+    }
+}
