@@ -94,7 +94,7 @@ runs-idle node (access need) turn after e = refl
 runs-idle node (upkeep collection needs) turn after e = refl
 runs-idle node (discard collection) turn after e = refl
 
-told_in : (all : List IntervalRecord) (es : List EnvelopeRecord) (e : EnvelopeRecord) → AllTold all es → Contains es e → AllMade all (intervals_in e.message)
+pub told_in : (all : List IntervalRecord) (es : List EnvelopeRecord) (e : EnvelopeRecord) → AllTold all es → Contains es e → AllMade all (intervals_in e.message)
 told_in all [] e t c = absurd (none_Contains e c)
 told_in all (x ∷ es) e t c =
     ⊎_elim
@@ -180,7 +180,7 @@ told_news nodes made time memory lock since upto exact low high long full = reco
   between = λ q lt. newer-indices time memory since upto q exact (low q) (high q);
 }
 
-unbound_since : (copy : Copy) → SinceIn (λ t. Unit {0}) copy
+pub unbound_since : (copy : Copy) → SinceIn (λ t. Unit {0}) copy
 unbound_since (valid values) = tt
 unbound_since (written values twin) = tt
 unbound_since (invalid values since) = tt
