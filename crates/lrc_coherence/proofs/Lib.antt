@@ -85,3 +85,4 @@ pub mod ArriveTurns
 pub mod ArriveNews
 pub mod ArriveWorlds
 pub mod ArriveLaw
+pub mod ArriveAll

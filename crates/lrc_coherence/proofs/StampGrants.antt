@@ -498,7 +498,7 @@ module _ (program : Program) (nodes : ℕ) (options : OptionsRecord) where
       news.between
 
   -- and would accept it now
-  get_there : {X : Type 0} (xs : List X) (x : X) → Contains xs x → (k : ℕ) × (slice_get xs k ≡ Some x)
+  pub get_there : {X : Type 0} (xs : List X) (x : X) → Contains xs x → (k : ℕ) × (slice_get xs k ≡ Some x)
   get_there [] x c = absurd (none_Contains x c)
   get_there (y ∷ xs) x c =
       ⊎_elim
