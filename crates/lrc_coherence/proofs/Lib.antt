@@ -81,3 +81,8 @@ pub mod RequestLines
 pub mod RequestFormer
 pub mod RequestNotes
 pub mod RequestTold
+pub mod ArriveTurns
+pub mod ArriveNews
+pub mod ArriveWorlds
+pub mod ArriveLaw
+pub mod ArriveAll

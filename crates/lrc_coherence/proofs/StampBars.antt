@@ -43,19 +43,19 @@ other-none (Depart m) e = refl
 other-none (Clean episode) e = refl
 other-none (Discard episode) e = refl
 
-others-none : (letters : List Letter) → AreOthers letters → NoArrives letters
+pub others-none : (letters : List Letter) → AreOthers letters → NoArrives letters
 others-none [] h = tt
 others-none (x ∷ letters) h = (other-none x.message h.0, others-none letters h.1)
 
-grants-none : (pass : Option Pass) (letters : List Letter) → Grants pass letters → NoArrives letters
+pub grants-none : (pass : Option Pass) (letters : List Letter) → Grants pass letters → NoArrives letters
 grants-none None letters g = subst NoArrives (sym g) tt
 grants-none (Some pass) letters g = subst NoArrives (sym g.1) (refl, tt)
 
-departures-none : (departures : List Departure) → NoArrives (map departure_of departures)
+pub departures-none : (departures : List Departure) → NoArrives (map departure_of departures)
 departures-none [] = tt
 departures-none (d ∷ departures) = (refl, departures-none departures)
 
-discards-none : (nodes : List ℕ) (episode : ℕ) → NoArrives (discards_to nodes episode)
+pub discards-none : (nodes : List ℕ) (episode : ℕ) → NoArrives (discards_to nodes episode)
 discards-none [] episode = tt
 discards-none (n ∷ nodes) episode = (refl, discards-none nodes episode)
 
@@ -128,7 +128,7 @@ NotArrive by_itself = Unit {0}
 NotArrive (comes from (Arrive m)) = ⊥
 NotArrive (comes from _) = Unit {0}
 
-other-not : (from : ℕ) (message : Message) → is_other message ≡ true → NotArrive (comes from message)
+pub other-not : (from : ℕ) (message : Message) → is_other message ≡ true → NotArrive (comes from message)
 other-not from (ChangesRequest m) e = tt
 other-not from (ChangesReply m) e = tt
 other-not from (PageRequest page) e = tt

@@ -94,7 +94,7 @@ runs-idle node (access need) turn after e = refl
 runs-idle node (upkeep collection needs) turn after e = refl
 runs-idle node (discard collection) turn after e = refl
 
-told_in : (all : List IntervalRecord) (es : List EnvelopeRecord) (e : EnvelopeRecord) → AllTold all es → Contains es e → AllMade all (intervals_in e.message)
+pub told_in : (all : List IntervalRecord) (es : List EnvelopeRecord) (e : EnvelopeRecord) → AllTold all es → Contains es e → AllMade all (intervals_in e.message)
 told_in all [] e t c = absurd (none_Contains e c)
 told_in all (x ∷ es) e t c =
     ⊎_elim
@@ -180,7 +180,7 @@ told_news nodes made time memory lock since upto exact low high long full = reco
   between = λ q lt. newer-indices time memory since upto q exact (low q) (high q);
 }
 
-unbound_since : (copy : Copy) → SinceIn (λ t. Unit {0}) copy
+pub unbound_since : (copy : Copy) → SinceIn (λ t. Unit {0}) copy
 unbound_since (valid values) = tt
 unbound_since (written values twin) = tt
 unbound_since (invalid values since) = tt
@@ -498,7 +498,7 @@ module _ (program : Program) (nodes : ℕ) (options : OptionsRecord) where
       news.between
 
   -- and would accept it now
-  get_there : {X : Type 0} (xs : List X) (x : X) → Contains xs x → (k : ℕ) × (slice_get xs k ≡ Some x)
+  pub get_there : {X : Type 0} (xs : List X) (x : X) → Contains xs x → (k : ℕ) × (slice_get xs k ≡ Some x)
   get_there [] x c = absurd (none_Contains x c)
   get_there (y ∷ xs) x c =
       ⊎_elim
