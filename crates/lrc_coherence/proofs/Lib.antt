@@ -81,3 +81,5 @@ pub mod RequestLines
 pub mod RequestFormer
 pub mod RequestNotes
 pub mod RequestTold
+pub mod DepartSteps
+pub mod DepartLets

@@ -26,16 +26,16 @@ use Rattle.lrc_protocol.proofs.Turned.{Turned, Turns, turns}
 use Rattle.lrc_invariants.specs.Barriers.{says_depart, depart_to}
 use Rattle.lrc_invariants.proofs.Shift.{AllFrom}
 use Rattle.lrc_invariants.proofs.Sends.{Came, by_itself, comes, site_of, letter_in}
-use Rattle.lrc_invariants.proofs.Flows.{Brings, Stepped, again, once, stepped, came_count, count-cons, counts}
+use Rattle.lrc_invariants.proofs.Flows.{came_count, count-cons, counts}
 use Rattle.lrc_invariants.proofs.Standing.{depart_test}
-use Rattle.lrc_invariants.proofs.Pending.{Goes}
 use Rattle.lrc_invariants.proofs.Moves.{in-now, Brought, brought, among_letters}
-use Rattle.lrc_invariants.proofs.AllStand.{AllStand, its_manager, all_stand}
-use Rattle.lrc_invariants.proofs.AllTimely.{manager_after}
+use Rattle.lrc_invariants.proofs.AllStand.{AllStand, its_manager}
+use Rattle.lrc_invariants.proofs.Timely.{Timely}
+use Rattle.lrc_invariants.proofs.AllTimely.{manager_after, all_timely}
 use Rattle.lrc_invariants.proofs.Shape.{NodeShape, shape_at}
 use Rattle.lrc_invariants.proofs.Reached.{IsReached}
-use Rattle.lrc_coherence.proofs.RequestDeparts.{IsOwn}
-use Rattle.lrc_coherence.proofs.RequestLines.{Line, same_line, alone, line, Rises, rises}
+use Rattle.lrc_coherence.proofs.DepartSteps.{LineStep, line_step, expecting_at}
+use Rattle.lrc_coherence.proofs.DepartLets.{Former}
 
 -- what comes is a departure for this node, where that is counted
 came_depart : (b me : ℕ) (came : Came) → 1 ≤ came_count (depart_test b) me came
@@ -57,83 +57,38 @@ came_depart b me (comes from (ChangesReply m)) some = absurd (omega (arith, some
 came_depart b me (comes from (PageRequest page)) some = absurd (omega (arith, some))
 came_depart b me (comes from (PageReply m)) some = absurd (omega (arith, some))
 
--- a turn, a repeat too
-pub record LineStep (node : Node) (manager : ManagerRecord) (was now : List EnvelopeRecord) (turn : TurnRecord) (after : Node) : Type 0 where
-  pub came : Came
-  pub o : Option EnvelopeRecord
-  pub brings : Brings node.setting.me came o
-  pub goes : Goes o was turn.out now
-  pub letters : List Letter
-  pub out : map letter_in turn.out ≡ letters
-  pub from : AllFrom node.setting.me turn.out
-  pub line_is : Line (site_of node) manager came after.barrier letters
-  pub rises_so : Rises (site_of node) came after.locks
-
-pub line_step : (node : Node) (manager : ManagerRecord) (is : (x : ManagerRecord) → node.barrier.manager ≡ Some x → x ≡ manager)
-    (was now : List EnvelopeRecord) (turn : TurnRecord) (after : Node) → after.setting ≡ node.setting → Stepped node was now turn after
-    → LineStep node manager was now turn after
-line_step node manager is was now _ _ set (again e) = record {
-  came = by_itself;
-  o = None;
-  brings = tt;
-  goes = e ∙ sym (append-nil was);
-  letters = [];
-  out = refl;
-  from = tt;
-  line_is = same_line (site_of node) manager by_itself node.barrier [] node.barrier.manager refl is refl;
-  rises_so = alone (site_of node) node.locks (covers-refl node.locks.time);
-}
-line_step node manager is was now turn after set (once came o brings from sent goes) = record {
-  came = came;
-  o = o;
-  brings = brings;
-  goes = goes;
-  letters = sent.letters;
-  out = sent.out;
-  from = subst (λ (s : Setting). AllFrom s.me turn.out) set sent.from;
-  line_is = line (site_of node) manager is came sent.acts after.mail.wait after.locks after.barrier sent.letters sent.sent;
-  rises_so = rises (site_of node) came sent.acts after.mail.wait after.locks after.barrier sent.letters sent.sent;
-}
-
 module _ (program : Program) (nodes : ℕ) (options : OptionsRecord) where
-  -- what each node had told by the end of the former episode, for who arrived and who did not; it is covered by the time of each node
-  -- that has departed, and by what comes to each that has not
-  pub record Former (world : World) : Type 0 where
-    pub stand : AllStand program nodes options world
-    pub former : ℕ → ℕ
-    pub free : (q : ℕ) → slice_index_or stand.manager.arrivals q None ≡ None → entry stand.manager.last q ≡ former q
-    pub kept : (q : ℕ) (a : Arrival) → slice_index_or stand.manager.arrivals q None ≡ Some a
-        → IsOwn former (entry a.time) q a.intervals × (entry stand.manager.last q ≡ entry a.time q)
-    pub knows : (n : ℕ) (l : Logged) → slice_get world.nodes n ≡ Some l → count_by (depart_to n) (pending world) ≡ 0
-        → (q : ℕ) → former q ≤ entry l.node.locks.time q
-    pub told : (e : EnvelopeRecord) (m : DepartRecord) (l : Logged) → Contains (pending world) e → e.message ≡ Depart m
-        → slice_get world.nodes e.to ≡ Some l → (q : ℕ) → former q ≤ entry m.time q
-
   module _ (world : World) (flight : List Flying) (n : ℕ) (l after : Logged) (input : Input) (entry_is : EntryRecord)
       (at : slice_get world.nodes n ≡ Some l) (come : Comes world n input flight) (i : IsEntry l input entry_is after)
-      (r : IsReached program nodes options world) (r' : IsReached program nodes options (with_turn world flight n entry_is after)) (h : Former world) where
-    abbrev next : World
+      (r : IsReached program nodes options world) (r' : IsReached program nodes options (with_turn world flight n entry_is after)) (h : Former program nodes options world) where
+    abbrev pub next : World
     next = with_turn world flight n entry_is after
 
-    stand' : AllStand program nodes options next
-    stand' = all_stand program nodes options r'.events next r'.runs
+    pub timely' : Timely program nodes options next
+    timely' = all_timely program nodes options r'.events next r'.runs
 
-    rel : unwrap_or after.node.barrier.manager h.stand.manager ≡ stand'.manager
-    unfolding stand'
-    rel = manager_after program nodes options world next h.stand stand' n l after at refl
+    abbrev pub manager : ManagerRecord
+    manager = h.timely.stand.manager
+
+    pub rel : unwrap_or after.node.barrier.manager h.timely.stand.manager ≡ timely'.stand.manager
+    unfolding timely'
+    rel = manager_after program nodes options world next h.timely.stand timely'.stand n l after at refl
+
+    pub is : (x : ManagerRecord) → l.node.barrier.manager ≡ Some x → x ≡ manager
+    is = its_manager program nodes options world h.timely.stand n l at
 
     set : NodeShape (setting_of program nodes n) options (record { node = l.node; turns = turns_of l.log })
     set = shape_at program nodes options r.events world n l r.runs at
 
-    mine : l.node.setting.me ≡ n
+    pub mine : l.node.setting.me ≡ n
     mine = ap (λ (s : Setting). s.me) set.setting
 
-    step : LineStep l.node h.stand.manager (pending world) (pending next) entry_is.turn after.node
+    pub step : LineStep l.node h.timely.stand.manager nodes (pending world) (pending next) entry_is.turn after.node
     step =
         let t : Turned l.node entry_is.turn after.node = subst (Turns l.node) i.turn_is (turns l.node input) in
-        line_step l.node h.stand.manager (its_manager program nodes options world h.stand n l at) (pending world)
-        (pending next) entry_is.turn after.node t.setting
-        (stepped program nodes options world flight n l after input entry_is at come i r)
+        line_step l.node h.timely.stand.manager nodes is (pending world) (pending next) entry_is.turn after.node
+        (ap (λ (s : Setting). s.nodes) set.setting) t.setting
+        (expecting_at program nodes options world flight n l after input entry_is at come i r)
 
     -- the node before, and its time
     record Was (b : ℕ) (lb : Logged) : Type 0 where
@@ -176,7 +131,7 @@ module _ (program : Program) (nodes : ℕ) (options : OptionsRecord) where
           none_sent b letters (λ y there. q y (Contains-later x letters y there)) in
           omega (arith, both, first, rest)
 
-      knows-on : (b : ℕ) (lb : Logged) → slice_get next.nodes b ≡ Some lb → count_by (depart_to b) (pending next) ≡ 0
+      pub knows-on : (b : ℕ) (lb : Logged) → slice_get next.nodes b ≡ Some lb → count_by (depart_to b) (pending next) ≡ 0
           → (q : ℕ) → h.former q ≤ entry lb.node.locks.time q
       knows-on b lb at_b none q =
           let w : Was b lb = was b lb at_b in
@@ -201,7 +156,7 @@ module _ (program : Program) (nodes : ℕ) (options : OptionsRecord) where
           omega (arith, before, rise))
           (cases_lt 0 (came_count (depart_test b) l.node.setting.me step.came))
 
-      told-on : (e : EnvelopeRecord) (m : DepartRecord) (lb : Logged) → Contains (pending next) e → e.message ≡ Depart m
+      pub told-on : (e : EnvelopeRecord) (m : DepartRecord) (lb : Logged) → Contains (pending next) e → e.message ≡ Depart m
           → slice_get next.nodes e.to ≡ Some lb → (q : ℕ) → h.former q ≤ entry m.time q
       told-on e m lb there says at_b q = elim (in-now step.o (pending world) entry_is.turn.out (pending next) e step.goes there) [
         | inl old ↦ h.told e m (was e.to lb at_b).old old says (was e.to lb at_b).there q
