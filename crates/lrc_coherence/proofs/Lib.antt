@@ -83,3 +83,4 @@ pub mod RequestNotes
 pub mod RequestTold
 pub mod DepartSteps
 pub mod DepartLets
+pub mod DepartNews

@@ -155,7 +155,7 @@ module _ (program : Program) (nodes : ℕ) (options : OptionsRecord) where
           came_depart b l.node.setting.me step.came (omega (arith, some)) in
           let c : Brought l.node.setting.me d.0 (Depart d.1) (pending world) =
           brought l.node.setting.me d.0 (Depart d.1) step.came step.o (pending world) entry_is.turn.out (pending next) d.2 step.brings step.goes in
-          let had : h.former q ≤ entry d.1.time q = h.told c.envelope d.1 l c.among c.message_is (ap (slice_get world.nodes) (c.to ∙ mine) ∙ at) q in
+          let had : h.former q ≤ entry d.1.time q = h.told c.envelope d.1 l c.among c.message_is (subst (λ k. slice_get world.nodes k ≡ Some l) (sym (c.to ∙ mine)) at) q in
           let now : entry d.1.time q ≤ entry after.node.locks.time q = step.rises_so.told d.0 d.1 d.2 q in
           subst (λ (x : Logged). h.former q ≤ entry x.node.locks.time q) (w.own (sym mine ∙ d.3)) (omega (arith, had, now)))
           (λ (none_came : came_count (depart_test b) l.node.setting.me step.came ≤ 0).

@@ -94,7 +94,7 @@ runs-idle node (access need) turn after e = refl
 runs-idle node (upkeep collection needs) turn after e = refl
 runs-idle node (discard collection) turn after e = refl
 
-told_in : (all : List IntervalRecord) (es : List EnvelopeRecord) (e : EnvelopeRecord) → AllTold all es → Contains es e → AllMade all (intervals_in e.message)
+pub told_in : (all : List IntervalRecord) (es : List EnvelopeRecord) (e : EnvelopeRecord) → AllTold all es → Contains es e → AllMade all (intervals_in e.message)
 told_in all [] e t c = absurd (none_Contains e c)
 told_in all (x ∷ es) e t c =
     ⊎_elim

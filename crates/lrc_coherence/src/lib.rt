@@ -2,6 +2,7 @@
 //! every run: lazy reading, and sequential consistency where it has no race. Laws alone.
 #![tactic(auto)]
 
+pub mod departs;
 pub mod grants;
 pub mod made;
 pub mod requests;
