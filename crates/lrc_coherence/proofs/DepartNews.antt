@@ -1,13 +1,13 @@
 -- In every history the intervals of a pending departure are just those between its receiver's time and its own: the receiver can
 -- learn it, and would accept it now.
-use Rattle.std.proofs.Common.{◌≡◌, ℕ, ◌+◌, ◌-◌, ◌<◌, ◌≤◌, max, List, [], ◌∷◌, ◌++◌, Bool, true, false, length, map, refl, sym, ap, subst, ◌∙◌, ⊎_elim, inl, inr, arith}
-use Rattle.std.specs.Prelude.{◌==◌, Option, Some, None, Contains, count_by, filter, slice_get, slice_index_or, unwrap_or}
+use Rattle.std.proofs.Common.{◌≡◌, ℕ, ◌+◌, ◌-◌, ◌<◌, ◌≤◌, max, List, [], ◌∷◌, ◌++◌, Bool, true, length, map, refl, sym, ap, subst, ◌∙◌, ⊎_elim, inl, inr, arith}
+use Rattle.std.specs.Prelude.{Some, None, Contains, count_by, filter, slice_get, slice_index_or}
 use Rattle.std.specs.List.{fold, range_with_len}
 use Rattle.std.proofs.lemmas.Bool.{and_from, cases_eq, cases_lt, eq-eqb, false≢true}
 use Rattle.std.proofs.lemmas.List.{get_or_past}
-use Rattle.std.proofs.lemmas.Option.{same_Some, slice_get_within}
+use Rattle.std.proofs.lemmas.Option.{same_Some}
 use Rattle.lrc_lang.specs.declared.program.Program.{Program}
-use Rattle.lrc_time.specs.Time.{entry, zeros, joined, Covers}
+use Rattle.lrc_time.specs.Time.{entry, zeros, joined}
 use Rattle.lrc_time.proofs.Times.{covers-trans, entry-joined, entry-zeros, length-joined_same, length-zeros}
 use Rattle.lrc_store.specs.Interval.{IntervalRecord}
 use Rattle.lrc_store.specs.Store.{StoredRecord, interval_of}
@@ -32,7 +32,7 @@ use Rattle.lrc_protocol.specs.World.{World, Flying, with_turn, pending, run_of}
 use Rattle.lrc_protocol.proofs.Worlds.{IsEntry, get_set_same, get_set_other}
 use Rattle.lrc_protocol.proofs.Induction.{Comes}
 use Rattle.lrc_invariants.specs.Barriers.{says_depart, arrive_from, depart_to, kept_of, awaits_depart}
-use Rattle.lrc_invariants.proofs.Sends.{Came, Site, comes, arrival_in, site_of, letter_in}
+use Rattle.lrc_invariants.proofs.Sends.{Came, Site, arrival_in, site_of, letter_in}
 use Rattle.lrc_invariants.proofs.Flows.{IsFromNode}
 use Rattle.lrc_invariants.proofs.Managers.{LetGo}
 use Rattle.lrc_invariants.proofs.Moves.{in-now, Brought, brought, among_letters}
@@ -45,7 +45,7 @@ use Rattle.lrc_invariants.proofs.BarrierExpected.{depart_accepted}
 use Rattle.lrc_invariants.proofs.Reached.{IsReached}
 use Rattle.lrc_coherence.specs.Made.{AllMade, intervals_in}
 use Rattle.lrc_coherence.specs.Written.{made_stamps}
-use Rattle.lrc_coherence.proofs.History.{History, KeptByHistory, by_history, history_of, reached_by, closed_by}
+use Rattle.lrc_coherence.proofs.History.{History, KeptByHistory, by_history, history_of, closed_by}
 use Rattle.lrc_coherence.proofs.StampWorlds.{Placed, placed}
 use Rattle.lrc_coherence.proofs.StampMade.{AreListed, all_made, all_listed}
 use Rattle.lrc_coherence.proofs.StampCuts.{IsFull, Counted, full_still}
@@ -57,7 +57,7 @@ use Rattle.lrc_coherence.proofs.RequestNotes.{Notes}
 use Rattle.lrc_coherence.proofs.RequestTold.{ToldSo, told_so as told_to, all_there, all_counted}
 use Rattle.lrc_coherence.proofs.RequestFormer.{step, all_former}
 use Rattle.lrc_coherence.proofs.DepartSteps.{CameExpected, LineStep, arrives_own}
-use Rattle.lrc_coherence.proofs.DepartLets.{Former, all_own, joined-least, size, notes_full, node_at, time_at, place_at, gate_at, former-known}
+use Rattle.lrc_coherence.proofs.DepartLets.{Former, all_own, joined-least, size, notes_full, node_at, time_at, place_at, former-known}
 
 -- ---- the time of all that arrived
 

@@ -90,6 +90,9 @@ module _ (program : Program) (nodes : ℕ) (options : OptionsRecord) where
     pub mine : l.node.setting.me ≡ n
     mine = ap (λ (s : Setting). s.me) set.setting
 
+    at_me : (k : ℕ) → k ≡ l.node.setting.me → slice_get world.nodes k ≡ Some l
+    at_me k e = subst (λ j. slice_get world.nodes j ≡ Some l) (sym (e ∙ mine)) at
+
     pub step : LineStep l.node h.timely.stand.manager nodes (pending world) (pending next) entry_is.turn after.node
     step =
         let t : Turned l.node entry_is.turn after.node = subst (Turns l.node) i.turn_is (turns l.node input) in
@@ -155,7 +158,7 @@ module _ (program : Program) (nodes : ℕ) (options : OptionsRecord) where
           came_depart b l.node.setting.me step.came (omega (arith, some)) in
           let c : Brought l.node.setting.me d.0 (Depart d.1) (pending world) =
           brought l.node.setting.me d.0 (Depart d.1) step.came step.o (pending world) entry_is.turn.out (pending next) d.2 step.brings step.goes in
-          let had : h.former q ≤ entry d.1.time q = h.told c.envelope d.1 l c.among c.message_is (subst (λ k. slice_get world.nodes k ≡ Some l) (sym (c.to ∙ mine)) at) q in
+          let had : h.former q ≤ entry d.1.time q = h.told c.envelope d.1 l c.among c.message_is (at_me c.envelope.to c.to) q in
           let now : entry d.1.time q ≤ entry after.node.locks.time q = step.rises_so.told d.0 d.1 d.2 q in
           subst (λ (x : Logged). h.former q ≤ entry x.node.locks.time q) (w.own (sym mine ∙ d.3)) (omega (arith, had, now)))
           (λ (none_came : came_count (depart_test b) l.node.setting.me step.came ≤ 0).
