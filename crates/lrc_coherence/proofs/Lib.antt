@@ -86,3 +86,6 @@ pub mod ArriveNews
 pub mod ArriveWorlds
 pub mod ArriveLaw
 pub mod ArriveAll
+pub mod DepartSteps
+pub mod DepartLets
+pub mod DepartNews

@@ -3,6 +3,7 @@
 #![tactic(auto)]
 
 pub mod arrivals;
+pub mod departs;
 pub mod grants;
 pub mod made;
 pub mod requests;
