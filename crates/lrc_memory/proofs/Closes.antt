@@ -30,6 +30,7 @@ use Rattle.lrc_protocol.specs.Copy.{Copy, absent}
 use Rattle.lrc_protocol.specs.Memory.{all_changes, closed_interval, with_own, with_interval}
 use Rattle.lrc_memory.specs.View.{Kept, NodeMemory, AreSized, IsKept, seen, node_seen, seen_in, seen_copy, unmade, notice_over, stored_over, store_over, with_memory}
 use Rattle.lrc_memory.proofs.Overlays.{map-alike, map-both, map-append, is_at-over, stored-over_new}
+use Rattle.lrc_memory.proofs.InStep.{all-added}
 use Rattle.lrc_memory.proofs.Discards.{counted}
 use Rattle.lrc_memory.proofs.Mending.{map-within}
 
@@ -468,6 +469,7 @@ module _ (kept : Kept) (stamp : List ℕ) where
         passed = all-named (λ i. i ≤ entry (set kept.store.last kept.me index) kept.me) index (written_pages kept.table) kept.named (omega (arith, own))
             (All-weaker (λ i. i ≤ entry kept.store.last kept.me) (λ i. i ≤ entry (set kept.store.last kept.me index) kept.me)
             (λ i h. omega (arith, own, next, h)) kept.named is.passed);
+        in_step = λ in_step. all-added kept.store (interval_at kept stamp) (kept.collected ∷ kept.since) next is.me (is.in_step in_step);
         store = sound;
         sized = All-push (AreSized kept.table.size) kept.store.entries (without_changes (interval_at kept stamp)) is.sized (unsized (written_pages kept.table));
         unmade = λ page changes pending. unmade-closed is next page changes pending;
@@ -490,6 +492,7 @@ kept-dropped kept is =
       keeping = is.keeping;
       makers = is.makers;
       passed = is.passed;
+      in_step = is.in_step;
       store = is.store;
       sized = is.sized;
       unmade = λ page changes pending.

@@ -1,6 +1,6 @@
 -- What a collection does to what is seen.
 use Rattle.std.proofs.Common.{◌≡◌, ◌≢◌, ◌∙◌, ℕ, suc, ◌<◌, ◌≤◌, ⊎_elim, Bool, true, false, not, cond, eqb, ◌&&◌, Option, Some, None, List, [], ◌∷◌, map, length, get_or, refl, ap, sym, subst, arith}
-use Rattle.std.specs.Prelude.{All, filter, nat_le}
+use Rattle.std.specs.Prelude.{All, IsTrue, filter, nat_le}
 use Rattle.std.specs.List.{range_with_len, enumerate_from}
 use Rattle.std.specs.Option.{option_or}
 use Rattle.std.proofs.lemmas.Bool.{cases_lt, true≢false, ne_eqb, le-leb}
@@ -23,6 +23,7 @@ use Rattle.lrc_memory.specs.View.{Kept, NodeMemory, AreSized, IsKept, SameMemory
 use Rattle.lrc_memory.specs.Steps.{kept_base, without_bases}
 use Rattle.lrc_memory.specs.Turns.{IsClosed}
 use Rattle.lrc_memory.proofs.Overlays.{map-both, over-discarded}
+use Rattle.lrc_memory.proofs.InStep.{in_step-collected, was-now}
 use Rattle.lrc_memory.proofs.Copies.{copy-seen, length-seen}
 use Rattle.lrc_memory.proofs.Mending.{map-within}
 
@@ -225,11 +226,12 @@ module _ (kept : Kept) (time : List ℕ) where
 
 -- ---- the whole
 
-abbrev pub collected : Kept → List ℕ → Kept
-collected kept time = record kept { store = discarded kept.store time; table = swept kept; collected = time }
+abbrev pub collected : Kept → List ℕ → Bool → Kept
+collected kept time in_step = record kept { store = discarded kept.store time; table = swept kept; collected = time; in_step = in_step }
 
-pub kept-collected : (kept : Kept) (time : List ℕ) → IsKept kept → length time ≡ length kept.store.last → IsKept (collected kept time)
-kept-collected kept time is long = record {
+pub kept-collected : (kept : Kept) (time : List ℕ) (now : Bool) → IsKept kept → length time ≡ length kept.store.last
+    → (IsTrue now → time ≡ kept.store.last) → IsKept (collected kept time (kept.in_step && now))
+kept-collected kept time now is long last = record {
   pages = is.pages ∙ sym (length-swept kept);
   since = is.since ∙ sym (length-swept kept);
   named = is.named ∙ sym (length-swept kept);
@@ -241,16 +243,18 @@ kept-collected kept time is long = record {
   makers = subst (All (λ (i : IntervalRecord). i.node < length kept.store.last)) (sym (intervals_of-discarded kept.store time))
       (All-filter (λ (i : IntervalRecord). not (is_covered time i)) (λ (i : IntervalRecord). i.node < length kept.store.last) (intervals_of kept.store) is.makers);
   passed = is.passed;
+  in_step = in_step-collected kept.store kept.collected time kept.since kept.in_step now is.in_step
+      (λ now. was-now kept.store time is.store (last now));
   store = IsStore-discarded kept.store time is.store;
   sized = All-filter (λ (s : StoredRecord). not (is_covered time (interval_of s))) (AreSized kept.table.size) kept.store.entries is.sized;
   unmade = λ page changes pending. let nothing : Some changes ≡ None = sym pending ∙ nothing-swept kept page in absurd (cc);
 }
 
-pub seen-collected : (kept : Kept) (n : NodeMemory) (time : List ℕ) → node_seen kept ≡ n → IsKept kept → IsClosed n.memory
+pub seen-collected : (kept : Kept) (n : NodeMemory) (time : List ℕ) (in_step : Bool) → node_seen kept ≡ n → IsKept kept → IsClosed n.memory
     → entry n.memory.store.last n.me ≤ entry time n.me
-    → node_seen (collected kept time) ≡ with_memory n (memory.collected_at n.me time n.memory)
-seen-collected kept n time is sound closed own =
-    let after = collected kept time in
+    → node_seen (collected kept time in_step) ≡ with_memory n (memory.collected_at n.me time n.memory)
+seen-collected kept n time in_step is sound closed own =
+    let after = collected kept time in_step in
     let count = length kept.table.copies in
     let mine : entry kept.store.last kept.me ≤ entry time kept.me =
     subst (λ (n : NodeMemory). entry n.memory.store.last n.me ≤ entry time n.me) (sym is) own in
@@ -284,12 +288,12 @@ seen-collected kept n time is sound closed own =
     either false = refl
 
 -- what was done, call by call
-pub collected-is : (kept : Kept) (time copied keepers : List ℕ) (store : StoreRecord) (t1 t2 t3 : Table) → store ≡ discarded kept.store time
+pub collected-is : (kept : Kept) (time copied keepers : List ℕ) (in_step : Bool) (store : StoreRecord) (t1 t2 t3 : Table) → store ≡ discarded kept.store time
     → t1 ≡ with_each kept.table without_twin → t2 ≡ with_each t1 dropped → keepers ≡ kept.keepers → t3 ≡ without_bases kept.me keepers t2
-    → copied ≡ time → record kept { store = store; table = t3; collected = copied } ≡ collected kept time
-collected-is kept time copied keepers store t1 t2 t3 store_is one two keepers_are three copied_is =
+    → copied ≡ time → record kept { store = store; table = t3; collected = copied; in_step = in_step } ≡ collected kept time in_step
+collected-is kept time copied keepers in_step store t1 t2 t3 store_is one two keepers_are three copied_is =
     let table : t3 ≡ swept kept =
     three ∙ ap (λ ks. without_bases kept.me ks t2) keepers_are ∙ ap (without_bases kept.me kept.keepers) (two ∙ ap (λ (t : Table). with_each t dropped) one) in
-    ap (λ s. record kept { store = s; table = t3; collected = copied }) store_is
-    ∙ ap (λ t. record kept { store = discarded kept.store time; table = t; collected = copied }) table
-    ∙ ap (λ c. record kept { store = discarded kept.store time; table = swept kept; collected = c }) copied_is
+    ap (λ s. record kept { store = s; table = t3; collected = copied; in_step = in_step }) store_is
+    ∙ ap (λ t. record kept { store = discarded kept.store time; table = t; collected = copied; in_step = in_step }) table
+    ∙ ap (λ c. record kept { store = discarded kept.store time; table = swept kept; collected = c; in_step = in_step }) copied_is

@@ -11,4 +11,5 @@ kept m = record {
   named = m.named.items;
   keepers = m.keepers.items;
   collected = m.collected;
+  in_step = m.in_step;
 }

@@ -1,6 +1,6 @@
 -- What a node learns, interval by interval.
-use Rattle.std.proofs.Common.{◌≡◌, ◌≢◌, ◌∙◌, ℕ, suc, ◌+◌, ◌<◌, ◌≤◌, ⊎_elim, Bool, true, false, not, cond, eqb, eqb-true, ◌||◌, Option, Some, None, List, [], ◌∷◌, map, length, get_or, set, drop, refl, ap, sym, subst, arith}
-use Rattle.std.specs.Prelude.{All, fold, filter}
+use Rattle.std.proofs.Common.{◌≡◌, ◌≢◌, ◌∙◌, ℕ, suc, ◌+◌, ◌<◌, ◌≤◌, ⊎_elim, Bool, true, false, not, ◌&&◌, cond, eqb, eqb-true, ◌||◌, Option, Some, None, List, [], ◌∷◌, map, length, get_or, set, drop, refl, ap, sym, subst, arith}
+use Rattle.std.specs.Prelude.{All, IsTrue, fold, filter}
 use Rattle.std.specs.List.{range_with_len, enumerate_from, list_any}
 use Rattle.std.specs.Option.{ForSome, option_and_then}
 use Rattle.std.proofs.lemmas.Bool.{cases_eq, true≢false, and_parts, false_from_ne_true, eq-eqb}
@@ -26,12 +26,13 @@ use Rattle.lrc_protocol.specs.Copy.{Copy, absent}
 use Rattle.lrc_protocol.specs.Memory.{Memory, learned, is_named}
 use Rattle.lrc_protocol.specs.Memory as memory
 use Rattle.lrc_protocol.specs.Expected.{indices_by}
-use Rattle.lrc_memory.specs.View.{Kept, NodeMemory, AreSized, IsKept, SameMemory, seen, node_seen, seen_in, seen_copy, settled_store, unmade, store_over, with_memory}
+use Rattle.lrc_memory.specs.View.{Kept, NodeMemory, AreSized, IsKept, SameMemory, WasLast, seen, node_seen, seen_in, seen_copy, settled_store, unmade, store_over, with_memory}
 use Rattle.lrc_memory.specs.Turns.{CanBeAdded, IsInRange}
 use Rattle.lrc_memory.specs.Steps.{invalidated_on, learned_one}
 use Rattle.lrc_memory.proofs.Overlays.{over-alike, over-added}
+use Rattle.lrc_memory.proofs.InStep.{all-added, in_step-noted, was-settled}
 use Rattle.lrc_memory.proofs.Copies.{copy-seen, length-seen}
-use Rattle.lrc_memory.proofs.Settling.{settled_at, set_copies, unmade-changed, kept-changed, kept-settled, seen-settled, after-settle, last-settled}
+use Rattle.lrc_memory.proofs.Settling.{key_on, settled_at, set_copies, unmade-changed, kept-changed, kept-settled, seen-settled, after-settle, last-settled}
 use Rattle.lrc_memory.proofs.Closes.{no_later, unsized}
 use Rattle.lrc_memory.proofs.Writes.{nothing-settled, quiet-settled}
 
@@ -125,10 +126,11 @@ module _ (before : List ℕ) where
 
 -- ---- one page
 
-abbrev pub invalid_at : Kept → ℕ → List ℕ → Kept
-invalid_at kept page before = record kept {
+abbrev pub invalid_at : Kept → ℕ → List ℕ → Bool → Kept
+invalid_at kept page before in_step = record kept {
   table = with_copy kept.table page (page_copy.invalidated (copy_at kept.table page));
   since = set kept.since page before;
+  in_step = in_step;
 }
 
 state-settled : (state : State) (values : List ℕ) (twin base : Option (List ℕ)) → (settled (copy_of state values twin base)).state ≡ state
@@ -138,15 +140,16 @@ state-settled Written values twin base = refl
 state-settled Invalid values twin base = refl
 state-settled Absent values twin base = refl
 
-module _ (kept : Kept) (page : ℕ) (before : List ℕ) (within : page < length kept.table.copies) (valid : (copy_at kept.table page).state ≡ Valid) where
+module _ (kept : Kept) (page : ℕ) (before : List ℕ) (in_step : Bool) (within : page < length kept.table.copies) (valid : (copy_at kept.table page).state ≡ Valid) where
   invalid-copy : page_copy.invalidated (copy_at kept.table page) ≡ record (copy_at kept.table page) { state = Invalid }
   invalid-copy = ap (λ s. cond (page_copy.is_valid s) (record (copy_at kept.table page) { state = Invalid }) (copy_at kept.table page)) valid
 
   nothing-invalid : pending_changes (page_copy.invalidated (copy_at kept.table page)) ≡ None
   nothing-invalid = ap pending_changes invalid-copy
 
-  pub kept-invalid : IsKept kept → length before ≡ length kept.store.last → IsKept (invalid_at kept page before)
-  kept-invalid is long =
+  pub kept-invalid : IsKept kept → length before ≡ length kept.store.last
+      → (IsTrue in_step → All (WasLast kept.store) (kept.collected ∷ set kept.since page before)) → IsKept (invalid_at kept page before in_step)
+  kept-invalid is long were =
       let mid = kept-changed kept page (page_copy.invalidated (copy_at kept.table page)) within is nothing-invalid in
       record {
         pages = mid.pages;
@@ -158,6 +161,7 @@ module _ (kept : Kept) (page : ℕ) (before : List ℕ) (within : page < length 
         keeping = is.keeping;
         makers = is.makers;
         passed = is.passed;
+        in_step = were;
         store = is.store;
         sized = is.sized;
         unmade = mid.unmade;
@@ -165,7 +169,7 @@ module _ (kept : Kept) (page : ℕ) (before : List ℕ) (within : page < length 
       }
 
   pub seen-invalid : IsKept kept → pending_changes (copy_at kept.table page) ≡ None
-      → node_seen (invalid_at kept page before)
+      → node_seen (invalid_at kept page before in_step)
       ≡ with_memory (node_seen kept) (record (seen kept) { copies = invalidated_on before (seen kept).copies page })
   seen-invalid is none =
       let old = copy_at kept.table page in
@@ -188,12 +192,12 @@ module _ (kept : Kept) (page : ℕ) (before : List ℕ) (within : page < length 
       ∙ ap (λ t. seen_in (copy_at kept.table p).state t (copy_at kept.table p)) (get_or-set_other kept.since page p before [] apart)) in
       let bases : map (λ (c : PageCopy). c.base) now.copies ≡ map (λ (c : PageCopy). c.base) kept.table.copies =
       map-set_same (λ (c : PageCopy). c.base) kept.table.copies page new _ (ap (λ (c : PageCopy). c.base) invalid-copy) in
-      ap (λ s. with_memory (node_seen kept) (record (seen (invalid_at kept page before)) { store = s })) store
+      ap (λ s. with_memory (node_seen kept) (record (seen (invalid_at kept page before in_step)) { store = s })) store
       ∙ ap (λ cs. with_memory (node_seen kept) (record (seen kept) { copies = cs; bases = map (λ (c : PageCopy). c.base) now.copies })) copies
       ∙ ap (λ bs. with_memory (node_seen kept) (record (seen kept) { copies = invalidated_on before (seen kept).copies page; bases = bs })) bases
 
 -- a page settled, and then invalid
-module _ (kept : Kept) (page : ℕ) (before copied named : List ℕ) (store : StoreRecord) (mid table : Table)
+module _ (kept : Kept) (page : ℕ) (before copied named : List ℕ) (in_step : Bool) (store : StoreRecord) (mid table : Table)
     (within : page < length kept.table.copies) (valid : (copy_at kept.table page).state ≡ Valid) (named_is : named ≡ kept.named)
     (mid_is : mid ≡ with_copy kept.table page (settled (copy_at kept.table page)))
     (store_is : store ≡ settled_store kept.store (record { node = kept.me; index = get_or named page 0; page = page }) (pending_changes (copy_at kept.table page)))
@@ -210,27 +214,33 @@ module _ (kept : Kept) (page : ℕ) (before copied named : List ℕ) (store : St
       ap (λ (c : PageCopy). c.state) (copy_at-with_copy kept.table page (settled old) within)
       ∙ state-settled old.state old.values old.twin old.base ∙ valid
 
-  pub done-invalid : record kept { store = store; table = table; since = set kept.since page copied } ≡ invalid_at first page before
+  pub done-invalid : record kept { store = store; table = table; since = set kept.since page copied; in_step = in_step } ≡ invalid_at first page before in_step
   done-invalid =
       let parts = after-settle kept page named store mid named_is mid_is store_is in
-      ap (λ (t : Table). record kept { store = store; table = t; since = set kept.since page copied }) table_is
-      ∙ ap (λ (t : List ℕ). record kept { store = store; table = with_copy mid page (page_copy.invalidated (copy_at mid page)); since = set kept.since page t }) copied_is
-      ∙ ap (λ (k : Kept). invalid_at k page before) parts
+      ap (λ (t : Table). record kept { store = store; table = t; since = set kept.since page copied; in_step = in_step }) table_is
+      ∙ ap (λ (t : List ℕ). record kept { store = store; table = with_copy mid page (page_copy.invalidated (copy_at mid page)); since = set kept.since page t; in_step = in_step }) copied_is
+      ∙ ap (λ (k : Kept). invalid_at k page before in_step) parts
 
   pub kept-done : IsKept kept → ForSome (pending_changes (copy_at kept.table page)) (λ changes. All (λ c. c.offset < words_of kept.table.size) changes)
       → length before ≡ length kept.store.last
-      → IsKept (record kept { store = store; table = table; since = set kept.since page copied })
-  kept-done is fit long =
+      → (now : Bool) → in_step ≡ (kept.in_step && now) → (IsTrue now → WasLast kept.store before)
+      → IsKept (record kept { store = store; table = table; since = set kept.since page copied; in_step = in_step })
+  kept-done is fit long now step_is was =
       let mid_kept = kept-settled kept page within is fit in
-      subst IsKept (sym done-invalid) (kept-invalid first page before first-within first-valid mid_kept (long ∙ sym (last-settled kept page)))
+      subst IsKept (sym done-invalid)
+      (kept-invalid first page before in_step first-within first-valid mid_kept (long ∙ sym (last-settled kept page))
+      (λ (step : IsTrue in_step).
+      in_step-noted first.store first.collected first.since page before first.in_step now mid_kept.in_step
+      (λ (here : IsTrue now). was-settled kept.store (key_on kept page) (pending_changes (copy_at kept.table page)) before (was here))
+      (sym step_is ∙ step)))
 
   pub seen-done : IsKept kept → ForSome (pending_changes (copy_at kept.table page)) (λ changes. All (λ c. c.offset < words_of kept.table.size) changes)
       → (n : NodeMemory) → node_seen kept ≡ n
-      → node_seen (record kept { store = store; table = table; since = set kept.since page copied })
+      → node_seen (record kept { store = store; table = table; since = set kept.since page copied; in_step = in_step })
       ≡ with_memory n (record n.memory { copies = invalidated_on before n.memory.copies page })
   seen-done is fit n seen_is =
       ap node_seen done-invalid
-      ∙ seen-invalid first page before first-within first-valid (kept-settled kept page within is fit) (nothing-settled kept page 0 0 within)
+      ∙ seen-invalid first page before in_step first-within first-valid (kept-settled kept page within is fit) (nothing-settled kept page 0 0 within)
       ∙ ap (λ (n : NodeMemory). with_memory n (record n.memory { copies = invalidated_on before n.memory.copies page })) (seen-settled kept page within ∙ seen_is)
 
 -- a copy that is not valid stays
@@ -303,6 +313,7 @@ module _ (kept : Kept) (interval : IntervalRecord) (is : IsKept kept) (next : in
             (λ i h. omega (arith, last, h)) (intervals_of kept.store) is.makers)
             (omega (arith, last, range.node)));
         passed = All-weaker (λ i. i ≤ entry kept.store.last kept.me) (λ i. i ≤ entry now kept.me) (λ i h. omega (arith, grows, h)) kept.named is.passed;
+        in_step = λ in_step. all-added kept.store interval (kept.collected ∷ kept.since) next range.node (is.in_step in_step);
         store = sound;
         sized = All-push (AreSized kept.table.size) kept.store.entries (without_changes interval) is.sized (unsized kept [] interval.pages);
         unmade = λ page changes pending.

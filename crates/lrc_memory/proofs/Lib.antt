@@ -1,5 +1,6 @@
 pub mod Inside
 pub mod Overlays
+pub mod InStep
 pub mod Copies
 pub mod Starts
 pub mod Settling

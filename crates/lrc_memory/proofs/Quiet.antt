@@ -36,6 +36,7 @@ kept-quiet kept table long size quiet is = record {
   keeping = is.keeping;
   makers = is.makers;
   passed = is.passed;
+  in_step = is.in_step;
   store = is.store;
   sized = rw size is.sized;
   unmade = λ page changes pending. is.unmade page changes (sym (quiet page) ∙ pending);

@@ -141,6 +141,7 @@ kept-renewed kept keepers is are = record {
       (renewed-all (λ keeper. keeper < length kept.store.last) kept.store kept.keepers is.makers is.keeping);
   makers = is.makers;
   passed = is.passed;
+  in_step = is.in_step;
   store = is.store;
   sized = is.sized;
   unmade = is.unmade;

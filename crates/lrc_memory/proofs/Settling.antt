@@ -1,5 +1,5 @@
 -- What a change of one copy does to what is seen.
-use Rattle.std.proofs.Common.{◌≡◌, ◌≢◌, ◌∙◌, ℕ, ◌<◌, Bool, true, false, cond, eqb, eqb-true, ◌&&◌, Option, Some, None, List, [], map, length, get_or, set, refl, ap, sym, subst, ⊎_elim, arith}
+use Rattle.std.proofs.Common.{◌≡◌, ◌≢◌, ◌∙◌, ℕ, ◌<◌, Bool, true, false, cond, eqb, eqb-true, ◌&&◌, Option, Some, None, List, [], ◌∷◌, map, length, get_or, set, refl, ap, sym, subst, ⊎_elim, arith}
 use Rattle.std.specs.Prelude.{All}
 use Rattle.std.specs.List.{range_with_len}
 use Rattle.std.specs.Option.{ForSome, option_map}
@@ -29,6 +29,7 @@ use Rattle.lrc_protocol.specs.Memory.{Memory}
 use Rattle.lrc_protocol.specs.Memory as memory
 use Rattle.lrc_memory.specs.View.{Kept, AreSized, IsKept, seen, node_seen, seen_in, seen_copy, unmade, settled_store, store_over, with_memory}
 use Rattle.lrc_memory.proofs.Overlays.{map-alike, over-alike, over-settled}
+use Rattle.lrc_memory.proofs.InStep.{all-attached}
 
 -- ---- lists of copies
 
@@ -99,6 +100,7 @@ kept-changed kept page copy within is none = record {
   keeping = is.keeping;
   makers = is.makers;
   passed = is.passed;
+  in_step = is.in_step;
   store = is.store;
   sized = is.sized;
   unmade = λ p changes pending.
@@ -287,6 +289,7 @@ kept-store kept key changes is fit apart = record {
   keeping = is.keeping;
   makers = subst (All (λ (i : IntervalRecord). i.node < length kept.store.last)) (sym (intervals_of-attached kept.store key changes)) is.makers;
   passed = is.passed;
+  in_step = λ in_step. all-attached kept.store key changes (kept.collected ∷ kept.since) (is.in_step in_step);
   store = IsStore-attached kept.store key changes is.store;
   sized = sized-attached kept.table.size kept.store key changes fit is.sized;
   unmade = λ page cs pending.

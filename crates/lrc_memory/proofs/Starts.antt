@@ -1,21 +1,22 @@
 -- A node's memory at the start.
-use Rattle.std.proofs.Common.{◌≡◌, ◌∙◌, ℕ, suc, zero, ◌<◌, List, [], ◌∷◌, map, length, get_or, replicate, refl, ap, sym, subst, arith, rules, Some, None, inl, inr, ◌≤◌}
+use Rattle.std.proofs.Common.{true, ◌≡◌, ◌∙◌, ℕ, suc, zero, ◌<◌, List, [], ◌∷◌, map, length, get_or, replicate, refl, ap, sym, subst, arith, rules, Some, None, inl, inr, ◌≤◌}
 use Rattle.std.specs.List.{range_with_len}
 use Rattle.std.proofs.lemmas.List.{ext_get_or, get_or_past, get_or-replicate, length-replicate}
 use Rattle.std.proofs.lemmas.List.FromFn.{get_or-map-range_with_len, length-map-range_with_len}
 use Rattle.std.proofs.lemmas.Bool.{cases_lt}
-use Rattle.std.proofs.lemmas.List.Elements.{All-replicate}
+use Rattle.std.proofs.lemmas.List.Elements.{All-cons, All-replicate}
 use Rattle.lrc_page.specs.declared.changes.Change.{Change}
 use Rattle.lrc_page.specs.declared.size.Size.{Size}
 use Rattle.lrc_page.specs.Page.{zero_page}
 use Rattle.lrc_page.specs.Place.{pages_of}
 use Rattle.lrc_time.specs.Time.{zeros, entry}
-use Rattle.lrc_store.specs.Store.{StoreRecord, empty_store}
+use Rattle.lrc_store.specs.Store.{StoreRecord, IsStore, empty_store}
 use Rattle.lrc_table.specs.PageCopy.{PageCopy, fresh, pending_changes}
 use Rattle.lrc_table.specs.Table.{Table, fresh_table, copy_at}
 use Rattle.lrc_protocol.specs.Copy.{valid, absent}
 use Rattle.lrc_protocol.specs.Memory.{fresh_memory}
-use Rattle.lrc_memory.specs.View.{NodeMemory, Kept, IsKept, seen_in, seen_copy, node_seen}
+use Rattle.lrc_memory.specs.View.{NodeMemory, Kept, IsKept, WasLast, seen_in, seen_copy, node_seen}
+use Rattle.lrc_memory.proofs.InStep.{was-now}
 
 map-replicate : {X Y : Type 0} (f : X → Y) (n : ℕ) (x : X) → map f (replicate n x) ≡ replicate n (f x)
 map-replicate f zero x = refl
@@ -47,6 +48,7 @@ pub seen-start : (me nodes words : ℕ) (size : Size) (since : List (List ℕ)) 
       named = named;
       keepers = replicate (pages_of words size) 0;
       collected = zeros nodes;
+      in_step = true;
     })
     ≡ record { me = me; size = size; memory = fresh_memory nodes (pages_of words size) size }
 seen-start me nodes words size since named =
@@ -61,6 +63,7 @@ seen_of me since named store table keepers collected = node_seen (record {
   named = named;
   keepers = keepers;
   collected = collected;
+  in_step = true;
 })
 
 pub seen-new : (me nodes words pages : ℕ) (size : Size) (since : List (List ℕ)) (named : List ℕ) (store : StoreRecord) (table : Table)
@@ -74,6 +77,7 @@ pub seen-new : (me nodes words pages : ℕ) (size : Size) (since : List (List �
       named = named;
       keepers = keepers;
       collected = collected;
+      in_step = true;
     })
     ≡ record { me = me; size = size; memory = fresh_memory nodes (pages_of words size) size }
 seen-new me nodes words pages size since named store table keepers collected store_is table_is keepers_are collected_is pages_are =
@@ -96,6 +100,17 @@ untwinned words size page changes e = elim (cases_lt page (pages_of words size))
       let x : None ≡ Some changes = sym (ap pending_changes is) ∙ e in cc
 ]
 
+empty-sound : (nodes pages : ℕ) → IsStore (empty_store nodes pages)
+empty-sound nodes pages = record {
+  stamps = λ k d within. absurd (omega (arith, within));
+  pages = λ k d within. absurd (omega (arith, within));
+  counted = λ k d within. absurd (omega (arith, within));
+  ascending = search rules;
+}
+
+empty-last : (nodes pages : ℕ) → WasLast (empty_store nodes pages) (zeros nodes)
+empty-last nodes pages = was-now (empty_store nodes pages) (zeros nodes) (empty-sound nodes pages) refl
+
 -- what is kept at the start holds together
 kept-start : (me nodes words : ℕ) (size : Size) → me < nodes
     → IsKept (record {
@@ -106,6 +121,7 @@ kept-start : (me nodes words : ℕ) (size : Size) → me < nodes
       named = replicate (pages_of words size) 0;
       keepers = replicate (pages_of words size) 0;
       collected = zeros nodes;
+      in_step = true;
     })
 kept-start me nodes words size here =
     let pages = pages_of words size in
@@ -122,24 +138,22 @@ kept-start me nodes words size here =
       keeping = All-replicate (λ keeper. keeper < length (zeros nodes)) pages 0 (omega (arith, entries, here));
       makers = λ k d within. absurd (omega (arith, within));
       passed = All-replicate (λ index. index ≤ entry (zeros nodes) me) pages 0 (omega arith);
-      store = record {
-        stamps = λ k d within. absurd (omega (arith, within));
-        pages = λ k d within. absurd (omega (arith, within));
-        counted = λ k d within. absurd (omega (arith, within));
-        ascending = search rules;
-      };
+      in_step = λ in_step.
+          All-cons (WasLast (empty_store nodes pages)) (zeros nodes) (replicate pages (zeros nodes)) (empty-last nodes pages)
+          (All-replicate (WasLast (empty_store nodes pages)) pages (zeros nodes) (empty-last nodes pages));
+      store = empty-sound nodes pages;
       sized = λ k d within. absurd (omega (arith, within));
       unmade = λ page changes e. absurd (untwinned words size page changes e);
     }
 
 abbrev kept_of : ℕ → List (List ℕ) → List ℕ → StoreRecord → Table → List ℕ → List ℕ → Kept
 kept_of me since named store table keepers collected =
-    record { me = me; store = store; table = table; since = since; named = named; keepers = keepers; collected = collected }
+    record { me = me; store = store; table = table; since = since; named = named; keepers = keepers; collected = collected; in_step = true }
 
 pub kept-new : (me nodes words pages : ℕ) (size : Size) (since : List (List ℕ)) (named : List ℕ) (store : StoreRecord) (table : Table)
     (keepers collected : List ℕ) → store ≡ empty_store nodes pages → table ≡ fresh_table words size → since ≡ replicate pages (zeros nodes)
     → named ≡ replicate pages 0 → keepers ≡ replicate pages 0 → collected ≡ zeros nodes → pages ≡ pages_of words size → me < nodes
-    → IsKept (record { me = me; store = store; table = table; since = since; named = named; keepers = keepers; collected = collected })
+    → IsKept (record { me = me; store = store; table = table; since = since; named = named; keepers = keepers; collected = collected; in_step = true })
 kept-new me nodes words pages size since named store table keepers collected store_is table_is since_is named_is keepers_are collected_is pages_are here =
     let whole : kept_of me since named store table keepers collected
     ≡ kept_of me (replicate (pages_of words size) (zeros nodes)) (replicate (pages_of words size) 0) (empty_store nodes (pages_of words size))

@@ -1,14 +1,15 @@
 -- How a node's memory is kept, and how it is seen. The changes of a closed interval are made lazily: a page written in it
 -- keeps its twin until they are needed (Keleher, Cox, Dwarkadas and Zwaenepoel 1994). Seen from outside they are made.
-use Rattle.std.specs.Prelude.{ℕ, ◌≡◌, ◌<◌, ◌≤◌, ◌==◌, ◌&&◌, Option, None, Some, unwrap_or, List, [], length, map, All, slice_index, slice_index_or, if◌then◌else◌}
+use Rattle.std.specs.Prelude.{ℕ, ◌≡◌, ◌<◌, ◌≤◌, ◌==◌, ◌&&◌, Bool, IsTrue, Option, None, Some, unwrap_or, List, [], ◌∷◌, length, map, All, slice_index, slice_index_or, if◌then◌else◌}
 use Rattle.std.specs.List.{range_with_len}
 use Rattle.std.specs.Option.{ForSome, option_or}
 use Rattle.lrc_page.specs.declared.changes.Change.{Change}
 use Rattle.lrc_page.specs.declared.size.Size.{Size}
 use Rattle.lrc_page.specs.Page.{words_of}
 use Rattle.lrc_store.specs.declared.key.Key.{Key}
-use Rattle.lrc_time.specs.Time.{entry}
+use Rattle.lrc_time.specs.Time.{Covers, entry}
 use Rattle.lrc_store.specs.Interval.{index_of}
+use Rattle.lrc_store.specs.Lists.{KnowsTheFirst}
 use Rattle.lrc_store.specs.Store.{NoticeRecord, StoredRecord, StoreRecord, IsStore, interval_of, intervals_of, notice_at, attached}
 use Rattle.lrc_table.specs.declared.slot.State.{State}
 use Rattle.lrc_table.specs.declared.slot.State.TheVariants.{Valid, Written, Invalid, Absent}
@@ -34,7 +35,8 @@ pub record SameMemory (old new : NodeMemory) : Type 0 where
   pub nodes : length new.memory.store.last ≡ length old.memory.store.last
 
 -- what is kept: intervals, copies, and for each page the time from before it became invalid, the index of the own interval
--- that named it last, and its keeper; and the time up to which intervals were collected
+-- that named it last, and its keeper; and the time up to which intervals were collected. These times are in step where each
+-- was the store's when it was noted
 pub record Kept : Type 0 where
   pub me : ℕ
   pub store : StoreRecord
@@ -43,6 +45,7 @@ pub record Kept : Type 0 where
   pub named : List ℕ
   pub keepers : List ℕ
   pub collected : List ℕ
+  pub in_step : Bool
 
 -- the store once changes of a key are made, if there are any to make
 abbrev pub settled_store : StoreRecord → Key → Option (List Change) → StoreRecord
@@ -102,8 +105,15 @@ abbrev pub AreSized : Size → StoredRecord → Type 0
 AreSized size stored =
     All (λ notice. ForSome notice.changes (λ changes. All (λ c. c.offset < words_of size) changes)) stored.notices
 
--- what holds of what is kept: there is one of each for each page, times have an entry for each node, and the changes of
--- a pending page are still to be made of the own interval that named it last
+-- the time may once have been the last indices of the store: they cover it, and of the notices of each page it knows
+-- those that were added first
+pub record WasLast (store : StoreRecord) (time : List ℕ) : Type 0 where
+  pub covered : Covers store.last time
+  pub first : (page : ℕ) → KnowsTheFirst store page time
+
+-- what holds of what is kept: there is one of each for each page, times have an entry for each node and were the store's
+-- last indices where they are in step, and the changes of a pending page are still to be made of the own interval that
+-- named it last
 pub record IsKept (kept : Kept) : Type 0 where
   pub pages : kept.store.pages ≡ length kept.table.copies
   pub since : length kept.since ≡ length kept.table.copies
@@ -115,6 +125,7 @@ pub record IsKept (kept : Kept) : Type 0 where
   pub keeping : All (λ keeper. keeper < length kept.store.last) kept.keepers
   pub makers : All (λ interval. interval.node < length kept.store.last) (intervals_of kept.store)
   pub passed : All (λ index. index ≤ entry kept.store.last kept.me) kept.named
+  pub in_step : IsTrue kept.in_step → All (WasLast kept.store) (kept.collected ∷ kept.since)
   pub store : IsStore kept.store
   pub sized : All (AreSized kept.table.size) kept.store.entries
   pub unmade : (page : ℕ) (changes : List Change) → pending_changes (copy_at kept.table page) ≡ Some changes

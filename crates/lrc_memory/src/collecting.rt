@@ -11,6 +11,7 @@ ghost use Rattle.lrc_memory.specs.Steps.{without_bases};
 ghost use Rattle.lrc_memory.specs.View.{SameMemory, with_memory};
 ghost use Rattle.lrc_memory.specs.Turns.{IsClosed};
 
+use crate::learning::is_last;
 use crate::memory::Memory;
 use lrc_page::{MOST_PAGES, Page, Pages};
 use lrc_store::Store;
@@ -65,11 +66,13 @@ impl Memory {
         ensures collected { self.new ≡ with_memory self.old (collected_at self.old.me time.now self.old.memory) }
         ensures same { SameMemory self.old self.new }
     {
+        let in_step = is_last(&self.store, time);
         self.store.discard(time);
         self.table.drop_twins();
         self.table.drop_invalid();
         drop_bases(&mut self.table, self.me, &self.keepers);
         self.collected = time.copy();
+        self.in_step &= in_step;
     }
 }
 

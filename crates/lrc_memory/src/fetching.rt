@@ -1,10 +1,11 @@
 // What a node gives to others, and takes from them.
 
-ghost use Rattle.std.specs.Prelude.{◌≡◌, ◌<◌, Some, All, IfOk, OnOk, fold, length, true, []};
+ghost use Rattle.std.specs.Prelude.{◌≡◌, ◌<◌, Some, All, IfOk, IsTrue, OnOk, fold, length, true, []};
 ghost use Rattle.lrc_protocol.specs.Memory.{changes_or_none, copy_at, keeper_at, lacking};
 ghost use Rattle.lrc_protocol.specs.Fetch.{mended, need_of, unknown_of};
 ghost use Rattle.lrc_page.specs.Page.{words_of};
-ghost use Rattle.lrc_store.specs.Store.{notice_at, unread, attached};
+ghost use Rattle.lrc_store.specs.Lists.{KnowsTheFirst};
+ghost use Rattle.lrc_store.specs.Store.{IsMissing, attached, missing_of, notice_at, unread};
 ghost use Rattle.lrc_protocol.specs.Take.{with_part};
 ghost use Rattle.lrc_table.specs.Table.{with_copy};
 ghost use Rattle.lrc_table.specs.Table as tables;
@@ -20,6 +21,7 @@ use lrc_mail::{Base, Need};
 use lrc_page::Changes;
 use lrc_store::{Key, Store};
 use lrc_table::{PageTable, State};
+use lrc_time::Time;
 use lrc_wire::Parts;
 use std::alloc::{AllocError, Global};
 
@@ -88,9 +90,9 @@ impl Memory {
         match self.table.state(page) {
             State::Invalid => {
                 let since = &self.since[usize::from(page)];
-                self.store.missing(page, since)
+                missing(&self.store, page, since, self.in_step)
             }
-            State::Absent => self.store.missing(page, &self.collected),
+            State::Absent => missing(&self.store, page, &self.collected, self.in_step),
             _ => Ok(Vec::new(*self.named.allocator())),
         }
     }
@@ -109,6 +111,21 @@ impl Memory {
         install_base(&mut self.table, page, need.base());
         patch_all(&mut self.table, &self.store, page, need.missing());
         self.table.repair(page, &[]);
+    }
+}
+
+/// The notices of a page that a time does not know, in the order in which their changes are applied. Where the store's last
+/// indices once were this time, the page's list is followed no further than to the newest that it knows.
+fn missing(store: &Store, page: u16, since: &Time, in_step: bool) -> Result<Vec<Key>, AllocError>
+    requires since { length since.now ≡ length store.now.last }
+    requires in_step { IsTrue in_step → KnowsTheFirst store.now page since.now }
+    ensures missing { IfOk result (λ found. IsMissing store.now page since.now found.items) }
+    ensures value { IfOk result (λ found. found.items ≡ missing_of store.now page since.now) }
+{
+    if in_step {
+        store.missing_until_known(page, since)
+    } else {
+        store.missing(page, since)
     }
 }
 

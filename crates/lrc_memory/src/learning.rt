@@ -1,17 +1,17 @@
 // What a node knows of the intervals of all nodes.
 
-ghost use Rattle.std.specs.Prelude.{All, ◌≡◌, ◌<◌, ◌+◌, IfOk, OnOk, is_some, length};
+ghost use Rattle.std.specs.Prelude.{All, ◌≡◌, ◌<◌, ◌+◌, ◌↔◌, IfOk, IsTrue, OnOk, is_some, length};
 ghost use Rattle.lrc_time.specs.Time.{entry};
 ghost use Rattle.lrc_store.specs.Store.{newer_of, notice_at};
 ghost use Rattle.lrc_protocol.specs.Memory.{learned};
 ghost use Rattle.lrc_store.specs.Interval.{index_of};
 ghost use Rattle.lrc_memory.specs.Steps.{invalidated_on, learned_one};
-ghost use Rattle.lrc_memory.specs.View.{SameMemory, with_memory};
+ghost use Rattle.lrc_memory.specs.View.{SameMemory, WasLast, with_memory};
 ghost use Rattle.lrc_memory.specs.Turns.{CanBeAdded, IsInRange};
 
 use crate::memory::Memory;
 use crate::settle::settle_page;
-use lrc_store::{Interval, Intervals, Key};
+use lrc_store::{Interval, Intervals, Key, Store};
 use lrc_table::State;
 use lrc_time::Time;
 use std::alloc::AllocError;
@@ -25,15 +25,23 @@ impl Memory {
         ensures ok { OnOk result (self.new ≡ with_memory self.old (learned before.now intervals.now self.old.memory)) }
         ensures same { SameMemory self.old self.new }
     {
+        let in_step = is_last(&self.store, before);
         for interval in intervals.as_slice() {
-            self.learn_one(before, interval)?;
+            self.learn_one(before, in_step, interval)?;
         }
         Ok(())
     }
 
-    /// Learns one interval, which follows the last one added of its node.
-    fn learn_one(&mut self, before: &Time, interval: &Interval) -> Result<(), AllocError>
+    /// Learns one interval, which follows the last one added of its node, at a time in step where the store's last indices
+    /// once were this time.
+    fn learn_one(
+        &mut self,
+        before: &Time,
+        in_step: bool,
+        interval: &Interval,
+    ) -> Result<(), AllocError>
         requires before { length before.now ≡ length self.old.memory.store.last }
+        requires in_step { IsTrue in_step → WasLast self.old.memory.store before.now }
         requires in_range { IsInRange self.old.memory.store interval.now }
         requires next { index_of interval.now ≡ entry self.old.memory.store.last interval.now.node + 1 }
         ensures ok { OnOk result (self.new ≡ with_memory self.old (learned_one before.now self.old.memory interval.now)) }
@@ -41,14 +49,15 @@ impl Memory {
     {
         self.store.add(interval)?;
         for page in interval.pages.as_slice() {
-            self.invalidate(before, *page)?;
+            self.invalidate(before, in_step, *page)?;
         }
         Ok(())
     }
 
     /// Makes a valid copy of a page invalid, at a time before the write of another node is known. Another copy stays.
-    fn invalidate(&mut self, before: &Time, page: u16) -> Result<(), AllocError>
+    fn invalidate(&mut self, before: &Time, in_step: bool, page: u16) -> Result<(), AllocError>
         requires before { length before.now ≡ length self.old.memory.store.last }
+        requires in_step { IsTrue in_step → WasLast self.old.memory.store before.now }
         requires in_range { page < length self.old.memory.copies }
         ensures ok { OnOk result (self.new ≡ with_memory self.old
             (record self.old.memory { copies = invalidated_on before.now self.old.memory.copies page })) }
@@ -58,6 +67,7 @@ impl Memory {
             settle_page(&mut self.table, &mut self.store, self.me, &self.named, page)?;
             self.table.invalidate(page);
             self.since[usize::from(page)] = before.copy();
+            self.in_step &= in_step;
         }
         Ok(())
     }
@@ -94,4 +104,17 @@ impl Memory {
     {
         self.store.has_notice(Key { node, index, page })
     }
+}
+
+/// Whether this time is just what was added last of each node.
+pub(crate) fn is_last(store: &Store, time: &Time) -> bool
+    requires { length time.now ≡ length store.now.last }
+    ensures { IsTrue result ↔ (time.now ≡ store.now.last) }
+{
+    for node in 0..time.nodes() {
+        if time.at(node) != store.last(node) {
+            return false;
+        }
+    }
+    true
 }

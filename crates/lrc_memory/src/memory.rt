@@ -27,6 +27,8 @@ pub struct Memory {
     pub(crate) named: Vec<u32>,
     pub(crate) keepers: Vec<u8>,
     pub(crate) collected: Time,
+    // Whether each of these times was the store's when it was noted, so that it knows the notices that were added first.
+    pub(crate) in_step: bool,
 }
 
 impl Model for Memory {
@@ -42,6 +44,7 @@ impl Model for Memory {
       named = m.named.items;
       keepers = m.keepers.items;
       collected = m.collected;
+      in_step = m.in_step;
     }) };
 
     ghost invariant = { λ m. IsKept (record {
@@ -52,6 +55,7 @@ impl Model for Memory {
       named = m.named.items;
       keepers = m.keepers.items;
       collected = m.collected;
+      in_step = m.in_step;
     }) };
 }
 
@@ -76,6 +80,7 @@ impl Memory {
             named: vec![in alloc; 0; count]?,
             keepers: vec![in alloc; 0; count]?,
             collected: start,
+            in_step: true,
         })
     }
 

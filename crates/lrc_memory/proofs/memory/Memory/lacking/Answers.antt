@@ -1,7 +1,9 @@
-use Rattle.std.proofs.Common.{◌≡◌, ◌∙◌, ◌<◌, [], get_or, ap, length, sym, arith}
+use Rattle.std.proofs.Common.{◌≡◌, ◌∙◌, ◌<◌, [], get_or, ap, length, sym, subst, arith}
 use Rattle.std.proofs.lemmas.List.{get_or_default}
+use Rattle.std.proofs.lemmas.List.Elements.{All-head, All-tail}
 use Rattle.lrc_store.specs.Store.{missing_of}
 use Rattle.lrc_mail.proofs.Askable.{missing-AreAskable}
+use Rattle.lrc_memory.specs.View.{WasLast}
 use Rattle.lrc_memory.proofs.Inside.{kept}
 use Rattle.lrc_memory.proofs.Copies.{within-seen}
 use Rattle.lrc_memory.proofs.Attaches.{ok_then}
@@ -15,11 +17,27 @@ pub index-since-requires : goal.index-since-requires
 index-since-requires c =
     omega (arith, c.from.ensures, c.self.invariant.since, within-seen (kept c.self.inside) _ _ c.self.view_is c.requires)
 
-pub missing-requires : goal.missing-requires
-missing-requires c =
+pub missing-requires-clause-since : goal.missing-requires-clause-since
+missing-requires-clause-since c =
     ap length c.index-since.ensures
     ∙ c.self.invariant.times c.from.result c.index-since.result.now
     (omega (arith, c.from.ensures, c.self.invariant.since, within-seen (kept c.self.inside) _ _ c.self.view_is c.requires))
+
+pub missing-requires-clause-in_step : goal.missing-requires-clause-in_step
+missing-requires-clause-in_step c = λ step.
+    let since = c.self.inside.since.items in
+    let within : c.from.result < length since =
+    omega (arith, c.from.ensures, c.self.invariant.since, within-seen (kept c.self.inside) _ _ c.self.view_is c.requires) in
+    let was : WasLast c.self.inside.store c.index-since.result.now =
+    subst (WasLast c.self.inside.store) (sym c.index-since.ensures)
+    (All-tail (WasLast c.self.inside.store) c.self.inside.collected since (c.self.invariant.in_step step) c.from.result c.index-since.result.now within) in
+    was.first c.args.page
+
+pub missing-requires-in-Absent-clause-in_step : goal.missing-requires-in-Absent-clause-in_step
+missing-requires-in-Absent-clause-in_step c = λ step.
+    let was : WasLast c.self.inside.store c.self.inside.collected =
+    All-head (WasLast c.self.inside.store) c.self.inside.collected c.self.inside.since.items (c.self.invariant.in_step step) in
+    was.first c.args.page
 
 pub returns-in-Invalid-clause-keys : goal.returns-in-Invalid-clause-keys
 returns-in-Invalid-clause-keys c =

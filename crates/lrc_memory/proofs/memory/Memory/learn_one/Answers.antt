@@ -5,9 +5,10 @@ use Rattle.lrc_protocol.specs.Copy.{Copy}
 use Rattle.lrc_time.specs.Time.{entry}
 use Rattle.lrc_store.specs.Interval.{IntervalRecord, index_of}
 use Rattle.lrc_store.specs.Store.{StoreRecord, IsStore, added}
-use Rattle.lrc_memory.specs.View.{NodeMemory, IsKept, node_seen, with_memory}
+use Rattle.lrc_memory.specs.View.{NodeMemory, IsKept, WasLast, node_seen, with_memory}
 use Rattle.lrc_memory.specs.Steps.{invalidated_on}
 use Rattle.lrc_memory.proofs.Inside.{kept}
+use Rattle.lrc_memory.proofs.InStep.{was-added}
 use Rattle.lrc_memory.proofs.Learns.{kept-added, seen-added, in_range-seen, same-trans, page-within}
 use Rattle.lrc_memory.proofs.Discards.{same-seen}
 use Rattle.lrc_memory.proofs.memory.Memory.learn_one.Goals as goal
@@ -39,6 +40,12 @@ invalidate-requires-clause-in_range c =
     page-within (kept c.self.inside) c.args.self.now c.loop-page.self c.args.interval.now.pages c.as_slice-page-items.result.now c.loop-page.page-index
     c.self.view_is c.self.invariant c.loop-page.invariant.same c.requires.in_range.pages
     (c.as_slice-page-items.ensures ∙ ap (λ (i : IntervalRecord). i.pages) c.interval.view_is) c.loop-page-test.true
+
+pub invalidate-requires-clause-in_step : goal.invalidate-requires-clause-in_step
+invalidate-requires-clause-in_step c = λ step.
+    let before = c.args.before.now in
+    subst (λ (m : NodeMemory). WasLast m.memory.store before) (sym c.loop-page.invariant.so_far)
+    (was-added c.args.self.now.memory.store c.args.interval.now before c.requires.next c.requires.in_range.node (c.requires.in_step step))
 
 pub loop-page-preserved : goal.loop-page-preserved
 loop-page-preserved c =
