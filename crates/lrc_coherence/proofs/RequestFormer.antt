@@ -1,41 +1,48 @@
 -- In every run each node's time covers what every node had told by the end of the former episode, and so does each departure.
-use Rattle.std.proofs.Common.{◌≡◌, ℕ, ◌+◌, ◌<◌, ◌≤◌, List, [], ◌∷◌, Bool, true, false, cond, map, refl, sym, ap, subst, ◌∙◌, ⊎_elim, inl, inr, arith, append-nil}
-use Rattle.std.specs.Prelude.{Option, Some, None, ◌==◌, Contains, count_by, slice_get, slice_set, slice_index_or, unwrap_or}
+use Rattle.std.proofs.Common.{◌≡◌, ℕ, ◌+◌, ◌<◌, ◌≤◌, List, [], ◌∷◌, Bool, true, false, cond, length, map, refl, sym, ap, subst, ◌∙◌, ⊎_elim, inl, inr, arith}
+use Rattle.std.specs.Prelude.{Option, Some, None, ◌==◌, Contains, count_by, is_some, slice_get, slice_set, slice_index_or, unwrap_or}
 use Rattle.std.proofs.lemmas.Bool.{and_left, cases_eq, cases_lt, eqb-true, false≢true}
-use Rattle.std.proofs.lemmas.Option.{same_Some}
+use Rattle.std.proofs.lemmas.List.{get_or_past}
+use Rattle.std.proofs.lemmas.Option.{same_Some, slice_get_within}
 use Rattle.lrc_lang.specs.declared.program.Program.{Program}
 use Rattle.lrc_exec.specs.Meaning.{Setting}
 use Rattle.lrc_exec.specs.Plain.{setting_of}
 use Rattle.lrc_time.specs.Time.{entry, Covers}
-use Rattle.lrc_time.proofs.Times.{covers-refl}
-use Rattle.lrc_store.proofs.Orders.{Contains-first, Contains-later}
+use Rattle.lrc_time.proofs.Times.{covers-refl, entry-zeros}
+use Rattle.lrc_store.proofs.Orders.{Contains-first, Contains-later, none_Contains}
 use Rattle.lrc_wire.specs.Envelope.{EnvelopeRecord}
-use Rattle.lrc_wire.specs.Records.{DepartRecord}
+use Rattle.lrc_wire.specs.Records.{ArriveRecord, DepartRecord}
 use Rattle.lrc_wire.specs.declared.message.Message.TheVariants.{LockRequest, LockForward, LockGrant, Arrive, Depart, Clean, Discard, ChangesRequest, ChangesReply, PageRequest, PageReply}
 use Rattle.lrc_barrier.specs.declared.arrival.Arrival.{Arrival}
-use Rattle.lrc_barrier.specs.Barrier.{ManagerRecord}
-use Rattle.lrc_protocol.specs.Mail.{Letter}
-use Rattle.lrc_protocol.specs.Node.{Node, OptionsRecord}
-use Rattle.lrc_protocol.specs.Turn.{TurnRecord}
+use Rattle.lrc_barrier.specs.declared.departure.Departure.{Departure}
+use Rattle.lrc_barrier.specs.Barrier.{ManagerRecord, first_manager, with_arrival, arrivals_of, departed}
+use Rattle.lrc_protocol.specs.Letters.{departure_of}
+use Rattle.lrc_protocol.specs.Mail.{Letter, nothing, departure}
+use Rattle.lrc_protocol.specs.Node.{OptionsRecord, fresh_node}
 use Rattle.lrc_protocol.specs.Log.{Input, EntryRecord, Logged}
-use Rattle.lrc_protocol.specs.World.{World, Flying, with_turn, pending}
+use Rattle.lrc_protocol.specs.World.{World, Flying, fresh_world, with_turn, pending}
 use Rattle.lrc_protocol.specs.Follows.{turns_of}
-use Rattle.lrc_protocol.proofs.Worlds.{IsEntry, get_set_same, get_set_other}
+use Rattle.lrc_protocol.proofs.Worlds.{IsEntry, get_set_same, get_set_other, fresh_at}
 use Rattle.lrc_protocol.proofs.Induction.{Comes}
 use Rattle.lrc_protocol.proofs.Turned.{Turned, Turns, turns}
-use Rattle.lrc_invariants.specs.Barriers.{says_depart, depart_to}
-use Rattle.lrc_invariants.proofs.Shift.{AllFrom}
-use Rattle.lrc_invariants.proofs.Sends.{Came, by_itself, comes, site_of, letter_in}
-use Rattle.lrc_invariants.proofs.Flows.{Brings, Stepped, again, once, stepped, came_count, count-cons, counts}
+use Rattle.lrc_invariants.specs.Barriers.{says_depart, arrive_from, depart_to, kept_of}
+use Rattle.lrc_invariants.proofs.Sends.{Came, by_itself, comes, arrival_in, site_of, letter_in}
+use Rattle.lrc_invariants.proofs.Flows.{IsFromNode, came_count, count-cons, counts}
+use Rattle.lrc_invariants.proofs.Managers.{LetGo, kept-departed, departs-once}
+use Rattle.lrc_invariants.proofs.Arrivals.{lets_or_not}
 use Rattle.lrc_invariants.proofs.Standing.{depart_test}
-use Rattle.lrc_invariants.proofs.Pending.{Goes}
 use Rattle.lrc_invariants.proofs.Moves.{in-now, Brought, brought, among_letters}
-use Rattle.lrc_invariants.proofs.AllStand.{AllStand, its_manager, all_stand}
-use Rattle.lrc_invariants.proofs.AllTimely.{manager_after}
+use Rattle.lrc_invariants.proofs.AllStand.{AllStand, its_manager}
+use Rattle.lrc_invariants.proofs.Timely.{Timely, gate, get_within, is_kept, is_told}
+use Rattle.lrc_invariants.proofs.AllTimely.{manager_after, all_timely}
 use Rattle.lrc_invariants.proofs.Shape.{NodeShape, shape_at}
-use Rattle.lrc_invariants.proofs.Reached.{IsReached}
+use Rattle.lrc_invariants.proofs.Reached.{IsReached, KeptByReached, by_reached}
 use Rattle.lrc_coherence.proofs.RequestDeparts.{IsOwn}
-use Rattle.lrc_coherence.proofs.RequestLines.{Line, same_line, alone, line, Rises, rises}
+use Rattle.lrc_coherence.proofs.RequestLines.{Line, stays_so, keeps_so, lets_so}
+use Rattle.lrc_coherence.proofs.RequestNotes.{Notes, notes-stay, notes-keep}
+use Rattle.lrc_coherence.proofs.RequestTold.{ToldSo, told_so, all_counted}
+use Rattle.lrc_coherence.proofs.DepartSteps.{CameExpected, LineStep, line_step, expecting_at, arrives_own}
+use Rattle.lrc_coherence.proofs.DepartLets.{Former, size, gate_at, last-below}
 
 -- what comes is a departure for this node, where that is counted
 came_depart : (b me : ℕ) (came : Came) → 1 ≤ came_count (depart_test b) me came
@@ -57,83 +64,41 @@ came_depart b me (comes from (ChangesReply m)) some = absurd (omega (arith, some
 came_depart b me (comes from (PageRequest page)) some = absurd (omega (arith, some))
 came_depart b me (comes from (PageReply m)) some = absurd (omega (arith, some))
 
--- a turn, a repeat too
-pub record LineStep (node : Node) (manager : ManagerRecord) (was now : List EnvelopeRecord) (turn : TurnRecord) (after : Node) : Type 0 where
-  pub came : Came
-  pub o : Option EnvelopeRecord
-  pub brings : Brings node.setting.me came o
-  pub goes : Goes o was turn.out now
-  pub letters : List Letter
-  pub out : map letter_in turn.out ≡ letters
-  pub from : AllFrom node.setting.me turn.out
-  pub line_is : Line (site_of node) manager came after.barrier letters
-  pub rises_so : Rises (site_of node) came after.locks
-
-pub line_step : (node : Node) (manager : ManagerRecord) (is : (x : ManagerRecord) → node.barrier.manager ≡ Some x → x ≡ manager)
-    (was now : List EnvelopeRecord) (turn : TurnRecord) (after : Node) → after.setting ≡ node.setting → Stepped node was now turn after
-    → LineStep node manager was now turn after
-line_step node manager is was now _ _ set (again e) = record {
-  came = by_itself;
-  o = None;
-  brings = tt;
-  goes = e ∙ sym (append-nil was);
-  letters = [];
-  out = refl;
-  from = tt;
-  line_is = same_line (site_of node) manager by_itself node.barrier [] node.barrier.manager refl is refl;
-  rises_so = alone (site_of node) node.locks (covers-refl node.locks.time);
-}
-line_step node manager is was now turn after set (once came o brings from sent goes) = record {
-  came = came;
-  o = o;
-  brings = brings;
-  goes = goes;
-  letters = sent.letters;
-  out = sent.out;
-  from = subst (λ (s : Setting). AllFrom s.me turn.out) set sent.from;
-  line_is = line (site_of node) manager is came sent.acts after.mail.wait after.locks after.barrier sent.letters sent.sent;
-  rises_so = rises (site_of node) came sent.acts after.mail.wait after.locks after.barrier sent.letters sent.sent;
-}
-
 module _ (program : Program) (nodes : ℕ) (options : OptionsRecord) where
-  -- what each node had told by the end of the former episode, for who arrived and who did not; it is covered by the time of each node
-  -- that has departed, and by what comes to each that has not
-  pub record Former (world : World) : Type 0 where
-    pub stand : AllStand program nodes options world
-    pub former : ℕ → ℕ
-    pub free : (q : ℕ) → slice_index_or stand.manager.arrivals q None ≡ None → entry stand.manager.last q ≡ former q
-    pub kept : (q : ℕ) (a : Arrival) → slice_index_or stand.manager.arrivals q None ≡ Some a
-        → IsOwn former (entry a.time) q a.intervals × (entry stand.manager.last q ≡ entry a.time q)
-    pub knows : (n : ℕ) (l : Logged) → slice_get world.nodes n ≡ Some l → count_by (depart_to n) (pending world) ≡ 0
-        → (q : ℕ) → former q ≤ entry l.node.locks.time q
-    pub told : (e : EnvelopeRecord) (m : DepartRecord) (l : Logged) → Contains (pending world) e → e.message ≡ Depart m
-        → slice_get world.nodes e.to ≡ Some l → (q : ℕ) → former q ≤ entry m.time q
-
   module _ (world : World) (flight : List Flying) (n : ℕ) (l after : Logged) (input : Input) (entry_is : EntryRecord)
       (at : slice_get world.nodes n ≡ Some l) (come : Comes world n input flight) (i : IsEntry l input entry_is after)
-      (r : IsReached program nodes options world) (r' : IsReached program nodes options (with_turn world flight n entry_is after)) (h : Former world) where
-    abbrev next : World
+      (r : IsReached program nodes options world) (r' : IsReached program nodes options (with_turn world flight n entry_is after)) (h : Former program nodes options world) where
+    abbrev pub next : World
     next = with_turn world flight n entry_is after
 
-    stand' : AllStand program nodes options next
-    stand' = all_stand program nodes options r'.events next r'.runs
+    pub timely' : Timely program nodes options next
+    timely' = all_timely program nodes options r'.events next r'.runs
 
-    rel : unwrap_or after.node.barrier.manager h.stand.manager ≡ stand'.manager
-    unfolding stand'
-    rel = manager_after program nodes options world next h.stand stand' n l after at refl
+    abbrev pub manager : ManagerRecord
+    manager = h.timely.stand.manager
+
+    pub rel : unwrap_or after.node.barrier.manager h.timely.stand.manager ≡ timely'.stand.manager
+    unfolding timely'
+    rel = manager_after program nodes options world next h.timely.stand timely'.stand n l after at refl
+
+    pub is : (x : ManagerRecord) → l.node.barrier.manager ≡ Some x → x ≡ manager
+    is = its_manager program nodes options world h.timely.stand n l at
 
     set : NodeShape (setting_of program nodes n) options (record { node = l.node; turns = turns_of l.log })
     set = shape_at program nodes options r.events world n l r.runs at
 
-    mine : l.node.setting.me ≡ n
+    pub mine : l.node.setting.me ≡ n
     mine = ap (λ (s : Setting). s.me) set.setting
 
-    step : LineStep l.node h.stand.manager (pending world) (pending next) entry_is.turn after.node
+    at_me : (k : ℕ) → k ≡ l.node.setting.me → slice_get world.nodes k ≡ Some l
+    at_me k e = subst (λ j. slice_get world.nodes j ≡ Some l) (sym (e ∙ mine)) at
+
+    pub step : LineStep l.node h.timely.stand.manager nodes (pending world) (pending next) entry_is.turn after.node
     step =
         let t : Turned l.node entry_is.turn after.node = subst (Turns l.node) i.turn_is (turns l.node input) in
-        line_step l.node h.stand.manager (its_manager program nodes options world h.stand n l at) (pending world)
-        (pending next) entry_is.turn after.node t.setting
-        (stepped program nodes options world flight n l after input entry_is at come i r)
+        line_step l.node h.timely.stand.manager nodes is (pending world) (pending next) entry_is.turn after.node
+        (ap (λ (s : Setting). s.nodes) set.setting) t.setting
+        (expecting_at program nodes options world flight n l after input entry_is at come i r)
 
     -- the node before, and its time
     record Was (b : ℕ) (lb : Logged) : Type 0 where
@@ -176,7 +141,7 @@ module _ (program : Program) (nodes : ℕ) (options : OptionsRecord) where
           none_sent b letters (λ y there. q y (Contains-later x letters y there)) in
           omega (arith, both, first, rest)
 
-      knows-on : (b : ℕ) (lb : Logged) → slice_get next.nodes b ≡ Some lb → count_by (depart_to b) (pending next) ≡ 0
+      pub knows-on : (b : ℕ) (lb : Logged) → slice_get next.nodes b ≡ Some lb → count_by (depart_to b) (pending next) ≡ 0
           → (q : ℕ) → h.former q ≤ entry lb.node.locks.time q
       knows-on b lb at_b none q =
           let w : Was b lb = was b lb at_b in
@@ -193,7 +158,7 @@ module _ (program : Program) (nodes : ℕ) (options : OptionsRecord) where
           came_depart b l.node.setting.me step.came (omega (arith, some)) in
           let c : Brought l.node.setting.me d.0 (Depart d.1) (pending world) =
           brought l.node.setting.me d.0 (Depart d.1) step.came step.o (pending world) entry_is.turn.out (pending next) d.2 step.brings step.goes in
-          let had : h.former q ≤ entry d.1.time q = h.told c.envelope d.1 l c.among c.message_is (ap (slice_get world.nodes) (c.to ∙ mine) ∙ at) q in
+          let had : h.former q ≤ entry d.1.time q = h.told c.envelope d.1 l c.among c.message_is (at_me c.envelope.to c.to) q in
           let now : entry d.1.time q ≤ entry after.node.locks.time q = step.rises_so.told d.0 d.1 d.2 q in
           subst (λ (x : Logged). h.former q ≤ entry x.node.locks.time q) (w.own (sym mine ∙ d.3)) (omega (arith, had, now)))
           (λ (none_came : came_count (depart_test b) l.node.setting.me step.came ≤ 0).
@@ -201,7 +166,7 @@ module _ (program : Program) (nodes : ℕ) (options : OptionsRecord) where
           omega (arith, before, rise))
           (cases_lt 0 (came_count (depart_test b) l.node.setting.me step.came))
 
-      told-on : (e : EnvelopeRecord) (m : DepartRecord) (lb : Logged) → Contains (pending next) e → e.message ≡ Depart m
+      pub told-on : (e : EnvelopeRecord) (m : DepartRecord) (lb : Logged) → Contains (pending next) e → e.message ≡ Depart m
           → slice_get next.nodes e.to ≡ Some lb → (q : ℕ) → h.former q ≤ entry m.time q
       told-on e m lb there says at_b q = elim (in-now step.o (pending world) entry_is.turn.out (pending next) e step.goes there) [
         | inl old ↦ h.told e m (was e.to lb at_b).old old says (was e.to lb at_b).there q
@@ -209,3 +174,173 @@ module _ (program : Program) (nodes : ℕ) (options : OptionsRecord) where
             absurd (false≢true (sym (quiet (letter_in e) (subst (λ ls. Contains ls (letter_in e)) step.out (among_letters entry_is.turn.out e new)))
             ∙ ap says_depart says))
       ]
+
+    -- where the manager's notes are kept and no departure is sent
+    goes_on : ((x : Letter) → Contains step.letters x → says_depart x.message ≡ false) → Notes h.former timely'.stand.manager
+        → Former program nodes options next
+    goes_on quiet notes =
+        record { timely = timely'; former = h.former; notes = notes; knows = knows-on quiet; told = told-on quiet }
+
+    -- where all are let depart
+    module _ (from : ℕ) (m : ArriveRecord) (now : ManagerRecord) (departures : List Departure) (came_is : step.came ≡ comes from (Arrive m))
+        (now_is : unwrap_or after.node.barrier.manager manager ≡ now) (g : LetGo manager from (arrival_in m) now departures)
+        (letters_is : step.letters ≡ map departure_of departures) where
+      came_from : Brought l.node.setting.me from (Arrive m) (pending world)
+      came_from = brought l.node.setting.me from (Arrive m) step.came step.o (pending world) entry_is.turn.out (pending next) came_is step.brings step.goes
+
+      from_node : from < nodes
+      from_node = subst (IsFromNode nodes) came_is step.sender
+
+      own : IsOwn (entry manager.last) (entry m.time) from m.intervals
+      own = arrives_own l.node from m manager is (subst (CameExpected l.node) came_is step.expected)
+
+      abbrev all_in : ManagerRecord
+      all_in = with_arrival manager from (arrival_in m)
+
+      then_is : timely'.stand.manager ≡ departed all_in
+      then_is = sym rel ∙ now_is ∙ g.after_is
+
+      arrivals_size : length (arrivals_of all_in) ≡ nodes
+      arrivals_size =
+          all_counted all_in.arrivals g.all
+          ∙ size program nodes options world r h l.node.setting.me from m came_from from_node own now departures g
+
+      abbrev now_told : ℕ → ℕ
+      now_told q = entry all_in.last q
+
+      notes_then : Notes now_told timely'.stand.manager
+      notes_then =
+          subst (Notes now_told) (sym then_is)
+          (record {
+            free = λ q e. refl;
+            kept = λ q a e.
+                let one : kept_of (departed all_in) q ≡ 1 = ap (λ (o : Option Arrival). cond {A = ℕ} (is_some o) 1 0) e in
+                let none : kept_of (departed all_in) q ≡ 0 = kept-departed all_in q in
+                absurd (omega (arith, one, none));
+          })
+
+      none_came : (b : ℕ) → came_count (depart_test b) l.node.setting.me step.came ≡ 0
+      none_came b = ap (came_count (depart_test b) l.node.setting.me) came_is
+
+      knows_then : (b : ℕ) (lb : Logged) → slice_get next.nodes b ≡ Some lb → count_by (depart_to b) (pending next) ≡ 0
+          → (q : ℕ) → now_told q ≤ entry lb.node.locks.time q
+      knows_then b lb at_b none q =
+          let within : b < nodes = subst (λ k. b < k) timely'.stand.count (slice_get_within next.nodes b lb at_b) in
+          let flow : count_by (depart_to b) (pending next) + came_count (depart_test b) l.node.setting.me step.came
+          ≡ count_by (depart_to b) (pending world) + count_by (depart_test b l.node.setting.me) step.letters =
+          counts (depart_test b) l.node.setting.me step.came step.o (pending world) (pending next) entry_is.turn.out step.letters step.brings
+          step.goes step.from step.out in
+          let sent : count_by (depart_test b l.node.setting.me) step.letters ≡ 1 =
+          ap (count_by (depart_test b l.node.setting.me)) (letters_is ∙ ap (map departure_of) g.told)
+          ∙ departs-once (arrivals_of all_in) b (subst (λ k. b < k) (sym arrivals_size) within) in
+          let came : came_count (depart_test b) l.node.setting.me step.came ≡ 0 = none_came b in
+          absurd (omega (arith, none, flow, sent, came))
+
+      told_then : (e : EnvelopeRecord) (d : DepartRecord) (lb : Logged) → Contains (pending next) e → e.message ≡ Depart d
+          → slice_get next.nodes e.to ≡ Some lb → (q : ℕ) → now_told q ≤ entry d.time q
+      told_then e d lb there says at_b q = elim (in-now step.o (pending world) entry_is.turn.out (pending next) e step.goes there) [
+        | inl old ↦
+            let w : Was e.to lb = was e.to lb at_b in
+            let some : 1 ≤ count_by (depart_to e.to) (pending world) = is_told program nodes options world e d old says in
+            let none : count_by (depart_to e.to) (pending world) ≡ 0 =
+            (gate_at program nodes options world r h l.node.setting.me from m came_from from_node own now departures g e.to w.old w.there).none in
+            absurd (omega (arith, some, none))
+        | inr new ↦
+            let t : ToldSo (arrivals_of all_in) (arrivals_of all_in) 0 (letter_in e) d =
+            told_so (arrivals_of all_in) (arrivals_of all_in) 0 (letter_in e) d
+            (subst (λ ls. Contains ls (letter_in e)) (step.out ∙ letters_is ∙ ap (map departure_of) g.told) (among_letters entry_is.turn.out e new)) says in
+            subst (λ t. now_told q ≤ entry t q) (sym t.time_is)
+            (last-below program nodes options world r h l.node.setting.me from m came_from from_node own now departures g (length t.arrival.time) q)
+      ]
+
+      all_depart : Former program nodes options next
+      all_depart = record { timely = timely'; former = now_told; notes = notes_then; knows = knows_then; told = told_then }
+
+    by_line : ((x : Letter) → Contains step.letters x → says_depart x.message ≡ false) → (came : Came) (letters : List Letter) → step.came ≡ came
+        → step.letters ≡ letters → Line (site_of l.node) manager came after.node.barrier letters → Former program nodes options next
+    by_line quiet _ _ came_is letters_is (stays_so last arrivals) =
+        goes_on quiet
+        (notes-stay h.former manager timely'.stand.manager (ap (λ (x : ManagerRecord). x.last) (sym rel) ∙ last)
+        (ap (λ (x : ManagerRecord). x.arrivals) (sym rel) ∙ arrivals) h.notes)
+    by_line quiet _ _ came_is letters_is (keeps_so from m now now_is g) =
+        let own : IsOwn (entry manager.last) (entry m.time) from m.intervals =
+        arrives_own l.node from m manager is (subst (CameExpected l.node) came_is step.expected) in
+        goes_on quiet
+        (subst (Notes h.former) (sym (sym rel ∙ now_is ∙ g.after_is))
+        (notes-keep nodes h.former manager from (arrival_in m) h.timely.stand.places (subst (IsFromNode nodes) came_is step.sender) g.arrives.first own
+        h.notes))
+    by_line quiet _ _ came_is letters_is (lets_so from m now departures now_is g) = all_depart from m now departures came_is now_is g letters_is
+
+    -- every turn
+    former_next : Former program nodes options next
+    former_next =
+        elim (lets_or_not (site_of l.node) manager is step.came step.acts after.node.mail.wait after.node.locks after.node.barrier step.letters step.passes) [
+          | inl c ↦
+              all_depart c.from c.arrive c.after c.departures c.came_is (ap (λ o. unwrap_or o manager) c.manager_is) c.lets c.letters_is
+          | inr g ↦ by_line g.no_departs step.came step.letters refl refl step.line_is
+        ]
+
+  former-kept : KeptByReached program nodes options (Former program nodes options)
+  former-kept world flight n l after input entry_is at come i r r' h = former_next world flight n l after input entry_is at come i r r' h
+
+  -- ---- at the start
+
+  -- nothing is noted of any node
+  none-noted : (world : World) → fresh_world program nodes options ≡ world → (stand : AllStand program nodes options world) (q : ℕ)
+      → entry stand.manager.last q ≡ 0
+  none-noted world is stand q =
+      ⊎_elim
+      (λ (lt : 0 < nodes).
+      let first : (x : Logged) × (slice_get world.nodes 0 ≡ Some x) = get_within world.nodes 0 (subst (λ k. 0 < k) (sym stand.count) lt) in
+      let x_is : first.0 ≡ record { node = fresh_node program nodes options (0 + 0); log = [] } =
+      fresh_at program nodes options 0 nodes 0 first.0 (ap (λ (w : World). slice_get w.nodes 0) is ∙ first.1) in
+      let here : first.0.node.barrier.manager ≡ Some stand.manager = stand.here first.0 first.1 in
+      let manager_is : first_manager nodes ≡ stand.manager =
+      same_Some (first_manager nodes) stand.manager (sym (ap (λ (x : Logged). x.node.barrier.manager) x_is) ∙ here) in
+      ap (λ (x : ManagerRecord). entry x.last q) (sym manager_is) ∙ entry-zeros nodes q)
+      (λ (le : nodes ≤ 0).
+      let none : length stand.manager.last ≡ nodes = stand.places.last in
+      get_or_past stand.manager.last q 0 (omega (arith, le, none)))
+      (cases_lt 0 nodes)
+
+  former-fresh : Former program nodes options (fresh_world program nodes options)
+  former-fresh =
+      let timely : Timely program nodes options (fresh_world program nodes options) =
+      all_timely program nodes options [] (fresh_world program nodes options) refl in
+      record {
+        timely = timely;
+        former = λ q. 0;
+        notes = record {
+          free = λ q e. none-noted (fresh_world program nodes options) refl timely.stand q;
+          kept = λ q a e.
+              let some : 1 ≤ count_by (arrive_from q) [] + kept_of timely.stand.manager q =
+              is_kept program nodes options (fresh_world program nodes options) timely.stand q a e in
+              absurd (none_arrived timely.stand q a e some);
+        };
+        knows = λ n l at none q. omega arith;
+        told = λ e m l there. absurd (none_Contains e there);
+      }
+    where
+      none_arrived : (stand : AllStand program nodes options (fresh_world program nodes options)) (q : ℕ) (a : Arrival)
+          → slice_index_or stand.manager.arrivals q None ≡ Some a → 1 ≤ count_by (arrive_from q) [] + kept_of stand.manager q → ⊥
+      none_arrived stand q a e some =
+          ⊎_elim
+          (λ (lt : q < nodes).
+          let x : (x : Logged) × (slice_get (fresh_world program nodes options).nodes q ≡ Some x) =
+          get_within (fresh_world program nodes options).nodes q (subst (λ k. q < k) (sym stand.count) lt) in
+          let waits : x.0.node.mail.wait ≡ departure = (gate program nodes options (fresh_world program nodes options) stand q x.0 x.1 some).waits in
+          not_departure (sym (ap (λ (x : Logged). x.node.mail.wait) (fresh_at program nodes options 0 nodes q x.0 x.1)) ∙ waits))
+          (λ (le : nodes ≤ q).
+          let long : length stand.manager.arrivals ≡ nodes = stand.places.arrivals in
+          some_none a (sym e ∙ get_or_past stand.manager.arrivals q None (omega (arith, le, long))))
+          (cases_lt q nodes)
+        where
+          not_departure : nothing ≡ departure → ⊥
+          not_departure e = cc
+
+          some_none : (a : Arrival) → Some a ≡ None → ⊥
+          some_none a e = cc
+
+  -- every run
+  pub all_former : (world : World) → IsReached program nodes options world → Former program nodes options world
+  all_former world r = by_reached program nodes options (Former program nodes options) former-kept r.events world former-fresh r.runs
