@@ -85,7 +85,7 @@ pub mod ArriveTurns
 pub mod ArriveNews
 pub mod ArriveWorlds
 pub mod ArriveLaw
-pub mod ArriveAll
 pub mod DepartSteps
 pub mod DepartLets
 pub mod DepartNews
+pub mod AllExpected

@@ -2,10 +2,10 @@
 //! every run: lazy reading, and sequential consistency where it has no race. Laws alone.
 #![tactic(auto)]
 
-pub mod arrivals;
-pub mod departs;
+pub mod barriers;
 pub mod grants;
 pub mod made;
+pub mod messages;
 pub mod requests;
 pub mod theorem;
 pub mod traces;

@@ -7,7 +7,6 @@ use Rattle.std.proofs.lemmas.List.{get_or_past}
 use Rattle.std.proofs.lemmas.Option.{same_Some}
 use Rattle.lrc_lang.specs.declared.program.Program.{Program}
 use Rattle.lrc_wire.specs.Envelope.{EnvelopeRecord}
-use Rattle.lrc_wire.specs.Records.{DepartRecord}
 use Rattle.lrc_wire.specs.declared.message.Message.{Message}
 use Rattle.lrc_wire.specs.declared.message.Message.TheVariants.{LockRequest, LockForward, LockGrant, Arrive, Depart, Clean, Discard, ChangesRequest, ChangesReply, PageRequest, PageReply}
 use Rattle.lrc_copies.proofs.Members.{Contains-filter, Contains-first, Contains-later}
@@ -28,6 +27,7 @@ use Rattle.lrc_invariants.proofs.TakenMessages.{is_taken_by, own-taken, pending-
 use Rattle.lrc_invariants.proofs.Reached.{IsReached}
 use Rattle.lrc_coherence.proofs.ArriveLaw.{arrival_expected}
 use Rattle.lrc_coherence.proofs.CollectLaw.{asked_have_bases}
+use Rattle.lrc_coherence.proofs.DepartNews.{depart_expected}
 use Rattle.lrc_coherence.proofs.RequestAccepted.{changes_reply-accepted, page_reply-accepted}
 use Rattle.lrc_coherence.proofs.RequestBases.{page_request-accepted}
 use Rattle.lrc_coherence.proofs.RequestExpected.{asker, changes_request-accepted}
@@ -78,11 +78,7 @@ module _ (program : Program) (nodes : ℕ) (options : OptionsRecord) (events : L
   r : IsReached program nodes options world
   r = record { events = events; runs = runs }
 
-  abbrev pub DepartsExpected : Type 0
-  DepartsExpected = (e : EnvelopeRecord) (m : DepartRecord) (l : Logged) → Contains (pending world) e → e.message ≡ Depart m
-      → slice_get world.nodes e.to ≡ Some l → is_expected l.node e.from e.message ≡ true
-
-  module _ (departs : DepartsExpected) (e : EnvelopeRecord) (l : Logged) (there : Contains (pending world) e) (at : slice_get world.nodes e.to ≡ Some l) where
+  module _ (e : EnvelopeRecord) (l : Logged) (there : Contains (pending world) e) (at : slice_get world.nodes e.to ≡ Some l) where
     place : (k : ℕ) × (slice_get (pending world) k ≡ Some e)
     place = get_there program nodes options (pending world) e there
 
@@ -92,7 +88,7 @@ module _ (program : Program) (nodes : ℕ) (options : OptionsRecord) (events : L
     by_kind (LockForward m) is = forward_expected program nodes options events world runs place.0 e place.1 l at m is
     by_kind (LockGrant m) is = grant_expected program nodes options events world e m l runs there is at
     by_kind (Arrive m) is = arrival_expected program nodes options events world runs e m l there is at
-    by_kind (Depart m) is = departs e m l there is at
+    by_kind (Depart m) is = depart_expected program nodes options events world e m l runs there is at
     by_kind (Clean episode) is =
         let first : slice_get world.nodes 0 ≡ Some l =
         ap (slice_get world.nodes) (sym ((all_addressed program nodes options events world runs).clean e episode there is).0) ∙ at in
@@ -111,10 +107,10 @@ module _ (program : Program) (nodes : ℕ) (options : OptionsRecord) (events : L
     expected = by_kind e.message refl
 
   -- and no message in flight is refused
-  pub accepted : DepartsExpected → (k : ℕ) (f : Flying) (l : Logged) → slice_get world.flight k ≡ Some f → slice_get world.nodes f.envelope.to ≡ Some l
+  pub accepted : (k : ℕ) (f : Flying) (l : Logged) → slice_get world.flight k ≡ Some f → slice_get world.nodes f.envelope.to ≡ Some l
       → take_turn l.node f.envelope ≡ unexpected → ⊥
   unfolding r
-  accepted departs k f l is at = by_test (is_repeat l.node f.envelope) refl
+  accepted k f l is at = by_test (is_repeat l.node f.envelope) refl
     where
       p : Placed nodes f.envelope.to l.node
       p = placed program nodes options world r f.envelope.to l at
@@ -137,4 +133,4 @@ module _ (program : Program) (nodes : ℕ) (options : OptionsRecord) (events : L
           (Contains-filter (λ x. not (is_taken_by world.nodes x)) (envelopes_in world.flight) f.envelope (in_flight world.flight k f is)
           (ap not (own-taken world.nodes f.envelope.to l f.envelope at refl ∙ new))) in
           not_refused l.node f.envelope (addressed ((all_sound program nodes options events world runs).from f.envelope there))
-          (λ new. expected departs f.envelope l there at)
+          (λ new. expected f.envelope l there at)

@@ -1,5 +1,5 @@
 use Rattle.lrc_coherence.proofs.DepartNews.{depart_expected}
-use Rattle.lrc_coherence.proofs.departs.departures_are_accepted.Goals as goal
+use Rattle.lrc_coherence.proofs.barriers.departures_are_accepted.Goals as goal
 
 pub returns : goal.returns
 returns c = λ program nodes options events world e m l runs there is at.

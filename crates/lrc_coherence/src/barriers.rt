@@ -1,15 +1,24 @@
-// What departures bring, in every run. Each function is a theorem: its body is empty, and its clauses are the law.
+// What messages of barriers bring, in every run. Each function is a theorem: its body is empty, and its clauses are the law.
 
 ghost use Rattle.std.specs.Prelude.{◌≡◌, ℕ, List, Some, true, Contains, slice_get};
 ghost use Rattle.lrc_lang.specs.declared.program.Program.{Program};
 ghost use Rattle.lrc_wire.specs.Envelope.{EnvelopeRecord};
-ghost use Rattle.lrc_wire.specs.Records.{DepartRecord};
-ghost use Rattle.lrc_wire.specs.declared.message.Message.TheVariants.{Depart};
+ghost use Rattle.lrc_wire.specs.Records.{ArriveRecord, DepartRecord};
+ghost use Rattle.lrc_wire.specs.declared.message.Message.TheVariants.{Arrive, Depart};
 ghost use Rattle.lrc_protocol.specs.declared.event.Event.{Event};
 ghost use Rattle.lrc_protocol.specs.Expected.{is_expected};
 ghost use Rattle.lrc_protocol.specs.Node.{OptionsRecord};
 ghost use Rattle.lrc_protocol.specs.Log.{Logged};
 ghost use Rattle.lrc_protocol.specs.World.{World, pending, run_of};
+
+/// In every run each pending arrival would be accepted by its receiver now, the manager of barriers: it is the next of that node,
+/// and tells of just the node's own intervals above the last that came with an arrival and up to the node's time. (Keleher, Cox
+/// and Zwaenepoel 1992.)
+pub fn arrivals_are_accepted()
+    ensures { (program : Program) (nodes : ℕ) (options : OptionsRecord) (events : List Event) (world : World) (e : EnvelopeRecord)
+        (m : ArriveRecord) (l : Logged) → run_of program nodes options events ≡ Some world → Contains (pending world) e
+        → e.message ≡ Arrive m → slice_get world.nodes e.to ≡ Some l → is_expected l.node e.from e.message ≡ true }
+{}
 
 /// In every run each pending departure would be accepted by its receiver now: it comes from node 0, for the episode from which the
 /// receiver awaits to depart; its time covers the receiver's; and it tells of just the intervals, of each node, above the receiver's
