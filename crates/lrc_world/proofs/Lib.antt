@@ -10,3 +10,4 @@ pub mod EndsLemmas
 pub mod Driven
 pub mod Theorem
 pub mod Over
+pub mod Moments

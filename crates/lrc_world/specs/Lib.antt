@@ -3,3 +3,4 @@ pub mod Ends
 pub mod Report
 pub mod World
 pub mod Rounds
+pub mod Moments

@@ -9,6 +9,8 @@ ghost use Rattle.lrc_exec.specs.Plain.{plain};
 ghost use Rattle.lrc_theory.specs.Follows.{nodes_of};
 ghost use Rattle.lrc_theory.specs.Racing.{HasNoRace, PlainToRace};
 ghost use Rattle.lrc_protocol.specs.declared.event.Event.{Event as AnyEvent};
+ghost use Rattle.lrc_protocol.specs.World.{World as Run, run_of};
+ghost use Rattle.lrc_world.specs.Moments.{AreCovered, HasEachToken, RefusesNone, Throughout};
 ghost use Rattle.lrc_world.specs.Range.{AreNodes, AreSteps};
 ghost use Rattle.lrc_world.specs.Report.{AreAll, IsReportOf, IsWornBy};
 
@@ -25,6 +27,9 @@ use std::alloc::Global;
 /// The run that these events make. An event that names no ready node, and no message in flight that its receiver expects, is
 /// skipped.
 ///
+/// At each moment of the run no message in flight is refused by its receiver, of whatever kind and in whatever order they come,
+/// and each lock's token is in one place; and at each access the node's time knows just what happens before it.
+///
 /// The sequential-consistency theorem is among its promises: where no two conflicting accesses are unordered by program, lock
 /// and barrier order, the plain machine, led by the order of the acts, makes the same acts. Every run is plain up to its first
 /// race; and where no order gives the plain machine a race, no run has one.
@@ -38,6 +43,10 @@ pub fn simulate(
     ensures report { IfOk result (IsReportOf program.now nodes options.now events.now) }
     ensures races { IfOk result (λ report. AreNamedRaces report.acts.items report.races.items) }
 
+    ensures accepted { IfOk result (λ report. Throughout program.now nodes options.now events.now RefusesNone) }
+    ensures tokens { IfOk result (λ report. Throughout program.now nodes options.now events.now (HasEachToken program.now.locks)) }
+    ensures covered { IfOk result (λ report. (run : Run) → run_of program.now nodes options.now events.now ≡ Some run
+        → AreCovered report.acts.items run.times) }
     ensures synchronized { IfOk result (λ report. IsWellSynchronized nodes report.acts.items) }
     ensures lazy { IfOk result (λ report. ReadsLazily report.acts.items) }
     ensures consistent { IfOk result (λ report. IsRaceFree report.acts.items
@@ -68,6 +77,10 @@ pub fn replay(
     ensures report { IfOk result (λ done. IsReportOf program.now nodes options.now events.now done.0) }
     ensures races { IfOk result (λ done. AreNamedRaces done.0.acts.items done.0.races.items) }
 
+    ensures accepted { IfOk result (λ done. Throughout program.now nodes options.now events.now RefusesNone) }
+    ensures tokens { IfOk result (λ done. Throughout program.now nodes options.now events.now (HasEachToken program.now.locks)) }
+    ensures covered { IfOk result (λ done. (run : Run) → run_of program.now nodes options.now events.now ≡ Some run
+        → AreCovered done.0.acts.items run.times) }
     ensures synchronized { IfOk result (λ done. IsWellSynchronized nodes done.0.acts.items) }
     ensures lazy { IfOk result (λ done. ReadsLazily done.0.acts.items) }
     ensures consistent { IfOk result (λ done. IsRaceFree done.0.acts.items
@@ -105,6 +118,10 @@ pub fn drive(
     ensures report { IfOk result (λ done. IsReportOf program.now nodes options.now done.0.items done.1) }
     ensures races { IfOk result (λ done. AreNamedRaces done.1.acts.items done.1.races.items) }
 
+    ensures accepted { IfOk result (λ done. Throughout program.now nodes options.now done.0.items RefusesNone) }
+    ensures tokens { IfOk result (λ done. Throughout program.now nodes options.now done.0.items (HasEachToken program.now.locks)) }
+    ensures covered { IfOk result (λ done. (run : Run) → run_of program.now nodes options.now done.0.items ≡ Some run
+        → AreCovered done.1.acts.items run.times) }
     ensures synchronized { IfOk result (λ done. IsWellSynchronized nodes done.1.acts.items) }
     ensures lazy { IfOk result (λ done. ReadsLazily done.1.acts.items) }
     ensures consistent { IfOk result (λ done. IsRaceFree done.1.acts.items

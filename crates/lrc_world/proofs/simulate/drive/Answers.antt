@@ -1,4 +1,4 @@
-use Rattle.std.proofs.Common.{◌≡◌, ◌∙◌, ◌<◌, ℕ, [], length, Err, ap, subst}
+use Rattle.std.proofs.Common.{◌≡◌, ◌∙◌, ◌<◌, ℕ, [], length, Err, ap, subst, arith}
 use Rattle.lrc_lang.specs.declared.program.Program.{Program}
 use Rattle.lrc_protocol.specs.Node.{OptionsRecord, fresh_node}
 use Rattle.lrc_protocol.specs.World.{fresh_world, played}
@@ -9,6 +9,7 @@ use Rattle.lrc_world.specs.Rounds.{Drives, GoesTo, NoneReady}
 use Rattle.lrc_world.specs.World.{Shows}
 use Rattle.lrc_world.proofs.Events.{handed_on}
 use Rattle.lrc_world.proofs.Driven.{begins, in_range, over}
+use Rattle.lrc_world.proofs.Moments.{refuses_none, each_token, covered}
 use Rattle.lrc_world.proofs.Theorem.{in_order, reads_lazily, consistent, to_first_race, race_free}
 use Rattle.lrc_world.proofs.Races.{kept_traces, kept_races}
 use Rattle.lrc_world.proofs.Worlds.{acts_of_nodes}
@@ -118,3 +119,12 @@ returns-clause-first c =
 pub returns-clause-unraced : goal.returns-clause-unraced
 returns-clause-unraced c =
     race_free c.args.program.now c.args.nodes c.args.options.now c.in_ok-report.field-0.0.items c.in_ok-report.field-0.1 (returns-clause-report c)
+
+pub returns-clause-accepted : goal.returns-clause-accepted
+returns-clause-accepted c = refuses_none c.args.program.now c.args.nodes c.args.options.now c.in_ok-report.field-0.0.items
+
+pub returns-clause-tokens : goal.returns-clause-tokens
+returns-clause-tokens c = each_token c.args.program.now c.args.nodes c.args.options.now c.in_ok-report.field-0.0.items (omega (arith, c.in_ok-count.ensures.1.0))
+
+pub returns-clause-covered : goal.returns-clause-covered
+returns-clause-covered c = covered c.args.program.now c.args.nodes c.args.options.now c.in_ok-report.field-0.0.items c.in_ok-report.field-0.1 (returns-clause-report c)

@@ -3,6 +3,7 @@ use Rattle.lrc_protocol.specs.Node.{fresh_node}
 use Rattle.lrc_protocol.specs.World.{run_of}
 use Rattle.lrc_world.specs.declared.report.SimFault.TheVariants.{Worn}
 use Rattle.lrc_world.proofs.Events.{goes_on, wears_out, handed_on, take_whole, get_at}
+use Rattle.lrc_world.proofs.Moments.{refuses_none, each_token, covered}
 use Rattle.lrc_world.proofs.Theorem.{in_order, reads_lazily, consistent, to_first_race, race_free}
 use Rattle.lrc_world.proofs.Races.{kept_traces, kept_races}
 use Rattle.lrc_world.proofs.Worlds.{acts_of_nodes}
@@ -62,3 +63,12 @@ returns-clause-first c =
 pub returns-clause-unraced : goal.returns-clause-unraced
 returns-clause-unraced c =
     race_free c.args.program.now c.args.nodes c.args.options.now c.args.events.now c.in_ok-report.field-0 (returns-clause-report c)
+
+pub returns-clause-accepted : goal.returns-clause-accepted
+returns-clause-accepted c = refuses_none c.args.program.now c.args.nodes c.args.options.now c.args.events.now
+
+pub returns-clause-tokens : goal.returns-clause-tokens
+returns-clause-tokens c = each_token c.args.program.now c.args.nodes c.args.options.now c.args.events.now (omega (arith, c.in_ok-count.ensures.1.0))
+
+pub returns-clause-covered : goal.returns-clause-covered
+returns-clause-covered c = covered c.args.program.now c.args.nodes c.args.options.now c.args.events.now c.in_ok-report.field-0 (returns-clause-report c)

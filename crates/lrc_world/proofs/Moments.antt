@@ -1,0 +1,57 @@
+-- What every report promises of each moment of its run, and of the times at its accesses.
+use Rattle.std.proofs.Common.{◌≡◌, ℕ, ◌<◌, List, sym, ap, subst, ◌∙◌, ⊎_elim}
+use Rattle.std.specs.Prelude.{Some}
+use Rattle.std.proofs.lemmas.Option.{same_Some}
+use Rattle.lrc_lang.specs.declared.program.Program.{Program}
+use Rattle.lrc_trace.specs.declared.act.Act.{Act}
+use Rattle.lrc_trace.specs.declared.act.Deed.{Deed}
+use Rattle.lrc_trace.specs.Conflict.{Accesses}
+use Rattle.lrc_trace.specs.Run.{Does}
+use Rattle.lrc_clock.proofs.Intervals.{other_complete, other_sound}
+use Rattle.lrc_clock.proofs.Ordering.{cover_to_order, order_to_cover}
+use Rattle.lrc_protocol.specs.declared.event.Event.{Event}
+use Rattle.lrc_protocol.specs.Node.{OptionsRecord}
+use Rattle.lrc_protocol.specs.World.{World as Run, pending, run_of}
+use Rattle.lrc_invariants.specs.Tokens.{grants_of_lock}
+use Rattle.lrc_invariants.proofs.Timed.{keeps, synchronized}
+use Rattle.lrc_invariants.proofs.TokenCounts.{one_place}
+use Rattle.lrc_invariants.proofs.TokenWorlds.{all_tokens}
+use Rattle.lrc_coherence.proofs.AllExpected.{accepted}
+use Rattle.lrc_world.specs.declared.report.Report.{Report}
+use Rattle.lrc_world.specs.Moments.{Throughout, RefusesNone, HasEachToken, AreCovered}
+use Rattle.lrc_world.specs.Report.{IsReportOf}
+
+-- an access is some deed
+does_some : (acts : List Act) (j node word : ℕ) → Accesses acts j node word → (deed : Deed) × Does acts j node deed
+does_some acts j node word a = ⊎_elim (λ read. (_, read.1)) (λ write. (_, write.1)) a
+
+module _ (program : Program) (nodes : ℕ) (options : OptionsRecord) (events : List Event) where
+  pub refuses_none : Throughout program nodes options events RefusesNone
+  refuses_none before after run is runs = λ place flying l there at. accepted program nodes options before run runs place flying l there at
+
+  pub each_token : 0 < nodes → Throughout program nodes options events (HasEachToken program.locks)
+  each_token some before after run is runs = λ lock lt.
+      one_place lock nodes run.nodes (grants_of_lock lock (pending run)) run.acts run.times
+      ((all_tokens program nodes options before run runs).each lock lt some)
+
+  -- in a run, and in its report
+  run_covered : (run : Run) → run_of program nodes options events ≡ Some run → AreCovered run.acts run.times
+  run_covered run runs = record {
+    closed = λ j node word q k access apart some.
+        let d : (deed : Deed) × Does run.acts j node deed = does_some run.acts j node word access in (
+          other_sound (keeps program nodes options events run runs) j node d.0 q k d.1 apart some,
+          other_complete (keeps program nodes options events run runs) (synchronized program nodes options events run runs) j q k,
+        );
+    accessed = λ i q v j node word first second apart.
+        let a : (deed : Deed) × Does run.acts i q deed = does_some run.acts i q v first in
+        let b : (deed : Deed) × Does run.acts j node deed = does_some run.acts j node word second in (
+          order_to_cover (keeps program nodes options events run runs) (synchronized program nodes options events run runs) i j q node a.0 b.0 apart a.1 b.1,
+          cover_to_order (keeps program nodes options events run runs) (synchronized program nodes options events run runs) i j q node a.0 b.0 apart a.1 b.1,
+        );
+  }
+
+  pub covered : (report : Report) → IsReportOf program nodes options events report → (run : Run) → run_of program nodes options events ≡ Some run
+      → AreCovered report.acts.items run.times
+  covered report is run runs =
+      let same : is.0 ≡ run = same_Some is.0 run (sym is.1 ∙ runs) in
+      subst (λ acts. AreCovered acts run.times) (sym (is.2.acts ∙ ap (λ (x : Run). x.acts) same)) (run_covered run runs)
