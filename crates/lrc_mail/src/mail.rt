@@ -162,7 +162,7 @@ fn number_all(
     ensures worn { result ≡ Err Worn → numbered me first sent.old letters.items ≡ None }
     ensures counts { AreCounts sent.new }
 {
-    let mut envelopes = Vec::new(*letters.allocator());
+    let mut envelopes = Vec::with_capacity(*letters.allocator(), letters.len())?;
     for letter in letters {
         let Some(number) = next_number(sent, letter.to, first) else {
             return Err(MailFault::Worn);

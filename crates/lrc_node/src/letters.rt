@@ -18,7 +18,7 @@ use std::alloc::{AllocError, Global};
 pub(crate) fn one(alloc: Global, to: u8, message: Message) -> Result<Vec<Letter>, AllocError>
     ensures { IfOk result (λ letters. letters.items ≡ record { to = to; message = message } ∷ []) }
 {
-    let mut letters = Vec::new(alloc);
+    let mut letters = Vec::with_capacity(alloc, 1)?;
     letters.push(Letter { to, message })?;
     Ok(letters)
 }

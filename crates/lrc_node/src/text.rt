@@ -88,7 +88,10 @@ impl<'c> Text<'c> {
     pub(crate) fn is_ready(&self) -> bool
         ensures { result ≡ is_some (begun_by self.now) }
     {
-        self.begins().is_some()
+        match self.standing {
+            Standing::Running => self.left > 0 || self.begins().is_some(),
+            Standing::Arrived | Standing::Trapped(_) | Standing::Ended => false,
+        }
     }
 
     /// Begins what comes next, if it may, and counts the step.
