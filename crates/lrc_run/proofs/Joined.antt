@@ -5,6 +5,7 @@ use Rattle.std.proofs.lemmas.List.{length-map, length_push, map-append}
 use Rattle.lrc_lang.specs.declared.program.Program.{Program}
 use Rattle.lrc_protocol.specs.Node.{OptionsRecord, fresh_node}
 use Rattle.lrc_protocol.specs.Log.{EntryRecord}
+use Rattle.lrc_weave.specs.Logs.{AreLogs}
 use Rattle.lrc_run.specs.declared.nodes.LogOf.{LogOf}
 use Rattle.lrc_run.specs.Threads.{AreFirstLogs, AreOwedFrom, IsOwed}
 use Rattle.lrc_run.specs.Worker.{IsLogOf}
@@ -58,14 +59,29 @@ module _ (program : Program) (nodes : ℕ) (options : OptionsRecord) where
       so_far_more (map seen (items before)) (map seen (items all)) (seen one) (promise handle) (map promise rest)
       (ap (map seen) more ∙ map-append seen (items before) (one ∷ [])) so_far its
 
-  pub first_logs : {B S : Type 0} (logs : B → List (List EntryRecord)) (owed : List LogOf) (r : Result B S) → IfOk r (λ all. AreSoFar (logs all) owed)
-      → IfOk r (λ all. AreFirstLogs program nodes options (logs all))
-  first_logs logs owed (Ok all) h = h.0
-  first_logs logs owed (Err s) h = tt
-
-  -- threads that are started: one more
-  pub owed_more : (owed : List LogOf) (one : LogOf) → AreOwedFrom program nodes options 0 owed → IsOwed program nodes options (length owed) one
+  owed_more : (owed : List LogOf) (one : LogOf) → AreOwedFrom program nodes options 0 owed → IsOwed program nodes options (length owed) one
       → AreOwedFrom program nodes options 0 (owed ++ one ∷ [])
   owed_more owed one each is =
       let here : length owed ≡ 0 + length owed = omega arith in
       each_more (λ n other. IsOwed program nodes options (0 + n) other) owed one each (subst (λ n. IsOwed program nodes options n one) here is)
+
+  -- threads that are started: one more
+  pub started_more : {H : Type 0} (promise : H → LogOf) (threads all : List H) (thread : H) (me : ℕ) → all ≡ threads ++ thread ∷ [] → length threads ≡ me
+      → AreOwedFrom program nodes options 0 (map promise threads) → IsOwed program nodes options me (promise thread)
+      → (length all ≡ me + 1) × AreOwedFrom program nodes options 0 (map promise all)
+  started_more promise threads all thread me is count owed one =
+      let here : me ≡ length (map promise threads) = sym (length-map threads promise ∙ count) in (
+        ap length is ∙ length_push threads thread ∙ ap (λ n. n + 1) count,
+        subst (AreOwedFrom program nodes options 0) (sym (ap (map promise) is ∙ map-append promise threads (thread ∷ [])))
+        (owed_more (map promise threads) (promise thread) owed (subst (λ n. IsOwed program nodes options n (promise thread)) here one)),
+      )
+
+  -- the logs of all nodes
+  pub all_logs : {A B S : Type 0} (items : B → List A) (seen : A → List EntryRecord) (joined : B) (r : Result B S)
+      → AreFirstLogs program nodes options (map seen (items joined)) → IfOk r (λ all. length (items all) ≡ nodes) → IfOk r (λ all. all ≡ joined)
+      → IfOk r (λ all. AreLogs program nodes options (map seen (items all)))
+  all_logs items seen joined (Ok all) first count same = record {
+    count = length-map (items all) seen ∙ count;
+    each = subst (λ logs. AreFirstLogs program nodes options (map seen (items logs))) (sym same) first;
+  }
+  all_logs items seen joined (Err s) first count same = tt
