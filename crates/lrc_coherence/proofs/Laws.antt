@@ -1,23 +1,18 @@
 -- What holds in every history of a run, group by group: the statements on which the groups build.
-use Rattle.std.proofs.Common.{◌≡◌, ℕ, ◌<◌, List, [], ◌∷◌, ◌++◌, length, map}
-use Rattle.std.specs.Prelude.{◌==◌, Bool, true, IsTrue, Option, Some, None, slice_get, All, AllPairs, Contains, if◌then◌else◌}
+use Rattle.std.proofs.Common.{◌≡◌, ℕ, List, [], ◌∷◌}
+use Rattle.std.specs.Prelude.{◌==◌, true, Some, None, slice_get, Contains, if◌then◌else◌}
 use Rattle.std.specs.List.{list_any}
 use Rattle.lrc_lang.specs.declared.program.Program.{Program}
-use Rattle.lrc_trace.specs.declared.act.Act.{Act}
 use Rattle.lrc_trace.specs.Reading.{ReadsLazily}
-use Rattle.lrc_page.specs.declared.changes.Change.{Change}
 use Rattle.lrc_page.specs.Page.{words_of}
-use Rattle.lrc_page.specs.Place.{pages_of}
-use Rattle.lrc_time.specs.Time.{entry, Covers}
-use Rattle.lrc_store.specs.declared.key.Key.{Key}
-use Rattle.lrc_store.specs.Interval.{IntervalRecord}
-use Rattle.lrc_store.specs.Store.{StoredRecord, NoticeRecord, interval_of, notice_of, stored_at, changes_at}
-use Rattle.lrc_copies.specs.Page.{PageHistory, PageFits, AgreeOnPage, IsUntouchedBy, IsMadeOf, IsClosedWith}
-use Rattle.lrc_copies.specs.Stamps.{index_of, covered, IsCut, AreStamped, IsBetween}
+use Rattle.lrc_time.specs.Time.{Covers}
+use Rattle.lrc_store.specs.Store.{StoredRecord, notice_of}
+use Rattle.lrc_copies.specs.Page.{PageFits, AgreeOnPage, IsUntouchedBy, IsMadeOf, IsClosedWith}
+use Rattle.lrc_copies.specs.Stamps.{covered, IsBetween}
 use Rattle.lrc_wire.specs.Envelope.{EnvelopeRecord}
-use Rattle.lrc_wire.specs.Records.{IndexedChangesRecord, ChangesReplyRecord, PageReplyRecord}
-use Rattle.lrc_wire.specs.declared.message.Message.TheVariants.{ChangesReply, PageRequest, PageReply}
-use Rattle.lrc_protocol.specs.Copy.{Copy, valid, written, invalid, absent, is_readable, values_of}
+use Rattle.lrc_wire.specs.Records.{PageReplyRecord}
+use Rattle.lrc_wire.specs.declared.message.Message.TheVariants.{PageRequest, PageReply}
+use Rattle.lrc_protocol.specs.Copy.{written, is_readable, values_of}
 use Rattle.lrc_protocol.specs.Fetch.{Need, due}
 use Rattle.lrc_protocol.specs.Mail.{Wait, access, discard}
 use Rattle.lrc_protocol.specs.Memory.{copy_at}
@@ -27,10 +22,8 @@ use Rattle.lrc_protocol.specs.World.{World, Flying, with_turn, pending}
 use Rattle.lrc_protocol.proofs.Worlds.{IsEntry}
 use Rattle.lrc_protocol.proofs.Induction.{Comes}
 use Rattle.lrc_invariants.proofs.Reached.{IsReached}
-use Rattle.lrc_local.specs.Own.{IsAttached}
-use Rattle.lrc_coherence.specs.Made.{AreMade, StoresJust}
-use Rattle.lrc_coherence.specs.Written.{made_stamps, made_changes, changes_on, page_history, open_record}
-use Rattle.lrc_coherence.proofs.History.{History, closed_record, closed_by}
+use Rattle.lrc_coherence.specs.Written.{made_stamps, changes_on, page_history, open_record}
+use Rattle.lrc_coherence.proofs.History.{History, closed_by}
 -- ---- stamps and changes
 
 pub use Rattle.lrc_coherence.specs.Known.{AreKnown}

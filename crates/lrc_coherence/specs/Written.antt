@@ -1,6 +1,6 @@
 -- What each interval of a run wrote to each word, by the acts; and the intervals that were closed, with their changes, as the
 -- theory of copies takes them.
-use Rattle.std.specs.Prelude.{◌≡◌, ℕ, ◌+◌, ◌*◌, ◌==◌, ◌&&◌, Bool, Option, Some, None, is_some, unwrap_or, option_and_then, List, [], fold, if◌then◌else◌}
+use Rattle.std.specs.Prelude.{ℕ, ◌+◌, ◌*◌, ◌==◌, ◌&&◌, Option, Some, None, is_some, unwrap_or, option_and_then, List, [], fold, if◌then◌else◌}
 use Rattle.std.specs.List.{enumerate_from}
 use Rattle.lrc_trace.specs.declared.act.Act.{Act}
 use Rattle.lrc_trace.specs.declared.act.Deed.{Deed}
