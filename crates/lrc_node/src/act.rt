@@ -14,13 +14,13 @@ use std::alloc::AllocError;
 
 impl State<'_> {
     /// Makes the access that the text asks for next, if it asks for one. The value is what is read, else 0.
-    fn access(&mut self) -> Result<u64, AllocError>
-        requires { CanAccess self.old (asked_in self.old.course) }
-        ensures value { IfOk result (λ value. value ≡ value_asked self.old (asked_in self.old.course)) }
-        ensures node { OnOk result (self.new ≡ with_memory self.old (memory_asked self.old (asked_in self.old.course))) }
+    fn access(&mut self, asked: Option<Ask>) -> Result<u64, AllocError>
+        requires { CanAccess self.old asked }
+        ensures value { IfOk result (λ value. value ≡ value_asked self.old asked) }
+        ensures node { OnOk result (self.new ≡ with_memory self.old (memory_asked self.old asked)) }
         ensures setting { self.new.setting ≡ self.old.setting }
     {
-        match self.text.asked() {
+        match asked {
             Some(Ask::Read(word)) => Ok(self.memory.read(word).unwrap_or(0)),
             Some(Ask::Write(word, value)) => {
                 self.memory.write(word, value)?;
@@ -37,8 +37,9 @@ impl State<'_> {
         ensures letters { IfOk result (λ effect. effect.letters ≡ letters) }
         ensures setting { self.new.setting ≡ self.old.setting }
     {
-        let value = self.access()?;
-        let deed = self.text.go_on(value);
+        let asked = self.text.asked();
+        let value = self.access(asked)?;
+        let deed = self.text.go_on(asked, value);
         Ok(Effect { deed, letters })
     }
 }

@@ -105,14 +105,16 @@ impl<'c> Text<'c> {
         Some(ask)
     }
 
-    /// Makes the deed that comes next, a read with this value. None once the text has stopped.
-    pub(crate) fn go_on(&mut self, value: u64) -> Option<Deed>
+    /// Makes the deed that comes next, which is what the text asks for, a read with this value. None once the text has
+    /// stopped.
+    pub(crate) fn go_on(&mut self, asked: Option<Ask>, value: u64) -> Option<Deed>
+        requires { asked ≡ asked_in self.old.course }
         ensures deed { result ≡ deed_in value self.old.course }
         ensures text { self.new ≡ record self.old { course = gone_on value self.old.course } }
     {
         match self.standing {
             Standing::Running => {
-                let (deed, standing) = step(&mut self.machine, value);
+                let (deed, standing) = step(&mut self.machine, asked?, value);
                 self.standing = standing;
                 Some(deed)
             }
@@ -184,13 +186,13 @@ fn stand_after(ask: Ask) -> Standing
 }
 
 /// Makes a thread's next deed, a read with this value, and answers where the text stands then.
-fn step(machine: &mut Machine<'_>, value: u64) -> (Deed, Standing)
-    requires { machine.old.arrived ≡ false }
+fn step(machine: &mut Machine<'_>, ask: Ask, value: u64) -> (Deed, Standing)
+    requires ask { ask ≡ ask_of (next_of machine.old) }
+    requires not_arrived { machine.old.arrived ≡ false }
     ensures deed { result.0 ≡ deed_of value (next_of machine.old) }
     ensures course { course_in result.1 machine.new ≡ course_of value (next_of machine.old) }
     ensures past { machine.new.arrived ≡ false }
 {
-    let ask = machine.ask();
     if !matches!(ask, Ask::Trap(_) | Ask::End) {
         machine.answer(value);
     }
