@@ -5,7 +5,7 @@ use Rattle.std.proofs.lemmas.List.Concat.{flat_map-cons}
 use Rattle.std.proofs.lemmas.List.Elements.{All-head, All-tail, filter-append}
 
 -- elements that all pass or all fail
-all_or_none : {Y : Type 0} (test : Y → Bool) (b : Bool) (ys : List Y) → All (λ y. test y ≡ b) ys → filter test ys ≡ cond b ys []
+pub all_or_none : {Y : Type 0} (test : Y → Bool) (b : Bool) (ys : List Y) → All (λ y. test y ≡ b) ys → filter test ys ≡ cond b ys []
 all_or_none test true [] are = refl
 all_or_none test false [] are = refl
 all_or_none test true (y ∷ ys) are =

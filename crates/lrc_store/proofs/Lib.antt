@@ -1,3 +1,5 @@
+pub mod ArenaPlaces
+pub mod Arenas
 pub mod Chained
 pub mod Filtered
 pub mod Followed

@@ -54,14 +54,14 @@ count_of-noted intervals notices noted =
 
 -- ---- an interval more
 
-ranked_of-push : (intervals : List IntervalRecord) (interval : IntervalRecord)
+pub ranked_of-push : (intervals : List IntervalRecord) (interval : IntervalRecord)
     → ranked_of (intervals ++ interval ∷ []) ≡ ranked_of intervals ++ ranked_pages interval
 ranked_of-push intervals interval =
     flat_map-append ranked_pages intervals (interval ∷ [])
     ∙ ap (λ (l : List (ℕ × Key)). ranked_of intervals ++ l)
     (flat_map-cons ranked_pages interval [] ∙ append-nil (ranked_pages interval))
 
-pages_of_ranked : (interval : IntervalRecord) (pages : List ℕ)
+pub pages_of_ranked : (interval : IntervalRecord) (pages : List ℕ)
     → map page_named (map (λ page. ranked page interval) pages) ≡ pages
 pages_of_ranked interval [] = refl
 pages_of_ranked interval (page ∷ pages) = ap (λ (l : List ℕ). page ∷ l) (pages_of_ranked interval pages)
@@ -127,12 +127,12 @@ IsLinkedUp-attached store by_node by_page notices key changes linked =
 abbrev pub stays : List ℕ → ℕ × Key → Bool
 stays time notice = not (knows time notice.1.node notice.1.index)
 
-ranked_stay : (time : List ℕ) (interval : IntervalRecord) → All (λ notice. stays time notice ≡ not (is_covered time interval)) (ranked_pages interval)
+pub ranked_stay : (time : List ℕ) (interval : IntervalRecord) → All (λ notice. stays time notice ≡ not (is_covered time interval)) (ranked_pages interval)
 ranked_stay time interval = λ k d within.
     let inside : k < length interval.pages = omega (arith, within, length-map interval.pages (λ page. ranked page interval)) in
     ap (stays time) (get_or-map (λ page. ranked page interval) interval.pages k 0 d inside)
 
-ranked_of-filter : (time : List ℕ) (intervals : List IntervalRecord)
+pub ranked_of-filter : (time : List ℕ) (intervals : List IntervalRecord)
     → filter (stays time) (ranked_of intervals) ≡ ranked_of (filter (λ i. not (is_covered time i)) intervals)
 ranked_of-filter time intervals = filter-flat_map ranked_pages (λ i. not (is_covered time i)) (stays time) (ranked_stay time) intervals
 

@@ -1,3 +1,4 @@
+pub mod Arena
 pub mod Chains
 pub mod Interval
 pub mod Linked

@@ -56,6 +56,8 @@ impl Eq for Interval {
 
 impl Interval {
     ghost use Rattle.lrc_store.specs.Interval.{IsInterval, index_of};
+    ghost use Rattle.lrc_store.specs.Arena.{is_interval_at};
+    ghost use Rattle.lrc_store.specs.Store.{is_covered};
 
     /// The interval with this node, stamp and pages.
     pub fn new(node: u8, stamp: Time, pages: Pages) -> Self
@@ -73,6 +75,27 @@ impl Interval {
         ensures interval { IsInterval self.now }
     {
         self.stamp.at(self.node)
+    }
+
+    /// The interval's node.
+    pub(crate) fn node(&self) -> u8
+        ensures { result ≡ self.now.node }
+    {
+        self.node
+    }
+
+    /// Whether this is the interval of this node and index.
+    pub(crate) fn is_at(&self, node: u8, index: u32) -> bool
+        ensures { result ≡ is_interval_at node index self.now }
+    {
+        self.node == node && self.index() == index
+    }
+
+    /// Whether the interval is one of those that this time knows. A node that the time does not count has none.
+    pub(crate) fn is_known(&self, time: &Time) -> bool
+        ensures { result ≡ is_covered time.now self.now }
+    {
+        self.node < time.nodes() && self.index() <= time.at(self.node)
     }
 
     /// An equal interval of its own.

@@ -2,6 +2,7 @@
 //! and Zwaenepoel 1992; Amza et al. 1996).
 #![tactic(auto)]
 
+mod arena;
 mod chains;
 pub mod interval;
 pub mod intervals;
@@ -13,7 +14,6 @@ mod lists;
 mod nodes;
 mod row;
 pub mod store;
-mod stored;
 
 pub use interval::Interval;
 pub use intervals::Intervals;

@@ -1,6 +1,6 @@
 // What links the intervals and the notices of a store.
 
-ghost use Rattle.std.specs.Prelude.{◌≡◌, ◌<◌, ◌≤◌, ◌+◌, ℕ, All, AllPairs, IfOk, IsTrue, OnErr, OnOk, [], ◌∷◌, ◌++◌, filter, flat_map, length, map, not, position, vec_capacity, vec_len};
+ghost use Rattle.std.specs.Prelude.{◌≡◌, ◌<◌, ◌≤◌, ◌+◌, ℕ, All, AllPairs, IfOk, IsTrue, OnOk, ◌++◌, filter, flat_map, length, map, position};
 ghost use Rattle.lrc_time.specs.Time.{knows};
 ghost use Rattle.lrc_store.specs.Interval.{index_of};
 ghost use Rattle.lrc_store.specs.Lists.{keys_of, knows_notice, places_from};
@@ -9,19 +9,18 @@ ghost use Rattle.lrc_store.specs.Rows.{HasNoGaps, HasRoom};
 ghost use Rattle.lrc_store.specs.Links.{page_named, ranked_pages, is_newer_of, is_unknown_on};
 ghost use Rattle.lrc_store.specs.Store.{interval_of, is_at};
 
+use crate::arena::Arena;
 use crate::chains::{Chains, MOST_ENTRIES};
 use crate::interval::Interval;
 use crate::key::Key;
 use crate::nodes::Nodes;
-use crate::stored::Stored;
 use lrc_time::Time;
-use std::alloc::{AllocError, Global};
+use std::alloc::AllocError;
 
-/// Makes room for an interval of a node with this many notices. An error changes nothing.
+/// Makes room for the links of an interval of a node with this many notices. An error changes no link.
 pub(crate) fn make_room(
     by_node: &mut Nodes,
     by_page: &mut Chains,
-    notices: &mut Vec<(u64, Key)>,
     node: u16,
     more: usize,
 ) -> Result<(), AllocError>
@@ -31,95 +30,80 @@ pub(crate) fn make_room(
     ensures node_starts { by_node.new.starts ≡ by_node.old.starts }
     ensures page_keys { by_page.new.keys ≡ by_page.old.keys }
     ensures page_lists { by_page.new.lists ≡ by_page.old.lists }
-    ensures notices { notices.new.items ≡ notices.old.items }
     ensures node_room { OnOk result (length by_node.old.keys < by_node.new.room) }
     ensures node_few { OnOk result (length by_node.old.keys < MOST_ENTRIES) }
     ensures node_row { OnOk result (HasRoom by_node.new.rows by_node.old.keys node) }
     ensures page_room { OnOk result (length by_page.old.keys + more ≤ by_page.new.room) }
     ensures page_few { OnOk result (length by_page.old.keys + more ≤ MOST_ENTRIES) }
-    ensures room { OnOk result (vec_len notices.old + more ≤ vec_capacity notices.new) }
 {
     by_node.reserve(node)?;
-    by_page.reserve(more)?;
-    notices.reserve(more)
+    by_page.reserve(more)
 }
 
-/// Adds the interval's notices, for which there is room, each with the weight of the interval's stamp.
-pub(crate) fn add_notices(notices: &mut Vec<(u64, Key)>, by_page: &mut Chains, interval: &Interval)
-    requires in_range { All (λ page. page < by_page.old.lists) interval.now.pages }
-    requires room { vec_len notices.old + length interval.now.pages ≤ vec_capacity notices.old }
-    requires linked { length by_page.old.keys + length interval.now.pages ≤ by_page.old.room }
-    requires few { length by_page.old.keys + length interval.now.pages ≤ MOST_ENTRIES }
-    ensures notices { notices.new.items ≡ notices.old.items ++ ranked_pages interval.now }
-    ensures keys { by_page.new.keys ≡ by_page.old.keys ++ interval.now.pages }
+/// Links the notices of these pages, for which there is room.
+pub(crate) fn add_pages(by_page: &mut Chains, pages: &[u16])
+    requires in_range { All (λ page. page < by_page.old.lists) pages.now }
+    requires linked { length by_page.old.keys + length pages.now ≤ by_page.old.room }
+    requires few { length by_page.old.keys + length pages.now ≤ MOST_ENTRIES }
+    ensures keys { by_page.new.keys ≡ by_page.old.keys ++ pages.now }
     ensures lists { by_page.new.lists ≡ by_page.old.lists }
 {
-    let weight = interval.stamp.weight();
-    let node = interval.node;
-    let index = interval.index();
-    for page in interval.pages.as_slice() {
-        let key = Key {
-            node,
-            index,
-            page: *page,
-        };
-        let Ok(()) = notices.push((weight, key)) else {
-            unreachable!();
-        };
+    for page in pages {
         by_page.push(*page);
     }
 }
 
 /// Links the intervals again, fewer than there were.
-pub(crate) fn link_nodes(by_node: &mut Nodes, entries: &[Stored])
-    requires in_range { All (λ stored. stored.node < by_node.old.lists) entries.now }
-    requires fewer { length entries.now ≤ length by_node.old.keys }
-    requires fewer_of_each { (node : ℕ) → length (places_from node 0 (map (λ stored. stored.node) entries.now))
+pub(crate) fn link_nodes(by_node: &mut Nodes, arena: &Arena)
+    requires in_range { All (λ stored. stored.node < by_node.old.lists) arena.now.entries }
+    requires fewer { length arena.now.entries ≤ length by_node.old.keys }
+    requires fewer_of_each { (node : ℕ) → length (places_from node 0 (map (λ stored. stored.node) arena.now.entries))
         ≤ length (places_from node 0 by_node.old.keys) }
-    requires few { length (flat_map keys_of (map interval_of entries.now)) ≤ MOST_ENTRIES }
-    ensures keys { by_node.new.keys ≡ map (λ stored. stored.node) entries.now }
-    ensures starts { AreStarts by_node.new.starts (map interval_of entries.now) }
+    requires few { length (flat_map keys_of (map interval_of arena.now.entries)) ≤ MOST_ENTRIES }
+    ensures keys { by_node.new.keys ≡ map (λ stored. stored.node) arena.now.entries }
+    ensures starts { AreStarts by_node.new.starts (map interval_of arena.now.entries) }
     ensures lists { by_node.new.lists ≡ by_node.old.lists }
 {
     let _room = by_node.len();
     by_node.clear();
     let mut start = 0;
-    for stored in entries {
-        by_node.push(u16::from(stored.node()), start as u32);
-        start += stored.len();
+    for at in 0..arena.len() {
+        let interval = arena.interval(at);
+        by_node.push(u16::from(interval.node()), start as u32);
+        start += interval.pages.len();
     }
 }
 
 /// Links the notices again, fewer than there were.
-pub(crate) fn link_pages(by_page: &mut Chains, notices: &[(u64, Key)])
-    requires in_range { All (λ notice. notice.1.page < by_page.old.lists) notices.now }
-    requires fewer { length notices.now ≤ length by_page.old.keys }
-    ensures keys { by_page.new.keys ≡ map page_named notices.now }
+pub(crate) fn link_pages(by_page: &mut Chains, arena: &Arena)
+    requires in_range { All (λ notice. notice.1.page < by_page.old.lists) arena.now.notices }
+    requires fewer { length arena.now.notices ≤ length by_page.old.keys }
+    ensures keys { by_page.new.keys ≡ map page_named arena.now.notices }
     ensures lists { by_page.new.lists ≡ by_page.old.lists }
-    ensures few { length notices.now ≤ MOST_ENTRIES }
+    ensures few { length arena.now.notices ≤ MOST_ENTRIES }
 {
     let _room = by_page.len();
     by_page.clear();
-    for (_, key) in notices {
+    for at in 0..arena.noted() {
+        let (_, key) = arena.notice(at);
         by_page.push(key.page);
     }
 }
 
 /// The notices of a page that the time does not know, oldest first, found along the page's list.
 pub(crate) fn unknown_on(
-    alloc: Global,
-    notices: &[(u64, Key)],
+    arena: &Arena,
     by_page: &Chains,
     page: u16,
     since: &Time,
 ) -> Result<Vec<(u64, Key)>, AllocError>
-    requires linked { by_page.now.keys ≡ map page_named notices.now }
-    ensures { IfOk result (λ found. found.items ≡ filter (is_unknown_on page since.now) notices.now) }
+    requires linked { by_page.now.keys ≡ map page_named arena.now.notices }
+    ensures { IfOk result (λ found. found.items ≡ filter (is_unknown_on page since.now) arena.now.notices) }
 {
-    let mut found = Vec::new(alloc);
+    let mut found = Vec::new(arena.allocator());
     let mut next = by_page.first(page);
     while let Some(at) = next {
-        let (weight, key) = notices[at as usize];
+        let (weight, key) = arena.notice(at as usize);
         if !is_known(since, key.node, key.index) {
             found.push((weight, key))?;
         }
@@ -131,21 +115,20 @@ pub(crate) fn unknown_on(
 
 /// The same where the time knows what was added first: the walk ends at the first notice that it knows.
 pub(crate) fn unknown_until_known(
-    alloc: Global,
-    notices: &[(u64, Key)],
+    arena: &Arena,
     by_page: &Chains,
     page: u16,
     since: &Time,
 ) -> Result<Vec<(u64, Key)>, AllocError>
-    requires linked { by_page.now.keys ≡ map page_named notices.now }
+    requires linked { by_page.now.keys ≡ map page_named arena.now.notices }
     requires first { AllPairs (λ earlier later. page_named earlier ≡ page → page_named later ≡ page
-        → IsTrue (knows_notice since.now later.1) → IsTrue (knows_notice since.now earlier.1)) notices.now }
-    ensures { IfOk result (λ found. found.items ≡ filter (is_unknown_on page since.now) notices.now) }
+        → IsTrue (knows_notice since.now later.1) → IsTrue (knows_notice since.now earlier.1)) arena.now.notices }
+    ensures { IfOk result (λ found. found.items ≡ filter (is_unknown_on page since.now) arena.now.notices) }
 {
-    let mut found = Vec::new(alloc);
+    let mut found = Vec::new(arena.allocator());
     let mut next = by_page.first(page);
     while let Some(at) = next {
-        let (weight, key) = notices[at as usize];
+        let (weight, key) = arena.notice(at as usize);
         if is_known(since, key.node, key.index) {
             next = None;
         } else {
@@ -160,27 +143,26 @@ pub(crate) fn unknown_until_known(
 /// The intervals of a node that `upto` knows and `since` does not, oldest first, found along the node's list. The walk
 /// ends at the first that `since` knows.
 pub(crate) fn newer_of_node(
-    alloc: Global,
-    entries: &[Stored],
+    arena: &Arena,
     by_node: &Nodes,
     node: u8,
     since: &Time,
     upto: &Time,
 ) -> Result<Vec<Interval>, AllocError>
-    requires linked { by_node.now.keys ≡ map (λ interval. interval.node) (map interval_of entries.now) }
-    requires ascending { AllPairs (λ a b. a.node ≡ b.node → index_of a < index_of b) (map interval_of entries.now) }
+    requires linked { by_node.now.keys ≡ map (λ interval. interval.node) (map interval_of arena.now.entries) }
+    requires ascending { AllPairs (λ a b. a.node ≡ b.node → index_of a < index_of b) (map interval_of arena.now.entries) }
     ensures { IfOk result (λ found. found.items
-        ≡ filter (is_newer_of node since.now upto.now) (map interval_of entries.now)) }
+        ≡ filter (is_newer_of node since.now upto.now) (map interval_of arena.now.entries)) }
 {
-    let mut found = Vec::new(alloc);
+    let mut found = Vec::new(arena.allocator());
     let mut next = by_node.first(u16::from(node));
     while let Some(at) = next {
-        let stored = &entries[at as usize];
-        if stored.is_known(since) {
+        let interval = arena.interval(at as usize);
+        if interval.is_known(since) {
             next = None;
         } else {
-            if stored.is_known(upto) {
-                found.push(stored.interval()?)?;
+            if interval.is_known(upto) {
+                found.push(interval.duplicate()?)?;
             }
             next = by_node.next(at);
         }
@@ -191,18 +173,18 @@ pub(crate) fn newer_of_node(
 
 /// Where the interval of this node and index stands, counted back from the last of its node.
 pub(crate) fn place_of(
-    entries: &[Stored],
+    arena: &Arena,
     by_node: &Nodes,
     last: &Time,
     node: u8,
     index: u32,
-) -> Option<usize>
-    requires linked { by_node.now.keys ≡ map (λ interval. interval.node) (map interval_of entries.now) }
+) -> Option<u32>
+    requires linked { by_node.now.keys ≡ map (λ interval. interval.node) (map interval_of arena.now.entries) }
     requires nodes { by_node.now.lists ≡ length last.now }
-    requires in_range { All (λ stored. stored.node < length last.now) entries.now }
-    requires ascending { AllPairs (λ a b. a.node ≡ b.node → index_of a < index_of b) (map interval_of entries.now) }
-    requires gapless { HasNoGaps last.now (map interval_of entries.now) }
-    ensures { result ≡ position (is_at node index) entries.now }
+    requires in_range { All (λ stored. stored.node < length last.now) arena.now.entries }
+    requires ascending { AllPairs (λ a b. a.node ≡ b.node → index_of a < index_of b) (map interval_of arena.now.entries) }
+    requires gapless { HasNoGaps last.now (map interval_of arena.now.entries) }
+    ensures { result ≡ position (is_at node index) arena.now.entries }
 {
     if node >= last.nodes() {
         return None;
@@ -211,8 +193,8 @@ pub(crate) fn place_of(
     if index > newest {
         return None;
     }
-    let place = by_node.from_newest(u16::from(node), newest - index)? as usize;
-    if entries[place].is_at(node, index) {
+    let place = by_node.from_newest(u16::from(node), newest - index)?;
+    if arena.interval(place as usize).is_at(node, index) {
         Some(place)
     } else {
         None

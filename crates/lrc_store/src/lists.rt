@@ -38,7 +38,7 @@ impl Store {
         ensures in_use { ForSome result (λ notice. notice < length (notices_of self.now)) }
         ensures ascending { ForSome (slice_get (intervals_of self.now) at) (λ interval. IsRising interval.pages) }
     {
-        if self.entries[at.place as usize].len() == 0 {
+        if self.arena.interval(at.place as usize).pages.is_empty() {
             return None;
         }
         let place = self.by_node.start(at.place);
@@ -87,8 +87,13 @@ impl Store {
     pub fn interval(&self, at: IntervalAt) -> Option<(u8, u32)>
         ensures { result ≡ interval_at self.now at }
     {
-        let stored = self.entries.get(at.place as usize)?;
-        Some((stored.node(), stored.index()))
+        let place = at.place as usize;
+        if place < self.arena.len() {
+            let interval = self.arena.interval(place);
+            Some((interval.node(), interval.index()))
+        } else {
+            None
+        }
     }
 
     /// The key of a notice, or nothing where the link is not in use.
@@ -96,8 +101,8 @@ impl Store {
         ensures { result ≡ key_at self.now at }
     {
         let place = at.place as usize;
-        if place < self.notices.len() {
-            Some(self.notices[place].1)
+        if place < self.arena.noted() {
+            Some(self.arena.notice(place).1)
         } else {
             None
         }

@@ -6,16 +6,16 @@ ghost use Rattle.lrc_time.specs.Time.{entry};
 ghost use Rattle.lrc_store.specs.Links.{ranked};
 ghost use Rattle.lrc_store.specs.Store.{StoreRecord, IsMissing, IsStore, intervals_of, is_missing};
 
+use crate::arena::Arena;
 use crate::chains::Chains;
 use crate::interval::Interval;
 use crate::intervals::Intervals;
 use crate::key::Key;
 use crate::links::{
-    add_notices, is_known, link_nodes, link_pages, make_room, newer_of_node, place_of, unknown_on,
+    add_pages, link_nodes, link_pages, make_room, newer_of_node, place_of, unknown_on,
     unknown_until_known,
 };
 use crate::nodes::Nodes;
-use crate::stored::Stored;
 use lrc_page::{Changes, MOST_PAGES};
 use lrc_time::Time;
 use std::alloc::{AllocError, Global};
@@ -23,7 +23,7 @@ use std::marker::Model;
 
 /// The intervals that a node knows, each with its write notices, and the changes that came for some of these.
 ///
-/// Intervals and notices stand in the order of adding, each linked to the one before it of its node, or of its page. What
+/// Intervals and notices stand in the order of adding, and the changes in the notice. Each is linked to the one before it of its node, or of its page. What
 /// is newer or missing is found along these lists. An interval is found by its node and its index at once, since no
 /// index is left out between a node's oldest interval and its newest; its notice of a page by halving. `add` and `attach`
 /// cost what they add, and `discard` costs what there is.
@@ -31,10 +31,9 @@ use std::marker::Model;
 pub struct Store {
     pages: u16,
     last: Time,
-    pub(crate) entries: Vec<Stored>,
+    pub(crate) arena: Arena,
     pub(crate) by_node: Nodes,
     pub(crate) by_page: Chains,
-    pub(crate) notices: Vec<(u64, Key)>,
 }
 
 impl Model for Store {
@@ -43,11 +42,11 @@ impl Model for Store {
 
     ghost Value = { StoreRecord };
 
-    ghost view = { λ s. record { pages = s.pages; last = s.last; entries = s.entries.items } };
+    ghost view = { λ s. record { pages = s.pages; last = s.last; entries = s.arena.entries } };
 
     ghost invariant = { λ s.
-        IsLinkedUp (record { pages = s.pages; last = s.last; entries = s.entries.items })
-        s.by_node s.by_page s.notices.items };
+        IsLinkedUp (record { pages = s.pages; last = s.last; entries = s.arena.entries })
+        s.by_node s.by_page s.arena.notices };
 }
 
 impl Store {
@@ -66,10 +65,9 @@ impl Store {
         Ok(Store {
             pages,
             last: Time::new(nodes),
-            entries: Vec::new(alloc),
+            arena: Arena::new(alloc),
             by_node: Nodes::new(alloc, usize::from(nodes))?,
             by_page: Chains::new(alloc, usize::from(pages))?,
-            notices: Vec::new(alloc),
         })
     }
 
@@ -83,18 +81,15 @@ impl Store {
         ensures err { OnErr result (self.new ≡ self.old) }
         ensures sound { IsStore self.new }
     {
-        let stored = Stored::new(*self.entries.allocator(), interval)?;
-        let more = interval.pages.len();
         make_room(
             &mut self.by_node,
             &mut self.by_page,
-            &mut self.notices,
             u16::from(interval.node),
-            more,
+            interval.pages.len(),
         )?;
-        self.entries.push(stored)?;
+        self.arena.push(interval)?;
         let start = self.by_page.len() as u32;
-        add_notices(&mut self.notices, &mut self.by_page, interval);
+        add_pages(&mut self.by_page, interval.pages.as_slice());
         self.by_node.push(u16::from(interval.node), start);
         self.last.raise(interval.node, interval.index());
         Ok(())
@@ -113,14 +108,14 @@ impl Store {
     pub fn len(&self) -> usize
         ensures { result ≡ length self.now.entries }
     {
-        self.entries.len()
+        self.arena.len()
     }
 
     /// Whether there is no interval.
     pub fn is_empty(&self) -> bool
         ensures { IsTrue result ↔ (self.now.entries ≡ []) }
     {
-        self.entries.is_empty()
+        self.arena.len() == 0
     }
 
     /// The changes of a key, if they are known.
@@ -128,14 +123,14 @@ impl Store {
         ensures { option_copied result ≡ changes_at self.now key }
     {
         let place = place_of(
-            &self.entries,
+            &self.arena,
             &self.by_node,
             &self.last,
             key.node,
             key.index,
         )?;
-        let stored = &self.entries[place];
-        stored.changes(key.page)
+        let start = self.by_node.start(place) as usize;
+        self.arena.changes(place as usize, start, key.page)
     }
 
     /// Whether the interval of a key's node and index is in the store and names the key's page.
@@ -143,13 +138,13 @@ impl Store {
         ensures { result ≡ is_some (notice_at self.now key) }
     {
         if let Some(place) = place_of(
-            &self.entries,
+            &self.arena,
             &self.by_node,
             &self.last,
             key.node,
             key.index,
         ) {
-            self.entries[place].has_notice(key.page)
+            self.arena.has_notice(place as usize, key.page)
         } else {
             false
         }
@@ -161,13 +156,14 @@ impl Store {
         ensures { self.new ≡ attached self.old key changes }
     {
         if let Some(place) = place_of(
-            &self.entries,
+            &self.arena,
             &self.by_node,
             &self.last,
             key.node,
             key.index,
         ) {
-            self.entries[place].attach(key.page, changes);
+            let start = self.by_node.start(place) as usize;
+            self.arena.attach(place as usize, start, key.page, changes);
         }
     }
 
@@ -177,11 +173,9 @@ impl Store {
         requires { length time.now ≡ length self.old.last }
         ensures { self.new ≡ discarded self.old time.now }
     {
-        self.entries.retain(|stored| !stored.is_known(time));
-        self.notices
-            .retain(|(_, key)| !is_known(time, key.node, key.index));
-        link_pages(&mut self.by_page, &self.notices);
-        link_nodes(&mut self.by_node, &self.entries);
+        self.arena.discard(time);
+        link_pages(&mut self.by_page, &self.arena);
+        link_nodes(&mut self.by_node, &self.arena);
     }
 
     /// The intervals that `upto` knows and `since` does not, ascending by node and index.
@@ -191,10 +185,9 @@ impl Store {
         ensures newer { IfOk result (λ found. IsNewer self.now since.now upto.now found) }
         ensures value { IfOk result (λ found. found ≡ newer_of self.now since.now upto.now) }
     {
-        let alloc = *self.entries.allocator();
-        let mut found = Vec::new(alloc);
+        let mut found = Vec::new(self.arena.allocator());
         for node in 0..self.last.nodes() {
-            let mut newer = newer_of_node(alloc, &self.entries, &self.by_node, node, since, upto)?;
+            let mut newer = newer_of_node(&self.arena, &self.by_node, node, since, upto)?;
             found.append(&mut newer)?;
         }
         Ok(Intervals::from_ascending(found))
@@ -207,9 +200,8 @@ impl Store {
         ensures missing { IfOk result (λ found. IsMissing self.now page since.now found.items) }
         ensures value { IfOk result (λ found. found.items ≡ missing_of self.now page since.now) }
     {
-        let alloc = *self.entries.allocator();
-        let found = unknown_on(alloc, &self.notices, &self.by_page, page, since)?;
-        keys_in_order(alloc, found)
+        let found = unknown_on(&self.arena, &self.by_page, page, since)?;
+        keys_in_order(self.arena.allocator(), found)
     }
 
     /// The same as `missing`, where `since` knows the first notices of the page in the order of adding. The walk along the
@@ -220,9 +212,8 @@ impl Store {
         ensures missing { IfOk result (λ found. IsMissing self.now page since.now found.items) }
         ensures value { IfOk result (λ found. found.items ≡ missing_of self.now page since.now) }
     {
-        let alloc = *self.entries.allocator();
-        let found = unknown_until_known(alloc, &self.notices, &self.by_page, page, since)?;
-        keys_in_order(alloc, found)
+        let found = unknown_until_known(&self.arena, &self.by_page, page, since)?;
+        keys_in_order(self.arena.allocator(), found)
     }
 }
 

@@ -5,7 +5,7 @@ use Rattle.lrc_store.proofs.NodeWalks.{IsWalked, no_interval}
 use Rattle.lrc_store.proofs.links.newer_of_node.Given as goal
 
 abbrev pub invariant-loop-next : goal.invariant-loop-next
-invariant-loop-next l = IsWalked l.node l.since l.upto (map interval_of l.entries) no_interval l.next l.found.items
+invariant-loop-next l = IsWalked l.node l.since l.upto (map interval_of l.arena.entries) no_interval l.next l.found.items
 
 abbrev pub decreases-loop-next : goal.decreases-loop-next
 decreases-loop-next l = reach l.next

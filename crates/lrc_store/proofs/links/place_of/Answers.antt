@@ -4,6 +4,7 @@ use Rattle.std.proofs.lemmas.Bool.{and_parts, true≢false}
 use Rattle.std.proofs.lemmas.List.{length-map}
 use Rattle.std.proofs.lemmas.Option.{none-some, same_Some}
 use Rattle.lrc_time.specs.Time.{entry}
+use Rattle.lrc_store.specs.Arena.{is_interval_at}
 use Rattle.lrc_store.specs.Interval.{IntervalRecord, index_of}
 use Rattle.lrc_store.specs.Lists.{list_of}
 use Rattle.lrc_store.specs.Store.{StoredRecord, interval_of, is_at}
@@ -16,7 +17,7 @@ none = record { node = 0; stamp = []; notices = [] }
 
 pub returns-then-node-nodes : goal.returns-then-node-nodes
 returns-then-node-nodes c =
-    let entries = c.args.entries.now in
+    let entries = c.args.arena.now.entries in
     sym (sought_nowhere c.args.node c.args.index entries none
     (λ at within is.
     let parts = and_parts (eqb (get_or entries at none).node c.args.node) (eqb (index_of (interval_of (get_or entries at none))) c.args.index) is in
@@ -25,7 +26,7 @@ returns-then-node-nodes c =
 
 pub returns-then-index-newest : goal.returns-then-index-newest
 returns-then-index-newest c =
-    let entries = c.args.entries.now in
+    let entries = c.args.arena.now.entries in
     sym (sought_nowhere c.args.node c.args.index entries none
     (λ at within is.
     let there = sought_there c.args.node c.args.index entries c.args.last.now c.args.by_node.now.keys at none c.requires.linked c.requires.gapless within is in
@@ -41,7 +42,7 @@ listed c =
 
 pub returns-in_err-place : goal.returns-in_err-place
 returns-in_err-place c =
-    let entries = c.args.entries.now in
+    let entries = c.args.arena.now.entries in
     let a = (goal.at.returns-in_err-place c).After-from_newest in
     c.from_residual.ensures
     ∙ sym (sought_nowhere c.args.node c.args.index entries none
@@ -50,37 +51,36 @@ returns-in_err-place c =
     none-some at (sym c.in_err-place.was ∙ listed a ∙ there.1)))
 
 -- what was found is a place
-within : (c : In_ok-place) → c.in_ok-place.field-0 < length c.args.entries.now
+within : (c : In_ok-place) → c.in_ok-place.place < length c.args.arena.now.entries
 within c =
     let keys = c.args.by_node.now.keys in
-    let inside = listed_within keys c.args.node (entry c.args.last.now c.args.node - c.args.index) c.in_ok-place.field-0
+    let inside = listed_within keys c.args.node (entry c.args.last.now c.args.node - c.args.index) c.in_ok-place.place
     (sym (listed (goal.at.In_ok-place c).After-from_newest) ∙ c.in_ok-place.was) in
     omega (
       arith,
       inside,
       ap length c.requires.linked,
-      length-map (map interval_of c.args.entries.now) (λ (i : IntervalRecord). i.node),
-      length-map c.args.entries.now interval_of,
+      length-map (map interval_of c.args.arena.now.entries) (λ (i : IntervalRecord). i.node),
+      length-map c.args.arena.now.entries interval_of,
     )
 
-pub bounds-entries-place : goal.bounds-entries-place
-bounds-entries-place c = within (goal.at.bounds-entries-place c).In_ok-place
+pub interval-requires : goal.interval-requires
+interval-requires c = within (goal.at.interval-requires c).In_ok-place
 
 pub returns-then-is_at : goal.returns-then-is_at
 returns-then-is_at c =
-    let test = is_at c.args.node c.args.index in
-    sym (sought_found c.args.node c.args.index c.args.entries.now c.requires.ascending c.in_ok-place.field-0 c.index-entries-place.result
+    sym (sought_found c.args.node c.args.index c.args.arena.now.entries c.requires.ascending c.in_ok-place.place none
     (within (goal.at.returns-then-is_at c).In_ok-place)
-    (ap test (sym c.index-entries-place.is) ∙ sym c.is_at.ensures ∙ c.if-is_at.true))
+    (ap (is_interval_at c.args.node c.args.index) (sym (c.interval.ensures none)) ∙ sym c.is_at.ensures ∙ c.if-is_at.true))
 
 pub returns-else-is_at : goal.returns-else-is_at
 returns-else-is_at c =
     let test = is_at c.args.node c.args.index in
-    let entries = c.args.entries.now in
-    let place = c.in_ok-place.field-0 in
-    let item = c.index-entries-place.result in
+    let entries = c.args.arena.now.entries in
+    let place = c.in_ok-place.place in
+    let item = none in
     sym (sought_nowhere c.args.node c.args.index entries item
     (λ at inside is.
     let there = sought_there c.args.node c.args.index entries c.args.last.now c.args.by_node.now.keys at item c.requires.linked c.requires.gapless inside is in
     let same : at ≡ place = same_Some at place (sym there.1 ∙ sym (listed (goal.at.returns-else-is_at c).After-from_newest) ∙ c.in_ok-place.was) in
-    true≢false (sym is ∙ ap (λ k. test (get_or entries k item)) same ∙ ap test (sym c.index-entries-place.is) ∙ sym c.is_at.ensures ∙ c.if-is_at.false)))
+    true≢false (sym is ∙ ap (λ k. test (get_or entries k item)) same ∙ ap (is_interval_at c.args.node c.args.index) (sym (c.interval.ensures none)) ∙ sym c.is_at.ensures ∙ c.if-is_at.false)))

@@ -1,5 +1,6 @@
-use Rattle.std.proofs.Common.{◌<◌, ◌≤◌, ◌∙◌, ℕ, eqb, true, false, Option, Some, length, get_or, sym, ap, subst, arith, append-nil, Vec, Global}
+use Rattle.std.proofs.Common.{◌<◌, ◌≤◌, ◌∙◌, ◌++◌, ◌∷◌, [], ℕ, eqb, true, false, Option, Some, length, get_or, sym, ap, subst, arith, append-nil, Vec, Global}
 use Rattle.std.proofs.lemmas.List.{length-map}
+use Rattle.lrc_time.specs.Time.{knows}
 use Rattle.lrc_store.specs.declared.key.Key.{Key}
 use Rattle.lrc_store.specs.Links.{page_named}
 use Rattle.lrc_store.proofs.Chained.{reach, reach-taken}
@@ -9,43 +10,44 @@ use Rattle.lrc_store.proofs.links.unknown_on.Goals.{In-Some, After-next-next, th
 
 pub loop-next-init : goal.loop-next-init
 loop-next-init c =
-    subst (IsWalked c.args.page c.args.since.now c.args.notices.now c.first-next.result) (sym c.new-found.ensures.items)
-    (walk_starts c.args.page c.args.since.now c.args.notices.now c.args.by_page.now.keys c.first-next.result c.requires.linked c.first-next.ensures)
+    subst (IsWalked c.args.page c.args.since.now c.args.arena.now.notices c.first-next.result) (sym c.new-found.ensures.items)
+    (walk_starts c.args.page c.args.since.now c.args.arena.now.notices c.args.by_page.now.keys c.first-next.result c.requires.linked c.first-next.ensures)
 
 -- the walk as it stands in the loop
-here : (c : In-Some) → IsWalked c.args.page c.args.since.now c.args.notices.now (Some c.in-Some.at) c.loop-next.found.items
+here : (c : In-Some) → IsWalked c.args.page c.args.since.now c.args.arena.now.notices (Some c.in-Some.at) c.loop-next.found.items
 here c =
-    subst (λ (next : Option ℕ). IsWalked c.args.page c.args.since.now c.args.notices.now next c.loop-next.found.items) c.in-Some.is c.loop-next.invariant
+    subst (λ (next : Option ℕ). IsWalked c.args.page c.args.since.now c.args.arena.now.notices next c.loop-next.found.items) c.in-Some.is c.loop-next.invariant
 
-within : (c : In-Some) → c.in-Some.at < length c.args.notices.now
-within c = walk_within c.args.page c.args.since.now c.args.notices.now c.in-Some.at c.loop-next.found.items (here c)
+within : (c : In-Some) → c.in-Some.at < length c.args.arena.now.notices
+within c = walk_within c.args.page c.args.since.now c.args.arena.now.notices c.in-Some.at c.loop-next.found.items (here c)
 
-pub bounds-notices-at : goal.bounds-notices-at
-bounds-notices-at c = within (goal.at.bounds-notices-at c).In-Some
-
-pub bounds-notices-at-in-Some : goal.bounds-notices-at-in-Some
-bounds-notices-at-in-Some c = within (goal.at.bounds-notices-at-in-Some c).In-Some
+pub notice-weight-requires : goal.notice-weight-requires
+notice-weight-requires c = within (goal.at.notice-weight-requires c).In-Some
 
 pub next-next-requires : goal.next-next-requires
 next-next-requires c =
-    omega (arith, within (goal.at.next-next-requires c).In-Some, ap length c.requires.linked, length-map c.args.notices.now page_named)
+    omega (arith, within (goal.at.next-next-requires c).In-Some, ap length c.requires.linked, length-map c.args.arena.now.notices page_named)
 
 pub loop-next-preserved : goal.loop-next-preserved
 loop-next-preserved c =
     let page = c.args.page in
     let since = c.args.since.now in
-    let notices = c.args.notices.now in
+    let notices = c.args.arena.now.notices in
     let h = here (goal.at.loop-next-preserved c).In-Some in
+    let notice = c.notice-weight.result in
+    let read = c.notice-weight.ensures notice in
+    let known = ap (λ (n : ℕ × Key). knows since n.1.node n.1.index) (sym read) in
     elim c.if-not-is_known.branch [
       | then-not-is_known+in_ok-push w ↦
           walk_goes_on page since notices c.in-Some.at c.loop-next.found.items c.if-not-is_known.found.items false
-          c.args.by_page.now.keys c.next-next.result _ h c.requires.linked c.next-next.ensures
-          (sym c.is_known.ensures ∙ w.if-not-is_known.true)
-          (ap (λ (v : Vec (ℕ × Key) Global). v.items) w.found-is ∙ w.in_ok-push.ensures.items)
+          c.args.by_page.now.keys c.next-next.result notice h c.requires.linked c.next-next.ensures
+          (known ∙ sym c.is_known.ensures ∙ w.if-not-is_known.true)
+          (ap (λ (v : Vec (ℕ × Key) Global). v.items) w.found-is ∙ w.in_ok-push.ensures.items
+          ∙ ap (λ (n : ℕ × Key). c.loop-next.found.items ++ n ∷ []) read)
       | else-not-is_known w ↦
           walk_goes_on page since notices c.in-Some.at c.loop-next.found.items c.if-not-is_known.found.items true
-          c.args.by_page.now.keys c.next-next.result _ h c.requires.linked c.next-next.ensures
-          (sym c.is_known.ensures ∙ w.if-not-is_known.false)
+          c.args.by_page.now.keys c.next-next.result notice h c.requires.linked c.next-next.ensures
+          (known ∙ sym c.is_known.ensures ∙ w.if-not-is_known.false)
           (ap (λ (v : Vec (ℕ × Key) Global). v.items) w.found-is ∙ sym (append-nil c.loop-next.found.items))
     ]
 
@@ -55,13 +57,13 @@ loop-next-smaller c =
     let keys = c.args.by_page.now.keys in
     let inside = within (goal.at.loop-next-smaller c).In-Some in
     let falls = reach-taken (λ other. eqb other (get_or keys at 0)) keys 0 at
-    (omega (arith, inside, ap length c.requires.linked, length-map c.args.notices.now page_named)) in
+    (omega (arith, inside, ap length c.requires.linked, length-map c.args.arena.now.notices page_named)) in
     let next : reach c.next-next.result ≤ at =
     subst (λ (n : Option ℕ). reach n ≤ at) (sym c.next-next.ensures) falls in
     subst (λ (n : Option ℕ). reach c.next-next.result < reach n) (sym c.in-Some.is) (omega (arith, next))
 
 pub returns : goal.returns
 returns c =
-    let ended = walk_ends c.args.page c.args.since.now c.args.notices.now c.loop-next.found.items
-    (subst (λ (next : Option ℕ). IsWalked c.args.page c.args.since.now c.args.notices.now next c.loop-next.found.items) c.in_default.is c.loop-next.invariant) in
+    let ended = walk_ends c.args.page c.args.since.now c.args.arena.now.notices c.loop-next.found.items
+    (subst (λ (next : Option ℕ). IsWalked c.args.page c.args.since.now c.args.arena.now.notices next c.loop-next.found.items) c.in_default.is c.loop-next.invariant) in
     c.reverse.ensures.items ∙ sym ended

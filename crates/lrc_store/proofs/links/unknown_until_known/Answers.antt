@@ -1,5 +1,7 @@
-use Rattle.std.proofs.Common.{◌<◌, ◌≤◌, ◌∙◌, ℕ, eqb, false, Option, Some, length, get_or, sym, ap, subst, arith}
+use Rattle.std.proofs.Common.{◌<◌, ◌≤◌, ◌∙◌, ◌++◌, ◌∷◌, [], ℕ, eqb, false, Option, Some, length, get_or, sym, ap, subst, arith}
 use Rattle.std.proofs.lemmas.List.{length-map}
+use Rattle.lrc_time.specs.Time.{knows}
+use Rattle.lrc_store.specs.declared.key.Key.{Key}
 use Rattle.lrc_store.specs.Links.{page_named}
 use Rattle.lrc_store.proofs.Chained.{reach, reach-taken}
 use Rattle.lrc_store.proofs.Walks.{IsWalked, walk_starts, walk_within, walk_goes_on, walk_stops, walk_ends}
@@ -8,32 +10,34 @@ use Rattle.lrc_store.proofs.links.unknown_until_known.Goals.{In-Some}
 
 pub loop-next-init : goal.loop-next-init
 loop-next-init c =
-    subst (IsWalked c.args.page c.args.since.now c.args.notices.now c.first-next.result) (sym c.new-found.ensures.items)
-    (walk_starts c.args.page c.args.since.now c.args.notices.now c.args.by_page.now.keys c.first-next.result c.requires.linked c.first-next.ensures)
+    subst (IsWalked c.args.page c.args.since.now c.args.arena.now.notices c.first-next.result) (sym c.new-found.ensures.items)
+    (walk_starts c.args.page c.args.since.now c.args.arena.now.notices c.args.by_page.now.keys c.first-next.result c.requires.linked c.first-next.ensures)
 
 -- the walk as it stands in the loop
-here : (c : In-Some) → IsWalked c.args.page c.args.since.now c.args.notices.now (Some c.in-Some.at) c.loop-next.found.items
+here : (c : In-Some) → IsWalked c.args.page c.args.since.now c.args.arena.now.notices (Some c.in-Some.at) c.loop-next.found.items
 here c =
-    subst (λ (next : Option ℕ). IsWalked c.args.page c.args.since.now c.args.notices.now next c.loop-next.found.items) c.in-Some.is c.loop-next.invariant
+    subst (λ (next : Option ℕ). IsWalked c.args.page c.args.since.now c.args.arena.now.notices next c.loop-next.found.items) c.in-Some.is c.loop-next.invariant
 
-within : (c : In-Some) → c.in-Some.at < length c.args.notices.now
-within c = walk_within c.args.page c.args.since.now c.args.notices.now c.in-Some.at c.loop-next.found.items (here c)
+within : (c : In-Some) → c.in-Some.at < length c.args.arena.now.notices
+within c = walk_within c.args.page c.args.since.now c.args.arena.now.notices c.in-Some.at c.loop-next.found.items (here c)
 
-pub bounds-notices-at : goal.bounds-notices-at
-bounds-notices-at c = within (goal.at.bounds-notices-at c).In-Some
+pub notice-weight-requires : goal.notice-weight-requires
+notice-weight-requires c = within (goal.at.notice-weight-requires c).In-Some
 
 pub loop-next-preserved-then-is_known : goal.loop-next-preserved-then-is_known
 loop-next-preserved-then-is_known c =
-    walk_stops c.args.page c.args.since.now c.args.notices.now c.in-Some.at c.loop-next.found.items _
+    walk_stops c.args.page c.args.since.now c.args.arena.now.notices c.in-Some.at c.loop-next.found.items c.notice-weight.result
     (here (goal.at.loop-next-preserved-then-is_known c).In-Some) c.requires.first
-    (sym c.is_known.ensures ∙ c.if-is_known.true)
+    (ap (λ (n : ℕ × Key). knows c.args.since.now n.1.node n.1.index) (sym (c.notice-weight.ensures c.notice-weight.result))
+    ∙ sym c.is_known.ensures ∙ c.if-is_known.true)
 
 pub loop-next-preserved : goal.loop-next-preserved
 loop-next-preserved c =
-    walk_goes_on c.args.page c.args.since.now c.args.notices.now c.in-Some.at c.loop-next.found.items c.push.new.self.items false
-    c.args.by_page.now.keys c.next-next.result _ (here (goal.at.loop-next-preserved c).In-Some) c.requires.linked c.next-next.ensures
-    (sym c.is_known.ensures ∙ c.if-is_known.false)
-    c.in_ok-push.ensures.items
+    walk_goes_on c.args.page c.args.since.now c.args.arena.now.notices c.in-Some.at c.loop-next.found.items c.push.new.self.items false
+    c.args.by_page.now.keys c.next-next.result c.notice-weight.result (here (goal.at.loop-next-preserved c).In-Some) c.requires.linked c.next-next.ensures
+    (ap (λ (n : ℕ × Key). knows c.args.since.now n.1.node n.1.index) (sym (c.notice-weight.ensures c.notice-weight.result))
+    ∙ sym c.is_known.ensures ∙ c.if-is_known.false)
+    (c.in_ok-push.ensures.items ∙ ap (λ (n : ℕ × Key). c.loop-next.found.items ++ n ∷ []) (c.notice-weight.ensures c.notice-weight.result))
 
 pub loop-next-smaller : goal.loop-next-smaller
 loop-next-smaller c =
@@ -41,13 +45,13 @@ loop-next-smaller c =
     let keys = c.args.by_page.now.keys in
     let inside = within (goal.at.loop-next-smaller c).In-Some in
     let falls = reach-taken (λ other. eqb other (get_or keys at 0)) keys 0 at
-    (omega (arith, inside, ap length c.requires.linked, length-map c.args.notices.now page_named)) in
+    (omega (arith, inside, ap length c.requires.linked, length-map c.args.arena.now.notices page_named)) in
     let next : reach c.next-next.result ≤ at =
     subst (λ (n : Option ℕ). reach n ≤ at) (sym c.next-next.ensures) falls in
     subst (λ (n : Option ℕ). reach c.next-next.result < reach n) (sym c.in-Some.is) (omega (arith, next))
 
 pub returns : goal.returns
 returns c =
-    let ended = walk_ends c.args.page c.args.since.now c.args.notices.now c.loop-next.found.items
-    (subst (λ (next : Option ℕ). IsWalked c.args.page c.args.since.now c.args.notices.now next c.loop-next.found.items) c.in_default.is c.loop-next.invariant) in
+    let ended = walk_ends c.args.page c.args.since.now c.args.arena.now.notices c.loop-next.found.items
+    (subst (λ (next : Option ℕ). IsWalked c.args.page c.args.since.now c.args.arena.now.notices next c.loop-next.found.items) c.in_default.is c.loop-next.invariant) in
     c.reverse.ensures.items ∙ sym ended

@@ -3,7 +3,7 @@ use Rattle.lrc_store.proofs.Walks.{IsWalked}
 use Rattle.lrc_store.proofs.links.unknown_until_known.Given as goal
 
 abbrev pub invariant-loop-next : goal.invariant-loop-next
-invariant-loop-next l = IsWalked l.page l.since l.notices l.next l.found.items
+invariant-loop-next l = IsWalked l.page l.since l.arena.notices l.next l.found.items
 
 abbrev pub decreases-loop-next : goal.decreases-loop-next
 decreases-loop-next l = reach l.next

@@ -1,4 +1,4 @@
-use Rattle.std.proofs.Common.{◌≡◌, ℕ, List, sym, ap, ◌∙◌, Option, None, Some, ◌<◌, length, map, subst}
+use Rattle.std.proofs.Common.{◌≡◌, ℕ, List, sym, ap, ◌∙◌, Option, None, Some, ◌<◌, length, map, get_or, [], subst}
 use Rattle.std.specs.List.{All, AllPairs, position, find}
 use Rattle.std.specs.Option.{option_copied, option_and_then}
 use Rattle.lrc_page.specs.declared.changes.Change.{Change}
@@ -8,6 +8,9 @@ use Rattle.lrc_store.proofs.LinkedStores.{nodes_in_range}
 use Rattle.lrc_store.proofs.Places.{find-position, find-position_none}
 use Rattle.lrc_store.proofs.store.Store.changes.Goals as goal
 
+abbrev none : StoredRecord
+none = record { node = 0; stamp = []; notices = [] }
+
 -- the changes that a look-up gives
 abbrev looked_up : ℕ → Option StoredRecord → Option (List Change)
 looked_up page found = option_and_then (λ notice. notice.changes) (option_and_then (notice_of page) found)
@@ -15,8 +18,7 @@ looked_up page found = option_and_then (λ notice. notice.changes) (option_and_t
 pub returns-in_err-place : goal.returns-in_err-place
 returns-in_err-place c =
     let test = is_at c.args.key.node c.args.key.index in
-    let here : c.deref.result.now ≡ c.args.self.now.entries =
-    c.deref.ensures.value ∙ ap (λ (s : StoreRecord). s.entries) c.self.view_is in
+    let here : c.self.inside.arena.entries ≡ c.args.self.now.entries = ap (λ (s : StoreRecord). s.entries) c.self.view_is in
     let none : position test c.args.self.now.entries ≡ None =
     ap (position test) (sym here) ∙ sym c.place_of.ensures ∙ c.in_err-place.was in
     ap option_copied c.from_residual.ensures
@@ -25,23 +27,16 @@ returns-in_err-place c =
 pub returns : goal.returns
 returns c =
     let test = is_at c.args.key.node c.args.key.index in
-    let items = c.self.inside.entries.items in
-    let place : position test items ≡ Some c.in_ok-place.place =
-    ap (position test) (sym c.deref.ensures.value) ∙ sym c.place_of.ensures ∙ c.in_ok-place.was in
-    let found : find test items ≡ Some c.index-stored.result.now =
-    find-position test items c.in_ok-place.place c.index-stored.result.now place ∙ ap Some (sym c.index-stored.ensures) in
-    c.changes.ensures
+    let items = c.self.inside.arena.entries in
+    let place : position test items ≡ Some c.in_ok-place.place = sym c.place_of.ensures ∙ c.in_ok-place.was in
+    let found : find test items ≡ Some (get_or items c.in_ok-place.place none) = find-position test items c.in_ok-place.place none place in
+    c.changes.ensures none
     ∙ sym (ap (looked_up c.args.key.page) found)
     ∙ ap (λ (s : StoreRecord). looked_up c.args.key.page (find test s.entries)) c.self.view_is
 
 pub place_of-requires-clause-in_range : goal.place_of-requires-clause-in_range
 place_of-requires-clause-in_range c =
-    let store : StoreRecord = record { pages = c.self.inside.pages; last = c.self.inside.last; entries = c.self.inside.entries.items } in
-    subst (All (λ stored. stored.node < length c.self.inside.last)) (sym c.deref.ensures.value)
-    (subst (λ n. All (λ stored. stored.node < n) c.self.inside.entries.items) c.self.invariant.node_lists
-    (nodes_in_range store c.self.inside.by_node c.self.inside.by_page c.self.inside.notices.items c.self.invariant))
+    let store : StoreRecord = record { pages = c.self.inside.pages; last = c.self.inside.last; entries = c.self.inside.arena.entries } in
+    subst (λ n. All (λ stored. stored.node < n) c.self.inside.arena.entries) c.self.invariant.node_lists
+    (nodes_in_range store c.self.inside.by_node c.self.inside.by_page c.self.inside.arena.notices c.self.invariant)
 
-pub place_of-requires-clause-ascending : goal.place_of-requires-clause-ascending
-place_of-requires-clause-ascending c =
-    subst (λ (entries : List StoredRecord). AllPairs (λ a b. a.node ≡ b.node → index_of a < index_of b) (map interval_of entries))
-    (sym c.deref.ensures.value) c.self.invariant.sound.ascending

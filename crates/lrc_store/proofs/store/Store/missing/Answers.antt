@@ -14,8 +14,8 @@ kept : (c : After-keys_in_order)
 kept c =
     let page = c.args.page in
     let since = c.args.since.now in
-    let store : StoreRecord = record { pages = c.self.inside.pages; last = c.self.inside.last; entries = c.self.inside.entries.items } in
-    c.in_ok-found.ensures ∙ ap (filter (is_unknown_on page since)) (c.deref.ensures.value ∙ c.self.invariant.noted)
+    let store : StoreRecord = record { pages = c.self.inside.pages; last = c.self.inside.last; entries = c.self.inside.arena.entries } in
+    c.in_ok-found.ensures ∙ ap (filter (is_unknown_on page since)) c.self.invariant.noted
     ∙ unknown_is_missing page since (intervals_of store) c.self.invariant.intervals
     ∙ ap (λ (s : StoreRecord). map (ranked page) (filter (is_missing page since) (intervals_of s))) c.self.view_is
 

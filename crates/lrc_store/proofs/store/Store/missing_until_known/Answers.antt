@@ -16,8 +16,8 @@ kept : (c : After-keys_in_order)
 kept c =
     let page = c.args.page in
     let since = c.args.since.now in
-    let store : StoreRecord = record { pages = c.self.inside.pages; last = c.self.inside.last; entries = c.self.inside.entries.items } in
-    c.in_ok-found.ensures ∙ ap (filter (is_unknown_on page since)) (c.deref.ensures.value ∙ c.self.invariant.noted)
+    let store : StoreRecord = record { pages = c.self.inside.pages; last = c.self.inside.last; entries = c.self.inside.arena.entries } in
+    c.in_ok-found.ensures ∙ ap (filter (is_unknown_on page since)) c.self.invariant.noted
     ∙ unknown_is_missing page since (intervals_of store) c.self.invariant.intervals
     ∙ ap (λ (s : StoreRecord). map (ranked page) (filter (is_missing page since) (intervals_of s))) c.self.view_is
 
@@ -41,7 +41,6 @@ returns-clause-value c =
 
 pub unknown_until_known-requires-clause-first : goal.unknown_until_known-requires-clause-first
 unknown_until_known-requires-clause-first c =
-    let store : StoreRecord = record { pages = c.self.inside.pages; last = c.self.inside.last; entries = c.self.inside.entries.items } in
-    subst (IsKnownFirst c.args.page c.args.since.now) (sym c.deref.ensures.value)
-    (known_first store c.self.inside.by_node c.self.inside.by_page c.self.inside.notices.items c.args.page c.args.since.now c.self.invariant
+    let store : StoreRecord = record { pages = c.self.inside.pages; last = c.self.inside.last; entries = c.self.inside.arena.entries } in
+    (known_first store c.self.inside.by_node c.self.inside.by_page c.self.inside.arena.notices c.args.page c.args.since.now c.self.invariant
     (subst (λ (s : StoreRecord). KnowsTheFirst s c.args.page c.args.since.now) (sym c.self.view_is) c.requires.first))

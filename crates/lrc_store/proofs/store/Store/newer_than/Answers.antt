@@ -11,34 +11,29 @@ use Rattle.lrc_store.proofs.store.Store.newer_than.Goals.{After-from_ascending}
 pub loop-node-init : goal.loop-node-init
 loop-node-init c = c.new-found.ensures.items
 
-pub newer_of_node-requires-clause-ascending : goal.newer_of_node-requires-clause-ascending
-newer_of_node-requires-clause-ascending c =
-    subst (λ (entries : List StoredRecord). AllPairs (λ a b. a.node ≡ b.node → index_of a < index_of b) (map interval_of entries))
-    (sym c.deref.ensures.value) c.self.invariant.sound.ascending
 
 pub loop-node-preserved : goal.loop-node-preserved
 loop-node-preserved c =
-    let here : intervals_of (record { pages = c.self.inside.pages; last = c.self.inside.last; entries = c.self.inside.entries.items })
+    let here : intervals_of (record { pages = c.self.inside.pages; last = c.self.inside.last; entries = c.self.inside.arena.entries })
     ≡ intervals_of c.args.self.now = ap intervals_of c.self.view_is in
     c.in_ok-append.ensures.items
     ∙ by_nodes-more c.args.since.now c.args.upto.now (intervals_of c.args.self.now) c.loop-node.node c.loop-node.found.items c.in_ok-newer.newer.items
     c.loop-node.invariant
     (c.in_ok-newer.ensures
-    ∙ ap (λ (entries : List StoredRecord). filter (is_newer_of c.loop-node.node c.args.since.now c.args.upto.now) (map interval_of entries)) c.deref.ensures.value
     ∙ ap (filter (is_newer_of c.loop-node.node c.args.since.now c.args.upto.now)) here)
 
 pub from_ascending-requires : goal.from_ascending-requires
 from_ascending-requires c =
-    let store : StoreRecord = record { pages = c.self.inside.pages; last = c.self.inside.last; entries = c.self.inside.entries.items } in
-    (IsNewer-found store c.args.self.now c.self.inside.by_node c.self.inside.by_page c.self.inside.notices.items c.args.since.now c.args.upto.now
+    let store : StoreRecord = record { pages = c.self.inside.pages; last = c.self.inside.last; entries = c.self.inside.arena.entries } in
+    (IsNewer-found store c.args.self.now c.self.inside.by_node c.self.inside.by_page c.self.inside.arena.notices c.args.since.now c.args.upto.now
     c.loop-node.node c.loop-node.found.items c.self.invariant c.self.view_is
     (omega (arith, c.loop-node-test.false, c.loop-node.auto, c.nodes-node-end.ensures.all)) c.loop-node.invariant).ascending
 
 -- what is handed back is what is newer
 newer : (c : After-from_ascending) → IsNewer c.args.self.now c.args.since.now c.args.upto.now c.from_ascending.result
 newer c =
-    let store : StoreRecord = record { pages = c.self.inside.pages; last = c.self.inside.last; entries = c.self.inside.entries.items } in
-    IsNewer-found store c.args.self.now c.self.inside.by_node c.self.inside.by_page c.self.inside.notices.items c.args.since.now c.args.upto.now
+    let store : StoreRecord = record { pages = c.self.inside.pages; last = c.self.inside.last; entries = c.self.inside.arena.entries } in
+    IsNewer-found store c.args.self.now c.self.inside.by_node c.self.inside.by_page c.self.inside.arena.notices c.args.since.now c.args.upto.now
     c.loop-node.node c.from_ascending.result c.self.invariant c.self.view_is
     (omega (arith, c.loop-node-test.false, c.loop-node.auto, c.nodes-node-end.ensures.all)) (c.from_ascending.ensures ∙ c.loop-node.invariant)
 

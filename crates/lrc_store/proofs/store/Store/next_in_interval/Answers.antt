@@ -9,8 +9,8 @@ use Rattle.lrc_store.proofs.store.Store.next_in_interval.Goals as goal
 
 pub overflow_add-after : goal.overflow_add-after
 overflow_add-after c =
-    let store : StoreRecord = record { pages = c.self.inside.pages; last = c.self.inside.last; entries = c.self.inside.entries.items } in
-    let linked = noted_pages store c.self.inside.by_node c.self.inside.by_page c.self.inside.notices.items c.self.invariant in
+    let store : StoreRecord = record { pages = c.self.inside.pages; last = c.self.inside.last; entries = c.self.inside.arena.entries } in
+    let linked = noted_pages store c.self.inside.by_node c.self.inside.by_page c.self.inside.arena.notices c.self.invariant in
     omega (
       arith,
       ap length linked,

@@ -10,8 +10,8 @@ use Rattle.lrc_store.proofs.store.Store.next_on_page.Goals.{After-next}
 
 pub next-requires : goal.next-requires
 next-requires c =
-    let store : StoreRecord = record { pages = c.self.inside.pages; last = c.self.inside.last; entries = c.self.inside.entries.items } in
-    let linked = noted_pages store c.self.inside.by_node c.self.inside.by_page c.self.inside.notices.items c.self.invariant in
+    let store : StoreRecord = record { pages = c.self.inside.pages; last = c.self.inside.last; entries = c.self.inside.arena.entries } in
+    let linked = noted_pages store c.self.inside.by_node c.self.inside.by_page c.self.inside.arena.notices c.self.invariant in
     omega (
       arith,
       ap length linked,
@@ -24,10 +24,10 @@ next-requires c =
 -- the next of the page's list
 next : (c : After-next) → c.next.result ≡ next_on_page_of c.args.self.now c.args.at
 next c =
-    let store : StoreRecord = record { pages = c.self.inside.pages; last = c.self.inside.last; entries = c.self.inside.entries.items } in
+    let store : StoreRecord = record { pages = c.self.inside.pages; last = c.self.inside.last; entries = c.self.inside.arena.entries } in
     c.next.ensures
     ∙ ap (λ (keys : List ℕ). link_of keys c.at.inside.place)
-    (noted_pages store c.self.inside.by_node c.self.inside.by_page c.self.inside.notices.items c.self.invariant)
+    (noted_pages store c.self.inside.by_node c.self.inside.by_page c.self.inside.arena.notices c.self.invariant)
     ∙ ap (λ at. next_on_page_of store at) c.at.view_is
     ∙ ap (λ (s : StoreRecord). next_on_page_of s c.args.at) c.self.view_is
 
@@ -40,8 +40,8 @@ returns-clause-next c = sym c.in_ok-place.was ∙ next (goal.at.returns-clause-n
 
 pub returns-clause-in_use : goal.returns-clause-in_use
 returns-clause-in_use c = λ earlier is.
-    let store : StoreRecord = record { pages = c.self.inside.pages; last = c.self.inside.last; entries = c.self.inside.entries.items } in
-    let linked = noted_pages store c.self.inside.by_node c.self.inside.by_page c.self.inside.notices.items c.self.invariant in
+    let store : StoreRecord = record { pages = c.self.inside.pages; last = c.self.inside.last; entries = c.self.inside.arena.entries } in
+    let linked = noted_pages store c.self.inside.by_node c.self.inside.by_page c.self.inside.arena.notices c.self.invariant in
     let less = link_within c.self.inside.by_page.keys c.at.inside.place earlier
     (omega (
       arith,
