@@ -15,6 +15,7 @@ pub mod OneAnswer
 pub mod Options
 pub mod Reaching
 pub mod Reading
+pub mod Sizes
 pub mod Stages
 pub mod StatementSteps
 pub mod Statements

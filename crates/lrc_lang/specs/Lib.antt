@@ -4,6 +4,8 @@ pub mod Grammar
 pub mod Lexemes
 pub mod Lexer
 pub mod Parser
+pub mod Sizes
+pub mod Statements
 pub mod Symbol
 pub mod Token
 pub mod Tree

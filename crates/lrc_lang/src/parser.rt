@@ -9,6 +9,7 @@ ghost use Rattle.lrc_lang.specs.Grammar.{IsProgram};
 ghost use Rattle.lrc_lang.specs.Parser.SeenParser.{IsOutOfMemory, TakesLexeme};
 ghost use Rattle.lrc_lang.specs.Parser.SeenState.{state_seen};
 ghost use Rattle.lrc_lang.specs.Parser.State.{start, program_in};
+ghost use Rattle.lrc_lang.specs.Sizes.{names_in, depth_of, most_operators};
 ghost use Rattle.lrc_lang.specs.Token.{Token as TokenSeen, token, finish};
 ghost use Rattle.lrc_lang.specs.Tree.{ProgramTree, program_of};
 ghost use Rattle.lrc_lang.specs.Parser.View.{lexeme_of};
@@ -48,16 +49,15 @@ pub fn parse(alloc: Global, text: &[u8]) -> Result<Program, ParseFault>
 }
 
 /// Parses a text that is not too long.
+#[tactic(auto, using(crate::proofs::Sizes::text_names, crate::proofs::Sizes::text_depth, crate::proofs::Sizes::text_operators))]
 fn read(alloc: Global, text: &[u8]) -> Result<Program, ParseFault>
     requires { length text.now ≤ 65536 }
     ensures program { IfOk result (λ p. IsText text.now (program_of p)) }
     ensures fault { IfErr result (λ e. IsOutOfMemory e ⊎ HasFirstFault text.now e.line e.kind) }
 {
     let mut state = State::start(alloc);
-    let read = read_into(&mut state, alloc, text);
-    let program = state.into_program();
-    read?;
-    Ok(program)
+    read_into(&mut state, alloc, text)?;
+    Ok(state.into_program())
 }
 
 /// Takes all that stands in a text that is not too long.
@@ -117,4 +117,11 @@ fn fault(line: u32, kind: FaultKind) -> ParseFault
 pub fn tokens_are_of_one_program()
     ensures { (tokens : List TokenSeen) (p q : ProgramTree) →
         IsProgram p tokens → IsProgram q tokens → p ≡ q }
+{}
+
+/// The program of a text takes at most 32 private names, its blocks lie at most 32 deep in one another, and none of
+/// its expressions has more than 256 operators.
+pub fn texts_are_within_the_limits()
+    ensures { (text : List ℕ) (p : ProgramTree) → IsText text p → (names_in p.statements ≤ 32)
+        × (depth_of p.statements ≤ 32) × (most_operators p.statements ≤ 256) }
 {}

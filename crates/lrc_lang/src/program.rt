@@ -2,6 +2,8 @@
 
 ghost use Rattle.std.specs.Prelude.{◌≡◌, ◌≤◌};
 ghost use Rattle.lrc_lang.specs.declared.TheConstants.{MOST_WORDS};
+ghost use Rattle.lrc_lang.specs.Sizes.{names_in, depth_of, most_operators};
+ghost use Rattle.lrc_lang.specs.Statements.{block_of};
 
 use crate::MOST_WORDS;
 
@@ -60,7 +62,8 @@ pub enum Statement {
     While(Expression, Vec<Statement>),
 }
 
-/// A program: how many words of shared memory and how many locks it has, and its statements.
+/// A program: how many words of shared memory and how many locks it has, and its statements. Whatever program there is,
+/// it is within the limits that its text was held to, so what walks through its trees nests no deeper than they allow.
 #[derive(Drop)]
 pub struct Program {
     pub words: u32,
@@ -71,6 +74,12 @@ pub struct Program {
     pub ghost few_words: { words ≤ MOST_WORDS },
     /// There are at most 64 locks.
     pub ghost few_locks: { locks ≤ 64 },
+    /// Each private name has a number below 32.
+    pub ghost few_names: { names_in (block_of statements.items) ≤ 32 },
+    /// At most 32 blocks lie in one another.
+    pub ghost shallow: { depth_of (block_of statements.items) ≤ 32 },
+    /// No expression has more than 256 operators, so none nests deeper.
+    pub ghost short: { most_operators (block_of statements.items) ≤ 256 },
 }
 
 impl Program {

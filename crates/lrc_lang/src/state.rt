@@ -41,6 +41,7 @@ impl State {
     ghost use Rattle.lrc_lang.specs.Parser.Seen.{symbol_seen};
     ghost use Rattle.lrc_lang.specs.Parser.SeenState.{state_seen, TakesSymbol};
     ghost use Rattle.lrc_lang.specs.Parser.State.{start, program_in};
+    ghost use Rattle.lrc_lang.specs.Sizes.{names_in, depth_of, most_operators};
     ghost use Rattle.lrc_lang.specs.Tree.{program_of};
 
     /// A text of which nothing has come.
@@ -90,6 +91,9 @@ impl State {
 
     /// The program, once the text has ended.
     pub fn into_program(self) -> Program
+        requires names { names_in (program_in (state_seen self)).statements ≤ 32 }
+        requires depth { depth_of (program_in (state_seen self)).statements ≤ 32 }
+        requires operators { most_operators (program_in (state_seen self)).statements ≤ 256 }
         ensures { program_of result ≡ program_in (state_seen self) }
     {
         Program {
