@@ -122,7 +122,8 @@ fn file_of<'w>(choice: &Choice<'w>) -> &'w str {
     match choice {
         Choice::Check(file) => file,
         Choice::Plain(run) => run.file,
-        Choice::Simulate(run) => run.file,
+        Choice::Simulate(run) => run.options.file,
+        Choice::Run(run) => run.file,
     }
 }
 
@@ -144,7 +145,7 @@ fn read_events(rt: &(impl Files + AllocGlobal), choice: &Choice<'_>) -> io::Resu
             Some(path) => Ok(Some(read_up_to(rt.alloc(), fs::open(rt, path)?, EVENTS_READ)?)),
             None => Ok(None),
         },
-        Choice::Check(_) | Choice::Plain(_) => Ok(None),
+        Choice::Check(_) | Choice::Plain(_) | Choice::Run(_) => Ok(None),
     }
 }
 

@@ -1,7 +1,7 @@
 // Worked programs of several nodes, in each order of delivery and with pages of each size.
 
 use crate::shell::{ON_ONE_NODE, Outcome, simulated};
-use lrc_cli::choice::{Collect, Nodes, Simulation};
+use lrc_cli::choice::{Collect, Nodes, RunOptions};
 use lrc_page::Size;
 use lrc_wire::Picker;
 use std::alloc::Global;
@@ -14,7 +14,7 @@ const ORDERS: [Picker; 3] = [Picker::Oldest, Picker::Newest, Picker::Twice];
 const SIZES: [Size; 2] = [Size::Words64, Size::Words256];
 
 fn one_way(alloc: Global, case: Case, order: Picker, size: Size) -> Outcome {
-    let run = Simulation {
+    let run = RunOptions {
         nodes: case.0,
         collect: case.1,
         order,
@@ -205,7 +205,7 @@ fn largest_printed(out: &[u8]) -> usize {
 
 // The same on sixteen nodes.
 fn readers_of_the_last_word(alloc: Global, collect: Collect, order: Picker) -> usize {
-    let run = Simulation {
+    let run = RunOptions {
         nodes: Nodes { count: 16 },
         collect,
         order,
