@@ -1,13 +1,9 @@
 -- What a writer has in the middle of a text.
-use Rattle.std.proofs.Common.{◌≡◌, ◌∙◌, ◌<◌, ◌+◌, ℕ, refl, sym, ap, subst, arith, List, [], ◌∷◌, ◌++◌, length, take, drop, Option, Some, None, Result, Ok, Err, IfErr, IfOk, OnErr, ◌==◌, true, false, append-nil, length-append, length-drop, get_or, Vec, rules, tests}
+use Rattle.std.proofs.Common.{◌≡◌, ◌∙◌, ◌<◌, ◌+◌, ℕ, refl, sym, ap, subst, arith, List, [], ◌∷◌, ◌++◌, length, take, drop, Option, Some, None, Result, Ok, Err, OnErr, ◌==◌, true, false, append-nil, length-append, length-drop, get_or, Vec, rules, tests}
 use Rattle.std.specs.Io.KnownBytes.{Appends, Keeps, WriteAppends}
 use Rattle.std.proofs.lemmas.List.{append_assoc, drop_more, take_at, take-append-drop}
-use Rattle.lrc_cli.specs.Answer.{Answers, IsFault, Prints}
 use Rattle.lrc_cli.specs.Output.{AppendsFront}
 use Rattle.lrc_cli.specs.ReportText.{whole_text}
-use Rattle.lrc_cli.specs.declared.answer.Printout.{Printout}
-use Rattle.lrc_cli.specs.declared.choice.Choice.{Choice}
-use Rattle.lrc_cli.specs.declared.fault.Fault.{Fault}
 use Rattle.std.specs.declared.alloc.Global.{Global}
 
 -- of the text, so much is written, and the rest is to come
@@ -109,10 +105,3 @@ parts_at parts i d lt = ap whole_text (drop_more parts i d lt)
 pub on_err : {T E : Type 0} (r : Result T E) (P : Type 0) → P → OnErr r P
 on_err (Ok x) P h = tt
 on_err (Err e) P h = h
-
--- what is printed or the fault, from what holds of either
-pub answers_of : (choice : Choice) (text : List ℕ) (events : Option (List ℕ)) (r : Result Printout Fault)
-    → IfOk r (λ printout. Prints choice text events (whole_text printout.parts.items) printout.status)
-    → IfErr r (λ fault. IsFault choice text events fault) → Answers choice text events r
-answers_of choice text events (Ok printout) prints faults = prints
-answers_of choice text events (Err fault) prints faults = faults

@@ -1,5 +1,5 @@
 -- What the program answers to a choice: a text that it prints and its status, or the first fault.
-use Rattle.std.specs.Prelude.{◌≡◌, ◌<◌, ◌≤◌, ℕ, Bool, false, true, List, length, Option, None, Some, Result, Ok, Err, codes, is_some}
+use Rattle.std.specs.Prelude.{◌≡◌, ◌<◌, ◌≤◌, ℕ, Bool, false, true, List, length, Option, None, Some, Result, Ok, Err, codes, is_some, option_map}
 use Rattle.lrc_exec.specs.Rounds.{AreActsOfRounds}
 use Rattle.lrc_lang.specs.Faults.{HasFirstFault, IsText}
 use Rattle.lrc_lang.specs.Tree.{program_of}
@@ -11,6 +11,7 @@ use Rattle.lrc_protocol.specs.Node.{OptionsRecord}
 use Rattle.lrc_world.specs.Ends.{ends_of}
 use Rattle.lrc_world.specs.Report.{AreAll, IsReportOf, IsWornBy}
 use Rattle.lrc_world.specs.declared.report.Report.{Report}
+use Rattle.lrc_run.specs.Run.{IsWovenReport}
 use Rattle.lrc_cli.specs.EventsText.{Reads}
 use Rattle.lrc_cli.specs.ReportText.{report_text, run_status_of, run_text, status_of, whole_text}
 use Rattle.lrc_cli.specs.declared.answer.Printout.{Printout}
@@ -21,12 +22,22 @@ use Rattle.lrc_cli.specs.declared.events.EventsFault.TheVariants.{BadEvent}
 use Rattle.lrc_cli.specs.declared.fault.Fault.{Fault}
 use Rattle.lrc_cli.specs.declared.fault.Fault.TheVariants.{Text, Events, Worn, Mismatch, NoMemory}
 
--- the choice names a file of events
+-- the file of the program's text
+abbrev pub file_of : Choice → List ℕ
+file_of (Check file) = file.now
+file_of (Plain run) = run.file.now
+file_of (Simulate run) = run.options.file.now
+file_of (Run run) = run.file.now
+
+-- the file of the events, where the choice names one
+abbrev pub events_of : Choice → Option (List ℕ)
+events_of (Check file) = None
+events_of (Plain run) = None
+events_of (Simulate run) = option_map (λ path. path.now) run.events
+events_of (Run run) = None
+
 abbrev pub names_events : Choice → Bool
-names_events (Check file) = false
-names_events (Plain run) = false
-names_events (Simulate run) = is_some run.events
-names_events (Run run) = false
+names_events choice = is_some (events_of choice)
 
 -- the choice is the command `run`
 abbrev pub starts_threads : Choice → Bool
@@ -64,10 +75,9 @@ IsRunOf program run events_text report = (events : List Event) × ArePlayed prog
     × IsReportOf program run.nodes.count (options_of run) events report
     × AreNamedRaces report.acts.items report.races.items
 
--- What a run on threads answers: the report of some events after which nothing is left to do, with the races that its acts name.
+-- what a run on threads answers: the report of the events that its nodes' turns make, with the races that its acts name
 abbrev pub IsThreadedRunOf : Program → RunOptions → Report → Type 0
-IsThreadedRunOf program run report = (events : List Event) × AreAll program run.nodes.count (options_of run) events
-    × IsReportOf program run.nodes.count (options_of run) events report
+IsThreadedRunOf program run report = IsWovenReport program run.nodes.count (options_of run) report
     × AreNamedRaces report.acts.items report.races.items
 
 -- the text and the status are those of this report
@@ -112,6 +122,14 @@ IsRunFault program run events_text (Events line) = HasBadEvent events_text line
 IsRunFault program run events_text Worn = IsWornRun program run events_text
 IsRunFault program run events_text Mismatch = ⊥
 IsRunFault program run events_text NoMemory = Unit {0}
+
+-- Why a run on threads answers no report. Which thread goes on when is not known, and so is no more of its faults.
+abbrev pub IsThreadedFault : Fault → Type 0
+IsThreadedFault (Text line kind) = ⊥
+IsThreadedFault (Events line) = ⊥
+IsThreadedFault Worn = Unit {0}
+IsThreadedFault Mismatch = Unit {0}
+IsThreadedFault NoMemory = Unit {0}
 
 -- the same for a choice; the other commands have no such fault
 abbrev pub IsWornChoice : Choice → Program → Option (List ℕ) → Type 0

@@ -131,7 +131,7 @@ fn driven(alloc: Global, run: &RunOptions<'_>, program: &Program) -> Result<Repo
     Ok(report)
 }
 
-fn options_of(run: &RunOptions<'_>) -> Options
+pub(crate) fn options_of(run: &RunOptions<'_>) -> Options
     ensures { result ≡ options_of run.now }
 {
     Options {

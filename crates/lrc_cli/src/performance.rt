@@ -12,8 +12,11 @@ use crate::answer::{Printout, answer};
 use crate::choice::Choice;
 use crate::fault::{Fault, NO_MEMORY_LINE, line_of};
 use crate::output::{put, put_parts};
+use crate::threads::answer_on_threads;
 use std::alloc::Global;
 use std::io::Write;
+use std::sync::Wait;
+use std::thread::Threads;
 
 /// Does what a choice asks for that starts no threads, with the text of its FILE, and that of its events where it names
 /// them. What it prints goes to `out`; where there is a fault, its line goes to `err`, and nothing to `out`. The answer is
@@ -33,6 +36,32 @@ pub fn perform<W: Write, E: Write>(
         (W.contents out.old) (W.contents out.new) (E.contents err.old) (E.contents err.new) result }
 {
     tell(alloc, answer(alloc, choice, text, events), out, err)
+}
+
+/// Does what a choice asks for, as [`perform`] does, also where that starts threads: a run in which each node lives on a
+/// thread of its own.
+pub fn execute<R: Threads + Wait + Sync, W: Write, E: Write>(
+    rt: &R,
+    alloc: Global,
+    choice: &Choice<'_>,
+    text: &[u8],
+    events: Option<&[u8]>,
+    out: &mut W,
+    err: &mut E,
+) -> u8
+    requires { is_some events ≡ names_events choice.now }
+    ensures { Performs choice.now text.now (option_map (λ e. e.now) events.entry)
+        (W.contents out.old) (W.contents out.new) (E.contents err.old) (E.contents err.new) result }
+{
+    match choice {
+        Choice::Run(options) => {
+            let answered = answer_on_threads(rt, alloc, options, text);
+            tell(alloc, answered, out, err)
+        }
+        Choice::Check(_) | Choice::Plain(_) | Choice::Simulate(_) => {
+            perform(alloc, choice, text, events, out, err)
+        }
+    }
 }
 
 // Prints what was answered to a choice, or the line of its fault.

@@ -4,10 +4,12 @@ ghost use Rattle.std.specs.Prelude.{◌≡◌, false, is_some};
 ghost use Rattle.lrc_cli.specs.Answer.{names_events, starts_threads};
 
 use lrc_cli::choice::{Choice, Collect, Nodes, PlainRun, RunOptions, Simulation, Steps};
-use lrc_cli::perform;
+use lrc_cli::{execute, perform};
 use lrc_page::Size;
 use lrc_wire::Picker;
 use std::alloc::Global;
+use std::sync::Wait;
+use std::thread::Threads;
 
 /// As many steps as a node may be given.
 pub const ALL_STEPS: Steps = Steps { count: 1_000_000 };
@@ -78,6 +80,20 @@ pub fn simulated(alloc: Global, options: RunOptions<'static>, text: &[u8]) -> Ou
         events: None,
     });
     performed(alloc, &choice, text, None)
+}
+
+/// What `run` makes of a text.
+pub fn on_threads<R: Threads + Wait + Sync + AllocGlobal>(
+    rt: &R,
+    options: RunOptions<'static>,
+    text: &[u8],
+) -> Outcome {
+    let alloc = rt.alloc();
+    let mut out = Vec::new(alloc);
+    let mut err = Vec::new(alloc);
+    let choice = Choice::Run(options);
+    let status = execute(rt, alloc, &choice, text, None, &mut out, &mut err);
+    Outcome { out, err, status }
 }
 
 /// What `sim` on so many nodes makes of a text with these events.

@@ -11,6 +11,7 @@ use Rattle.lrc_cli.specs.declared.choice.PlainRun.{PlainRun}
 use Rattle.lrc_cli.specs.declared.choice.Simulation.{Simulation}
 use Rattle.lrc_cli.specs.declared.fault.Fault.{Fault}
 use Rattle.lrc_cli.specs.declared.fault.Fault.TheVariants.{Text, Events, Worn, Mismatch, NoMemory}
+use Rattle.lrc_cli.proofs.AnswerLemmas.{fault_up}
 use Rattle.lrc_cli.proofs.answer.answer.Goals as goal
 
 -- a fault of a run is the first, since the text is a program's
@@ -22,10 +23,6 @@ run_fault choice run text events_text Worn program chosen is h =
     (program, is, subst (λ (c : Choice). IsWornChoice c program events_text) (sym chosen) h)
 run_fault choice run text events_text Mismatch program chosen is h = absurd h
 run_fault choice run text events_text NoMemory program chosen is h = tt
-
-fault_up : {T : Type 0} (r : Result T Fault) (fault : Fault) (P : Fault → Type 0) → IsErrAnd r (λ f. f ≡ fault) → P fault → IfErr r P
-fault_up (Ok x) fault P is h = tt
-fault_up (Err f) fault P is h = subst P (sym is) h
 
 -- what is printed of the acts in rounds is what the choice of them prints
 printed_in_rounds : (result : Result Printout Fault) (text : List ℕ) (events_text : Option (List ℕ)) (choice : Choice) (run : PlainRun) (program : Program)

@@ -1,5 +1,5 @@
 use Rattle.std.proofs.Common.{option_map}
-use Rattle.lrc_cli.proofs.WriteLemmas.{answers_of}
+use Rattle.lrc_cli.proofs.AnswerLemmas.{answers_of}
 use Rattle.lrc_cli.proofs.performance.perform.Goals as goal
 
 pub returns : goal.returns
