@@ -1,3 +1,6 @@
 mod Steps
 mod Turned
 mod Threads
+mod Logs
+mod Joined
+mod Told

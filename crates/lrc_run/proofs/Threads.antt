@@ -8,9 +8,10 @@ use Rattle.lrc_run.specs.declared.stop.Stop.{Stop}
 use Rattle.lrc_run.specs.declared.stop.Stop.TheVariants.{Closed}
 use Rattle.lrc_run.specs.Worker.{Goes, Turns, GoesTo, IsLogOf, unmade}
 use Rattle.lrc_run.proofs.Steps.{all_turns}
+use Rattle.lrc_run.proofs.Logs.{log_goes_on}
 
 seen_log : (start : Node) (new : LoggedNode) (j : Logged) → new ≡ sound j → Turns (unmade start) j → IsLogOf start new.log
-seen_log start new j is turns = (j, sym (ap (λ (n : LoggedNode). n.log) is), turns)
+seen_log start new j is turns = subst (IsLogOf start) (sym (ap (λ (n : LoggedNode). n.log) is)) (log_goes_on start j turns)
 
 -- the log of a thread that went on to the end
 pub whole_log : {S A : Type 0} (puts : S → List Parcel → S → Type 0) (takes : S → Parcel → S → Type 0) (s t : S) (start : Node) (new : LoggedNode) (x : A)

@@ -1,1 +1,3 @@
 pub mod Worker
+pub mod Threads
+pub mod Run

@@ -10,6 +10,7 @@ use Rattle.lrc_node.specs.Logged.{LoggedNode, sound}
 use Rattle.lrc_node.specs.declared.fault.NodeFault.{NodeFault}
 use Rattle.lrc_node.specs.declared.fault.NodeFault.TheVariants as NodeFaults
 use Rattle.lrc_node.specs.declared.fault.NodeFault.TheVariants.{Failed, NotReady, Unexpected}
+use Rattle.lrc_weave.specs.Logs.{MayCome, GoesOn}
 use Rattle.lrc_run.specs.declared.stop.Stop.{Stop}
 use Rattle.lrc_run.specs.declared.stop.Stop.TheVariants.{Closed, Worn, NoMemory}
 
@@ -58,11 +59,6 @@ pub data Goes {S : Type 0} (puts : S → List Parcel → S → Type 0) (takes : 
   stays : Goes puts takes s l s l
   steps : {m t : S} {k j : Logged} → Goes puts takes s l m k → Step puts takes m k t j → Goes puts takes s l t j
 
--- the stamp with which an input may come: a message comes with that of some turn, and a run with 0
-abbrev pub MayCome : Input → ℕ → Type 0
-MayCome run came = came ≡ 0
-MayCome (taken envelope) came = Unit {0}
-
 -- any number of turns of a node with its log
 pub data Turns (l : Logged) : Logged → Type 0 where
   none : Turns l l
@@ -75,7 +71,7 @@ unmade node = record { node = node; log = [] }
 
 -- a log is that of turns of this node, from its first on
 abbrev pub IsLogOf : Node → List EntryRecord → Type 0
-IsLogOf start log = (l : Logged) × (l.log ≡ log) × Turns (unmade start) l
+IsLogOf start log = GoesOn (unmade start) log
 
 -- What comes of a thread's steps: its log tells what it put and took. Where the post was closed while the node had messages to
 -- send, its log is still that of its turns. Otherwise the node has failed.

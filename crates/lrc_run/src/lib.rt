@@ -1,14 +1,19 @@
 //! Runs of a program whose nodes are on threads of their own, one for each node, with a post between them.
 #![tactic(auto)]
 
+mod fault;
 mod gate;
 mod mail;
+mod nodes;
+mod runs;
 mod stop;
 mod thread;
 mod worker;
 
+pub use fault::RunFault;
 pub use gate::Gate;
 pub use mail::{Line, Mail};
+pub use runs::{run, run_gated};
 pub use stop::Stop;
 pub use thread::on_thread;
 pub use worker::work;

@@ -3,8 +3,10 @@
 #![tactic(auto)]
 
 mod events;
+mod fault;
 pub mod laws;
 mod order;
 mod weave;
 
-pub use weave::{Weave, events_of};
+pub use fault::WeaveFault;
+pub use weave::{Weave, events_of, weave};

@@ -1,19 +1,37 @@
 // The weave of logs.
 
-ghost use Rattle.std.specs.Prelude.{◌≡◌, ◌≤◌, ◌<◌, ◌+◌, ℕ, List, IfOk, length, map};
+ghost use Rattle.std.specs.Prelude.{◌≡◌, ◌≤◌, ◌<◌, ◌+◌, ℕ, List, Err, IfOk, length, map};
 ghost use Rattle.lrc_lang.specs.declared.program.Program.{Program};
 ghost use Rattle.lrc_post.specs.Mailbox.{MailboxRecord};
 ghost use Rattle.lrc_protocol.specs.Node.{OptionsRecord};
 ghost use Rattle.lrc_protocol.specs.World.{Flying};
+ghost use Rattle.lrc_weave.specs.declared.fault.WeaveFault.TheVariants.{Mismatch};
 ghost use Rattle.lrc_weave.specs.Logs.{AreLogs};
 ghost use Rattle.lrc_weave.specs.Matched.{AreMatched};
 ghost use Rattle.lrc_weave.specs.Woven.{AreWoven};
 
 use crate::events::turn;
+use crate::fault::WeaveFault;
 use crate::order::next_turn;
 use lrc_node::Entry;
+use lrc_post::Mailbox;
 use lrc_protocol::Event;
 use std::alloc::{AllocError, Global};
+
+/// The events that make all turns of the logs of a program's nodes, ordered by their stamps, and where those are the same by their
+/// nodes. A message's last take is delivered, and each one before it repeated. `Mismatch` exactly where the logs and the mailboxes,
+/// one for each node, tell of different messages.
+pub fn weave(_alloc: Global, logs: &[Vec<Entry>], wires: &[Mailbox]) -> Result<Vec<Event>, WeaveFault>
+    requires few { length logs.now ≤ 16 }
+    requires each { length wires.now ≡ length logs.now }
+    ensures matched { IfOk result (λ events. AreMatched (map (λ log. log.items) logs.now) wires.now) }
+    ensures woven { IfOk result (λ events. (program : Program) (nodes : ℕ) (options : OptionsRecord)
+        → AreLogs program nodes options (map (λ log. log.items) logs.now)
+        → (flight : List Flying) × AreWoven (map (λ log. log.items) logs.now) events.items flight) }
+    ensures mismatch { result ≡ Err Mismatch → AreMatched (map (λ log. log.items) logs.now) wires.now → ⊥ }
+{
+    Err(WeaveFault::NoMemory)
+}
 
 /// Events, and how many messages are in flight after them.
 #[derive(Drop)]

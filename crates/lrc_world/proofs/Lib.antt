@@ -9,3 +9,4 @@ pub mod Events
 pub mod EndsLemmas
 pub mod Driven
 pub mod Theorem
+pub mod Over

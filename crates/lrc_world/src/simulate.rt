@@ -1,6 +1,6 @@
 // Runs of a program, by a list of events or by rounds.
 
-ghost use Rattle.std.specs.Prelude.{◌≡◌, ℕ, ◌<◌, ◌≤◌, ◌↔◌, ◌⊎◌, List, Some, length, IfOk, MatchResult, Err};
+ghost use Rattle.std.specs.Prelude.{◌≡◌, ℕ, ◌<◌, ◌≤◌, ◌↔◌, ◌⊎◌, List, Some, length, IfOk, MatchResult, Err, true};
 ghost use Rattle.lrc_trace.specs.Conflict.{IsRaceFree, IsFirstRace};
 ghost use Rattle.lrc_trace.specs.Reading.{ReadsLazily};
 ghost use Rattle.lrc_trace.specs.Synchronization.{IsWellSynchronized};
@@ -50,13 +50,45 @@ pub fn simulate(
     ensures bad_nodes { (result ≡ Err SimFault.BadNodes) ↔ (¬ AreNodes nodes) }
     ensures bad_steps { (result ≡ Err SimFault.BadSteps) ↔ (AreNodes nodes × ¬ AreSteps options.now.steps) }
 {
+    match replay(alloc, program, nodes, options, events) {
+        Ok((report, _is_over)) => Ok(report),
+        Err(fault) => Err(fault),
+    }
+}
+
+/// The report that [`simulate`] has for these events, and whether nothing is left to do after them: no node is ready, and no
+/// message is in flight.
+pub fn replay(
+    alloc: Global,
+    program: &Program,
+    nodes: u32,
+    options: &Options,
+    events: &[Event],
+) -> Result<(Report, bool), SimFault>
+    ensures report { IfOk result (λ done. IsReportOf program.now nodes options.now events.now done.0) }
+    ensures races { IfOk result (λ done. AreNamedRaces done.0.acts.items done.0.races.items) }
+
+    ensures synchronized { IfOk result (λ done. IsWellSynchronized nodes done.0.acts.items) }
+    ensures lazy { IfOk result (λ done. ReadsLazily done.0.acts.items) }
+    ensures consistent { IfOk result (λ done. IsRaceFree done.0.acts.items
+        → plain program.now nodes (nodes_of done.0.acts.items) ≡ Some done.0.acts.items) }
+    ensures first { IfOk result (λ done. (position : ℕ) → IsFirstRace done.0.acts.items position
+        → PlainToRace program.now nodes done.0.acts.items position) }
+    ensures unraced { IfOk result (λ done. HasNoRace program.now nodes → IsRaceFree done.0.acts.items) }
+
+    ensures over { IfOk result (λ done. (done.1 ≡ true) ↔ AreAll program.now nodes options.now events.now) }
+    ensures worn { result ≡ Err SimFault.Worn → IsWornBy program.now nodes options.now events.now }
+    ensures bad_nodes { (result ≡ Err SimFault.BadNodes) ↔ (¬ AreNodes nodes) }
+    ensures bad_steps { (result ≡ Err SimFault.BadSteps) ↔ (AreNodes nodes × ¬ AreSteps options.now.steps) }
+{
     let count = check(nodes, options)?;
     let code = Code::new(alloc, program)?;
     let mut world = World::new(alloc, &code, count, options)?;
     for event in events {
         world.play(*event)?;
     }
-    Ok(world.report()?)
+    let is_over = world.is_over();
+    Ok((world.report()?, is_over))
 }
 
 /// A run in rounds: in each, every ready node from 0 up goes on once, and then as many messages are delivered as are in

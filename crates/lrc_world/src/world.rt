@@ -1,7 +1,7 @@
 // All nodes of a run, the messages in flight, and what events do to them.
 
 ghost use Rattle.lrc_race.specs.Races.{AreRacesOf, AreTracesOf};
-ghost use Rattle.std.specs.Prelude.{◌≡◌, ℕ, ◌≤◌, ◌<◌, ◌++◌, [], ◌∷◌, All, IfOk, IfErr, OnOk, IsOk, Ok, false, List, length, map, remove, slice_get};
+ghost use Rattle.std.specs.Prelude.{◌≡◌, ℕ, ◌≤◌, ◌<◌, ◌++◌, [], ◌∷◌, ◌↔◌, All, IfOk, IfErr, OnOk, IsOk, Ok, true, false, List, length, map, remove, slice_get};
 ghost use Rattle.std.specs.List.{list_any};
 ghost use Rattle.std.specs.Option.{option_to_list};
 ghost use Rattle.lrc_judge.specs.declared.TheConstants.{NODES};
@@ -11,8 +11,9 @@ ghost use Rattle.lrc_protocol.specs.World.{World as Run, Flying as Sent, fresh_w
 ghost use Rattle.lrc_protocol.specs.declared.event.Event.TheVariants as events;
 ghost use Rattle.lrc_protocol.specs.Log.{EntryRecord};
 ghost use Rattle.lrc_protocol.specs.Log as log;
+ghost use Rattle.lrc_protocol.specs.Turn.{is_ready};
 ghost use Rattle.lrc_node.specs.Logged.{sound};
-ghost use Rattle.lrc_world.specs.Report.{IsReport, end_of_logged};
+ghost use Rattle.lrc_world.specs.Report.{IsOver, IsReport, end_of_logged};
 ghost use Rattle.lrc_world.specs.Rounds.{delivery_of, is_delivered, newest_place, ready_at};
 ghost use Rattle.lrc_world.specs.World.{Starts, Shows, PlaysTo, AddsTo, LogsLast, ReceivesTo, TurnsTo, made_of, IsSendFault, seen, shown, shown_new, is_long};
 
@@ -88,6 +89,13 @@ impl<'c> World<'c> {
         ensures { result ≡ length self.now.flight.items }
     {
         self.flight.len()
+    }
+
+    /// Whether nothing is left to do: no node is ready, and no message is in flight.
+    pub(crate) fn is_over(&self) -> bool
+        ensures { (starts : Starts) (run : Run) → Shows starts self.now run → (result ≡ true) ↔ IsOver run }
+    {
+        self.flight.is_empty() && !is_any_ready(&self.nodes)
     }
 
     /// The delivery that comes next.
@@ -332,6 +340,18 @@ fn forget(flight: &mut VecDeque<Flying>, place: usize)
     ensures { place < length flight.old.items → flight.new.items ≡ remove flight.old.items place }
 {
     flight.remove(place);
+}
+
+// Whether one of the nodes is ready.
+fn is_any_ready(nodes: &[Logged<'_>]) -> bool
+    ensures { (all : List log.Logged) → map (λ node. node.logged) nodes.now ≡ map sound all → result ≡ list_any (λ l. is_ready l.node) all }
+{
+    for node in nodes {
+        if node.ready() {
+            return true;
+        }
+    }
+    false
 }
 
 // How each node ended.

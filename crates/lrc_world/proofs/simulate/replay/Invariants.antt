@@ -2,7 +2,7 @@ use Rattle.std.proofs.Common.{◌≡◌, Some, take}
 use Rattle.lrc_protocol.specs.Node.{fresh_node}
 use Rattle.lrc_protocol.specs.World.{World as Run, run_of}
 use Rattle.lrc_world.specs.World.{Shows}
-use Rattle.lrc_world.proofs.simulate.simulate.Given as goal
+use Rattle.lrc_world.proofs.simulate.replay.Given as goal
 
 -- the world shows the run of the events so far
 abbrev pub invariant-loop-event : goal.invariant-loop-event

@@ -6,7 +6,7 @@ use Rattle.lrc_world.proofs.Events.{goes_on, wears_out, handed_on, take_whole, g
 use Rattle.lrc_world.proofs.Theorem.{in_order, reads_lazily, consistent, to_first_race, race_free}
 use Rattle.lrc_world.proofs.Races.{kept_traces, kept_races}
 use Rattle.lrc_world.proofs.Worlds.{acts_of_nodes}
-use Rattle.lrc_world.proofs.simulate.simulate.Goals as goal
+use Rattle.lrc_world.proofs.simulate.replay.Goals as goal
 
 pub loop-event-preserved : goal.loop-event-preserved
 loop-event-preserved c =

@@ -1,0 +1,60 @@
+-- What a run of nodes on threads answers.
+use Rattle.std.specs.Prelude.{◌≡◌, ℕ, List, length, map}
+use Rattle.lrc_lang.specs.declared.program.Program.{Program}
+use Rattle.lrc_post.specs.Mailbox.{MailboxRecord}
+use Rattle.lrc_post.specs.Post.{AreWires}
+use Rattle.lrc_protocol.specs.declared.event.Event.{Event}
+use Rattle.lrc_protocol.specs.Node.{OptionsRecord}
+use Rattle.lrc_protocol.specs.Log.{EntryRecord}
+use Rattle.lrc_protocol.specs.World.{Flying}
+use Rattle.lrc_weave.specs.declared.fault.WeaveFault.{WeaveFault}
+use Rattle.lrc_weave.specs.declared.fault.WeaveFault.TheVariants as weaving
+use Rattle.lrc_weave.specs.Matched.{AreMatched}
+use Rattle.lrc_weave.specs.Woven.{AreWoven}
+use Rattle.lrc_world.specs.declared.report.Report.{Report}
+use Rattle.lrc_world.specs.Report.{AreAll, IsReportOf}
+use Rattle.lrc_run.specs.declared.fault.RunFault.{RunFault}
+use Rattle.lrc_run.specs.declared.fault.RunFault.TheVariants.{BadNodes, BadSteps, Worn, Mismatch, NoMemory}
+use Rattle.lrc_run.specs.declared.stop.Stop.{Stop}
+use Rattle.lrc_run.specs.declared.stop.Stop.TheVariants as stops
+
+-- the turns of each node of a report, from node 0 up
+abbrev pub turns_of : Report → List (List EntryRecord)
+turns_of report = map (λ log. log.items) report.logs.items
+
+-- The report is that of events which make all turns of its logs, ordered by their stamps and, where those are the same, by their
+-- nodes. After them no node is ready, and no message is in flight.
+pub record IsWovenReport (program : Program) (nodes : ℕ) (options : OptionsRecord) (report : Report) : Type 0 where
+  pub events : List Event
+  pub flight : List Flying
+  pub reported : IsReportOf program nodes options events report
+  pub woven : AreWoven (turns_of report) events flight
+  pub over : AreAll program nodes options events
+
+-- There is a mailbox for each node, with a legal history: exactly the puts that the senders' logs make to it, and the takes of its
+-- owner's log, each once and in the order of each log.
+pub record AreWiresOf (nodes : ℕ) (report : Report) (wires : List MailboxRecord) : Type 0 where
+  pub count : length wires ≡ nodes
+  pub legal : AreWires wires
+  pub matched : AreMatched (turns_of report) wires
+
+-- ---- faults
+
+-- what is said of a thread that stopped
+abbrev pub of_stop : Stop → RunFault
+of_stop stops.Closed = NoMemory
+of_stop stops.Worn = Worn
+of_stop stops.NoMemory = NoMemory
+
+-- what is said of a weave that failed
+abbrev pub of_weaving : WeaveFault → RunFault
+of_weaving weaving.Mismatch = Mismatch
+of_weaving weaving.NoMemory = NoMemory
+
+-- a fault that is met only once nodes and steps are found in range
+abbrev pub IsLate : RunFault → Type 0
+IsLate BadNodes = ⊥
+IsLate BadSteps = ⊥
+IsLate Worn = Unit {0}
+IsLate Mismatch = Unit {0}
+IsLate NoMemory = Unit {0}

@@ -1,0 +1,62 @@
+// Why a run on threads has no report.
+
+ghost use Rattle.std.specs.Prelude.{◌≡◌};
+ghost use Rattle.lrc_run.specs.declared.fault.RunFault.TheVariants.{NoMemory};
+ghost use Rattle.lrc_run.specs.Run.{of_stop, of_weaving};
+
+use crate::stop::Stop;
+use lrc_weave::WeaveFault;
+use std::alloc::AllocError;
+use thiserror::Error;
+
+/// Why a run on threads has no report.
+#[derive(Clone, Copy, Debug, PartialEq, Eq, Error)]
+pub enum RunFault {
+    /// The number of nodes is not 1 to 16.
+    #[error("number of nodes out of range")]
+    BadNodes,
+    /// The number of steps is not 1 to 1,000,000.
+    #[error("number of steps out of range")]
+    BadSteps,
+    /// A message number, an interval's index, a stamp or the length of a message would pass its limit.
+    #[error("message numbers used up")]
+    Worn,
+    /// The nodes' turns and what their mailboxes kept do not tell of the same messages, or a node could still have gone on, or a
+    /// message was still on its way.
+    #[error("logs and wires differ")]
+    Mismatch,
+    /// Memory ran out, or there was none for a thread.
+    #[error("out of memory")]
+    NoMemory,
+}
+
+impl From<AllocError> for RunFault {
+    ghost from_gives = { λ _ e. e ≡ NoMemory };
+
+    fn from(_error: AllocError) -> RunFault {
+        RunFault::NoMemory
+    }
+}
+
+impl From<Stop> for RunFault {
+    ghost from_gives = { λ stop e. e ≡ of_stop stop };
+
+    // A thread whose post is closed ends without a fault, so `Closed` does not come here.
+    fn from(stop: Stop) -> RunFault {
+        match stop {
+            Stop::Worn => RunFault::Worn,
+            Stop::Closed | Stop::NoMemory => RunFault::NoMemory,
+        }
+    }
+}
+
+impl From<WeaveFault> for RunFault {
+    ghost from_gives = { λ fault e. e ≡ of_weaving fault };
+
+    fn from(fault: WeaveFault) -> RunFault {
+        match fault {
+            WeaveFault::Mismatch => RunFault::Mismatch,
+            WeaveFault::NoMemory => RunFault::NoMemory,
+        }
+    }
+}

@@ -1,0 +1,182 @@
+// Runs of a program whose nodes are on threads.
+
+ghost use Rattle.std.specs.Prelude.{◌≡◌, ℕ, ◌≤◌, ◌↔◌, ◌⊎◌, Some, Err, IfOk, IfErr, MatchResult, length, map};
+ghost use Rattle.lrc_trace.specs.Conflict.{IsRaceFree, IsFirstRace};
+ghost use Rattle.lrc_trace.specs.Reading.{ReadsLazily};
+ghost use Rattle.lrc_trace.specs.Synchronization.{IsWellSynchronized};
+ghost use Rattle.lrc_judge.specs.Races.{AreNamedRaces};
+ghost use Rattle.lrc_exec.specs.Plain.{plain};
+ghost use Rattle.lrc_theory.specs.Follows.{nodes_of};
+ghost use Rattle.lrc_theory.specs.Racing.{HasNoRace, PlainToRace};
+ghost use Rattle.lrc_weave.specs.Logs.{AreLogs};
+ghost use Rattle.lrc_weave.specs.Matched.{AreMatched};
+ghost use Rattle.lrc_world.specs.Range.{AreNodes, AreSteps};
+ghost use Rattle.lrc_run.specs.Run.{AreWiresOf, IsLate, IsWovenReport, turns_of};
+
+use crate::fault::RunFault;
+use crate::gate::Gate;
+use crate::nodes::logs_of;
+use lrc_exec::code::Code;
+use lrc_lang::program::Program;
+use lrc_node::{Entry, Options};
+use lrc_post::{Mailbox, Post, Wires};
+use lrc_weave::weave;
+use lrc_wire::Picker;
+use lrc_world::report::{MOST_STEPS, Report, SimFault};
+use lrc_world::simulate::replay;
+use std::alloc::Global;
+use std::sync::Wait;
+use std::thread::Threads;
+
+/// A gate at which nobody waits.
+struct OpenGate;
+
+impl Gate for OpenGate {
+    fn pass(&self, _node: usize, _turn: u32) {}
+}
+
+/// A run in which each node lives on a thread of its own, and what the post between them kept. `picker` says which of its messages
+/// a node is given next; with `Twice` each is given two times.
+///
+/// The report is the one that `lrc_world` has for the events that make the turns of all nodes, put in one order by their stamps. So
+/// the sequential-consistency theorem holds of it, whatever the threads did: where no two conflicting accesses are unordered by
+/// program, lock and barrier order, the plain machine, led by the order of the acts, makes the same acts. Every run is plain up to
+/// its first race; and where no order gives the plain machine a race, no run has one.
+///
+/// Of several faults the one of the lowest node is answered; `Mismatch`, and want of memory after the threads have ended, only where
+/// no node had one.
+pub fn run<R: Threads + Wait + Sync>(
+    rt: &R,
+    alloc: Global,
+    program: &Program,
+    nodes: u32,
+    options: &Options,
+    picker: Picker,
+) -> Result<(Report, Wires), RunFault>
+    ensures woven { IfOk result (λ done. IsWovenReport program.now nodes options.now done.0) }
+    ensures wires { IfOk result (λ done. AreWiresOf nodes done.0 done.1) }
+    ensures races { IfOk result (λ done. AreNamedRaces done.0.acts.items done.0.races.items) }
+
+    ensures synchronized { IfOk result (λ done. IsWellSynchronized nodes done.0.acts.items) }
+    ensures lazy { IfOk result (λ done. ReadsLazily done.0.acts.items) }
+    ensures consistent { IfOk result (λ done. IsRaceFree done.0.acts.items
+        → plain program.now nodes (nodes_of done.0.acts.items) ≡ Some done.0.acts.items) }
+    ensures first { IfOk result (λ done. (position : ℕ) → IsFirstRace done.0.acts.items position
+        → PlainToRace program.now nodes done.0.acts.items position) }
+    ensures unraced { IfOk result (λ done. HasNoRace program.now nodes → IsRaceFree done.0.acts.items) }
+
+    ensures bad_nodes { (result ≡ Err RunFault.BadNodes) ↔ (¬ AreNodes nodes) }
+    ensures bad_steps { (result ≡ Err RunFault.BadSteps) ↔ (AreNodes nodes × ¬ AreSteps options.now.steps) }
+{
+    run_gated(rt, alloc, program, nodes, options, picker, &OpenGate)
+}
+
+/// The same, where each node passes a gate before each of its turns, on its own thread.
+pub fn run_gated<G: Gate + Sync, R: Threads + Wait + Sync>(
+    rt: &R,
+    alloc: Global,
+    program: &Program,
+    nodes: u32,
+    options: &Options,
+    picker: Picker,
+    gate: &G,
+) -> Result<(Report, Wires), RunFault>
+    ensures woven { IfOk result (λ done. IsWovenReport program.now nodes options.now done.0) }
+    ensures wires { IfOk result (λ done. AreWiresOf nodes done.0 done.1) }
+    ensures races { IfOk result (λ done. AreNamedRaces done.0.acts.items done.0.races.items) }
+
+    ensures synchronized { IfOk result (λ done. IsWellSynchronized nodes done.0.acts.items) }
+    ensures lazy { IfOk result (λ done. ReadsLazily done.0.acts.items) }
+    ensures consistent { IfOk result (λ done. IsRaceFree done.0.acts.items
+        → plain program.now nodes (nodes_of done.0.acts.items) ≡ Some done.0.acts.items) }
+    ensures first { IfOk result (λ done. (position : ℕ) → IsFirstRace done.0.acts.items position
+        → PlainToRace program.now nodes done.0.acts.items position) }
+    ensures unraced { IfOk result (λ done. HasNoRace program.now nodes → IsRaceFree done.0.acts.items) }
+
+    ensures bad_nodes { (result ≡ Err RunFault.BadNodes) ↔ (¬ AreNodes nodes) }
+    ensures bad_steps { (result ≡ Err RunFault.BadSteps) ↔ (AreNodes nodes × ¬ AreSteps options.now.steps) }
+{
+    let count = check(nodes, options)?;
+    let (logs, wires) = live(rt, alloc, program, count, options, picker, gate)?;
+    let report = told(
+        alloc,
+        program,
+        nodes,
+        options,
+        logs.as_slice(),
+        wires.mailboxes(),
+    )?;
+    Ok((report, wires))
+}
+
+// The turns of all nodes, and what the post between them kept.
+fn live<G: Gate + Sync, R: Threads + Wait + Sync>(
+    rt: &R,
+    alloc: Global,
+    program: &Program,
+    nodes: u8,
+    options: &Options,
+    picker: Picker,
+    gate: &G,
+) -> Result<(Vec<Vec<Entry>>, Wires), RunFault>
+    requires few { nodes ≤ 16 }
+    ensures logs { IfOk result (λ lived. AreLogs program.now nodes options.now (map (λ log. log.items) lived.0.items)) }
+    ensures wires { IfOk result (λ lived. length lived.1 ≡ nodes) }
+    ensures late { IfErr result IsLate }
+{
+    let code = Code::new(alloc, program)?;
+    let post = Post::new(alloc, nodes, picker)?;
+    let logs = logs_of(rt, alloc, &code, nodes, options, &post, gate)?;
+    Ok((logs, post.into_wires()))
+}
+
+// The report of the nodes' turns, where what the post kept agrees with them, and nothing was left to do.
+fn told(
+    alloc: Global,
+    program: &Program,
+    nodes: u32,
+    options: &Options,
+    logs: &[Vec<Entry>],
+    wires: &[Mailbox],
+) -> Result<Report, RunFault>
+    requires few { nodes ≤ 16 }
+    requires logs { AreLogs program.now nodes options.now (map (λ log. log.items) logs.now) }
+    requires wires { length wires.now ≡ nodes }
+    ensures woven { IfOk result (λ report. IsWovenReport program.now nodes options.now report) }
+    ensures matched { IfOk result (λ report. AreMatched (turns_of report) wires.now) }
+    ensures races { IfOk result (λ report. AreNamedRaces report.acts.items report.races.items) }
+
+    ensures synchronized { IfOk result (λ report. IsWellSynchronized nodes report.acts.items) }
+    ensures lazy { IfOk result (λ report. ReadsLazily report.acts.items) }
+    ensures consistent { IfOk result (λ report. IsRaceFree report.acts.items
+        → plain program.now nodes (nodes_of report.acts.items) ≡ Some report.acts.items) }
+    ensures first { IfOk result (λ report. (position : ℕ) → IsFirstRace report.acts.items position
+        → PlainToRace program.now nodes report.acts.items position) }
+    ensures unraced { IfOk result (λ report. HasNoRace program.now nodes → IsRaceFree report.acts.items) }
+
+    ensures late { IfErr result IsLate }
+{
+    let events = weave(alloc, logs, wires)?;
+    match replay(alloc, program, nodes, options, events.as_slice()) {
+        Ok((report, true)) => Ok(report),
+        Err(SimFault::NoMemory) => Err(RunFault::NoMemory),
+        // The events are those of a run, so no other fault comes.
+        Ok(_) | Err(_) => Err(RunFault::Mismatch),
+    }
+}
+
+// How many nodes there are, where all is in range.
+fn check(nodes: u32, options: &Options) -> Result<u8, RunFault>
+    ensures { MatchResult result
+        (λ count. (count ≡ nodes) × AreNodes nodes × AreSteps options.now.steps)
+        (λ fault. ((fault ≡ RunFault.BadNodes) × ¬ AreNodes nodes)
+        ⊎ ((fault ≡ RunFault.BadSteps) × AreNodes nodes × ¬ AreSteps options.now.steps)) }
+{
+    if nodes < 1 || nodes > 16 {
+        return Err(RunFault::BadNodes);
+    }
+    if options.steps < 1 || options.steps > MOST_STEPS {
+        return Err(RunFault::BadSteps);
+    }
+    Ok(nodes as u8)
+}

@@ -1,0 +1,34 @@
+//! Why logs and mailboxes cannot be woven.
+
+ghost use Rattle.std.specs.Prelude.{◌≡◌};
+ghost use Rattle.lrc_weave.specs.declared.fault.WeaveFault.TheVariants.{NoMemory};
+
+use std::alloc::{AllocError, AllocFailed};
+use thiserror::Error;
+
+/// Why logs and mailboxes cannot be woven.
+#[derive(Clone, Copy, Debug, PartialEq, Eq, Error)]
+pub enum WeaveFault {
+    /// The mailboxes tell of other messages than the logs.
+    #[error("logs and mailboxes differ")]
+    Mismatch,
+    /// No memory was left.
+    #[error("out of memory")]
+    NoMemory,
+}
+
+impl From<AllocError> for WeaveFault {
+    ghost from_gives = { λ _ e. e ≡ NoMemory };
+
+    fn from(_error: AllocError) -> WeaveFault {
+        WeaveFault::NoMemory
+    }
+}
+
+impl<T: Drop> From<AllocFailed<T>> for WeaveFault {
+    ghost from_gives = { λ _ e. e ≡ NoMemory };
+
+    fn from(_error: AllocFailed<T>) -> WeaveFault {
+        WeaveFault::NoMemory
+    }
+}
