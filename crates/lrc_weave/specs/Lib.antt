@@ -1,5 +1,6 @@
 pub mod Logs
 pub mod Matched
+pub mod Compared
 pub mod Woven
 pub mod Next
 pub mod Events
