@@ -1,3 +1,4 @@
+pub mod AnswerLemmas
 pub mod RowLemmas
 pub mod TakenLemmas
 pub mod TextLemmas

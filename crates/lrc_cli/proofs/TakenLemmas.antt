@@ -15,7 +15,7 @@ use Rattle.clap.specs.declared.builder.value_parser.ValueParser.{ValueParser}
 use Rattle.clap.specs.declared.builder.value_parser.ValueParser.TheVariants.{Unsigned}
 use Rattle.clap.specs.declared.error.kind.ErrorKind.TheVariants.{ValueValidation}
 use Rattle.clap.proofs.ValueTestLemmas.{accepts-Accepts}
-use Rattle.lrc_cli.specs.CommandLine.{HasFile, IsNumberOption, IsRunTaken, IsSimulationTaken, IsTaken, check, number, plain, sim, treadmarks, treadmarks_shape}
+use Rattle.lrc_cli.specs.CommandLine.{HasFile, IsNumberOption, IsPlainTaken, IsRunTaken, IsTaken, check, number, plain, run, sim, treadmarks, treadmarks_shape}
 use Rattle.lrc_cli.proofs.RowLemmas.{AreGood, IsKeyed, first_passes, given_some, level_good, neither, required_given}
 
 abbrev check_built : Shape
@@ -26,6 +26,9 @@ plain_built = built_leaf (inherited treadmarks_shape plain.top)
 
 abbrev sim_built : Shape
 sim_built = built_leaf (inherited treadmarks_shape sim.top)
+
+abbrev run_built : Shape
+run_built = built_leaf (inherited treadmarks_shape run.top)
 
 check_keyed : AllByRecursion (IsKeyed check_built.rules) check_built.rules
 check_keyed = (
@@ -69,6 +72,27 @@ sim_keyed = (
   ),
 )
 
+run_keyed : AllByRecursion (IsKeyed run_built.rules) run_built.rules
+run_keyed = (
+  record { own = refl; acts = inl (refl, lit< tt); bare = refl },
+  (
+    record { own = refl; acts = inl (refl, lit< tt); bare = refl },
+    (
+      record { own = refl; acts = inl (refl, lit< tt); bare = refl },
+      (
+        record { own = refl; acts = inl (refl, lit< tt); bare = refl },
+        (
+          record { own = refl; acts = inl (refl, lit< tt); bare = refl },
+          (
+            record { own = refl; acts = inl (refl, lit< tt); bare = refl },
+            (record { own = refl; acts = inr refl; bare = refl }, tt),
+          ),
+        ),
+      ),
+    ),
+  ),
+)
+
 check_taken : (words : List Text) → level_fault check_built [] nothing_held words false [] ≡ [] → HasFile (rows_after check_built.rules [] words)
 check_taken words none =
     let rows = rows_after check_built.rules [] words in
@@ -99,53 +123,70 @@ number_taken rules rows a good own exact parser =
     let written = first.1 ∙ ap (λ (p : Option ValueParser). option_map (read_as (reading_of (parser_of_value p))) (first_of a.id rows)) parser in
     record { number = number_passed (first_of a.id rows) pass; as_written = written ∙ same_text (first_of a.id rows) }
 
--- a command with a FILE and the two numbers of a run
-run_taken : (rules : List Rule) (rows : List Row) → AreGood rules rows → HasFile rows → arg_by_id rules (codes "nodes") ≡ Some (filled (number (codes "nodes")))
-    → arg_by_id rules (codes "steps") ≡ Some (filled (number (codes "steps"))) → IsRunTaken rows
-run_taken rules rows good file nodes_own steps_own = record {
+-- a command with a FILE and the two numbers of a run on the plain machine
+all_plain_taken : (rules : List Rule) (rows : List Row) → AreGood rules rows → HasFile rows
+    → arg_by_id rules (codes "nodes") ≡ Some (filled (number (codes "nodes")))
+    → arg_by_id rules (codes "steps") ≡ Some (filled (number (codes "steps"))) → IsPlainTaken rows
+all_plain_taken rules rows good file nodes_own steps_own = record {
   file = file;
   nodes = number_taken rules rows (filled (number (codes "nodes"))) good nodes_own refl refl;
   steps = number_taken rules rows (filled (number (codes "steps"))) good steps_own refl refl;
 }
 
-plain_taken : (words : List Text) → level_fault plain_built [] nothing_held words false [] ≡ [] → IsRunTaken (rows_after plain_built.rules [] words)
+-- one that has the number for collections too
+all_run_taken : (rules : List Rule) (rows : List Row) → AreGood rules rows → HasFile rows
+    → arg_by_id rules (codes "nodes") ≡ Some (filled (number (codes "nodes")))
+    → arg_by_id rules (codes "steps") ≡ Some (filled (number (codes "steps")))
+    → arg_by_id rules (codes "collect") ≡ Some (filled (number (codes "collect"))) → IsRunTaken rows
+all_run_taken rules rows good file nodes_own steps_own collect_own = record {
+  plain = all_plain_taken rules rows good file nodes_own steps_own;
+  collect = number_taken rules rows (filled (number (codes "collect"))) good collect_own refl refl;
+}
+
+plain_taken : (words : List Text) → level_fault plain_built [] nothing_held words false [] ≡ [] → IsPlainTaken (rows_after plain_built.rules [] words)
 plain_taken words none =
     let rows = rows_after plain_built.rules [] words in
     let level = level_good plain_built words plain_keyed none in
-    run_taken plain_built.rules rows level.0
+    all_plain_taken plain_built.rules rows level.0
     (given_some plain_built.rules (codes "FILE") rows level.0 ((required_given plain_built rows level.1).0 refl)) refl refl
 
-sim_taken : (words : List Text) → level_fault sim_built [] nothing_held words false [] ≡ [] → IsSimulationTaken (rows_after sim_built.rules [] words)
+sim_taken : (words : List Text) → level_fault sim_built [] nothing_held words false [] ≡ [] → IsRunTaken (rows_after sim_built.rules [] words)
 sim_taken words none =
     let rows = rows_after sim_built.rules [] words in
     let level = level_good sim_built words sim_keyed none in
-    record {
-      run = run_taken sim_built.rules rows level.0 (given_some sim_built.rules (codes "FILE") rows level.0 ((required_given sim_built rows level.1).0 refl)) refl
-          refl;
-      collect = number_taken sim_built.rules rows (filled (number (codes "collect"))) level.0 refl refl refl;
-    }
+    all_run_taken sim_built.rules rows level.0
+    (given_some sim_built.rules (codes "FILE") rows level.0 ((required_given sim_built rows level.1).0 refl)) refl refl refl
+
+run_taken : (words : List Text) → level_fault run_built [] nothing_held words false [] ≡ [] → IsRunTaken (rows_after run_built.rules [] words)
+run_taken words none =
+    let rows = rows_after run_built.rules [] words in
+    let level = level_good run_built words run_keyed none in
+    all_run_taken run_built.rules rows level.0
+    (given_some run_built.rules (codes "FILE") rows level.0 ((required_given run_built rows level.1).0 refl)) refl refl refl
 
 -- the top of the command line, as clap builds it
 abbrev top_built : App
-top_built = record { top = built_leaf (record treadmarks_shape { is_leaf = false }); subs = check_built ∷ plain_built ∷ sim_built ∷ [] }
+top_built = record { top = built_leaf (record treadmarks_shape { is_leaf = false }); subs = check_built ∷ plain_built ∷ sim_built ∷ run_built ∷ [] }
 
 one_named : (rows : List Row) (stop : Option (Text × List Text)) → entered_fault top_built stop ≡ []
     → check_fault top_built.top rows (is_some (entered top_built stop)) ≡ []
     → IsTaken (entered top_built stop)
 one_named rows None none checked = absurd cc
 one_named rows (Some p) none checked =
-    go (answers_to p.0 (label_of check_built)) (answers_to p.0 (label_of plain_built)) (answers_to p.0 (label_of sim_built)) none checked
+    go (answers_to p.0 (label_of check_built)) (answers_to p.0 (label_of plain_built)) (answers_to p.0 (label_of sim_built))
+    (answers_to p.0 (label_of run_built)) none checked
   where
-    shape : Bool → Bool → Bool → Option Shape
-    shape b d f = cond b (Some check_built) (cond d (Some plain_built) (cond f (Some sim_built) None))
+    shape : Bool → Bool → Bool → Bool → Option Shape
+    shape b d f h = cond b (Some check_built) (cond d (Some plain_built) (cond f (Some sim_built) (cond h (Some run_built) None)))
 
-    go : (b d f : Bool) → option_map_or (λ s. level_fault s [] nothing_held p.1 false []) (shape b d f) [] ≡ []
-        → check_fault top_built.top rows (is_some (option_map (λ s. rows_at s p.1) (shape b d f))) ≡ []
-        → IsTaken (option_map (λ s. rows_at s p.1) (shape b d f))
-    go true d f e checked = inl (refl, check_taken p.1 e)
-    go false true f e checked = inr (inl (refl, plain_taken p.1 e))
-    go false false true e checked = inr (inr (refl, sim_taken p.1 e))
-    go false false false e checked = absurd cc
+    go : (b d f h : Bool) → option_map_or (λ s. level_fault s [] nothing_held p.1 false []) (shape b d f h) [] ≡ []
+        → check_fault top_built.top rows (is_some (option_map (λ s. rows_at s p.1) (shape b d f h))) ≡ []
+        → IsTaken (option_map (λ s. rows_at s p.1) (shape b d f h))
+    go true d f h e checked = inl (refl, check_taken p.1 e)
+    go false true f h e checked = inr (inl (refl, plain_taken p.1 e))
+    go false false true h e checked = inr (inr (inl (refl, sim_taken p.1 e)))
+    go false false false true e checked = inr (inr (inr (refl, run_taken p.1 e)))
+    go false false false false e checked = absurd cc
 
 pub taken : (words : List Text) → fault_of treadmarks words ≡ [] → IsTaken (subcommand_of treadmarks words)
 unfolding treadmarks

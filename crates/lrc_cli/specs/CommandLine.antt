@@ -13,10 +13,11 @@ use Rattle.lrc_page.specs.declared.size.Size.TheVariants.{Words64, Words256}
 use Rattle.lrc_wire.specs.declared.picker.Picker.{Picker}
 use Rattle.lrc_wire.specs.declared.picker.Picker.TheVariants.{Oldest, Newest, Twice}
 use Rattle.lrc_cli.specs.declared.choice.Choice.{Choice}
-use Rattle.lrc_cli.specs.declared.choice.Choice.TheVariants.{Check, Plain, Simulate}
+use Rattle.lrc_cli.specs.declared.choice.Choice.TheVariants.{Check, Plain, Simulate, Run}
 use Rattle.lrc_cli.specs.declared.choice.ChooseFault.{ChooseFault}
 use Rattle.lrc_cli.specs.declared.choice.ChooseFault.TheVariants.{Usage, BadNumber, NoMemory}
 use Rattle.lrc_cli.specs.declared.choice.PlainRun.{PlainRun}
+use Rattle.lrc_cli.specs.declared.choice.RunOptions.{RunOptions}
 use Rattle.lrc_cli.specs.declared.choice.Simulation.{Simulation}
 use Rattle.lrc_cli.specs.declared.command_line.Misfit.{Misfit}
 use Rattle.lrc_cli.specs.declared.command_line.Misfit.TheVariants.{Order, Page, Number}
@@ -39,11 +40,16 @@ check = with_rule (new_app (codes "check")) file
 abbrev pub plain : App
 plain = with_rule (with_rule (with_rule (new_app (codes "plain")) file) (number (codes "nodes"))) (number (codes "steps"))
 
--- `order` and `page` take one of few words, which are looked at once clap has read them.
+-- What `sim` and `run` have in common. `order` and `page` take one of few words, which are looked at once clap has read them.
+abbrev pub with_run_options : App → App
+with_run_options command = with_rule (with_rule (with_rule (with_rule (with_rule (with_rule command file)
+    (number (codes "nodes"))) (number (codes "steps"))) (number (codes "collect"))) (option (codes "order"))) (option (codes "page"))
+
 abbrev pub sim : App
-sim = with_rule (with_rule (with_rule (with_rule (with_rule (with_rule (with_rule (new_app (codes "sim")) file)
-    (number (codes "nodes"))) (number (codes "steps"))) (number (codes "collect"))) (option (codes "order"))) (option (codes "page")))
-    (option (codes "events"))
+sim = with_rule (with_run_options (new_app (codes "sim"))) (option (codes "events"))
+
+abbrev pub run : App
+run = with_run_options (new_app (codes "run"))
 
 -- The words begin with no program's name, and name one of the commands; the program has a version.
 abbrev pub treadmarks_shape : Shape
@@ -55,8 +61,8 @@ treadmarks_shape = record (new_app (codes "treadmarks")).top {
 }
 
 unfoldable pub treadmarks : App
-treadmarks = with_subcommand (with_subcommand
-    (with_subcommand (record { top = treadmarks_shape; subs = [] }) check.top) plain.top) sim.top
+treadmarks = with_subcommand (with_subcommand (with_subcommand
+    (with_subcommand (record { top = treadmarks_shape; subs = [] }) check.top) plain.top) sim.top) run.top
 
 -- no words at all stand for `sim -`
 abbrev pub words_meant : List Text → List Text
@@ -98,22 +104,23 @@ pub record IsNumberOption (name : Text) (rows : List Row) : Type 0 where
   pub as_written : one_of name rows ≡ first_of name rows
 
 -- what clap makes sure of in the matches of `plain`
-pub record IsRunTaken (rows : List Row) : Type 0 where
+pub record IsPlainTaken (rows : List Row) : Type 0 where
   pub file : HasFile rows
   pub nodes : IsNumberOption (codes "nodes") rows
   pub steps : IsNumberOption (codes "steps") rows
 
--- the same for the matches of `sim`
-pub record IsSimulationTaken (rows : List Row) : Type 0 where
-  pub run : IsRunTaken rows
+-- the same for the matches of `sim` and of `run`
+pub record IsRunTaken (rows : List Row) : Type 0 where
+  pub plain : IsPlainTaken rows
   pub collect : IsNumberOption (codes "collect") rows
 
 -- the command that the words name, with what clap makes sure of in its matches
 abbrev pub IsTaken : Option (Text × List Row) → Type 0
 IsTaken None = ⊥
 IsTaken (Some found) = ((found.0 ≡ codes "check") × HasFile found.1)
-    ⊎ ((found.0 ≡ codes "plain") × IsRunTaken found.1)
-    ⊎ ((found.0 ≡ codes "sim") × IsSimulationTaken found.1)
+    ⊎ ((found.0 ≡ codes "plain") × IsPlainTaken found.1)
+    ⊎ ((found.0 ≡ codes "sim") × IsRunTaken found.1)
+    ⊎ ((found.0 ≡ codes "run") × IsRunTaken found.1)
 
 -- the file and the numbers of a run stand in these matches
 pub record AreOptions (path : Text) (node_count step_count : ℕ) (rows : List Row) : Type 0 where
@@ -125,12 +132,16 @@ pub record AreOptions (path : Text) (node_count step_count : ℕ) (rows : List R
 abbrev pub IsPlainRun : PlainRun → List Row → Type 0
 IsPlainRun run rows = AreOptions run.file.now run.nodes.count run.steps.count rows
 
--- a run is chosen by these matches
-pub record IsSimulation (run : Simulation) (rows : List Row) : Type 0 where
-  pub options : AreOptions run.file.now run.nodes.count run.steps.count rows
+-- what `sim` and `run` have in common is chosen by these matches
+pub record AreRunOptions (run : RunOptions) (rows : List Row) : Type 0 where
+  pub plain : AreOptions run.file.now run.nodes.count run.steps.count rows
   pub collect : collect_in rows ≡ run.collect.count
   pub order : IsOrder (first_of (codes "order") rows) run.order
   pub size : IsSize (first_of (codes "page") rows) run.size
+
+-- a run by events is chosen by these matches
+pub record IsSimulation (run : Simulation) (rows : List Row) : Type 0 where
+  pub options : AreRunOptions run.options rows
   pub events : first_of (codes "events") rows ≡ option_map (λ events. events.now) run.events
 
 -- the choice is the command that clap found, with its matches
@@ -139,6 +150,7 @@ IsFound (Check text) found =
     (found.0 ≡ codes "check") × (first_of (codes "FILE") found.1 ≡ Some text.now)
 IsFound (Plain run) found = (found.0 ≡ codes "plain") × IsPlainRun run found.1
 IsFound (Simulate run) found = (found.0 ≡ codes "sim") × IsSimulation run found.1
+IsFound (Run run) found = (found.0 ≡ codes "run") × AreRunOptions run found.1
 
 -- no order, or no size, has the word of the option
 abbrev pub HasBadOrder : List Row → Type 0
@@ -158,21 +170,22 @@ pub record AreWords (rows : List Row) : Type 0 where
 abbrev pub HasBadCount : List Row → Type 0
 HasBadCount rows = IsOutOfRange 1 16 (nodes_in rows) ⊎ IsOutOfRange 1 1000000 (steps_in rows)
 
--- what does not fit in the matches of `plain`, and of `sim`, where words are looked at before numbers
-abbrev pub HasRunMisfit : Misfit → List Row → Type 0
-HasRunMisfit Order rows = ⊥
-HasRunMisfit Page rows = ⊥
-HasRunMisfit Number rows = HasBadCount rows
+-- what does not fit in the matches of `plain`, and of `sim` and `run`, where words are looked at before numbers
+abbrev pub HasPlainMisfit : Misfit → List Row → Type 0
+HasPlainMisfit Order rows = ⊥
+HasPlainMisfit Page rows = ⊥
+HasPlainMisfit Number rows = HasBadCount rows
 
-abbrev pub HasSimulationMisfit : Misfit → List Row → Type 0
-HasSimulationMisfit Order rows = HasBadOrder rows
-HasSimulationMisfit Page rows = HasBadPage rows
-HasSimulationMisfit Number rows = AreWords rows × (HasBadCount rows ⊎ IsOutOfRange 0 1000000 (collect_in rows))
+abbrev pub HasRunMisfit : Misfit → List Row → Type 0
+HasRunMisfit Order rows = HasBadOrder rows
+HasRunMisfit Page rows = HasBadPage rows
+HasRunMisfit Number rows = AreWords rows × (HasBadCount rows ⊎ IsOutOfRange 0 1000000 (collect_in rows))
 
 -- what does not fit in what clap found
 abbrev pub HasMisfit : Misfit → Text × List Row → Type 0
-HasMisfit misfit found = ((found.0 ≡ codes "plain") × HasRunMisfit misfit found.1)
-    ⊎ ((found.0 ≡ codes "sim") × HasSimulationMisfit misfit found.1)
+HasMisfit misfit found = ((found.0 ≡ codes "plain") × HasPlainMisfit misfit found.1)
+    ⊎ ((found.0 ≡ codes "sim") × HasRunMisfit misfit found.1)
+    ⊎ ((found.0 ≡ codes "run") × HasRunMisfit misfit found.1)
 
 -- the fault of a word that an option does not take
 abbrev pub IsWordFault : ChooseFault → Type 0

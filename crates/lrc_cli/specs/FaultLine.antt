@@ -5,13 +5,15 @@ use Rattle.lrc_lang.specs.declared.fault.FaultKind.TheVariants.{TooLong, BadByte
 use Rattle.lrc_lang.specs.declared.fault.ParseFault.{ParseFault}
 use Rattle.lrc_world.specs.declared.report.SimFault.{SimFault}
 use Rattle.lrc_world.specs.declared.report.SimFault.TheVariants.{Worn}
+use Rattle.lrc_run.specs.declared.fault.RunFault.{RunFault}
+use Rattle.lrc_run.specs.declared.fault.RunFault.TheVariants as threads
 use Rattle.lrc_cli.specs.declared.events.EventsFault.{EventsFault}
 use Rattle.lrc_cli.specs.declared.events.EventsFault.TheVariants.{BadEvent}
 use Rattle.lrc_cli.specs.declared.events.EventsFault.TheVariants as events_faults
 use Rattle.lrc_cli.specs.declared.fault.Fault.{Fault}
 use Rattle.lrc_cli.specs.declared.fault.Fault.TheVariants as faults
 
--- the fault of a text, of the text of events and of a run
+-- the fault of a text, of the text of events, of a run, and of a run on threads
 abbrev pub fault_of_kind : ℕ → FaultKind → Fault
 fault_of_kind line NoMemory = faults.NoMemory
 fault_of_kind line kind = faults.Text line kind
@@ -27,6 +29,11 @@ abbrev pub fault_of_run : SimFault → Fault
 fault_of_run Worn = faults.Worn
 fault_of_run _ = faults.NoMemory
 
+abbrev pub fault_of_threads : RunFault → Fault
+fault_of_threads threads.Worn = faults.Worn
+fault_of_threads threads.Mismatch = faults.Mismatch
+fault_of_threads _ = faults.NoMemory
+
 abbrev pub kind_words : FaultKind → List ℕ
 kind_words TooLong = codes "text too long"
 kind_words BadByte = codes "bad byte"
@@ -41,6 +48,7 @@ abbrev pub fault_words : Fault → List ℕ
 fault_words (faults.Text line kind) = codes "line " ++ decimal line ++ codes ": " ++ kind_words kind
 fault_words (faults.Events line) = codes "events line " ++ decimal line ++ codes ": bad event"
 fault_words faults.Worn = codes "message numbers used up"
+fault_words faults.Mismatch = codes "logs and wires differ"
 fault_words faults.NoMemory = codes "out of memory"
 
 abbrev pub fault_line : Fault → List ℕ

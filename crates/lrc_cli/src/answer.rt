@@ -1,11 +1,11 @@
 // What the program answers to a choice, before anything is written.
 
-ghost use Rattle.std.specs.Prelude.{◌≡◌, IfErr, IfOk, None, Some, is_some, option_map};
-ghost use Rattle.lrc_cli.specs.Answer.{IsFault, IsPrintoutOfRounds, IsRunFault, IsRunOf, Prints, names_events, options_of};
+ghost use Rattle.std.specs.Prelude.{◌≡◌, IfErr, IfOk, None, Some, false, is_some, option_map};
+ghost use Rattle.lrc_cli.specs.Answer.{IsFault, IsPrintoutOfRounds, IsRunFault, IsRunOf, Prints, names_events, options_of, starts_threads};
 ghost use Rattle.lrc_cli.specs.ReportText.{report_text, run_status_of, run_text, status_of, whole_text};
 ghost use Rattle.lrc_cli.specs.declared.fault.Fault.TheVariants.{NoMemory};
 
-use crate::choice::{Choice, PlainRun, Simulation};
+use crate::choice::{Choice, PlainRun, RunOptions};
 use crate::events::events_of;
 use crate::fault::{Fault, fault_of_run};
 use crate::report::{report_parts, run_parts, status_after, status_after_run};
@@ -27,14 +27,15 @@ pub struct Printout {
     pub status: u8,
 }
 
-/// Answers a choice, with the text of its FILE, and that of its events where it names them.
+/// Answers a choice that starts no threads, with the text of its FILE, and that of its events where it names them.
 pub fn answer(
     alloc: Global,
     choice: &Choice<'_>,
     text: &[u8],
     events: Option<&[u8]>,
 ) -> Result<Printout, Fault>
-    requires { is_some events ≡ names_events choice.now }
+    requires threadless { starts_threads choice.now ≡ false }
+    requires events { is_some events ≡ names_events choice.now }
     ensures ok { IfOk result (λ printout. Prints choice.now text.now (option_map (λ e. e.now) events.entry)
         (whole_text printout.parts.items) printout.status) }
     ensures err { IfErr result (λ fault. IsFault choice.now text.now (option_map (λ e. e.now) events.entry) fault) }
@@ -48,9 +49,10 @@ pub fn answer(
         }
         Choice::Plain(run) => in_rounds(alloc, run, &program),
         Choice::Simulate(run) => {
-            let report = simulated(alloc, run, &program, events)?;
+            let report = simulated(alloc, &run.options, &program, events)?;
             Ok(printout_of_run(alloc, &report)?)
         }
+        Choice::Run(_) => unreachable!(),
     }
 }
 
@@ -78,7 +80,7 @@ fn printout_of(alloc: Global, acts: &[Act], ends: &[End]) -> Result<Printout, Al
 }
 
 // What is printed of a run.
-fn printout_of_run(alloc: Global, report: &Report) -> Result<Printout, AllocError>
+pub(crate) fn printout_of_run(alloc: Global, report: &Report) -> Result<Printout, AllocError>
     ensures text { IfOk result (λ printout. whole_text printout.parts.items ≡ run_text report.now) }
     ensures status { IfOk result (λ printout. printout.status ≡ run_status_of report.now.first_race report.now.ends.items) }
 {
@@ -90,7 +92,7 @@ fn printout_of_run(alloc: Global, report: &Report) -> Result<Printout, AllocErro
 
 fn simulated(
     alloc: Global,
-    run: &Simulation<'_>,
+    run: &RunOptions<'_>,
     program: &Program,
     events: Option<&[u8]>,
 ) -> Result<Report, Fault>
@@ -106,7 +108,7 @@ fn simulated(
 // The run of the events that a text names.
 fn played(
     alloc: Global,
-    run: &Simulation<'_>,
+    run: &RunOptions<'_>,
     program: &Program,
     text: &[u8],
 ) -> Result<Report, Fault>
@@ -119,7 +121,7 @@ fn played(
 }
 
 // The run in rounds.
-fn driven(alloc: Global, run: &Simulation<'_>, program: &Program) -> Result<Report, Fault>
+fn driven(alloc: Global, run: &RunOptions<'_>, program: &Program) -> Result<Report, Fault>
     ensures ok { IfOk result (IsRunOf program.now run.now None) }
     ensures err { IfErr result (IsRunFault program.now run.now None) }
 {
@@ -129,7 +131,7 @@ fn driven(alloc: Global, run: &Simulation<'_>, program: &Program) -> Result<Repo
     Ok(report)
 }
 
-fn options_of(run: &Simulation<'_>) -> Options
+pub(crate) fn options_of(run: &RunOptions<'_>) -> Options
     ensures { result ≡ options_of run.now }
 {
     Options {

@@ -38,9 +38,9 @@ pub struct PlainRun<'w> {
     pub steps: Steps,
 }
 
-/// The options of `sim`.
+/// The options that `sim` and `run` have in common.
 #[derive(Clone, Copy)]
-pub struct Simulation<'w> {
+pub struct RunOptions<'w> {
     /// The file of the program's text; `-` is standard input.
     pub file: &'w str,
     pub nodes: Nodes,
@@ -50,6 +50,12 @@ pub struct Simulation<'w> {
     pub order: Picker,
     /// The size of a page.
     pub size: Size,
+}
+
+/// The options of `sim`.
+#[derive(Clone, Copy)]
+pub struct Simulation<'w> {
+    pub options: RunOptions<'w>,
     /// The file of the events, if one is named.
     pub events: Option<&'w str>,
 }
@@ -63,6 +69,8 @@ pub enum Choice<'w> {
     Plain(PlainRun<'w>),
     /// A run in which one event happens after the other.
     Simulate(Simulation<'w>),
+    /// A run whose nodes are on threads of their own.
+    Run(RunOptions<'w>),
 }
 
 /// Why there is no choice.

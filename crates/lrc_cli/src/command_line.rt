@@ -6,15 +6,16 @@ ghost use Rattle.clap.specs.Words.{app_of, fault_of, first_of, found_of, kind_of
 ghost use Rattle.clap.specs.Words.{subcommand_rows_of};
 ghost use Rattle.clap.specs.declared.builder.command.Command.TheViews.{out-Command as fields_of};
 ghost use Rattle.clap.specs.declared.error.kind.ErrorKind.TheVariants.{InvalidValue};
-ghost use Rattle.lrc_cli.specs.CommandLine.{Chooses, HasBadOrder, HasBadPage, HasFile, HasMisfit, HasRunMisfit, HasSimulationMisfit};
-ghost use Rattle.lrc_cli.specs.CommandLine.{IsFound, IsFoundFault, IsMisfitFault, IsNumberOption, IsOrder, IsPlainRun, IsRunTaken};
-ghost use Rattle.lrc_cli.specs.CommandLine.{IsSimulation, IsSimulationTaken, IsSize, IsTaken, IsWordFault, check, fault_from};
-ghost use Rattle.lrc_cli.specs.CommandLine.{collect_in, file, number, nodes_in, number_in, option, plain, sim, steps_in, treadmarks, words_meant};
+ghost use Rattle.lrc_cli.specs.CommandLine.{Chooses, HasBadOrder, HasBadPage, HasFile, HasMisfit, HasPlainMisfit, HasRunMisfit};
+ghost use Rattle.lrc_cli.specs.CommandLine.{IsFound, IsFoundFault, IsMisfitFault, IsNumberOption, IsOrder, IsPlainRun, IsPlainTaken};
+ghost use Rattle.lrc_cli.specs.CommandLine.{AreRunOptions, IsRunTaken, IsSimulation, IsSize, IsTaken, IsWordFault, check, fault_from};
+ghost use Rattle.lrc_cli.specs.CommandLine.{collect_in, file, number, nodes_in, number_in, option, plain, run, sim, steps_in, treadmarks};
+ghost use Rattle.lrc_cli.specs.CommandLine.{with_run_options, words_meant};
 ghost use Rattle.lrc_page.specs.declared.size.Size.{Size};
 ghost use Rattle.lrc_wire.specs.declared.picker.Picker.{Picker};
 ghost use Rattle.lrc_cli.specs.declared.choice.ChooseFault.TheVariants.{NoMemory};
 
-use crate::choice::{Choice, ChooseFault, Collect, Nodes, PlainRun, Simulation, Steps};
+use crate::choice::{Choice, ChooseFault, Collect, Nodes, PlainRun, RunOptions, Simulation, Steps};
 use clap::error::ErrorKind;
 use clap::{Arg, ArgMatches, Command, value_parser};
 use lrc_page::Size;
@@ -132,14 +133,17 @@ fn choice_from<'w>(matches: &ArgMatches<'w>) -> Result<Choice<'w>, Misfit>
     if let Some(options) = matches.subcommand_matches("plain") {
         return Ok(Choice::Plain(plain_run(options)?));
     }
+    if let Some(options) = matches.subcommand_matches("run") {
+        return Ok(Choice::Run(run_options(options)?));
+    }
     let options = matches.subcommand_matches("sim").unwrap();
     Ok(Choice::Simulate(simulation(options)?))
 }
 
 fn plain_run<'w>(options: &ArgMatches<'w>) -> Result<PlainRun<'w>, Misfit>
-    requires { IsRunTaken (rows_of (found_of options.now)) }
+    requires { IsPlainTaken (rows_of (found_of options.now)) }
     ensures ok { IfOk result (λ run. IsPlainRun run (rows_of (found_of options.now))) }
-    ensures err { IfErr result (λ misfit. HasRunMisfit misfit (rows_of (found_of options.now))) }
+    ensures err { IfErr result (λ misfit. HasPlainMisfit misfit (rows_of (found_of options.now))) }
 {
     Ok(PlainRun {
         file: file_of(options),
@@ -149,20 +153,30 @@ fn plain_run<'w>(options: &ArgMatches<'w>) -> Result<PlainRun<'w>, Misfit>
 }
 
 fn simulation<'w>(options: &ArgMatches<'w>) -> Result<Simulation<'w>, Misfit>
-    requires { IsSimulationTaken (rows_of (found_of options.now)) }
+    requires { IsRunTaken (rows_of (found_of options.now)) }
     ensures ok { IfOk result (λ run. IsSimulation run (rows_of (found_of options.now))) }
-    ensures err { IfErr result (λ misfit. HasSimulationMisfit misfit (rows_of (found_of options.now))) }
+    ensures err { IfErr result (λ misfit. HasRunMisfit misfit (rows_of (found_of options.now))) }
+{
+    Ok(Simulation {
+        options: run_options(options)?,
+        events: options.get_str("events"),
+    })
+}
+
+fn run_options<'w>(options: &ArgMatches<'w>) -> Result<RunOptions<'w>, Misfit>
+    requires { IsRunTaken (rows_of (found_of options.now)) }
+    ensures ok { IfOk result (λ run. AreRunOptions run (rows_of (found_of options.now))) }
+    ensures err { IfErr result (λ misfit. HasRunMisfit misfit (rows_of (found_of options.now))) }
 {
     let order = order_of(options)?;
     let size = size_of(options)?;
-    Ok(Simulation {
+    Ok(RunOptions {
         file: file_of(options),
         nodes: nodes_of(options)?,
         steps: steps_of(options)?,
         collect: collect_of(options)?,
         order,
         size,
-        events: options.get_str("events"),
     })
 }
 
@@ -299,7 +313,8 @@ fn command_line<'w>(alloc: Global) -> Result<Command<'w>, AllocError>
         .disable_help_subcommand(true)
         .subcommand(check_command(alloc)?)?
         .subcommand(plain_command(alloc)?)?
-        .subcommand(sim_command(alloc)?)
+        .subcommand(sim_command(alloc)?)?
+        .subcommand(run_command(alloc)?)
 }
 
 fn check_command<'w>(alloc: Global) -> Result<Command<'w>, AllocError>
@@ -328,15 +343,33 @@ fn sim_command<'w>(alloc: Global) -> Result<Command<'w>, AllocError>
     ensures app { IfOk result (λ command. app_of command ≡ sim) }
     ensures local { IfOk result (λ command. (fields_of command).has_globals ≡ false) }
 {
-    Command::new(alloc, "sim")
-        .about("Runs the program of FILE, one event after the other")
+    let command =
+        Command::new(alloc, "sim").about("Runs the program of FILE, one event after the other");
+    taking_run_options(alloc, command)?.arg(text(alloc, "events", "PATH", EVENTS_HELP))
+}
+
+fn run_command<'w>(alloc: Global) -> Result<Command<'w>, AllocError>
+    ensures app { IfOk result (λ command. app_of command ≡ run) }
+    ensures local { IfOk result (λ command. (fields_of command).has_globals ≡ false) }
+{
+    let command =
+        Command::new(alloc, "run").about("Runs the program of FILE, each node on a thread of its own");
+    taking_run_options(alloc, command)
+}
+
+// Adds what `sim` and `run` have in common.
+fn taking_run_options<'w>(alloc: Global, command: Command<'w>) -> Result<Command<'w>, AllocError>
+    requires { (fields_of command).has_globals ≡ false }
+    ensures app { IfOk result (λ given. app_of given ≡ with_run_options (app_of command.entry)) }
+    ensures local { IfOk result (λ given. (fields_of given).has_globals ≡ false) }
+{
+    command
         .arg(file(alloc))?
         .arg(number(alloc, "nodes", NODES_HELP))?
         .arg(number(alloc, "steps", STEPS_HELP))?
         .arg(number(alloc, "collect", COLLECT_HELP))?
         .arg(text(alloc, "order", "ORDER", ORDER_HELP))?
-        .arg(text(alloc, "page", "WORDS", PAGE_HELP))?
-        .arg(text(alloc, "events", "PATH", EVENTS_HELP))
+        .arg(text(alloc, "page", "WORDS", PAGE_HELP))
 }
 
 fn file<'w>(alloc: Global) -> Arg<'w>

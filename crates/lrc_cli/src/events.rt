@@ -7,19 +7,16 @@ ghost use Rattle.lrc_cli.specs.declared.events.EventsFault.TheVariants.{NoMemory
 
 use lrc_protocol::Event;
 use std::alloc::{AllocFailed, Global};
-use thiserror::Error;
 
 /// The longest text of events, in bytes.
 pub const MOST_BYTES: usize = 16_777_216;
 
 /// Why a text gives no events.
-#[derive(Clone, Copy, Debug, PartialEq, Eq, Error)]
+#[derive(Clone, Copy, Debug, PartialEq, Eq)]
 pub enum EventsFault {
     /// The line of this number, counted from 1, names no event.
-    #[error("events line {0}: bad event")]
     BadEvent(u32),
     /// Memory ran out.
-    #[error("out of memory")]
     NoMemory,
 }
 

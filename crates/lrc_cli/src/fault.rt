@@ -1,32 +1,52 @@
 // Why nothing is printed, and the line that says so.
 
-ghost use Rattle.std.specs.Prelude.{◌≡◌, ◌≢◌, ◌++◌, IfOk, OnOk, codes, decimal};
-ghost use Rattle.lrc_cli.specs.FaultLine.{fault_line, fault_of_events, fault_of_run, fault_of_text, fault_words, kind_words};
+ghost use Rattle.std.specs.Prelude.{◌≡◌, ◌≢◌, IfOk, Some};
+ghost use Rattle.std.specs.String.{string_bytes};
+ghost use Rattle.lrc_cli.specs.FaultLine.{fault_line, fault_of_events, fault_of_run, fault_of_text, fault_of_threads, fault_words, kind_words};
 ghost use Rattle.lrc_cli.specs.declared.fault.Fault.TheVariants.{NoMemory};
 
 use crate::events::EventsFault;
-use itoa::Buffer;
 use lrc_lang::fault::{FaultKind, ParseFault};
+use lrc_run::RunFault;
 use lrc_world::report::SimFault;
 use std::alloc::{AllocError, AllocFailed, Global};
-use thiserror::Error;
+use std::error::Error;
+use std::fmt;
+use std::fmt::{Display, Formatter};
 
-/// Why nothing is printed.
-#[derive(Clone, Copy, Debug, PartialEq, Eq, Error)]
+/// Why nothing is printed. It is shown as the line on it says.
+#[derive(Clone, Copy, Debug, PartialEq, Eq)]
 pub enum Fault {
     /// The text is no program: the line of its first fault, and the fault.
-    #[error("line {0}: {1}")]
     Text(u32, FaultKind),
     /// The line of this number in the text of events names no event.
-    #[error("events line {0}: bad event")]
     Events(u32),
     /// The numbers of messages were used up.
-    #[error("message numbers used up")]
     Worn,
+    /// What the nodes of a run on threads say that they sent and took is not what went through the post.
+    Mismatch,
     /// Memory ran out.
-    #[error("out of memory")]
     NoMemory,
 }
+
+impl Display for Fault {
+    ghost output = { λ fault. Some (fault_words fault) };
+
+    fn fmt<W: fmt::Write>(&self, f: &mut Formatter<W>) -> fmt::Result {
+        match self {
+            Fault::Text(line, kind) => {
+                let words = words_of(*kind);
+                write!(f, "line {line}: {words}")
+            }
+            Fault::Events(line) => write!(f, "events line {line}: bad event"),
+            Fault::Worn => write!(f, "message numbers used up"),
+            Fault::Mismatch => write!(f, "logs and wires differ"),
+            Fault::NoMemory => write!(f, "out of memory"),
+        }
+    }
+}
+
+impl Error for Fault {}
 
 impl From<ParseFault> for Fault {
     ghost from_gives = { λ fault made. made ≡ fault_of_text fault };
@@ -79,60 +99,41 @@ pub(crate) fn fault_of_run(fault: SimFault) -> Fault
     }
 }
 
+/// The fault of a run on threads whose options are in range.
+pub(crate) fn fault_of_threads(fault: RunFault) -> Fault
+    requires nodes { fault ≢ RunFault.BadNodes }
+    requires steps { fault ≢ RunFault.BadSteps }
+    ensures { result ≡ fault_of_threads fault }
+{
+    match fault {
+        RunFault::Worn => Fault::Worn,
+        RunFault::Mismatch => Fault::Mismatch,
+        RunFault::NoMemory => Fault::NoMemory,
+        RunFault::BadNodes | RunFault::BadSteps => unreachable!(),
+    }
+}
+
 /// The line that is written where memory ran out.
 pub(crate) const NO_MEMORY_LINE: &[u8] = b"treadmarks: out of memory\n";
 
 /// The line that is written for a fault.
-pub(crate) fn line_of(alloc: Global, fault: Fault) -> Result<Vec<u8>, AllocError>
-    ensures { IfOk result (λ line. line.items ≡ fault_line fault) }
+pub(crate) fn line_of(alloc: Global, fault: Fault) -> Result<String, AllocError>
+    ensures { IfOk result (λ line. string_bytes line ≡ fault_line fault) }
 {
-    let mut line = Vec::from_slice(alloc, b"treadmarks: ")?;
-    push_fault(&mut line, fault)?;
-    Ok(line)
+    format!(in alloc; "treadmarks: {fault}\n")
 }
 
-// Adds the words of a fault, and the end of the line.
-fn push_fault(line: &mut Vec<u8>, fault: Fault) -> Result<(), AllocError>
-    ensures { OnOk result (line.new.items ≡ line.old.items ++ fault_words fault ++ codes "\n") }
-{
-    match fault {
-        Fault::Text(number, kind) => {
-            push_numbered(line, b"line ", number, b": ")?;
-            line.extend_from_slice(words_of(kind))?;
-        }
-        Fault::Events(number) => push_numbered(line, b"events line ", number, b": bad event")?,
-        Fault::Worn => line.extend_from_slice(b"message numbers used up")?,
-        Fault::NoMemory => line.extend_from_slice(b"out of memory")?,
-    }
-    line.extend_from_slice(b"\n")
-}
-
-// Adds a number between words.
-fn push_numbered(
-    line: &mut Vec<u8>,
-    before: &[u8],
-    number: u32,
-    after: &[u8],
-) -> Result<(), AllocError>
-    ensures { OnOk result (line.new.items ≡ line.old.items ++ before.now ++ decimal number ++ after.now) }
-{
-    let mut digits = Buffer::new();
-    line.extend_from_slice(before)?;
-    line.extend_from_slice(digits.format(number).as_bytes())?;
-    line.extend_from_slice(after)
-}
-
-fn words_of(kind: FaultKind) -> &'static [u8]
+fn words_of(kind: FaultKind) -> &'static str
     ensures { result.now ≡ kind_words kind }
 {
     match kind {
-        FaultKind::TooLong => b"text too long",
-        FaultKind::BadByte => b"bad byte",
-        FaultKind::BadNumber => b"bad number",
-        FaultKind::Unexpected => b"unexpected token",
-        FaultKind::TooDeep => b"nested too deep",
-        FaultKind::TooManyNames => b"too many names",
-        FaultKind::OverLimit => b"over a limit",
-        FaultKind::NoMemory => b"out of memory",
+        FaultKind::TooLong => "text too long",
+        FaultKind::BadByte => "bad byte",
+        FaultKind::BadNumber => "bad number",
+        FaultKind::Unexpected => "unexpected token",
+        FaultKind::TooDeep => "nested too deep",
+        FaultKind::TooManyNames => "too many names",
+        FaultKind::OverLimit => "over a limit",
+        FaultKind::NoMemory => "out of memory",
     }
 }

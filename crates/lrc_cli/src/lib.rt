@@ -6,9 +6,11 @@ pub mod choice;
 mod command_line;
 pub mod events;
 pub mod fault;
+mod files;
 mod output;
 mod performance;
 pub mod report;
+mod threads;
 
 pub use command_line::choose;
-pub use performance::perform;
+pub use performance::{execute, perform};

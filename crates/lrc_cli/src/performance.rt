@@ -1,24 +1,47 @@
 // Doing what the words ask for, over any two writers.
 
-ghost use Rattle.std.specs.Prelude.{◌≡◌, ◌⊎◌, is_some, option_map};
-ghost use Rattle.lrc_cli.specs.Answer.{names_events};
+ghost use Rattle.std.specs.Prelude.{◌≡◌, ◌⊎◌, ℕ, List, Option, false, is_some, option_map};
+ghost use Rattle.lrc_cli.specs.Answer.{Answers, names_events, starts_threads};
 ghost use Rattle.lrc_cli.specs.FaultLine.{fault_line};
 ghost use Rattle.lrc_cli.specs.Performance.{IsWritten, Performs};
 ghost use Rattle.lrc_cli.specs.ReportText.{whole_text};
+ghost use Rattle.lrc_cli.specs.declared.choice.Choice.{Choice as AnyChoice};
 ghost use Rattle.lrc_cli.specs.declared.fault.Fault.TheVariants.{NoMemory};
 
 use crate::answer::{Printout, answer};
 use crate::choice::Choice;
 use crate::fault::{Fault, NO_MEMORY_LINE, line_of};
 use crate::output::{put, put_parts};
+use crate::threads::answer_on_threads;
 use std::alloc::Global;
 use std::io::Write;
+use std::sync::Wait;
+use std::thread::Threads;
 
-/// Does what a choice asks for, with the text of its FILE, and that of its events where it names them. What it prints
-/// goes to `out`; where there is a fault, its line goes to `err`, and nothing to `out`. The answer is the status with
-/// which the program ends: 1 after a fault. After a failed write nothing more is written, and the answer is 1. The parts
-/// of a text are written one by one, and neither writer is flushed.
+/// Does what a choice asks for that starts no threads, with the text of its FILE, and that of its events where it names
+/// them. What it prints goes to `out`; where there is a fault, its line goes to `err`, and nothing to `out`. The answer is
+/// the status with which the program ends: 1 after a fault. After a failed write nothing more is written, and the answer is
+/// 1. The parts of a text are written one by one, and neither writer is flushed.
 pub fn perform<W: Write, E: Write>(
+    alloc: Global,
+    choice: &Choice<'_>,
+    text: &[u8],
+    events: Option<&[u8]>,
+    out: &mut W,
+    err: &mut E,
+) -> u8
+    requires threadless { starts_threads choice.now ≡ false }
+    requires events { is_some events ≡ names_events choice.now }
+    ensures { Performs choice.now text.now (option_map (λ e. e.now) events.entry)
+        (W.contents out.old) (W.contents out.new) (E.contents err.old) (E.contents err.new) result }
+{
+    tell(alloc, answer(alloc, choice, text, events), out, err)
+}
+
+/// Does what a choice asks for, as [`perform`] does, also where that starts threads: a run in which each node lives on a
+/// thread of its own.
+pub fn execute<R: Threads + Wait + Sync, W: Write, E: Write>(
+    rt: &R,
     alloc: Global,
     choice: &Choice<'_>,
     text: &[u8],
@@ -30,7 +53,28 @@ pub fn perform<W: Write, E: Write>(
     ensures { Performs choice.now text.now (option_map (λ e. e.now) events.entry)
         (W.contents out.old) (W.contents out.new) (E.contents err.old) (E.contents err.new) result }
 {
-    match answer(alloc, choice, text, events) {
+    match choice {
+        Choice::Run(options) => {
+            let answered = answer_on_threads(rt, alloc, options, text);
+            tell(alloc, answered, out, err)
+        }
+        Choice::Check(_) | Choice::Plain(_) | Choice::Simulate(_) => {
+            perform(alloc, choice, text, events, out, err)
+        }
+    }
+}
+
+// Prints what was answered to a choice, or the line of its fault.
+fn tell<W: Write, E: Write>(
+    alloc: Global,
+    answered: Result<Printout, Fault>,
+    out: &mut W,
+    err: &mut E,
+) -> u8
+    ensures { (choice : AnyChoice) (text : List ℕ) (events : Option (List ℕ)) → Answers choice text events answered
+        → Performs choice text events (W.contents out.old) (W.contents out.new) (E.contents err.old) (E.contents err.new) result }
+{
+    match answered {
         Ok(printout) => print(&printout, out),
         Err(fault) => complain(alloc, fault, err),
     }
@@ -52,7 +96,7 @@ fn complain<E: Write>(alloc: Global, fault: Fault, err: &mut E) -> u8
         ⊎ IsWritten (E.contents err.old) (E.contents err.new) (fault_line NoMemory) 1 result }
 {
     match line_of(alloc, fault) {
-        Ok(line) => put_line(&line, err),
+        Ok(line) => put_line(line.as_bytes(), err),
         Err(_) => put_line(NO_MEMORY_LINE, err),
     }
 }

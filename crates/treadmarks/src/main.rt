@@ -5,12 +5,14 @@ ghost use Rattle.std.specs.Prelude.{◌≡◌, IfOk, IfSome, is_some, take};
 ghost use Rattle.lrc_cli.specs.Answer.{names_events};
 
 use lrc_cli::choice::{Choice, ChooseFault};
-use lrc_cli::{choose, perform};
+use lrc_cli::{choose, execute};
 use std::alloc::Global;
 use std::fs::Files;
-use std::io::{ErrorKind, Read};
+use std::io::{ErrorKind, Read, Write};
 use std::process::ExitCode;
 use std::rt::Env;
+use std::sync::Wait;
+use std::thread::Threads;
 use std::{env, fs, io};
 use thiserror::Error;
 
@@ -47,17 +49,23 @@ impl From<io::Error> for ReadFault {
 }
 
 fn main(rt: HostRuntime) -> ExitCode {
-    ExitCode::from(answer(&rt))
+    // Neither output has a buffer: what is written to it is with the system.
+    let mut out = rt.stdout();
+    let mut err = rt.stderr();
+    ExitCode::from(answer(&rt, &mut out, &mut err))
 }
 
 /// Does what the words ask for, and gives the exit status.
-fn answer(rt: &HostRuntime) -> u8 {
+fn answer<R, W: Write, E: Write>(rt: &R, out: &mut W, err: &mut E) -> u8
+where
+    R: Threads + Wait + Sync + Env + Files + Input + Eprint + AllocGlobal,
+{
     let words = match words(rt) {
         Ok(words) => words,
         Err(error) => return refuse_words(rt, &error),
     };
     match choose(rt.alloc(), words.as_slice()) {
-        Ok(choice) => match play(rt, &choice) {
+        Ok(choice) => match play(rt, &choice, out, err) {
             Ok(status) => status,
             Err(fault) => {
                 let _ = eprintln!(rt; "treadmarks: {fault}");
@@ -101,29 +109,27 @@ fn refuse(rt: &impl Eprint, fault: &ChooseFault) -> u8 {
     }
 }
 
-/// Reads what a choice names and performs it. Neither output has a buffer: what is written to it is with the system.
-fn play(rt: &HostRuntime, choice: &Choice<'_>) -> Result<u8, ReadFault> {
-    let text = read_text(rt, file_of(choice))?;
+/// Reads what a choice names and does it.
+fn play<R, W: Write, E: Write>(
+    rt: &R,
+    choice: &Choice<'_>,
+    out: &mut W,
+    err: &mut E,
+) -> Result<u8, ReadFault>
+where
+    R: Threads + Wait + Sync + Files + Input + AllocGlobal,
+{
+    let text = read_text(rt, choice.file())?;
     let events = read_events(rt, choice)?;
-    let mut out = rt.stdout();
-    let mut err = rt.stderr();
-    Ok(perform(
+    Ok(execute(
+        rt,
         rt.alloc(),
         choice,
         &text,
         events.as_deref(),
-        &mut out,
-        &mut err,
+        out,
+        err,
     ))
-}
-
-/// The file of the program's text.
-fn file_of<'w>(choice: &Choice<'w>) -> &'w str {
-    match choice {
-        Choice::Check(file) => file,
-        Choice::Plain(run) => run.file,
-        Choice::Simulate(run) => run.file,
-    }
 }
 
 /// Reads the program's text. The path `-` is standard input.
@@ -139,12 +145,9 @@ fn read_text(rt: &(impl Files + Input + AllocGlobal), path: &str) -> io::Result<
 fn read_events(rt: &(impl Files + AllocGlobal), choice: &Choice<'_>) -> io::Result<Option<Vec<u8>>>
     ensures { IfOk result (λ events. is_some events ≡ names_events choice.now) }
 {
-    match choice {
-        Choice::Simulate(run) => match run.events {
-            Some(path) => Ok(Some(read_up_to(rt.alloc(), fs::open(rt, path)?, EVENTS_READ)?)),
-            None => Ok(None),
-        },
-        Choice::Check(_) | Choice::Plain(_) => Ok(None),
+    match choice.events() {
+        Some(path) => Ok(Some(read_up_to(rt.alloc(), fs::open(rt, path)?, EVENTS_READ)?)),
+        None => Ok(None),
     }
 }
 

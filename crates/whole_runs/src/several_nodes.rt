@@ -1,10 +1,12 @@
 // Worked programs of several nodes, in each order of delivery and with pages of each size.
 
-use crate::shell::{ON_ONE_NODE, Outcome, simulated};
-use lrc_cli::choice::{Collect, Nodes, Simulation};
+use crate::shell::{ON_ONE_NODE, Outcome, on_threads, simulated};
+use lrc_cli::choice::{Collect, Nodes, RunOptions};
 use lrc_page::Size;
 use lrc_wire::Picker;
 use std::alloc::Global;
+use std::sync::Wait;
+use std::thread::Threads;
 
 // How many nodes run a text, from how many stored intervals on they collect, the text, and what is printed.
 type Case = (Nodes, Collect, &'static [u8], &'static [u8]);
@@ -13,15 +15,34 @@ const ORDERS: [Picker; 3] = [Picker::Oldest, Picker::Newest, Picker::Twice];
 
 const SIZES: [Size; 2] = [Size::Words64, Size::Words256];
 
-fn one_way(alloc: Global, case: Case, order: Picker, size: Size) -> Outcome {
-    let run = Simulation {
+// The options of a case, with this order and size.
+fn options_of(case: Case, order: Picker, size: Size) -> RunOptions<'static> {
+    RunOptions {
         nodes: case.0,
         collect: case.1,
         order,
         size,
         ..ON_ONE_NODE
-    };
-    simulated(alloc, run, case.2)
+    }
+}
+
+fn one_way(alloc: Global, case: Case, order: Picker, size: Size) -> Outcome {
+    simulated(alloc, options_of(case, order, size), case.2)
+}
+
+// Whether a program does so whose nodes are on threads, in every order.
+fn prints_on_threads<R: Threads + Wait + Sync + AllocGlobal>(
+    rt: &R,
+    case: Case,
+    status: u8,
+) -> bool {
+    for order in ORDERS {
+        let options = options_of(case, order, Size::Words64);
+        if !on_threads(rt, options, case.2).prints(case.3, status) {
+            return false;
+        }
+    }
+    true
 }
 
 // Whether a program prints what it has to and ends with this status, in every order and with both sizes.
@@ -189,6 +210,19 @@ fn races_are_named_any_way(rt: HostRuntime) {
     }
 }
 
+#[test]
+fn nodes_on_threads_print_the_same(rt: HostRuntime) {
+    for case in ORDERED {
+        assert!(rt; prints_on_threads(&rt, case, 0));
+    }
+    for case in STOPPED {
+        assert!(rt; prints_on_threads(&rt, case, 4));
+    }
+    for case in RACING {
+        assert!(rt; prints_on_threads(&rt, case, 3));
+    }
+}
+
 const LAST_WORD: &[u8] =
     b"words 4096; locks 64; if me == 0 { acquire 63; [4095] = 18446744073709551615; release 63; } barrier; acquire 63; x = [4095]; release 63; print x;";
 
@@ -205,7 +239,7 @@ fn largest_printed(out: &[u8]) -> usize {
 
 // The same on sixteen nodes.
 fn readers_of_the_last_word(alloc: Global, collect: Collect, order: Picker) -> usize {
-    let run = Simulation {
+    let run = RunOptions {
         nodes: Nodes { count: 16 },
         collect,
         order,

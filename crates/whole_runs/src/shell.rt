@@ -1,13 +1,15 @@
 // A command with its texts, and what comes of it.
 
-ghost use Rattle.std.specs.Prelude.{◌≡◌, is_some};
-ghost use Rattle.lrc_cli.specs.Answer.{names_events};
+ghost use Rattle.std.specs.Prelude.{◌≡◌, false, is_some};
+ghost use Rattle.lrc_cli.specs.Answer.{names_events, starts_threads};
 
-use lrc_cli::choice::{Choice, Collect, Nodes, PlainRun, Simulation, Steps};
-use lrc_cli::perform;
+use lrc_cli::choice::{Choice, Collect, Nodes, PlainRun, RunOptions, Simulation, Steps};
+use lrc_cli::{execute, perform};
 use lrc_page::Size;
 use lrc_wire::Picker;
 use std::alloc::Global;
+use std::sync::Wait;
+use std::thread::Threads;
 
 /// As many steps as a node may be given.
 pub const ALL_STEPS: Steps = Steps { count: 1_000_000 };
@@ -37,7 +39,8 @@ impl Outcome {
 
 // What a command makes of a text, and of that of its events where it names them.
 fn performed(alloc: Global, choice: &Choice<'_>, text: &[u8], events: Option<&[u8]>) -> Outcome
-    requires { is_some events ≡ names_events choice.now }
+    requires threadless { starts_threads choice.now ≡ false }
+    requires events { is_some events ≡ names_events choice.now }
 {
     let mut out = Vec::new(alloc);
     let mut err = Vec::new(alloc);
@@ -60,32 +63,47 @@ pub fn in_rounds(alloc: Global, nodes: Nodes, steps: Steps, text: &[u8]) -> Outc
     performed(alloc, &choice, text, None)
 }
 
-/// `sim` on one node, as it is without options.
-pub const ON_ONE_NODE: Simulation<'static> = Simulation {
+/// A run on one node, as it is without options.
+pub const ON_ONE_NODE: RunOptions<'static> = RunOptions {
     file: "-",
     nodes: ALONE,
     steps: ALL_STEPS,
     collect: Collect { count: 0 },
     order: Picker::Oldest,
     size: Size::Words64,
-    events: None,
 };
 
 /// What `sim` makes of a text.
-pub fn simulated(alloc: Global, run: Simulation<'static>, text: &[u8]) -> Outcome {
+pub fn simulated(alloc: Global, options: RunOptions<'static>, text: &[u8]) -> Outcome {
     let choice = Choice::Simulate(Simulation {
+        options,
         events: None,
-        ..run
     });
     performed(alloc, &choice, text, None)
+}
+
+/// What `run` makes of a text.
+pub fn on_threads<R: Threads + Wait + Sync + AllocGlobal>(
+    rt: &R,
+    options: RunOptions<'static>,
+    text: &[u8],
+) -> Outcome {
+    let alloc = rt.alloc();
+    let mut out = Vec::new(alloc);
+    let mut err = Vec::new(alloc);
+    let choice = Choice::Run(options);
+    let status = execute(rt, alloc, &choice, text, None, &mut out, &mut err);
+    Outcome { out, err, status }
 }
 
 /// What `sim` on so many nodes makes of a text with these events.
 pub fn played(alloc: Global, nodes: Nodes, text: &[u8], events: &[u8]) -> Outcome {
     let choice = Choice::Simulate(Simulation {
-        nodes,
+        options: RunOptions {
+            nodes,
+            ..ON_ONE_NODE
+        },
         events: Some("events"),
-        ..ON_ONE_NODE
     });
     performed(alloc, &choice, text, Some(events))
 }
@@ -94,7 +112,7 @@ pub fn played(alloc: Global, nodes: Nodes, text: &[u8], events: &[u8]) -> Outcom
 pub fn driven(alloc: Global, steps: Steps, text: &[u8]) -> Outcome {
     simulated(
         alloc,
-        Simulation {
+        RunOptions {
             steps,
             ..ON_ONE_NODE
         },

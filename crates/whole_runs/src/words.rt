@@ -1,6 +1,6 @@
 // Words of the command line, and the choice that they make.
 
-use lrc_cli::choice::{Choice, ChooseFault};
+use lrc_cli::choice::{Choice, ChooseFault, RunOptions};
 use lrc_cli::choose;
 use lrc_page::Size;
 use lrc_wire::Picker;
@@ -15,13 +15,23 @@ fn ask_for_plain(alloc: Global, words: &[&str], file: &str, nodes: u32, steps: u
 // Whether the words ask for a run of the file on three nodes, with these options.
 fn ask_for_options(alloc: Global, words: &[&str], collect: u32, order: Picker, size: Size) -> bool {
     matches!(choose(alloc, words), Ok(Choice::Simulate(run))
-        if run.nodes.count == 3 && run.collect.count == collect && run.order == order && run.size == size)
+        if are_options(&run.options, collect, order, size))
+}
+
+// Whether the words ask for such a run on threads.
+fn ask_for_threads(alloc: Global, words: &[&str], collect: u32, order: Picker, size: Size) -> bool {
+    matches!(choose(alloc, words), Ok(Choice::Run(run)) if are_options(&run, collect, order, size))
+}
+
+// Whether these are the options of a run on three nodes, with these.
+fn are_options(run: &RunOptions<'_>, collect: u32, order: Picker, size: Size) -> bool {
+    run.nodes.count == 3 && run.collect.count == collect && run.order == order && run.size == size
 }
 
 // Whether the words ask for a run of this file on one node, with these events.
 fn ask_for_run(alloc: Global, words: &[&str], file: &str, events: Option<&str>) -> bool {
     matches!(choose(alloc, words), Ok(Choice::Simulate(run))
-        if run.file == file && run.events == events && run.nodes.count == 1)
+        if run.options.file == file && run.events == events && run.options.nodes.count == 1)
 }
 
 fn ask_for_check(alloc: Global, words: &[&str]) -> bool {
@@ -71,9 +81,11 @@ fn options_of_a_run_are_read(rt: HostRuntime) {
     assert!(rt; ask_for_options(rt.alloc(), &twice, 0, Picker::Twice, Size::Words64));
     let oldest = ["sim", "-", "--nodes", "3", "--order", "oldest"];
     assert!(rt; ask_for_options(rt.alloc(), &oldest, 0, Picker::Oldest, Size::Words64));
+    let threads = ["run", "-", "--nodes", "3", "--order=twice", "--page", "256", "--collect", "7"];
+    assert!(rt; ask_for_threads(rt.alloc(), &threads, 7, Picker::Twice, Size::Words256));
 }
 
-const OUT_OF_RANGE: [[&str; 4]; 7] = [
+const OUT_OF_RANGE: [[&str; 4]; 8] = [
     ["plain", "a.tm", "--nodes", "17"],
     ["plain", "a.tm", "--nodes", "0"],
     ["plain", "a.tm", "--steps", "0"],
@@ -81,9 +93,10 @@ const OUT_OF_RANGE: [[&str; 4]; 7] = [
     ["sim", "a.tm", "--steps", "1000001"],
     ["sim", "a.tm", "--collect", "1000001"],
     ["sim", "a.tm", "--nodes", "18446744073709551615"],
+    ["run", "a.tm", "--nodes", "17"],
 ];
 
-const MISUSED: [[&str; 4]; 10] = [
+const MISUSED: [[&str; 4]; 11] = [
     ["plain", "a.tm", "--nodes", "18446744073709551616"],
     ["plain", "a.tm", "--nodes", "x"],
     ["plain", "a.tm", "--events", "e"],
@@ -93,6 +106,7 @@ const MISUSED: [[&str; 4]; 10] = [
     ["sim", "a.tm", "--order", "Oldest"],
     ["sim", "a.tm", "--order", ""],
     ["sim", "a.tm", "--page", "064"],
+    ["run", "a.tm", "--events", "e"],
     ["sim", "--nodes=17", "--page=128", "a.tm"],
 ];
 

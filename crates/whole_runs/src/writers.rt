@@ -1,11 +1,13 @@
 // A writer that refuses one of its writes.
 
-use crate::shell::ALL_STEPS;
-use lrc_cli::choice::{Choice, Nodes, PlainRun};
-use lrc_cli::perform;
+use crate::shell::ON_ONE_NODE;
+use lrc_cli::choice::{Choice, Nodes, RunOptions};
+use lrc_cli::{execute, perform};
 use std::alloc::Global;
 use std::io;
 use std::io::{ErrorKind, Write};
+use std::sync::Wait;
+use std::thread::Threads;
 
 // Two nodes print this text in two parts, and the second text is no program.
 const PROGRAM: &[u8] = b"words 1; locks 0; print 1;";
@@ -51,15 +53,18 @@ impl Write for Refusing {
 
 // What came of a run whose writer refuses: the status, how many bytes and writes came to it, and how many bytes to
 // standard error.
-fn refused_out(alloc: Global, refused: u64) -> (u8, u64, u64, usize) {
-    let run = Choice::Plain(PlainRun {
-        file: "-",
+fn refused_out<R: Threads + Wait + Sync + AllocGlobal>(
+    rt: &R,
+    refused: u64,
+) -> (u8, u64, u64, usize) {
+    let alloc = rt.alloc();
+    let run = Choice::Run(RunOptions {
         nodes: Nodes { count: 2 },
-        steps: ALL_STEPS,
+        ..ON_ONE_NODE
     });
     let mut out = Refusing::at(refused);
     let mut err = Vec::new(alloc);
-    let status = perform(alloc, &run, PROGRAM, None, &mut out, &mut err);
+    let status = execute(rt, alloc, &run, PROGRAM, None, &mut out, &mut err);
     (status, out.taken, out.writes, err.len())
 }
 
@@ -75,9 +80,9 @@ fn refused_err(alloc: Global, refused: u64) -> (u8, u64, u64, usize) {
 #[test]
 fn after_a_refused_write_nothing_more_is_printed(rt: HostRuntime) {
     for taken in 0..PRINTED {
-        assert!(rt; refused_out(rt.alloc(), taken + 1) == (1, taken, taken + 1, 0));
+        assert!(rt; refused_out(&rt, taken + 1) == (1, taken, taken + 1, 0));
     }
-    assert!(rt; refused_out(rt.alloc(), 0) == (0, PRINTED, PRINTED, 0));
+    assert!(rt; refused_out(&rt, 0) == (0, PRINTED, PRINTED, 0));
 }
 
 #[test]

@@ -10,21 +10,19 @@ use Rattle.lrc_cli.specs.declared.choice.Choice.TheVariants.{Plain, Simulate}
 use Rattle.lrc_cli.specs.declared.choice.PlainRun.{PlainRun}
 use Rattle.lrc_cli.specs.declared.choice.Simulation.{Simulation}
 use Rattle.lrc_cli.specs.declared.fault.Fault.{Fault}
-use Rattle.lrc_cli.specs.declared.fault.Fault.TheVariants.{Text, Events, Worn, NoMemory}
+use Rattle.lrc_cli.specs.declared.fault.Fault.TheVariants.{Text, Events, Worn, Mismatch, NoMemory}
+use Rattle.lrc_cli.proofs.AnswerLemmas.{fault_up}
 use Rattle.lrc_cli.proofs.answer.answer.Goals as goal
 
 -- a fault of a run is the first, since the text is a program's
 run_fault : (choice : Choice) (run : Simulation) (text : List ℕ) (events_text : Option (List ℕ)) (fault : Fault) (program : Program)
-    → choice ≡ Simulate run → IsTextOf text program → IsRunFault program run events_text fault → IsFault choice text events_text fault
+    → choice ≡ Simulate run → IsTextOf text program → IsRunFault program run.options events_text fault → IsFault choice text events_text fault
 run_fault choice run text events_text (Text line kind) program chosen is h = absurd h
 run_fault choice run text events_text (Events line) program chosen is h = ((program, is), h)
 run_fault choice run text events_text Worn program chosen is h =
     (program, is, subst (λ (c : Choice). IsWornChoice c program events_text) (sym chosen) h)
+run_fault choice run text events_text Mismatch program chosen is h = absurd h
 run_fault choice run text events_text NoMemory program chosen is h = tt
-
-fault_up : {T : Type 0} (r : Result T Fault) (fault : Fault) (P : Fault → Type 0) → IsErrAnd r (λ f. f ≡ fault) → P fault → IfErr r P
-fault_up (Ok x) fault P is h = tt
-fault_up (Err f) fault P is h = subst P (sym is) h
 
 -- what is printed of the acts in rounds is what the choice of them prints
 printed_in_rounds : (result : Result Printout Fault) (text : List ℕ) (events_text : Option (List ℕ)) (choice : Choice) (run : PlainRun) (program : Program)
@@ -57,8 +55,8 @@ returns-in-Plain-clause-ok c =
     printed_in_rounds c.in_rounds.result c.args.text.now _ c.args.choice.now c.in-Plain.run' c.in_ok-program.program c.in-Plain.is
     c.in_ok-program.ensures.program c.in_rounds.ensures.ok
 
-pub returns-clause-ok : goal.returns-clause-ok
-returns-clause-ok c =
+pub returns-in-Simulate-clause-ok : goal.returns-in-Simulate-clause-ok
+returns-in-Simulate-clause-ok c =
     let printout = c.in_ok-printout_of_run-in-Simulate.field-0 in
     subst (λ (choice : Choice). Prints choice c.args.text.now (option_map (λ (e : Bor (List ℕ)). e.now) c.args.events)
     (whole_text printout.parts.items) printout.status)
