@@ -10,9 +10,12 @@ use Rattle.std.proofs.lemmas.Option.{slice_get-get_or, slice_get_within, get_or_
 use Rattle.lrc_lang.specs.declared.program.Statement.{Statement, Row_of-Statement, end_of-Statement, more_of-Statement, items-the_row-Statement, items_hidden-the_row-Statement-0, roll-Statement, roll-out-Statement}
 use Rattle.lrc_lang.specs.declared.program.Statement.TheBlock.{hidden-the_row-Statement-0, shown-the_row-Statement-0}
 use Rattle.lrc_lang.specs.declared.program.Statement.TheVariants.{Assign, Read, Write, Acquire, Release, Barrier, Print, If', While', If, While, outs-If', outs-While', rolls-If, rolls-While}
+use Rattle.lrc_lang.specs.Statements.{statement_of, block_of}
+use Rattle.lrc_lang.specs.Sizes.{names_in_statement, names_in}
 use Rattle.lrc_exec.specs.declared.code.Instruction.{Instruction}
 use Rattle.lrc_exec.specs.Meaning.{block}
 use Rattle.lrc_exec.specs.Flat.{rests_from, rest_at, where_it_holds, where_it_fails, IsSound, IsSoundFrom, IsGrown, IsCodeOf}
+use Rattle.lrc_exec.proofs.Privates.{HasFew, HaveFew, few_of_one, few_front, few_behind, few_first, few_second, few_inside}
 
 -- the rows of a block are the items of its vector
 pub block-row : (n : _) (row : Row_of-Statement n) → block row ≡ items-the_row-Statement n row
@@ -102,6 +105,7 @@ IsSound-append a b k i inside sound =
       otherwise_within = omega (arith, length-append a b, sound.otherwise_within);
       then_leads = rest_at-append a b i.then sound.then_within ∙ sound.then_leads ∙ ap (where_it_holds i.statement.now) (sym next_same);
       otherwise_leads = rest_at-append a b i.otherwise sound.otherwise_within ∙ sound.otherwise_leads ∙ ap (where_it_fails i.statement.now) (sym next_same);
+      names = sound.names;
     }
 
 slice_get_left : (a b : List Instruction) (k : ℕ) (i : Instruction) → k < length a → slice_get (a ++ b) k ≡ Some i → slice_get a k ≡ Some i
@@ -123,37 +127,37 @@ grown_none code next within =
       grown = sym (append-nil code);
       within = within;
       leads = refl;
-      sound = λ k i past is. absurd (omega (arith, slice_get_within code k i is));
+      sound = λ few k i past is. absurd (omega (arith, slice_get_within code k i is));
     }
 
 -- code that grew once before
-pub grown_behind : (old mid new : List Instruction) (first second : List Statement) (n p next place : ℕ) → IsGrown old mid first n p
-    → IsGrown mid new second next place → IsGrown old new second next place
-grown_behind old mid new first second n p next place g h =
+pub grown_behind : (old mid new : List Instruction) (first second : List Statement) (n p next place : ℕ) → (HaveFew second → HaveFew first)
+    → IsGrown old mid first n p → IsGrown mid new second next place → IsGrown old new second next place
+grown_behind old mid new first second n p next place both g h =
     let whole : new ≡ old ++ (g.more ++ h.more) = h.grown ∙ ap (λ c. c ++ h.more) g.grown ∙ append_assoc old g.more h.more in
     record {
       more = g.more ++ h.more;
       grown = whole;
       within = h.within;
       leads = h.leads;
-      sound = sound_both mid new h.more (length old) h.grown g.sound h.sound;
+      sound = λ few. sound_both mid new h.more (length old) h.grown (g.sound (both few)) (h.sound few);
     }
 
 -- code that grew by a block, and then by what comes before it
 pub grown_on : (old mid new : List Instruction) (first rest : List Statement) (next place entry : ℕ) → next ≤ length old → IsGrown old mid rest next place
     → IsGrown mid new first place entry → IsGrown old new (first ++ rest) next entry
 grown_on old mid new first rest next place entry within g h =
-    let all = grown_behind old mid new rest first next place place entry g h in
+    let whole : new ≡ old ++ (g.more ++ h.more) = h.grown ∙ ap (λ c. c ++ h.more) g.grown ∙ append_assoc old g.more h.more in
     let next_within : next ≤ length mid = omega (arith, ap length g.grown, length-append old g.more) in
     let at_place = ap (λ c. rest_at c place) h.grown ∙ rest_at-append mid h.more place g.within in
     let at_next = ap (λ c. rest_at c next) h.grown ∙ rest_at-append mid h.more next next_within in
     record {
-      more = all.more;
-      grown = all.grown;
-      within = all.within;
+      more = g.more ++ h.more;
+      grown = whole;
+      within = h.within;
       leads =
           h.leads ∙ ap (λ l. first ++ l) (at_place ∙ g.leads ∙ ap (λ l. rest ++ l) (sym at_next)) ∙ sym (append_assoc first rest (rest_at new next));
-      sound = all.sound;
+      sound = λ few. sound_both mid new h.more (length old) h.grown (g.sound (few_behind first rest few)) (h.sound (few_front first rest few));
     }
 
 -- code that grew by one instruction, which leads where its statement does
@@ -164,13 +168,14 @@ pub grown_one : (code : List Instruction) (i : Instruction) → i.next ≤ lengt
 grown_one code i next_within then_within otherwise_within then_leads otherwise_leads =
     let long = length-append code (i ∷ []) in
     let same_next = rest_at-append code (i ∷ []) i.next next_within in
-    let sound : IsSound (code ++ i ∷ []) (length code) i =
-    record {
+    let sound : HasFew i.statement.now → IsSound (code ++ i ∷ []) (length code) i =
+    λ few. record {
       next_below = next_within;
       then_within = omega arith;
       otherwise_within = omega arith;
       then_leads = rest_at-append code (i ∷ []) i.then then_within ∙ then_leads ∙ ap (where_it_holds i.statement.now) (sym same_next);
       otherwise_leads = rest_at-append code (i ∷ []) i.otherwise otherwise_within ∙ otherwise_leads ∙ ap (where_it_fails i.statement.now) (sym same_next);
+      names = few;
     }
     in
     record {
@@ -178,11 +183,11 @@ grown_one code i next_within then_within otherwise_within then_leads otherwise_l
       grown = refl;
       within = omega arith;
       leads = ap (rest_at (code ++ i ∷ [])) long ∙ rest_at-last code i ∙ ap (λ l. i.statement.now ∷ l) (sym same_next);
-      sound = λ k j past is.
+      sound = λ few k j past is.
           let here : k ≡ length code = omega (arith, slice_get_within (code ++ i ∷ []) k j is) in
           let same : i ≡ j = sym (get_or-append_seam code i [] j) ∙ ap (λ n. get_or (code ++ i ∷ []) n j) (sym here)
           ∙ get_or_from_slice_get (code ++ i ∷ []) k j j is in
-          subst (λ n. IsSound (code ++ i ∷ []) n j) (sym here) (subst (λ x. IsSound (code ++ i ∷ []) (length code) x) same sound);
+          subst (λ n. IsSound (code ++ i ∷ []) n j) (sym here) (subst (λ x. IsSound (code ++ i ∷ []) (length code) x) same (sound (few_of_one i.statement.now few)));
     }
 
 -- a block that a vector holds
@@ -259,8 +264,10 @@ grown_choice old c1 c2 i e a b next then otherwise is_s is_next is_then is_other
     (second ∙ ap (λ s. where_it_fails s (rest_at c2 i.next)) (sym is_s)) in
     let named = subst (λ n. IsGrown c2 (c2 ++ i ∷ []) (If e a b ∷ []) n (length (c2 ++ i ∷ []))) is_next
     (subst (λ x. IsGrown c2 (c2 ++ i ∷ []) (x ∷ []) i.next (length (c2 ++ i ∷ []))) is_s one) in
-    let second_grown = grown_behind c1 c2 (c2 ++ i ∷ []) b.items (If e a b ∷ []) next otherwise next (length (c2 ++ i ∷ [])) h named in
-    grown_behind old c1 (c2 ++ i ∷ []) a.items (If e a b ∷ []) next then next (length (c2 ++ i ∷ [])) g second_grown
+    let of_second = λ (few : HaveFew (If e a b ∷ [])). few_second e a b (few_of_one (If e a b) few) in
+    let of_first = λ (few : HaveFew (If e a b ∷ [])). few_first e a b (few_of_one (If e a b) few) in
+    let second_grown = grown_behind c1 c2 (c2 ++ i ∷ []) b.items (If e a b ∷ []) next otherwise next (length (c2 ++ i ∷ [])) of_second h named in
+    grown_behind old c1 (c2 ++ i ∷ []) a.items (If e a b ∷ []) next then next (length (c2 ++ i ∷ [])) of_first g second_grown
 
 -- an instruction with these places
 abbrev pub leading : Bor Statement → (next then otherwise : ℕ) → Instruction
@@ -287,6 +294,7 @@ module _ (old more : List Instruction) (s : Bor Statement) (next then otherwise 
         otherwise_within = omega (arith, sound.otherwise_within);
         then_leads = sym (rest_at-written i.then) ∙ sound.then_leads ∙ ap (where_it_holds i.statement.now) (rest_at-written i.next);
         otherwise_leads = sym (rest_at-written i.otherwise) ∙ sound.otherwise_leads ∙ ap (where_it_fails i.statement.now) (rest_at-written i.next);
+        names = sound.names;
       }
 
 -- the instruction at a seam, and those behind it
@@ -326,25 +334,26 @@ grown_loop old c2 s e a next then is_s within g =
     ∙ ap (λ n. a.items ++ rest_at c2 n) long
     ∙ ap (λ l. a.items ++ l) (same (length old + 1) ∙ at_end)
     ∙ ap (λ l. l ++ While e a ∷ rest_at code next) (sym (block-items a)) in
-    let first : IsSound code (length old) after =
-    record {
+    let first : HasFew (While e a) → IsSound code (length old) after =
+    λ few. record {
       next_below = within;
       then_within = omega (arith, g.within);
       otherwise_within = omega arith;
       then_leads = body ∙ ap (λ x. where_it_holds x (rest_at code next)) (sym is_s);
       otherwise_leads = ap (λ x. where_it_fails x (rest_at code next)) (sym is_s);
+      names = subst HasFew (sym is_s) few;
     }
     in
-    let sound : IsSoundFrom (length old) code = λ k i past is.
+    let sound : HasFew (While e a) → IsSoundFrom (length old) code = λ few k i past is.
     ⊎_elim
     (λ behind.
     let at_before : slice_get c2 k ≡ Some i = ap (λ c. slice_get c k) grown ∙ slice_get-behind old g.more before after k behind ∙ is in
-    IsSound-written old g.more s next next next then k i (subst (λ c. IsSound c k i) grown (g.sound k i (omega arith) at_before)))
+    IsSound-written old g.more s next next next then k i (subst (λ c. IsSound c k i) grown (g.sound (few_inside e a few) k i (omega arith) at_before)))
     (λ not_behind.
     let k_is : k ≡ length old = omega arith in
     let i_is : Some after ≡ Some i = sym (slice_get-seam old g.more after) ∙ ap (slice_get code) (sym k_is) ∙ is in
     let same_i : after ≡ i = cc in
-    subst (λ n. IsSound code n i) (sym k_is) (subst (λ x. IsSound code (length old) x) same_i first))
+    subst (λ n. IsSound code n i) (sym k_is) (subst (λ x. IsSound code (length old) x) same_i (first few)))
     (cases_lt (length old) k)
     in
     subst (λ c. IsGrown old c (While e a ∷ []) next (length (old ++ before ∷ []))) (sym whole)
@@ -353,15 +362,15 @@ grown_loop old c2 s e a next then is_s within g =
       grown = refl;
       within = omega arith;
       leads = ap (rest_at code) long ∙ at_end;
-      sound = sound;
+      sound = λ few. sound (few_of_one (While e a) few);
     }
 
 -- code that grew from nothing is the code of its statements
-pub grown_code : (old new : List Instruction) (statements : List Statement) (start : ℕ) → old ≡ [] → IsGrown old new statements 0 start
-    → IsCodeOf new start statements
-grown_code old new statements start empty g =
+pub grown_code : (old new : List Instruction) (statements : List Statement) (start : ℕ) → old ≡ [] → HaveFew statements
+    → IsGrown old new statements 0 start → IsCodeOf new start statements
+grown_code old new statements start empty few g =
     record {
       within = g.within;
       leads = g.leads ∙ ap (λ l. statements ++ l) (rest_at-end new) ∙ append-nil statements;
-      sound = λ k i past is. g.sound k i (omega (arith, ap length empty)) is;
+      sound = λ k i past is. g.sound few k i (omega (arith, ap length empty)) is;
     }

@@ -2,6 +2,8 @@
 use Rattle.std.specs.Prelude.{◌≡◌, ℕ, ◌≤◌, Some, List, [], ◌∷◌, ◌++◌, length, slice_get, slice_index_or}
 use Rattle.lrc_lang.specs.declared.program.Statement.{Statement}
 use Rattle.lrc_lang.specs.declared.program.Statement.TheVariants.{If', While'}
+use Rattle.lrc_lang.specs.Statements.{statement_of, block_of}
+use Rattle.lrc_lang.specs.Sizes.{names_in_statement, names_in}
 use Rattle.lrc_exec.specs.declared.code.Instruction.{Instruction}
 use Rattle.lrc_exec.specs.Meaning.{block}
 
@@ -27,25 +29,27 @@ abbrev pub where_it_fails : Statement → List Statement → List Statement
 where_it_fails (If' condition p first q second) rest = block second ++ rest
 where_it_fails statement rest = rest
 
--- the k-th instruction, from 0, leads where its statement does
+-- the k-th instruction, from 0, leads where its statement does, and its private names are among the 32 that there are
 pub record IsSound (code : List Instruction) (k : ℕ) (instruction : Instruction) : Type 0 where
   pub next_below : instruction.next ≤ k
   pub then_within : instruction.then ≤ length code
   pub otherwise_within : instruction.otherwise ≤ length code
   pub then_leads : rest_at code instruction.then ≡ where_it_holds instruction.statement.now (rest_at code instruction.next)
   pub otherwise_leads : rest_at code instruction.otherwise ≡ where_it_fails instruction.statement.now (rest_at code instruction.next)
+  pub names : names_in_statement (statement_of instruction.statement.now) ≤ 32
 
 -- each instruction from the k-th on is sound
 abbrev pub IsSoundFrom : ℕ → List Instruction → Type 0
 IsSoundFrom from code = (k : ℕ) (instruction : Instruction) → from ≤ k → slice_get code k ≡ Some instruction → IsSound code k instruction
 
--- the code has grown by sound instructions that at `place` begin these statements, after which comes `next`
+-- The code has grown by instructions that at `place` begin these statements, after which comes `next`. They are sound
+-- where the private names of the statements are among the 32 that there are.
 pub record IsGrown (old new : List Instruction) (statements : List Statement) (next place : ℕ) : Type 0 where
   pub more : List Instruction
   pub grown : new ≡ old ++ more
   pub within : place ≤ length new
   pub leads : rest_at new place ≡ statements ++ rest_at new next
-  pub sound : IsSoundFrom (length old) new
+  pub sound : names_in (block_of statements) ≤ 32 → IsSoundFrom (length old) new
 
 -- the code of these statements, which begin at `start`
 pub record IsCodeOf (code : List Instruction) (start : ℕ) (statements : List Statement) : Type 0 where

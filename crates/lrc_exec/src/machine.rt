@@ -1,7 +1,9 @@
 // What a thread asks for, and the machine that runs its code.
 
-ghost use Rattle.std.specs.Prelude.{◌≡◌, ◌≤◌, false, List, if◌then◌else◌, nat_lt, ok_or, slice_set, unwrap_or};
+ghost use Rattle.std.specs.Prelude.{◌≡◌, ◌<◌, ◌≤◌, false, List, if◌then◌else◌, nat_lt, ok_or, slice_set, unwrap_or};
 ghost use Rattle.lrc_lang.specs.declared.program.Statement.{Statement};
+ghost use Rattle.lrc_lang.specs.Sizes.{names_in_expression, names_in_statement};
+ghost use Rattle.lrc_lang.specs.Statements.{expression_of, statement_of};
 ghost use Rattle.lrc_exec.specs.Meaning.{act_of, next_of, value_in};
 ghost use Rattle.lrc_exec.specs.Plain.{start_of};
 ghost use Rattle.lrc_exec.specs.Ask.{ask_of, answered, ask_or_trap, TakesAnswer};
@@ -144,6 +146,7 @@ impl<'c> Machine<'c> {
 
     // What a statement asks for.
     fn wish(&self, statement: &Statement) -> Result<Ask, Cause>
+        requires { names_in_statement (statement_of statement.now) ≤ 32 }
         ensures { (rest : List Statement) → ask_of (act_of self.now statement.now rest) ≡ ask_or_trap result }
     {
         match statement {
@@ -187,6 +190,7 @@ impl<'c> Machine<'c> {
 
     // The value of an expression.
     fn value(&self, expression: &Expression) -> Result<u64, Cause>
+        requires { names_in_expression (expression_of expression.now) ≤ 32 }
         ensures { result ≡ ok_or (value_in self.now expression.now) Cause.DivisionByZero }
     {
         evaluate(expression, &self.privates, self.me, self.nodes)
@@ -194,6 +198,7 @@ impl<'c> Machine<'c> {
 
     // The value of an expression that has one.
     fn number(&self, expression: &Expression) -> u64
+        requires { names_in_expression (expression_of expression.now) ≤ 32 }
         ensures { result ≡ unwrap_or (value_in self.now expression.now) 0 }
     {
         self.value(expression).unwrap_or(0)
@@ -224,12 +229,10 @@ impl<'c> Machine<'c> {
 
 // Sets a private name.
 fn set_name(privates: &mut [u64; 32], name: u8, value: u64)
+    requires { name < 32 }
     ensures { privates.new ≡ slice_set privates.old name value }
 {
-    let name = name as usize;
-    if name < privates.len() {
-        privates[name] = value;
-    }
+    privates[name as usize] = value;
 }
 
 // Holds a lock from now on, or no longer.

@@ -1,6 +1,8 @@
 // The values of expressions.
 
-ghost use Rattle.std.specs.Prelude.{◌≡◌, ok_or};
+ghost use Rattle.std.specs.Prelude.{◌≡◌, ◌≤◌, ok_or};
+ghost use Rattle.lrc_lang.specs.Sizes.{names_in_expression};
+ghost use Rattle.lrc_lang.specs.Statements.{expression_of};
 ghost use Rattle.lrc_exec.specs.Meaning.{applied, value_of};
 
 use lrc_lang::program::{Expression, Operator};
@@ -25,18 +27,19 @@ fn apply(operator: Operator, x: u64, y: u64) -> Result<u64, Cause>
     }
 }
 
-// The value of an expression on node `me` of `nodes`, with these private values.
+// The value of an expression on node `me` of `nodes`, with these values of the 32 private names.
 pub(crate) fn evaluate(
     expression: &Expression,
-    privates: &[u64],
+    privates: &[u64; 32],
     me: u8,
     nodes: u8,
 ) -> Result<u64, Cause>
+    requires { names_in_expression (expression_of expression.now) ≤ 32 }
     ensures { result ≡ ok_or (value_of me nodes privates.now expression.now) Cause.DivisionByZero }
 {
     match expression {
         Expression::Number(n) => Ok(*n),
-        Expression::Private(name) => Ok(privates.get(*name as usize).copied().unwrap_or(0)),
+        Expression::Private(name) => Ok(privates[*name as usize]),
         Expression::Me => Ok(u64::from(me)),
         Expression::Nodes => Ok(u64::from(nodes)),
         Expression::Binary(left, operator, right) => {

@@ -147,7 +147,8 @@ deeper nested m n h k =
     omega (arith, both, h)
 
 mutual
-  statement_sizes : (nested : ℕ) {s : Statement} {all rest : List Symbol} → IsStatement s all rest → nested ≤ 32 → AreAllowed nested 0 all → Stated nested s rest
+  statement_sizes : (nested : ℕ) {s : Statement} {all rest : List Symbol} → IsStatement s all rest → nested ≤ 32 →
+      AreAllowed nested 0 all → Stated nested s rest
   statement_sizes nested (grammar.assign {k = k} d) fits all =
       let e = whole_expression nested d all.1.1 in
       record { allowed = e.allowed.1; names = max-le (omega (arith, all.0)) e.names; depth = flat nested fits; few = e.few }
@@ -201,7 +202,8 @@ mutual
       let back : nested + 1 - 1 ≡ nested = omega arith in
       record { allowed = subst (λ n. AreAllowed n 0 rest) back i.allowed.1; names = i.names; depth = i.depth; few = i.few }
 
-  statements_sizes : (nested : ℕ) {b : Block} {all rest : List Symbol} → AreStatements b all rest → nested ≤ 32 → AreAllowed nested 0 all → Blocked nested b rest
+  statements_sizes : (nested : ℕ) {b : Block} {all rest : List Symbol} → AreStatements b all rest → nested ≤ 32 →
+      AreAllowed nested 0 all → Blocked nested b rest
   statements_sizes nested none fits all = record { allowed = all; names = omega arith; depth = flat nested fits; few = omega arith }
   statements_sizes nested (one_more {first = first} {others = others} d ds) fits all =
       let s = statement_sizes nested d fits all in
@@ -300,13 +302,13 @@ name_cases names bytes false e few many =
     (omega (arith, at_most, small), subst (λ b. length (if b then names else names ++ bytes ∷ []) ≤ 32) (sym e) longer)
 
 -- a token without a fault is allowed, and leaves at most 32 names
-token_allowed : (before : List Token) (names : Names) (nested operators : ℕ) (t : Token) → length names ≤ 32 → (IsTooDeep nested t → ⊥) → (IsNameTooMany names t → ⊥) →
-    (IsOperatorTooMany operators t → ⊥) → IsAllowed nested operators (symbol_of names t) × (length (names_with names t) ≤ 32)
-token_allowed before names nested operators (Token.number n) few deep many over = (tt, few)
-token_allowed before names nested operators (Token.name bytes) few deep many over = name_cases names bytes (is_among names bytes) refl few many
-token_allowed before names nested operators (Token.keyword which) few deep many over = (tt, few)
-token_allowed before names nested operators (Token.sign mark) few deep many over = (sign_allowed nested operators mark deep over, few)
-token_allowed before names nested operators Token.finish few deep many over = (tt, few)
+token_allowed : (names : Names) (nested operators : ℕ) (t : Token) → length names ≤ 32 → (IsTooDeep nested t → ⊥) →
+    (IsNameTooMany names t → ⊥) → (IsOperatorTooMany operators t → ⊥) → IsAllowed nested operators (symbol_of names t) × (length (names_with names t) ≤ 32)
+token_allowed names nested operators (Token.number n) few deep many over = (tt, few)
+token_allowed names nested operators (Token.name bytes) few deep many over = name_cases names bytes (is_among names bytes) refl few many
+token_allowed names nested operators (Token.keyword which) few deep many over = (tt, few)
+token_allowed names nested operators (Token.sign mark) few deep many over = (sign_allowed nested operators mark deep over, few)
+token_allowed names nested operators Token.finish few deep many over = (tt, few)
 
 -- tokens without a fault are allowed
 faultless_allowed : (before : List Token) (lexemes : List Placed) (tokens : List Token) → AreFaultless before lexemes tokens →
@@ -318,7 +320,7 @@ faultless_allowed before (found ∷ others) (t ∷ tokens) are few =
     let names = names_of before in
     let nested = open_of before in
     let operators = operators_of before in
-    let taken = token_allowed before names nested operators t few (are.1 TooDeep) (are.1 TooManyNames) (λ over. are.1 OverLimit (inr over)) in
+    let taken = token_allowed names nested operators t few (are.1 TooDeep) (are.1 TooManyNames) (λ over. are.1 OverLimit (inr over)) in
     let names_are : names_of (before ++ t ∷ []) ≡ names_with names t = fold-append _ [] before (t ∷ []) in
     let open_is : open_of (before ++ t ∷ []) ≡ open_behind nested (symbol_of names t) = fold-append _ 0 before (t ∷ []) ∙ sym (opens names nested t) in
     let operators_are : operators_of (before ++ t ∷ []) ≡ operators_with operators (symbol_of names t) =

@@ -10,4 +10,4 @@ invariant_of-result c =
     let new = c.put_block.new.code.items in
     let start = c.in_ok-start.start in
     let grown = subst (λ l. IsGrown old new l 0 start) c.deref.ensures.value c.in_ok-start.ensures in
-    grown_code old new c.args.program.now.statements.items start c.new-instructions.ensures.items grown
+    grown_code old new c.args.program.now.statements.items start c.new-instructions.ensures.items c.args.program.now.few_names grown
