@@ -114,8 +114,8 @@ impl Memory {
     }
 }
 
-/// The notices of a page that a time does not know, in the order in which their changes are applied. Where the store's last
-/// indices once were this time, the page's list is followed no further than to the newest that it knows.
+/// The notices of a page that a time does not know, in the order in which their changes are applied. With `in_step` the time
+/// once was the store's, and the page's list is followed no further than to the newest notice that it knows.
 fn missing(store: &Store, page: u16, since: &Time, in_step: bool) -> Result<Vec<Key>, AllocError>
     requires since { length since.now ≡ length store.now.last }
     requires in_step { IsTrue in_step → KnowsTheFirst store.now page since.now }

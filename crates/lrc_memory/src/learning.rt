@@ -32,8 +32,8 @@ impl Memory {
         Ok(())
     }
 
-    /// Learns one interval, which follows the last one added of its node, at a time in step where the store's last indices
-    /// once were this time.
+    /// Learns one interval, which follows the last one added of its node. With `in_step` the time before was what the store had
+    /// of each node when the learning began.
     fn learn_one(
         &mut self,
         before: &Time,
@@ -106,7 +106,7 @@ impl Memory {
     }
 }
 
-/// Whether this time is just what was added last of each node.
+/// Whether this time is just what was added last of each node, as a node's time is before it learns.
 pub(crate) fn is_last(store: &Store, time: &Time) -> bool
     requires { length time.now ≡ length store.now.last }
     ensures { IsTrue result ↔ (time.now ≡ store.now.last) }
