@@ -1,6 +1,6 @@
 -- One page of one interval, as its notice stands in the arena.
 use Rattle.std.proofs.Common.{◌≡◌, ℕ, ◌+◌, ◌<◌, ◌∙◌, eqb, eqb-true, List, None, Some, length, get_or, set, map, take, drop, ap, sym, subst, arith}
-use Rattle.std.specs.List.{find, position}
+use Rattle.std.specs.List.{position}
 use Rattle.std.specs.Option.{is_some}
 use Rattle.std.proofs.Math.Seq.{map-set_same}
 use Rattle.std.proofs.lemmas.List.{get_or-map, get_or-take, get_or-drop, length-map, set-get_or}
@@ -13,7 +13,7 @@ use Rattle.lrc_store.specs.Interval.{IntervalRecord}
 use Rattle.lrc_store.specs.Links.{ranked_of}
 use Rattle.lrc_store.specs.Lists.{keys_of}
 use Rattle.lrc_store.specs.Store.{NoticeRecord, StoredRecord, interval_of, key_of, notice_of, notice_with}
-use Rattle.lrc_store.proofs.Arenas.{one_stored, intervals_of-stored, interval_of-stored, length-stored, stored-at, stored-set}
+use Rattle.lrc_store.proofs.Arenas.{intervals_of-stored, interval_of-stored, stored-at, stored-set}
 use Rattle.lrc_store.proofs.LinkedStores.{count_of-noted}
 use Rattle.lrc_store.proofs.PagePlaces.{position-pages}
 use Rattle.lrc_store.proofs.Places.{find-position, find-position_none, is_some-position}

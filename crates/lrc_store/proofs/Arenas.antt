@@ -1,8 +1,10 @@
 -- The intervals with their notices, as they stand in two arenas.
-use Rattle.std.proofs.Common.{◌≡◌, ℕ, zero, suc, ◌+◌, ◌<◌, ◌≤◌, ◌∙◌, Bool, true, false, cond, List, [], ◌∷◌, ◌++◌, length, get_or, set, map, take, drop, refl, ap, sym, subst, arith}
+use Rattle.std.proofs.Common.{◌≡◌, ℕ, zero, suc, ◌+◌, ◌<◌, ◌≤◌, ◌∙◌, Bool, true, false, cond, List, [], ◌∷◌, ◌++◌, length, get_or, set, map, take}
+use Rattle.std.proofs.Common.{drop, refl, ap, sym, subst, arith}
 use Rattle.std.specs.List.{All, filter, flat_map}
-use Rattle.std.proofs.Math.Seq.{take-append_seam, drop-append_seam, take-length, drop-length, take-set-lt}
-use Rattle.std.proofs.lemmas.List.{append-nil, length-append, length-map, take-append-le, drop-append-le, take-append-drop, take-map, drop-map, take-set-le, drop-set-lt, drop-set-add, get_or-map, get_or-take, get_or-drop, length-take-le, drop-drop, map-append, map-set}
+use Rattle.std.proofs.Math.Seq.{take-append_seam, drop-append_seam, take-length, take-set-lt}
+use Rattle.std.proofs.lemmas.List.{length-append, length-map, take-append-le, drop-append-le, take-append-drop, take-map, drop-map, take-set-le}
+use Rattle.std.proofs.lemmas.List.{drop-set-lt, drop-set-add, get_or-map, length-take-le, drop-drop, map-append, map-set}
 use Rattle.std.proofs.lemmas.List.Concat.{flat_map-cons}
 use Rattle.std.proofs.lemmas.List.Elements.{All-cons, All-head, All-tail, filter-append}
 use Rattle.lrc_store.specs.declared.key.Key.{Key}
@@ -58,10 +60,12 @@ pages_of_noted : (noted : List NotedRecord) → map (λ notice. notice.page) (ma
 pages_of_noted [] = refl
 pages_of_noted (n ∷ noted) = ap (λ (l : List ℕ). n.key.page ∷ l) (pages_of_noted noted)
 
--- the interval with so many notices
+-- the interval with these notices, and with its own, where they begin
+abbrev holding : IntervalRecord → List NotedRecord → StoredRecord
+holding interval own = record { node = interval.node; stamp = interval.stamp; notices = map notice_in own }
+
 abbrev pub one_stored : IntervalRecord → List NotedRecord → StoredRecord
-one_stored interval noted =
-    record { node = interval.node; stamp = interval.stamp; notices = map notice_in (take (length interval.pages) noted) }
+one_stored interval noted = holding interval (take (length interval.pages) noted)
 
 interval_of-one : (interval : IntervalRecord) (rest : List (ℕ × Key)) (noted : List NotedRecord)
     → map rank_of noted ≡ ranked_pages interval ++ rest → interval_of (one_stored interval noted) ≡ interval
@@ -100,7 +104,7 @@ stored-append (i ∷ is) more noted others are =
     let first = take-append-le (length i.pages) noted others long in
     let behind = drop-append-le (length i.pages) noted others long in
     let rest = stored-append is more (drop (length i.pages) noted) others (go_on i (ranked_of is) noted cut) in
-    ap (λ (l : List NotedRecord). record { node = i.node; stamp = i.stamp; notices = map notice_in l } ∷ stored_from (is ++ more) (drop (length i.pages) (noted ++ others))) first
+    ap (λ (l : List NotedRecord). holding i l ∷ stored_from (is ++ more) (drop (length i.pages) (noted ++ others))) first
     ∙ ap (λ (l : List NotedRecord). one_stored i noted ∷ stored_from (is ++ more) l) behind
     ∙ ap (λ (l : List StoredRecord). one_stored i noted ∷ l) rest
 
@@ -195,7 +199,7 @@ module _ (kept : IntervalRecord → Bool) (test : ℕ × Key → Bool)
           let own = take (length i.pages) noted in
           let first : take (length i.pages) (own ++ after) ≡ own = ap (λ k. take k (own ++ after)) (sym long) ∙ take-append_seam own after in
           let behind : drop (length i.pages) (own ++ after) ≡ after = ap (λ k. drop k (own ++ after)) (sym long) ∙ drop-append_seam own after in
-          ap (λ (l : List NotedRecord). record { node = i.node; stamp = i.stamp; notices = map notice_in l } ∷ stored_from (filter kept is) (drop (length i.pages) (own ++ after))) first
+          ap (λ (l : List NotedRecord). holding i l ∷ stored_from (filter kept is) (drop (length i.pages) (own ++ after))) first
           ∙ ap (λ (l : List NotedRecord). one_stored i noted ∷ stored_from (filter kept is) l) behind
       by_test false after long = refl
 
@@ -234,7 +238,7 @@ pub stored-set : (intervals : List IntervalRecord) (noted : List NotedRecord) (a
 stored-set [] noted at offset i d new within inside = absurd (omega (arith, within))
 stored-set (x ∷ xs) noted zero offset i d new within inside =
     ap (λ k. stored_from (x ∷ xs) (set noted k new)) (let h : count_of (take zero (x ∷ xs)) + offset ≡ offset = omega arith in h)
-    ∙ ap (λ (l : List NotedRecord). record { node = x.node; stamp = x.stamp; notices = map notice_in l } ∷ stored_from xs (drop (length x.pages) (set noted offset new)))
+    ∙ ap (λ (l : List NotedRecord). holding x l ∷ stored_from xs (drop (length x.pages) (set noted offset new)))
     (take-set-lt (length x.pages) noted offset new inside)
     ∙ ap (λ (l : List NoticeRecord). record { node = x.node; stamp = x.stamp; notices = l } ∷ stored_from xs (drop (length x.pages) (set noted offset new)))
     (map-set notice_in (take (length x.pages) noted) offset new)
@@ -247,7 +251,7 @@ stored-set (x ∷ xs) noted (suc at) offset i d new within inside =
     let place : count_of (x ∷ take at xs) + offset ≡ n + (start + offset) = omega (arith, count_of-first x (take at xs)) in
     let past : n ≤ n + (start + offset) = omega arith in
     ap (λ k. stored_from (x ∷ xs) (set noted k new)) place
-    ∙ ap (λ (l : List NotedRecord). record { node = x.node; stamp = x.stamp; notices = map notice_in l } ∷ stored_from xs (drop n (set noted (n + (start + offset)) new)))
+    ∙ ap (λ (l : List NotedRecord). holding x l ∷ stored_from xs (drop n (set noted (n + (start + offset)) new)))
     (take-set-le n noted (n + (start + offset)) new past)
     ∙ ap (λ (l : List NotedRecord). one_stored x noted ∷ stored_from xs l) (drop-set-add n noted (start + offset) new)
     ∙ ap (λ (l : List StoredRecord). one_stored x noted ∷ l)

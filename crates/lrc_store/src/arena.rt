@@ -1,6 +1,7 @@
 // The intervals and the notices of a store.
 
-ghost use Rattle.std.specs.Prelude.{◌≡◌, ◌<◌, ◌≤◌, ◌+◌, ◌==◌, ℕ, OnErr, OnOk, Some, [], ◌∷◌, ◌++◌, filter, flat_map, is_some, length, map, nat_lt, not, option_and_then, position, slice_index_or, slice_set, take, vec_capacity, vec_len};
+ghost use Rattle.std.specs.Prelude.{◌≡◌, ◌<◌, ◌≤◌, ◌+◌, ◌==◌, ℕ, OnErr, OnOk, Some, [], ◌∷◌, ◌++◌, filter, flat_map, is_some, length, map, nat_lt};
+ghost use Rattle.std.specs.Prelude.{not, option_and_then, position, slice_index_or, slice_set, take, vec_capacity, vec_len};
 ghost use Rattle.std.specs.Option.{option_copied};
 ghost use Rattle.lrc_time.specs.Time.{knows};
 ghost use Rattle.lrc_page.specs.Pages.{IsRising};
@@ -151,7 +152,7 @@ impl Arena {
         requires start { start ≡ length (flat_map keys_of (take at (map interval_of self.old.entries))) }
         ensures entries { (d : StoredRecord) → self.new.entries ≡ slice_set self.old.entries at
             (record (slice_index_or self.old.entries at d) {
-              notices = map (notice_with page changes) (slice_index_or self.old.entries at d).notices
+              notices = map (notice_with page changes) (slice_index_or self.old.entries at d).notices;
             }) }
         ensures notices { self.new.notices ≡ self.old.notices }
     {
@@ -206,9 +207,5 @@ fn place_of(pages: &[u16], page: u16) -> Option<usize>
         { *named < page },
     );
     let named = pages.get(place)?;
-    if *named == page {
-        Some(place)
-    } else {
-        None
-    }
+    if *named == page { Some(place) } else { None }
 }

@@ -23,10 +23,11 @@ use std::marker::Model;
 
 /// The intervals that a node knows, each with its write notices, and the changes that came for some of these.
 ///
-/// Intervals and notices stand in the order of adding, and the changes in the notice. Each is linked to the one before it of its node, or of its page. What
-/// is newer or missing is found along these lists. An interval is found by its node and its index at once, since no
-/// index is left out between a node's oldest interval and its newest; its notice of a page by halving. `add` and `attach`
-/// cost what they add, and `discard` costs what there is.
+/// Intervals and notices stand in the order of adding, the changes in their notice. Each interval is linked to the one
+/// before it of its node, each notice to the one before it of its page. What is newer or missing is found along these
+/// lists. An interval is found by its node and its index at once, since no index is left out between a node's oldest
+/// interval and its newest; its notice of a page by halving. `add` and `attach` cost what they add, and `discard` costs
+/// what there is.
 #[derive(Drop)]
 pub struct Store {
     pages: u16,
@@ -122,13 +123,7 @@ impl Store {
     pub fn changes(&self, key: Key) -> Option<&Changes>
         ensures { option_copied result ≡ changes_at self.now key }
     {
-        let place = place_of(
-            &self.arena,
-            &self.by_node,
-            &self.last,
-            key.node,
-            key.index,
-        )?;
+        let place = place_of(&self.arena, &self.by_node, &self.last, key.node, key.index)?;
         let start = self.by_node.start(place) as usize;
         self.arena.changes(place as usize, start, key.page)
     }
@@ -137,13 +132,7 @@ impl Store {
     pub fn has_notice(&self, key: Key) -> bool
         ensures { result ≡ is_some (notice_at self.now key) }
     {
-        if let Some(place) = place_of(
-            &self.arena,
-            &self.by_node,
-            &self.last,
-            key.node,
-            key.index,
-        ) {
+        if let Some(place) = place_of(&self.arena, &self.by_node, &self.last, key.node, key.index) {
             self.arena.has_notice(place as usize, key.page)
         } else {
             false
@@ -155,13 +144,7 @@ impl Store {
         requires { notice_at self.old key ≡ Some (record { page = key.page; changes = None }) }
         ensures { self.new ≡ attached self.old key changes }
     {
-        if let Some(place) = place_of(
-            &self.arena,
-            &self.by_node,
-            &self.last,
-            key.node,
-            key.index,
-        ) {
+        if let Some(place) = place_of(&self.arena, &self.by_node, &self.last, key.node, key.index) {
             let start = self.by_node.start(place) as usize;
             self.arena.attach(place as usize, start, key.page, changes);
         }

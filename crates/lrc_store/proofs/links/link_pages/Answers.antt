@@ -1,4 +1,4 @@
-use Rattle.std.proofs.Common.{◌≡◌, ◌+◌, ◌∙◌, ◌++◌, ◌∷◌, [], ℕ, List, length, get_or, map, take, ap, sym, arith, rules}
+use Rattle.std.proofs.Common.{◌≡◌, ◌+◌, ◌∙◌, ◌++◌, ◌∷◌, [], ℕ, List, get_or, map, take, ap, sym, arith, rules}
 use Rattle.std.proofs.lemmas.List.{map_push, take_more}
 use Rattle.lrc_store.specs.Links.{page_named}
 use Rattle.lrc_store.proofs.links.link_pages.Goals as goal

@@ -1,4 +1,5 @@
-use Rattle.std.proofs.Common.{◌≡◌, ◌<◌, ◌≤◌, ◌∙◌, ◌++◌, ◌∷◌, ◌&&◌, ℕ, Bool, true, false, not, eqb, Option, Some, [], length, get_or, map, sym, ap, subst, arith, append-nil, Vec, Global}
+use Rattle.std.proofs.Common.{◌≡◌, ◌<◌, ◌≤◌, ◌∙◌, ◌++◌, ◌∷◌, ◌&&◌, ℕ, Bool, true, false, not, eqb, Option, Some, [], length, get_or, map, sym, ap}
+use Rattle.std.proofs.Common.{subst, arith, append-nil, Vec, Global}
 use Rattle.std.proofs.lemmas.List.{get_or-map, length-map}
 use Rattle.lrc_time.specs.Time.{knows}
 use Rattle.lrc_store.specs.Interval.{IntervalRecord, index_of}

@@ -1,4 +1,4 @@
-use Rattle.std.proofs.Common.{◌≡◌, ℕ, ◌+◌, ◌<◌, ◌∙◌, eqb, [], List, None, Some, length, get_or, map, set, take, ap, sym, subst, arith}
+use Rattle.std.proofs.Common.{◌≡◌, ◌+◌, ◌<◌, ◌∙◌, eqb, [], List, Some, length, get_or, map, set, take, ap, sym, subst, arith}
 use Rattle.std.specs.List.{position}
 use Rattle.lrc_page.specs.Pages.{IsRising}
 use Rattle.lrc_store.specs.Arena.{ArenaRecord, NotedRecord, rank_of, stored_from}

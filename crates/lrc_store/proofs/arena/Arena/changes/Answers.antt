@@ -1,9 +1,9 @@
-use Rattle.std.proofs.Common.{◌≡◌, ◌+◌, ◌<◌, ◌∙◌, eqb, None, Some, [], length, map, get_or, take, ap, sym, subst, arith}
+use Rattle.std.proofs.Common.{◌≡◌, ◌+◌, ◌<◌, ◌∙◌, eqb, [], length, map, get_or, take, ap, sym, arith}
 use Rattle.std.specs.List.{position}
 use Rattle.std.specs.Option.{option_copied, option_and_then}
 use Rattle.lrc_store.specs.Arena.{ArenaRecord, NotedRecord}
 use Rattle.lrc_store.specs.Interval.{IntervalRecord}
-use Rattle.lrc_store.specs.Store.{NoticeRecord, StoredRecord, interval_of, notice_of}
+use Rattle.lrc_store.specs.Store.{NoticeRecord, interval_of, notice_of}
 use Rattle.lrc_store.proofs.ArenaPlaces.{no_notice, notice_there, notice_within, start_there}
 use Rattle.lrc_store.proofs.Arenas.{length-stored}
 use Rattle.lrc_store.proofs.Starts.{count_of}
@@ -56,7 +56,8 @@ returns-in_err-offset c = λ d.
     c.args.page d (sym (place (goal.at.returns-in_err-offset c).After-place_of) ∙ c.in_err-offset.was) in
     ap option_copied c.from_residual.ensures
     ∙ sym (ap (option_and_then (λ (notice : NoticeRecord). notice.changes)) none)
-    ∙ ap (λ (s : ArenaRecord). option_and_then (λ (notice : NoticeRecord). notice.changes) (notice_of c.args.page (get_or s.entries c.args.at d))) c.self.view_is
+    ∙ ap (λ (s : ArenaRecord). option_and_then (λ (notice : NoticeRecord). notice.changes) (notice_of c.args.page (get_or s.entries c.args.at d)))
+    c.self.view_is
 
 pub returns : goal.returns
 returns c = λ d.
@@ -68,4 +69,5 @@ returns c = λ d.
     ∙ ap (λ (n : NotedRecord). n.changes) (c.noted.view_is ∙ c.index-noted.ensures)
     ∙ ap (λ k. (get_or noted (k + c.in_ok-offset.offset) c.index-noted.result.now).changes) (start a)
     ∙ sym (ap (option_and_then (λ (notice : NoticeRecord). notice.changes)) there)
-    ∙ ap (λ (s : ArenaRecord). option_and_then (λ (notice : NoticeRecord). notice.changes) (notice_of c.args.page (get_or s.entries c.args.at d))) c.self.view_is
+    ∙ ap (λ (s : ArenaRecord). option_and_then (λ (notice : NoticeRecord). notice.changes) (notice_of c.args.page (get_or s.entries c.args.at d)))
+    c.self.view_is

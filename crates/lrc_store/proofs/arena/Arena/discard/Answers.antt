@@ -1,9 +1,7 @@
 use Rattle.std.proofs.Common.{◌≡◌, ◌∙◌, not, map, ap, sym, rules}
 use Rattle.std.specs.List.{filter}
 use Rattle.std.proofs.lemmas.Fn.{filter_same}
-use Rattle.lrc_time.specs.Time.{knows}
 use Rattle.lrc_store.specs.Arena.{ArenaRecord, NotedRecord, rank_of, stored_from}
-use Rattle.lrc_store.specs.Interval.{IntervalRecord}
 use Rattle.lrc_store.specs.Links.{ranked_of}
 use Rattle.lrc_store.specs.Store.{interval_of, is_covered}
 use Rattle.lrc_store.proofs.Arenas.{ranks-filter, stored-filter}

@@ -1,4 +1,4 @@
-use Rattle.std.proofs.Common.{◌≡◌, ◌<◌, ◌∙◌, eqb, length, get_or, ap, sym, arith}
+use Rattle.std.proofs.Common.{◌<◌, ◌∙◌, eqb, length, get_or, ap, arith}
 use Rattle.std.specs.List.{position}
 use Rattle.std.specs.Option.{is_some}
 use Rattle.lrc_store.specs.Arena.{ArenaRecord}
@@ -30,4 +30,3 @@ returns c = λ d.
     (c.as_slice.ensures ∙ ap (λ (i : IntervalRecord). i.pages) (c.behind-self.view_is ∙ c.index.ensures)))
     ∙ has_there intervals noted c.self.invariant c.args.at c.index.result.now within c.args.page d
     ∙ ap (λ (a : ArenaRecord). is_some (notice_of c.args.page (get_or a.entries c.args.at d))) c.self.view_is
-

@@ -1,6 +1,6 @@
-use Rattle.std.proofs.Common.{◌≡◌, length, get_or, ap, sym, ◌∙◌, arith}
+use Rattle.std.proofs.Common.{length, get_or, ap, sym, ◌∙◌, arith}
 use Rattle.lrc_store.specs.Arena.{ArenaRecord}
-use Rattle.lrc_store.specs.Store.{StoredRecord, interval_of}
+use Rattle.lrc_store.specs.Store.{interval_of}
 use Rattle.lrc_store.proofs.Arenas.{length-stored, interval_of-stored}
 use Rattle.lrc_store.proofs.arena.Arena.interval.Goals as goal
 

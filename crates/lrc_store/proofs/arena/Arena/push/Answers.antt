@@ -1,9 +1,8 @@
-use Rattle.std.proofs.Common.{◌≡◌, ℕ, [], ◌∷◌, ◌++◌, List, map, ap, sym, ◌∙◌}
-use Rattle.lrc_store.specs.declared.key.Key.{Key}
+use Rattle.std.proofs.Common.{◌≡◌, [], ◌∷◌, ◌++◌, List, map, ap, sym, ◌∙◌}
 use Rattle.lrc_store.specs.Arena.{ArenaRecord, NotedRecord, fresh_in, rank_of, stored_from}
 use Rattle.lrc_store.specs.Interval.{IntervalRecord}
 use Rattle.lrc_store.specs.Links.{ranked_of, ranked_pages}
-use Rattle.lrc_store.specs.Store.{StoredRecord, without_changes}
+use Rattle.lrc_store.specs.Store.{without_changes}
 use Rattle.lrc_store.proofs.Arenas.{noted-push, ranks-push, stored-push}
 use Rattle.lrc_store.proofs.arena.Arena.push.Goals as goal
 use Rattle.lrc_store.proofs.arena.Arena.push.Goals.{After-add_notices}

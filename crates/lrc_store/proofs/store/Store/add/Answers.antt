@@ -1,8 +1,7 @@
 use Rattle.std.proofs.Common.{◌≡◌, ℕ, List, length, [], ◌∷◌, ◌++◌, set, sym, ap, ◌∙◌, subst}
 use Rattle.lrc_store.specs.Interval.{IntervalRecord, index_of}
-use Rattle.lrc_store.specs.Store.{StoredRecord, StoreRecord, added, without_changes}
-use Rattle.lrc_store.specs.declared.key.Key.{Key}
-use Rattle.lrc_store.specs.Links.{IsLinkedUp, ranked_pages}
+use Rattle.lrc_store.specs.Store.{StoreRecord, added, without_changes}
+use Rattle.lrc_store.specs.Links.{IsLinkedUp}
 use Rattle.lrc_store.proofs.LinkedStores.{IsLinkedUp-added}
 use Rattle.lrc_store.proofs.store.Store.add.Goals as goal
 use Rattle.lrc_store.proofs.store.Store.add.Goals.{After-raise}

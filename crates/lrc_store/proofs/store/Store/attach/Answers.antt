@@ -1,12 +1,11 @@
-use Rattle.std.proofs.Common.{◌≡◌, ℕ, List, set, map, sym, ap, ◌∙◌, subst, Option, None, Some, ◌<◌, length, get_or, []}
-use Rattle.std.specs.List.{All, AllPairs, position}
+use Rattle.std.proofs.Common.{◌≡◌, ℕ, List, map, sym, ap, ◌∙◌, subst, Option, None, Some, ◌<◌, get_or, []}
+use Rattle.std.specs.List.{All, position}
 use Rattle.std.specs.Option.{option_and_then}
 use Rattle.std.proofs.lemmas.List.{get_or_default}
 use Rattle.std.proofs.lemmas.List.Quantifiers.{position-Some}
 use Rattle.lrc_store.specs.declared.key.Key.{Key}
 use Rattle.lrc_store.specs.Arena.{ArenaRecord}
-use Rattle.lrc_store.specs.Interval.{index_of}
-use Rattle.lrc_store.specs.Store.{interval_of, StoredRecord, StoreRecord, attached, is_at, notice_of, stored_with}
+use Rattle.lrc_store.specs.Store.{StoredRecord, StoreRecord, attached, is_at, notice_of, stored_with}
 use Rattle.lrc_store.proofs.Places.{find-position_none}
 use Rattle.lrc_store.specs.Links.{IsLinkedUp}
 use Rattle.lrc_store.proofs.LinkedStores.{nodes_in_range, IsLinkedUp-attached}
@@ -66,4 +65,3 @@ place_of-requires-clause-in_range c =
     let store : StoreRecord = record { pages = c.self.inside.pages; last = c.self.inside.last; entries = c.self.inside.arena.entries } in
     subst (λ n. All (λ stored. stored.node < n) c.self.inside.arena.entries) c.self.invariant.node_lists
     (nodes_in_range store c.self.inside.by_node c.self.inside.by_page c.self.inside.arena.notices c.self.invariant)
-

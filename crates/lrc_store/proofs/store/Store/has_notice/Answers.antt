@@ -1,8 +1,7 @@
-use Rattle.std.proofs.Common.{◌≡◌, ℕ, List, sym, ap, ◌∙◌, Bool, Option, None, Some, ◌<◌, length, map, get_or, [], subst}
-use Rattle.std.specs.List.{All, AllPairs, position, find}
+use Rattle.std.proofs.Common.{◌≡◌, ℕ, sym, ap, ◌∙◌, Bool, Option, None, Some, ◌<◌, get_or, [], subst}
+use Rattle.std.specs.List.{All, position, find}
 use Rattle.std.specs.Option.{is_some, option_and_then}
-use Rattle.lrc_store.specs.Interval.{index_of}
-use Rattle.lrc_store.specs.Store.{interval_of, StoredRecord, StoreRecord, is_at, notice_of}
+use Rattle.lrc_store.specs.Store.{StoredRecord, StoreRecord, is_at, notice_of}
 use Rattle.lrc_store.proofs.LinkedStores.{nodes_in_range}
 use Rattle.lrc_store.proofs.Places.{find-position, find-position_none}
 use Rattle.lrc_store.proofs.store.Store.has_notice.Goals as goal
@@ -38,4 +37,3 @@ place_of-requires-clause-in_range c =
     let store : StoreRecord = record { pages = c.self.inside.pages; last = c.self.inside.last; entries = c.self.inside.arena.entries } in
     subst (λ n. All (λ stored. stored.node < n) c.self.inside.arena.entries) c.self.invariant.node_lists
     (nodes_in_range store c.self.inside.by_node c.self.inside.by_page c.self.inside.arena.notices c.self.invariant)
-

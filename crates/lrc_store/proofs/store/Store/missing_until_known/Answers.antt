@@ -5,7 +5,6 @@ use Rattle.lrc_store.specs.Store.{StoreRecord, IsStore, intervals_of, is_missing
 use Rattle.lrc_store.specs.Lists.{KnowsTheFirst}
 use Rattle.lrc_store.specs.Links.{ranked, is_unknown_on}
 use Rattle.lrc_store.proofs.LinkedStores.{unknown_is_missing, known_first}
-use Rattle.lrc_store.proofs.Walks.{IsKnownFirst}
 use Rattle.lrc_store.proofs.Ranks.{IsMissing-missing_of, IsMissing-only}
 use Rattle.lrc_store.proofs.store.Store.missing_until_known.Goals as goal
 use Rattle.lrc_store.proofs.store.Store.missing_until_known.Goals.{After-keys_in_order}

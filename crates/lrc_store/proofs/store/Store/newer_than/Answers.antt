@@ -1,8 +1,7 @@
-use Rattle.std.proofs.Common.{◌≡◌, ◌<◌, List, map, ap, sym, subst, ◌∙◌, arith}
-use Rattle.std.specs.List.{AllPairs, filter}
-use Rattle.lrc_store.specs.Interval.{index_of}
+use Rattle.std.proofs.Common.{◌≡◌, ap, subst, ◌∙◌, arith}
+use Rattle.std.specs.List.{filter}
 use Rattle.lrc_store.specs.Links.{is_newer_of}
-use Rattle.lrc_store.specs.Store.{StoreRecord, StoredRecord, IsNewer, IsStore, interval_of, intervals_of, newer_of}
+use Rattle.lrc_store.specs.Store.{StoreRecord, IsNewer, IsStore, intervals_of, newer_of}
 use Rattle.lrc_store.proofs.Newer.{IsNewer-found, by_nodes-more}
 use Rattle.lrc_store.proofs.Ranks.{IsNewer-newer_of, IsNewer-only}
 use Rattle.lrc_store.proofs.store.Store.newer_than.Goals as goal
@@ -10,7 +9,6 @@ use Rattle.lrc_store.proofs.store.Store.newer_than.Goals.{After-from_ascending}
 
 pub loop-node-init : goal.loop-node-init
 loop-node-init c = c.new-found.ensures.items
-
 
 pub loop-node-preserved : goal.loop-node-preserved
 loop-node-preserved c =
