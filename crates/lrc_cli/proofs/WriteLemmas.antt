@@ -1,6 +1,6 @@
 -- What a writer has in the middle of a text.
 use Rattle.std.proofs.Common.{◌≡◌, ◌∙◌, ◌<◌, ◌+◌, ℕ, refl, sym, ap, subst, arith, List, [], ◌∷◌, ◌++◌, length, take, drop, Option, Some, None, Result, Ok, Err, OnErr, ◌==◌, true, false, append-nil, length-append, length-drop, get_or, Vec, rules, tests}
-use Rattle.std.specs.Io.KnownBytes.{Appends, Keeps, WriteAppends}
+use Rattle.std.specs.Io.KnownBytes.{Appends, Keeps}
 use Rattle.std.proofs.lemmas.List.{append_assoc, drop_more, take_at, take-append-drop}
 use Rattle.lrc_cli.specs.Output.{AppendsFront}
 use Rattle.lrc_cli.specs.ReportText.{whole_text}
@@ -11,10 +11,6 @@ pub record IsUnderWay (old new : Option (List ℕ)) (text rest : List ℕ) : Typ
   pub front : List ℕ
   pub whole : text ≡ front ++ rest
   pub written : Appends old new front
-
-Appends-nil : (old : Option (List ℕ)) → Appends old old []
-Appends-nil None = tt
-Appends-nil (Some xs) = sym (append-nil xs)
 
 pub Appends-more : (old mid new : Option (List ℕ)) (first second : List ℕ) → Appends old mid first → Appends mid new second → Appends old new (first ++ second)
 Appends-more None mid new first second h k = tt
@@ -27,9 +23,6 @@ Appends-kept None mid new text h k = tt
 Appends-kept (Some xs) None new text h k = absurd h
 Appends-kept (Some xs) (Some ys) None text h k = absurd k
 Appends-kept (Some xs) (Some ys) (Some zs) text h k = k ∙ h
-
-pub way_begins : (old : Option (List ℕ)) (text : List ℕ) → IsUnderWay old old text text
-way_begins old text = record { front = []; whole = refl; written = Appends-nil old }
 
 -- the writer took some bytes more
 pub way_more : (old mid new : Option (List ℕ)) (text rest : List ℕ) (count : ℕ) → IsUnderWay old mid text rest → Appends mid new (take count rest)
@@ -44,10 +37,6 @@ way_more old mid new text rest count way h = record {
 pub way_kept : (old mid new : Option (List ℕ)) (text rest : List ℕ) → IsUnderWay old mid text rest → Keeps mid new → IsUnderWay old new text rest
 way_kept old mid new text rest way h = record { front = way.front; whole = way.whole; written = Appends-kept old mid new way.front way.written h }
 
-pub way_ends : (old new : Option (List ℕ)) (text rest : List ℕ) → rest ≡ [] → IsUnderWay old new text rest → Appends old new text
-way_ends old new text rest none way =
-    subst (Appends old new) (sym (way.whole ∙ ap (λ l. way.front ++ l) none ∙ append-nil way.front)) way.written
-
 pub way_front : (old new : Option (List ℕ)) (text rest : List ℕ) → 0 < length rest → IsUnderWay old new text rest → AppendsFront old new text
 way_front old new text rest some way =
     let counts : length text ≡ length way.front + length rest = ap length way.whole ∙ length-append way.front rest in
@@ -56,18 +45,6 @@ way_front old new text rest some way =
       less,
       subst (Appends old new) (sym (ap (take (length way.front)) way.whole ∙ take_at way.front rest (length way.front) refl)) way.written,
     )
-
-pub way_written : {E : Type 0} (old mid new : Option (List ℕ)) (text rest : List ℕ) (r : Result ℕ E) (count : ℕ) → r ≡ Ok count → IsUnderWay old mid text rest
-    → WriteAppends mid new r rest → IsUnderWay old new text (drop count rest)
-way_written old mid new text rest (Ok n) count is way h =
-    let same : n ≡ count = cc in
-    way_more old mid new text rest count way (subst (λ (m : ℕ). Appends mid new (take m rest)) same h)
-way_written old mid new text rest (Err e) count is way h = absurd cc
-
-pub way_refused : {E : Type 0} (old mid new : Option (List ℕ)) (text rest : List ℕ) (r : Result ℕ E) (error : E) → r ≡ Err error → IsUnderWay old mid text rest
-    → WriteAppends mid new r rest → IsUnderWay old new text rest
-way_refused old mid new text rest (Ok n) error is way h = absurd cc
-way_refused old mid new text rest (Err e) error is way h = way_kept old mid new text rest way h
 
 pub nil_of : (text : List ℕ) → true ≡ (length text == 0) → text ≡ []
 nil_of [] e = refl

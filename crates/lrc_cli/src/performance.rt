@@ -11,7 +11,7 @@ ghost use Rattle.lrc_cli.specs.declared.fault.Fault.TheVariants.{NoMemory};
 use crate::answer::{Printout, answer};
 use crate::choice::Choice;
 use crate::fault::{Fault, NO_MEMORY_LINE, line_of};
-use crate::output::{put, put_parts};
+use crate::output::{Output, put, put_parts};
 use crate::threads::answer_on_threads;
 use std::alloc::Global;
 use std::io::Write;
@@ -84,7 +84,8 @@ fn print<W: Write>(printout: &Printout, out: &mut W) -> u8
     ensures { IsWritten (W.contents out.old) (W.contents out.new) (whole_text printout.now.parts.items)
         printout.now.status result }
 {
-    match put_parts(out, &printout.parts) {
+    let mut output = Output::new(out);
+    match put_parts(&mut output, &printout.parts) {
         Ok(()) => printout.status,
         Err(_) => 1,
     }
@@ -105,6 +106,7 @@ fn complain<E: Write>(alloc: Global, fault: Fault, err: &mut E) -> u8
 fn put_line<E: Write>(line: &[u8], err: &mut E) -> u8
     ensures { IsWritten (E.contents err.old) (E.contents err.new) line.now 1 result }
 {
-    let _written = put(err, line);
+    let mut output = Output::new(err);
+    let _written = put(&mut output, line);
     1
 }

@@ -12,7 +12,8 @@ returns-in_err-put-clause-err g c =
     ∙ ap (λ (text : List ℕ). text ++ whole_text (drop (i + 1) parts)) (ap (λ p. p.items) (sym c.part-item.is) ∙ sym c.deref.ensures.value) in
     on_err c.from_residual.result _
     (way_stops _ _ _ (whole_text parts) c.deref.result.now (whole_text (drop (i + 1) parts))
-    (subst (IsUnderWay (g.W.Write.contents c.args.writer.now) (g.W.Write.contents c.loop-part.writer) (whole_text parts)) here c.loop-part.invariant)
+    (subst (IsUnderWay (g.W.Write.contents c.args.output.now.writer.now) (g.W.Write.contents c.loop-part.output.writer.now) (whole_text parts)) here
+    c.loop-part.invariant.0)
     c.in_err-put.ensures.err)
 
 pub loop-part-preserved : goal.loop-part-preserved
@@ -21,7 +22,11 @@ loop-part-preserved g c =
     let i = c.loop-part.part-index in
     let here : whole_text (drop i parts) ≡ c.deref.result.now ++ whole_text (drop (i + 1) parts) =
     parts_at parts i c.part-item.result c.loop-part-test.true
-    ∙ ap (λ (text : List ℕ). text ++ whole_text (drop (i + 1) parts)) (ap (λ p. p.items) (sym c.part-item.is) ∙ sym c.deref.ensures.value) in
-    way_part _ _ _ (whole_text parts) c.deref.result.now (whole_text (drop (i + 1) parts))
-    (subst (IsUnderWay (g.W.Write.contents c.args.writer.now) (g.W.Write.contents c.loop-part.writer) (whole_text parts)) here c.loop-part.invariant)
-    c.in_ok-put.ensures.ok
+    ∙ ap (λ (text : List ℕ). text ++ whole_text (drop (i + 1) parts)) (ap (λ p. p.items) (sym c.part-item.is) ∙ sym c.deref.ensures.value) in (
+      way_part _ _ _ (whole_text parts) c.deref.result.now (whole_text (drop (i + 1) parts))
+          (subst (IsUnderWay (g.W.Write.contents c.args.output.now.writer.now) (g.W.Write.contents c.loop-part.output.writer.now) (whole_text parts)) here
+          c.loop-part.invariant.0)
+          c.in_ok-put.ensures.ok,
+      c.in_ok-put.ensures.fine,
+      c.in_ok-put.ensures.same_writer ∙ c.loop-part.invariant.2,
+    )
