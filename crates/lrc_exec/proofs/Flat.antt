@@ -10,8 +10,6 @@ use Rattle.std.proofs.lemmas.Option.{slice_get-get_or, slice_get_within, get_or_
 use Rattle.lrc_lang.specs.declared.program.Statement.{Statement, Row_of-Statement, end_of-Statement, more_of-Statement, items-the_row-Statement, items_hidden-the_row-Statement-0, roll-Statement, roll-out-Statement}
 use Rattle.lrc_lang.specs.declared.program.Statement.TheBlock.{hidden-the_row-Statement-0, shown-the_row-Statement-0}
 use Rattle.lrc_lang.specs.declared.program.Statement.TheVariants.{Assign, Read, Write, Acquire, Release, Barrier, Print, If', While', If, While, outs-If', outs-While', rolls-If, rolls-While}
-use Rattle.lrc_lang.specs.Statements.{statement_of, block_of}
-use Rattle.lrc_lang.specs.Sizes.{names_in_statement, names_in}
 use Rattle.lrc_exec.specs.declared.code.Instruction.{Instruction}
 use Rattle.lrc_exec.specs.Meaning.{block}
 use Rattle.lrc_exec.specs.Flat.{rests_from, rest_at, where_it_holds, where_it_fails, IsSound, IsSoundFrom, IsGrown, IsCodeOf}

@@ -1,20 +1,20 @@
 -- A text within the limits is a program within them: its names, its depth and its operators.
-use Rattle.std.proofs.Common.{◌≡◌, ◌<◌, ◌≤◌, ℕ, suc, ◌+◌, ◌-◌, max, List, [], ◌∷◌, ◌++◌, length, true, false, Bool, cond, not, ◌||◌, if◌then◌else◌, refl, sym, ap, subst, inr, ◌∙◌, arith, length-append}
+use Rattle.std.proofs.Common.{◌≡◌, ◌<◌, ◌≤◌, ℕ, suc, ◌+◌, ◌-◌, max, List, [], ◌∷◌, ◌++◌, length, true, false, Bool, cond, not, ◌||◌, if◌then◌else◌, refl, sym, subst, inr, ◌∙◌, arith, length-append}
 use Rattle.std.specs.List.{list_any, position_or_len}
 use Rattle.std.specs.Str.{bytes_eq}
 use Rattle.std.proofs.Math.Nat.{max-le}
 use Rattle.lrc_lang.specs.declared.token.Sign.{Sign}
 use Rattle.lrc_lang.specs.declared.token.Sign.TheVariants as signs
 use Rattle.lrc_lang.specs.declared.fault.FaultKind.TheVariants.{TooDeep, TooManyNames, OverLimit}
-use Rattle.lrc_lang.specs.Token.{Token, Placed, token}
+use Rattle.lrc_lang.specs.Token.{Token, Placed}
 use Rattle.lrc_lang.specs.Symbol.{Symbol, Names, is_among, number_of, names_with, symbol_of, symbol_of_sign, symbols_after}
-use Rattle.lrc_lang.specs.Statements.{Expression, binary, Statement, Block, empty, next}
+use Rattle.lrc_lang.specs.Statements.{Expression, binary, Statement, Block}
 use Rattle.lrc_lang.specs.Tree.{ProgramTree}
 use Rattle.lrc_lang.specs.Sizes.{names_in_expression, operators_in, names_in_statement, names_in, depth_of_statement, depth_of, operators_in_statement, most_operators}
-use Rattle.lrc_lang.specs.Counts.{names_of, open_with, open_of, operators_with, operators_of, IsOpening, IsTooDeep, IsNameTooMany, IsOperator, IsOperatorTooMany}
+use Rattle.lrc_lang.specs.Counts.{names_of, open_with, open_of, operators_with, operators_of, IsTooDeep, IsNameTooMany, IsOperatorTooMany}
 use Rattle.lrc_lang.specs.Grammar.{IsFactor, a_number, a_name, parentheses, IsTerm, factor, product, IsSum, term, sum, IsExpression, one_sum, comparison, IsStatement, IsBlock, braces, AreStatements, none, one_more, AreSymbolsOf, program}
 use Rattle.lrc_lang.specs.Grammar as grammar
-use Rattle.lrc_lang.specs.Faults.{HasFault, IsFaultless, AreFaultless, IsText}
+use Rattle.lrc_lang.specs.Faults.{AreFaultless, IsText}
 use Rattle.lrc_lang.proofs.Names.{position-le}
 use Rattle.lrc_lang.proofs.Reaching.{fold-append}
 
