@@ -9,10 +9,10 @@ pub loop-me-preserved : goal.loop-me-preserved
 loop-me-preserved g c =
     let items : c.push.new.self.items ≡ c.loop-me.threads.items ++ c.in-Ok.thread ∷ [] = search rules in
     let promised = c.in-Ok.ensures.ok in
-    started_more c.captures.code.now c.captures.nodes c.captures.options.now (λ handle. handle.promise) c.loop-me.threads.items c.push.new.self.items
+    started_more c.captures.program.now c.captures.nodes c.captures.options.now (λ handle. handle.promise) c.loop-me.threads.items c.push.new.self.items
     c.in-Ok.thread c.loop-me.me items c.loop-me.invariant.0 c.loop-me.invariant.1
     (record {
-      its_program = ap (λ (o : LogOf). o.code.now) promised;
+      its_program = ap (λ (o : LogOf). o.program.now) promised;
       its_nodes = ap (λ (o : LogOf). o.nodes) promised;
       its_options = ap (λ (o : LogOf). o.options) promised;
       its_number = ap (λ (o : LogOf). o.me) promised;
@@ -22,18 +22,18 @@ pub joined-requires : goal.joined-requires
 joined-requires g c = record {
   none = c.in_ok-logs.ensures.items;
   owed = elim c.loop-me-test.branch [
-    else-loop-me-test w ↦ subst (λ threads. AreOwedFrom c.captures.code.now c.captures.nodes c.captures.options.now 0 (map (λ handle. handle.promise) threads.items))
+    | else-loop-me-test w ↦ subst (λ threads. AreOwedFrom c.captures.program.now c.captures.nodes c.captures.options.now 0 (map (λ handle. handle.promise) threads.items))
         (sym w.threads-is) c.loop-me.invariant.1
-    | then-loop-me-test+in_default w ↦ subst (λ threads. AreOwedFrom c.captures.code.now c.captures.nodes c.captures.options.now 0 (map (λ handle. handle.promise) threads.items))
+    | then-loop-me-test+in_default w ↦ subst (λ threads. AreOwedFrom c.captures.program.now c.captures.nodes c.captures.options.now 0 (map (λ handle. handle.promise) threads.items))
         (sym w.threads-is) c.loop-me.invariant.1
     | then-loop-me-test+in-Ok+then-is_err w ↦
         let items : c.loop-me-test.threads.items ≡ c.loop-me.threads.items = search rules in
-        subst (λ threads. AreOwedFrom c.captures.code.now c.captures.nodes c.captures.options.now 0 (map (λ handle. handle.promise) threads))
+        subst (λ threads. AreOwedFrom c.captures.program.now c.captures.nodes c.captures.options.now 0 (map (λ handle. handle.promise) threads))
         (sym items) c.loop-me.invariant.1
   ];
 }
 
 pub returns : goal.returns
 returns g c =
-    all_logs c.captures.code.now c.captures.nodes c.captures.options.now (λ logs. logs.items) (λ log. log.items) c.in_ok-joined.field-0
+    all_logs c.captures.program.now c.captures.nodes c.captures.options.now (λ logs. logs.items) (λ log. log.items) c.in_ok-joined.field-0
     c.all_of.result c.in_ok-joined.ensures c.all_of.ensures.all c.all_of.ensures.same
