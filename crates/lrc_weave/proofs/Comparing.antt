@@ -1,6 +1,6 @@
 -- What the comparison of logs and mailboxes keeps, from one entry to the next.
 use Rattle.std.proofs.Common.{◌≡◌, ℕ, zero, suc, ◌+◌, ◌<◌, ◌≤◌, ◌↔◌, inl, inr, Bool, true, false, not, cond, IsTrue, List, [], ◌∷◌, ◌++◌, length, map, filter, take, drop, refl, sym, ap, subst, ◌∙◌, arith, append-nil, append_assoc}
-use Rattle.std.specs.Prelude.{Option, Some, None, is_none, Result, Ok, Err, IfOk, filter_map, flat_map, slice_get, slice_index_or, nat_lt, ◌==◌, ◌&&◌, ◌||◌}
+use Rattle.std.specs.Prelude.{Option, Some, None, is_none, Result, Ok, Err, IfOk, slice_get, ◌==◌, ◌&&◌, ◌||◌}
 use Rattle.std.specs.List.{list_any, list_all}
 use Rattle.std.proofs.lemmas.Bool.{cases_eq, and_parts, ltb-true, lt-ltb}
 use Rattle.std.proofs.lemmas.List.{append_cancel_left, map-append, take-append-drop}
@@ -11,11 +11,10 @@ use Rattle.std.proofs.Math.Seq.{drop-length}
 use Rattle.lrc_wire.specs.Envelope.{EnvelopeRecord}
 use Rattle.lrc_post.specs.declared.parcel.Wire.{Wire}
 use Rattle.lrc_post.specs.declared.parcel.Wire.TheVariants.{Put, Took}
-use Rattle.lrc_post.specs.Mailbox.{MailboxRecord}
 use Rattle.lrc_protocol.specs.Log.{Input, run, taken, EntryRecord, last_stamp}
 use Rattle.lrc_protocol.specs.World.{Flying, sent_by}
 use Rattle.lrc_weave.specs.Logs.{all_sent, sent_to}
-use Rattle.lrc_weave.specs.Matched.{message_of, is_put_by, puts_by, place_taken, message_if, message_at, takes_in, Takes, takes_none, takes_not, takes_one, IsMatched, AreMatched}
+use Rattle.lrc_weave.specs.Matched.{message_of, is_put_by, puts_by, message_if, message_at, takes_in, Takes, takes_none, takes_not, takes_one, IsMatched}
 use Rattle.lrc_weave.specs.Compared.{sent_as, only_to, sends_to, is_by_node, AreByNodes, ArePuts, AreNext, IsNextTake, IsTakenAs, taken_in, Leaves, IsLeft}
 use Rattle.lrc_weave.proofs.Places.{taken_more, dropped_less}
 use Rattle.lrc_weave.proofs.Rising.{last_is}
@@ -102,12 +101,12 @@ pub put_all : (sender owner : ℕ) (log : List EntryRecord) (history rest : List
 put_all sender owner log history rest true next is = (
   λ no. nothing no,
   λ same.
-  absurd (some_left sender rest (sym is)
-  (append_cancel_left (map Some (sent_to owner log)) (puts_by sender rest) [] (sym next ∙ same ∙ sym (append-nil (map Some (sent_to owner log)))))),
+      absurd (some_left sender rest (sym is)
+      (append_cancel_left (map Some (sent_to owner log)) (puts_by sender rest) [] (sym next ∙ same ∙ sym (append-nil (map Some (sent_to owner log)))))),
 )
 put_all sender owner log history rest false next is = (
   λ yes.
-  next ∙ ap (λ xs. map Some (sent_to owner log) ++ xs) (none_left sender rest (sym is)) ∙ append-nil (map Some (sent_to owner log)),
+      next ∙ ap (λ xs. map Some (sent_to owner log) ++ xs) (none_left sender rest (sym is)) ∙ append-nil (map Some (sent_to owner log)),
   λ same. refl,
 )
 
@@ -168,15 +167,15 @@ module _ (history : List Wire) (log : List EntryRecord) (k before : ℕ) (rest n
         sym (ap last_stamp more ∙ last_is (take k log) entry),
         (
           λ t.
-          from_here
-          (first_taken (take k log) (drop (k + 1) log) entry (taken_in history rest) (taken_in history new) entry.input refl leaves
-          (subst (λ b. Takes b (drop (k + 1) log) (taken_in history new)) more t)),
+              from_here
+              (first_taken (take k log) (drop (k + 1) log) entry (taken_in history rest) (taken_in history new) entry.input refl leaves
+              (subst (λ b. Takes b (drop (k + 1) log) (taken_in history new)) more t)),
           λ t.
-          let f = taken_first (take k log) (drop (k + 1) log) entry (taken_in history rest) (to_here t) in
-          subst (λ b. Takes b (drop (k + 1) log) (taken_in history new)) (sym more)
-          (subst (λ ms. Takes (take k log ++ entry ∷ []) (drop (k + 1) log) ms)
-          (one_left (last_stamp (take k log)) entry.stamp entry.input (taken_in history rest) f.0 (taken_in history new) f.1 leaves)
-          f.2),
+              let f = taken_first (take k log) (drop (k + 1) log) entry (taken_in history rest) (to_here t) in
+              subst (λ b. Takes b (drop (k + 1) log) (taken_in history new)) (sym more)
+              (subst (λ ms. Takes (take k log ++ entry ∷ []) (drop (k + 1) log) ms)
+              (one_left (last_stamp (take k log)) entry.stamp entry.input (taken_in history rest) f.0 (taken_in history new) f.1 leaves)
+              f.2),
         ),
       )
 
@@ -184,8 +183,8 @@ module _ (history : List Wire) (log : List EntryRecord) (k before : ℕ) (rest n
   so_not apart = (
     λ e. nothing e,
     λ t.
-    let f = taken_first (take k log) (drop (k + 1) log) entry (taken_in history rest) (to_here t) in
-    absurd (apart f.0 (subst (λ b. Leaves b entry.stamp entry.input (taken_in history rest) f.0) (sym so.0) f.1)),
+        let f = taken_first (take k log) (drop (k + 1) log) entry (taken_in history rest) (to_here t) in
+        absurd (apart f.0 (subst (λ b. Leaves b entry.stamp entry.input (taken_in history rest) f.0) (sym so.0) f.1)),
   )
 
 emptied : {before log : List EntryRecord} {messages : List (Option Flying)} → Takes before log messages → log ≡ [] → messages ≡ []
@@ -200,17 +199,17 @@ pub so_end : (history : List Wire) (log : List EntryRecord) (k before : ℕ) (re
     → (o : Option ℕ) → IsNextTake rest new o → IsTrue (is_none o) ↔ Takes [] log (takes_in history)
 so_end history log k before rest new so all None next = (
   λ yes.
-  so.1.0
-  (subst (λ l. Takes (take k log) l (taken_in history rest)) (sym (ap (λ n. drop n log) all ∙ drop-length log))
-  (subst (λ ms. Takes (take k log) [] ms) (sym (ap (map (message_at history)) next)) takes_none)),
+      so.1.0
+      (subst (λ l. Takes (take k log) l (taken_in history rest)) (sym (ap (λ n. drop n log) all ∙ drop-length log))
+      (subst (λ ms. Takes (take k log) [] ms) (sym (ap (map (message_at history)) next)) takes_none)),
   λ t. refl,
 )
 so_end history log k before rest new so all (Some place) next = (
   λ e. nothing e,
   λ t.
-  absurd (not_empty (taken_in history rest) (message_at history place) (taken_in history new)
-  (emptied (so.1.1 t) (ap (λ n. drop n log) all ∙ drop-length log))
-  (ap (map (message_at history)) next)),
+      absurd (not_empty (taken_in history rest) (message_at history place) (taken_in history new)
+      (emptied (so.1.1 t) (ap (λ n. drop n log) all ∙ drop-length log))
+      (ap (map (message_at history)) next)),
 )
 
 -- ---- one take

@@ -1,6 +1,6 @@
 -- The first element that passes a test, and what stands behind it.
-use Rattle.std.proofs.Common.{◌≡◌, ℕ, zero, suc, ◌+◌, ◌-◌, ◌<◌, ◌≤◌, ◌↔◌, Bool, true, false, cond, not, IsTrue, List, [], ◌∷◌, ◌++◌, length, map, filter, take, drop, refl, sym, ap, subst, ◌∙◌, arith}
-use Rattle.std.specs.Prelude.{Option, Some, None, is_some, Result, Ok, Err, IfOk, filter_map, position, nat_lt, slice_index_or}
+use Rattle.std.proofs.Common.{◌≡◌, ℕ, zero, suc, ◌+◌, ◌-◌, ◌<◌, ◌↔◌, Bool, true, false, cond, not, IsTrue, List, [], ◌∷◌, length, map, filter, take, drop, refl, sym, ap, ◌∙◌, arith}
+use Rattle.std.specs.Prelude.{Option, Some, None, is_some, filter_map, position, nat_lt, slice_index_or}
 use Rattle.std.specs.List.{position_or_len, cons_option}
 use Rattle.std.proofs.lemmas.Bool.{ltb-false, le-ltb}
 use Rattle.std.proofs.Math.Seq.{take-length}
@@ -118,4 +118,4 @@ put_next sender history rest flying i d is at left same = go is same
     go : (b : Bool) → IsTrue b ↔ (message_of (slice_index_or history i d) ≡ Some flying) → AreNext sender (flying ∷ []) history rest b
     go true s = puts ∙ ap (λ m. m ∷ puts_by sender (drop (i + 1) history)) (s.0 refl) ∙ ap (λ xs. Some flying ∷ puts_by sender xs) (sym left)
     go false s = λ more e. absurd (false_true (s.1
-      (head_is (message_of (slice_index_or history i d)) (Some flying) (puts_by sender (drop (i + 1) history)) more (sym puts ∙ e))))
+        (head_is (message_of (slice_index_or history i d)) (Some flying) (puts_by sender (drop (i + 1) history)) more (sym puts ∙ e))))

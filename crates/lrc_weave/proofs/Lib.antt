@@ -12,3 +12,4 @@ mod Spellings
 mod Firsts
 mod Comparing
 mod Looping
+mod Repeated

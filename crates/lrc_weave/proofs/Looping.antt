@@ -1,5 +1,5 @@
 -- The loops of the comparison, over what the code reads.
-use Rattle.std.proofs.Common.{◌≡◌, ℕ, ◌+◌, ◌<◌, ◌↔◌, Bool, true, false, IsTrue, List, [], ◌∷◌, ◌++◌, length, map, take, refl, sym, ap, subst, ◌∙◌, arith}
+use Rattle.std.proofs.Common.{◌≡◌, ℕ, ◌+◌, ◌<◌, ◌↔◌, Bool, true, false, IsTrue, List, [], ◌∷◌, length, map, take, refl, sym, ap, subst, ◌∙◌}
 use Rattle.std.specs.Prelude.{Some, slice_get, slice_index_or}
 use Rattle.std.proofs.lemmas.List.{length-map}
 use Rattle.std.proofs.lemmas.Option.{slice_get_read}
@@ -8,12 +8,11 @@ use Rattle.lrc_wire.specs.Envelope.{EnvelopeRecord}
 use Rattle.lrc_post.specs.declared.parcel.Wire.{Wire}
 use Rattle.lrc_post.specs.Mailbox.{MailboxRecord}
 use Rattle.lrc_protocol.specs.Log.{Input, EntryRecord}
-use Rattle.lrc_protocol.specs.World.{Flying}
 use Rattle.lrc_weave.specs.Logs.{sent_to}
 use Rattle.lrc_weave.specs.Matched.{puts_by, takes_in, Takes, IsMatched, AreMatched}
 use Rattle.lrc_weave.specs.Compared.{sends_to, ArePuts, AreNext, taken_in, IsLeft}
 use Rattle.lrc_weave.proofs.Members.{in_map}
-use Rattle.lrc_weave.proofs.Comparing.{next_more, next_no_more, sends_apart, sent_apart, turn_is, put_all, put_not, TakenSo, so_step, so_not, UpTo, up_to_more, up_to_all}
+use Rattle.lrc_weave.proofs.Comparing.{next_more, next_no_more, sends_apart, sent_apart, turn_is, put_not, TakenSo, so_step, so_not, UpTo, up_to_more, up_to_all}
 
 read : {X : Type 0} (xs : List X) (k : ℕ) (x : X) → k < length xs → x ≡ slice_index_or xs k x → slice_get xs k ≡ Some x
 read xs k x within is = slice_get_read xs (length xs) k x refl within is
@@ -89,8 +88,8 @@ module _ {V : Type 0} (f : V → List EntryRecord) (logs : List V) (owner : ℕ)
   all_not k v log b within is log_is same none = (
     λ e. nothing e,
     λ all.
-    absurd (unlike b (PutsSo owner history k log) same none
-    (subst (PutsSo owner history k) (sym log_is) (all k (f v) (in_map f logs v k (read logs k v within is))))),
+        absurd (unlike b (PutsSo owner history k log) same none
+        (subst (PutsSo owner history k) (sym log_is) (all k (f v) (in_map f logs v k (read logs k v within is))))),
   )
 
   pub all_more : (k : ℕ) (v : V) (log : List EntryRecord) (b : Bool) → k < length logs → v ≡ slice_index_or logs k v → log ≡ f v
@@ -113,8 +112,8 @@ module _ (logs : List (List EntryRecord)) (wires : List MailboxRecord) where
   each_not k mailbox history b within is history_is same none = (
     λ e. nothing e,
     λ all.
-    absurd (unlike b (IsMatched logs k history) same none
-    (subst (IsMatched logs k) (sym history_is) (all.each k mailbox (read wires k mailbox within is)))),
+        absurd (unlike b (IsMatched logs k history) same none
+        (subst (IsMatched logs k) (sym history_is) (all.each k mailbox (read wires k mailbox within is)))),
   )
 
   pub each_more : (k : ℕ) (mailbox : MailboxRecord) (history : List Wire) (b : Bool) → k < length wires → mailbox ≡ slice_index_or wires k mailbox

@@ -1,6 +1,6 @@
 -- One message, one spelling.
-use Rattle.std.proofs.Common.{◌≡◌, ℕ, ◌+◌, ◌<◌, ◌≤◌, ◌↔◌, Bool, true, false, IsTrue, List, length, refl, sym, ap, subst, ◌∙◌, arith}
-use Rattle.std.specs.Prelude.{Option, Some, None, Result, Ok, Err, IfOk, max}
+use Rattle.std.proofs.Common.{◌≡◌, ℕ, ◌+◌, ◌<◌, ◌↔◌, Bool, false, IsTrue, List, length, refl, sym, ap, subst, ◌∙◌, arith}
+use Rattle.std.specs.Prelude.{Some, Result, Ok, Err, IfOk, max}
 use Rattle.std.specs.Bool.{Decides}
 use Rattle.lrc_wire.specs.declared.fault.WireFault.{WireFault}
 use Rattle.lrc_wire.specs.declared.limits.TheConstants.{MOST_BODY_BYTES}
@@ -22,8 +22,8 @@ pub written_same : (one other : EnvelopeRecord) (bytes written : List ℕ) (is :
     → Spells Two other written → IsTrue is ↔ (one ≡ other)
 written_same one other bytes written is decides spelled said = (
   λ yes.
-  same_ok (envelope_of bytes) one other (envelope_again Two bytes one spelled)
-  (ap envelope_of (decides.0 yes) ∙ envelope_again Two written other said),
+      same_ok (envelope_of bytes) one other (envelope_again Two bytes one spelled)
+      (ap envelope_of (decides.0 yes) ∙ envelope_again Two written other said),
   λ same. decides.1 (only_spelling Two other bytes written (subst (λ e. Spells Two e bytes) same spelled) said),
 )
 
@@ -52,11 +52,11 @@ pub not_too_long : (one other : EnvelopeRecord) (written : List ℕ) → MOST_BO
 not_too_long one other written long said = (
   λ no. cc,
   λ same.
-  absurd (omega (
-    arith,
-    subst (λ (e : EnvelopeRecord). MOST_BODY_BYTES < length (body Two runs_of e.message)) same long,
-    (plain Two other written said).short,
-  )),
+      absurd (omega (
+        arith,
+        subst (λ (e : EnvelopeRecord). MOST_BODY_BYTES < length (body Two runs_of e.message)) same long,
+        (plain Two other written said).short,
+      )),
 )
 
 -- what was read is the message that is written

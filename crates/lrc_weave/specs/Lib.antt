@@ -3,4 +3,5 @@ pub mod Matched
 pub mod Compared
 pub mod Woven
 pub mod Next
+pub mod Again
 pub mod Events

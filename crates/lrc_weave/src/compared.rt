@@ -15,7 +15,11 @@ use std::alloc::{AllocError, Global};
 use std::marker::Model;
 
 /// Whether logs and mailboxes, one for each node, tell of the same messages.
-pub(crate) fn are_matched(alloc: Global, logs: &[Vec<Entry>], wires: &[Mailbox]) -> Result<bool, AllocError>
+pub(crate) fn are_matched(
+    alloc: Global,
+    logs: &[Vec<Entry>],
+    wires: &[Mailbox],
+) -> Result<bool, AllocError>
     requires each { length wires.now ≡ length logs.now }
     ensures { IfOk result (λ are. IsTrue are ↔ AreMatched (map (λ log. log.items) logs.now) wires.now) }
 {
@@ -28,7 +32,12 @@ pub(crate) fn are_matched(alloc: Global, logs: &[Vec<Entry>], wires: &[Mailbox])
 }
 
 // Whether the logs and one node's mailbox do.
-fn is_matched(alloc: Global, logs: &[Vec<Entry>], owner: usize, history: &[Wire]) -> Result<bool, AllocError>
+fn is_matched(
+    alloc: Global,
+    logs: &[Vec<Entry>],
+    owner: usize,
+    history: &[Wire],
+) -> Result<bool, AllocError>
     requires there { owner < length logs.now }
     ensures { IfOk result (λ is. IsTrue is ↔ IsMatched (map (λ log. log.items) logs.now) owner history.now) }
 {
@@ -46,7 +55,12 @@ fn are_by_nodes(history: &[Wire], nodes: usize) -> bool
 }
 
 // Whether each node put what its log sends to the owner.
-fn are_puts(alloc: Global, logs: &[Vec<Entry>], owner: usize, history: &[Wire]) -> Result<bool, AllocError>
+fn are_puts(
+    alloc: Global,
+    logs: &[Vec<Entry>],
+    owner: usize,
+    history: &[Wire],
+) -> Result<bool, AllocError>
     ensures { IfOk result (λ are. IsTrue are ↔ ArePuts (map (λ log. log.items) logs.now) owner history.now) }
 {
     for sender in 0..logs.len() {
@@ -69,7 +83,14 @@ fn are_puts_of(
 {
     let mut rest = history;
     for entry in log {
-        if !take_turn(alloc, owner, sender, entry.stamp, entry.turn.out.as_slice(), &mut rest)? {
+        if !take_turn(
+            alloc,
+            owner,
+            sender,
+            entry.stamp,
+            entry.turn.out.as_slice(),
+            &mut rest,
+        )? {
             return Ok(false);
         }
     }

@@ -63,11 +63,20 @@ fn is_put_by(wire: &Wire, sender: usize) -> bool
 }
 
 // Whether an entry is the put of a message with this stamp.
-fn is_message(alloc: Global, wire: &Wire, stamp: u64, envelope: &Envelope) -> Result<bool, AllocError>
+fn is_message(
+    alloc: Global,
+    wire: &Wire,
+    stamp: u64,
+    envelope: &Envelope,
+) -> Result<bool, AllocError>
     ensures { IfOk result (λ is. IsTrue is ↔ (matched.message_of wire.now ≡ Some (sent_as stamp envelope.now))) }
 {
     match wire {
-        Wire::Put { stamp: sent, bytes, .. } if *sent == stamp => is_spelled(alloc, bytes, envelope),
+        Wire::Put {
+            stamp: sent,
+            bytes,
+            ..
+        } if *sent == stamp => is_spelled(alloc, bytes, envelope),
         _ => Ok(false),
     }
 }
@@ -117,7 +126,11 @@ pub(crate) fn is_taken_from(
     ensures { IfOk result (λ is. IsTrue is ↔ IsTakenAs (matched.message_of wire.now) envelope.now before stamp) }
 {
     match wire {
-        Wire::Put { stamp: sent, bytes, .. } if stamp.checked_sub(before.max(*sent)) == Some(1) => {
+        Wire::Put {
+            stamp: sent,
+            bytes,
+            ..
+        } if stamp.checked_sub(before.max(*sent)) == Some(1) => {
             is_spelled(alloc, bytes, envelope)
         }
         _ => Ok(false),

@@ -2,6 +2,7 @@
 //! what their mailboxes kept.
 #![tactic(auto)]
 
+mod again;
 mod compared;
 mod events;
 mod fault;

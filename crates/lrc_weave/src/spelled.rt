@@ -11,7 +11,11 @@ use std::alloc::{AllocError, Global};
 
 /// Whether bytes spell a message, in either version of the format. A message that is too long to be written, which no node puts,
 /// is answered as one that there is no memory for.
-pub(crate) fn is_spelled(alloc: Global, bytes: &[u8], envelope: &Envelope) -> Result<bool, AllocError>
+pub(crate) fn is_spelled(
+    alloc: Global,
+    bytes: &[u8],
+    envelope: &Envelope,
+) -> Result<bool, AllocError>
     ensures { IfOk result (λ is. IsTrue is ↔ (envelope_of bytes.now ≡ Ok envelope.now)) }
 {
     let Ok(written) = encode(alloc, envelope) else {

@@ -10,6 +10,7 @@ ghost use Rattle.lrc_weave.specs.Logs.{AreLogs};
 ghost use Rattle.lrc_weave.specs.Matched.{AreMatched};
 ghost use Rattle.lrc_weave.specs.Woven.{AreWoven};
 
+use crate::again::all_again;
 use crate::compared::are_matched;
 use crate::events::turn;
 use crate::fault::WeaveFault;
@@ -21,8 +22,13 @@ use std::alloc::{AllocError, Global};
 
 /// The events that make all turns of the logs of a program's nodes, ordered by their stamps, and where those are the same by their
 /// nodes. A message's last take is delivered, and each one before it repeated. `Mismatch` exactly where the logs and the mailboxes,
-/// one for each node, tell of different messages.
-pub fn weave(alloc: Global, logs: &[Vec<Entry>], wires: &[Mailbox]) -> Result<Vec<Event>, WeaveFault>
+/// one for each node, tell of different messages. `NoMemory` may also come where a log has a message that is too long to be
+/// written.
+pub fn weave(
+    alloc: Global,
+    logs: &[Vec<Entry>],
+    wires: &[Mailbox],
+) -> Result<Vec<Event>, WeaveFault>
     requires few { length logs.now ≤ 16 }
     requires each { length wires.now ≡ length logs.now }
     ensures matched { IfOk result (λ events. AreMatched (map (λ log. log.items) logs.now) wires.now) }
@@ -45,13 +51,14 @@ fn events_of(alloc: Global, logs: &[Vec<Entry>]) -> Result<Vec<Event>, AllocErro
         → length wires ≡ length logs.now
         → (flight : List Flying) × AreWoven (map (λ log. log.items) logs.now) events.items flight) }
 {
+    let again = all_again(alloc, logs)?;
     let mut come = vec![in alloc; 0usize; logs.len()]?;
     let mut flight = Vec::new(alloc);
     let mut events = Vec::new(alloc);
     while let Some(node) = next_turn(logs, come.as_slice()) {
         let log = &logs[node];
         let place = come[node];
-        let event = turn(&mut flight, node as u8, log, place)?;
+        let event = turn(&mut flight, node as u8, log, &again[node], place)?;
         events.push(event)?;
         come[node] = after(log, place);
     }

@@ -1,4 +1,4 @@
-use Rattle.std.proofs.Common.{rules, ap, sym}
+use Rattle.std.proofs.Common.{ap, sym}
 use Rattle.lrc_protocol.specs.Log.{taken}
 use Rattle.lrc_node.specs.Logged.{seen_input}
 use Rattle.lrc_weave.proofs.Comparing.{input_is}

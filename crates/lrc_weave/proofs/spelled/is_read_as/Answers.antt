@@ -1,4 +1,3 @@
-use Rattle.std.proofs.Common.{rules, ◌≡◌, subst, sym, ap, ◌∙◌, IfOk, IsTrue, ◌↔◌}
 use Rattle.lrc_weave.proofs.Spellings.{read_also}
 use Rattle.lrc_weave.proofs.spelled.is_read_as.Goals as goal
 
