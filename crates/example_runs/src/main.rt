@@ -28,7 +28,11 @@ fn main(rt: HostRuntime) -> io::Result<ExitCode> {
         println!(rt; "{name}: {}", if passed { "passed" } else { "failed" })?;
         failed = failed || !passed;
     }
-    Ok(if failed { ExitCode::FAILURE } else { ExitCode::SUCCESS })
+    Ok(if failed {
+        ExitCode::FAILURE
+    } else {
+        ExitCode::SUCCESS
+    })
 }
 
 /// Whether the commands of an example do what its file shows.
@@ -83,7 +87,15 @@ where
     let text = fs::read(rt, choice.file())?;
     let events = events(rt, choice)?;
     let mut err = Vec::new(rt.alloc());
-    let status = execute(rt, rt.alloc(), choice, &text, events.as_deref(), shown, &mut err);
+    let status = execute(
+        rt,
+        rt.alloc(),
+        choice,
+        &text,
+        events.as_deref(),
+        shown,
+        &mut err,
+    );
     shown.extend_from_slice(&err)?;
     Ok(status)
 }

@@ -343,8 +343,9 @@ fn sim_command<'w>(alloc: Global) -> Result<Command<'w>, AllocError>
     ensures app { IfOk result (λ command. app_of command ≡ sim) }
     ensures local { IfOk result (λ command. (fields_of command).has_globals ≡ false) }
 {
-    let command =
-        Command::new(alloc, "sim").about("Runs the program of FILE, one event after the other");
+    let command = Command::new(alloc, "sim").about(
+        "Runs the program of FILE, one event after the other",
+    );
     taking_run_options(alloc, command)?.arg(text(alloc, "events", "PATH", EVENTS_HELP))
 }
 
@@ -352,8 +353,9 @@ fn run_command<'w>(alloc: Global) -> Result<Command<'w>, AllocError>
     ensures app { IfOk result (λ command. app_of command ≡ run) }
     ensures local { IfOk result (λ command. (fields_of command).has_globals ≡ false) }
 {
-    let command =
-        Command::new(alloc, "run").about("Runs the program of FILE, each node on a thread of its own");
+    let command = Command::new(alloc, "run").about(
+        "Runs the program of FILE, each node on a thread of its own",
+    );
     taking_run_options(alloc, command)
 }
 

@@ -42,7 +42,14 @@ fn run_on_threads<R: Threads + Wait + Sync>(
     ensures err { IfErr result IsThreadedFault }
 {
     let nodes = options.nodes.count;
-    let run = run(rt, alloc, program, nodes, &options_of(options), options.order);
+    let run = run(
+        rt,
+        alloc,
+        program,
+        nodes,
+        &options_of(options),
+        options.order,
+    );
     let (report, _wires) = run.map_err(fault_of_threads)?;
     Ok(report)
 }

@@ -121,15 +121,7 @@ where
 {
     let text = read_text(rt, choice.file())?;
     let events = read_events(rt, choice)?;
-    Ok(execute(
-        rt,
-        rt.alloc(),
-        choice,
-        &text,
-        events.as_deref(),
-        out,
-        err,
-    ))
+    Ok(execute(rt, rt.alloc(), choice, &text, events.as_deref(), out, err))
 }
 
 /// Reads the program's text. The path `-` is standard input.

@@ -237,15 +237,19 @@ fn largest_printed(out: &[u8]) -> usize {
     lines
 }
 
-// The same on sixteen nodes.
-fn readers_of_the_last_word(alloc: Global, collect: Collect, order: Picker) -> usize {
-    let run = RunOptions {
+// The options of sixteen nodes.
+fn sixteen(collect: Collect, order: Picker) -> RunOptions<'static> {
+    RunOptions {
         nodes: Nodes { count: 16 },
         collect,
         order,
         ..ON_ONE_NODE
-    };
-    largest_printed(&simulated(alloc, run, LAST_WORD).out)
+    }
+}
+
+// How many of sixteen nodes print the largest number.
+fn readers_of_the_last_word(alloc: Global, collect: Collect, order: Picker) -> usize {
+    largest_printed(&simulated(alloc, sixteen(collect, order), LAST_WORD).out)
 }
 
 #[test]
@@ -253,5 +257,13 @@ fn sixteen_nodes_read_the_last_word(rt: HostRuntime) {
     for order in ORDERS {
         assert!(rt; readers_of_the_last_word(rt.alloc(), Collect { count: 0 }, order) == 16);
         assert!(rt; readers_of_the_last_word(rt.alloc(), Collect { count: 1 }, order) == 16);
+    }
+}
+
+#[test]
+fn sixteen_nodes_on_threads_read_the_last_word(rt: HostRuntime) {
+    for order in ORDERS {
+        let outcome = on_threads(&rt, sixteen(Collect { count: 1 }, order), LAST_WORD);
+        assert!(rt; largest_printed(&outcome.out) == 16);
     }
 }

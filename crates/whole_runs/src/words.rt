@@ -81,7 +81,17 @@ fn options_of_a_run_are_read(rt: HostRuntime) {
     assert!(rt; ask_for_options(rt.alloc(), &twice, 0, Picker::Twice, Size::Words64));
     let oldest = ["sim", "-", "--nodes", "3", "--order", "oldest"];
     assert!(rt; ask_for_options(rt.alloc(), &oldest, 0, Picker::Oldest, Size::Words64));
-    let threads = ["run", "-", "--nodes", "3", "--order=twice", "--page", "256", "--collect", "7"];
+    let threads = [
+        "run",
+        "-",
+        "--nodes",
+        "3",
+        "--order=twice",
+        "--page",
+        "256",
+        "--collect",
+        "7",
+    ];
     assert!(rt; ask_for_threads(rt.alloc(), &threads, 7, Picker::Twice, Size::Words256));
 }
 
