@@ -1,5 +1,5 @@
 -- The log of a thread.
-use Rattle.std.proofs.Common.{◌≡◌, List, [], Result, Ok, Err, sym, ap, subst}
+use Rattle.std.proofs.Common.{◌≡◌, List, Result, Ok, Err, sym, ap, subst}
 use Rattle.lrc_post.specs.declared.parcel.Parcel.{Parcel}
 use Rattle.lrc_protocol.specs.Node.{Node}
 use Rattle.lrc_protocol.specs.Log.{Logged}

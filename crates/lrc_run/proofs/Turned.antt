@@ -1,5 +1,5 @@
 -- What comes of an input to a node, and of the messages of its turn.
-use Rattle.std.proofs.Common.{◌≡◌, ◌∙◌, ℕ, List, [], ◌∷◌, ◌++◌, Bool, true, false, Result, Ok, Err, IsErrAnd, refl, sym, ap, subst}
+use Rattle.std.proofs.Common.{◌≡◌, ◌∙◌, ℕ, List, true, false, Result, Ok, Err, IsErrAnd, refl, sym, ap, subst}
 use Rattle.std.specs.Prelude.{is_err}
 use Rattle.lrc_wire.specs.declared.fault.WireFault.{WireFault}
 use Rattle.lrc_wire.specs.Envelope.{EnvelopeRecord}
@@ -13,7 +13,7 @@ use Rattle.lrc_node.specs.declared.fault.NodeFault.TheVariants as NodeFaults
 use Rattle.lrc_node.specs.declared.fault.NodeFault.TheVariants.{Failed, NotReady, Unexpected}
 use Rattle.lrc_run.specs.declared.stop.Stop.{Stop}
 use Rattle.lrc_run.specs.declared.stop.Stop.TheVariants.{Closed, Worn, NoMemory}
-use Rattle.lrc_run.specs.Worker.{goes_on, takes_message, drops, Goes, stays, steps, Turns, none, more, GoesTo, SendsTo, LogsLast, IsRefused, made_of}
+use Rattle.lrc_run.specs.Worker.{goes_on, takes_message, drops, Goes, stays, steps, none, more, GoesTo, SendsTo, LogsLast, IsRefused, made_of}
 
 -- a node made a turn
 pub record IsTurn (l : Logged) (input : Input) (came : ℕ) (new : LoggedNode) : Type 0 where

@@ -1,4 +1,4 @@
-use Rattle.std.proofs.Common.{◌≡◌, Ok, Err, [], sym, subst, rules}
+use Rattle.std.proofs.Common.{◌≡◌, Ok, Err, sym, subst, rules}
 use Rattle.lrc_protocol.specs.Node.{Node, fresh_node}
 use Rattle.lrc_run.specs.declared.stop.Stop.TheVariants.{Closed}
 use Rattle.lrc_run.specs.Worker.{IsLogOf, unmade}

@@ -1,4 +1,4 @@
-use Rattle.std.proofs.Common.{◌≡◌, ◌++◌, [], ◌∷◌, sym, ap, subst, map, refl, rules}
+use Rattle.std.proofs.Common.{◌≡◌, ◌++◌, [], ◌∷◌, sym, ap, subst, map, rules}
 use Rattle.lrc_run.specs.declared.nodes.LogOf.{LogOf}
 use Rattle.lrc_run.specs.Threads.{AreOwedFrom}
 use Rattle.lrc_run.proofs.Joined.{started_more, all_logs}
