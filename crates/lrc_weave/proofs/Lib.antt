@@ -8,3 +8,8 @@ pub mod Heads
 pub mod Weaving
 pub mod Stepping
 pub mod Coded
+mod Spellings
+mod Firsts
+mod Comparing
+mod Looping
+mod Repeated

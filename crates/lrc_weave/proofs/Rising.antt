@@ -7,7 +7,7 @@ use Rattle.lrc_protocol.specs.Log.{EntryRecord, Logged, last_stamp, next_stamp}
 use Rattle.lrc_weave.specs.Logs.{GoesOn}
 use Rattle.lrc_weave.proofs.Played.{IsLogged, is_logged}
 
-last_is : (log : List EntryRecord) (entry : EntryRecord) → last_stamp (log ++ entry ∷ []) ≡ entry.stamp
+pub last_is : (log : List EntryRecord) (entry : EntryRecord) → last_stamp (log ++ entry ∷ []) ≡ entry.stamp
 last_is log entry = fold-append (λ before (e : EntryRecord). e.stamp) 0 log (entry ∷ [])
 
 -- an entry is above all before it, and above the message that it takes

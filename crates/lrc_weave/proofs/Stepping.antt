@@ -22,6 +22,7 @@ use Rattle.lrc_weave.specs.Logs.{GoesOn, AreLogs}
 use Rattle.lrc_weave.specs.Matched.{AreMatched}
 use Rattle.lrc_weave.specs.Woven.{log_of, come_of, IsNext, is_taken_in, IsTakenAt, Makes, runs, takes_last, takes_again, Woven, nothing_yet, then_one, AreWoven}
 use Rattle.lrc_weave.specs.Next.{IsNextOf}
+use Rattle.lrc_weave.specs.Again.{is_again}
 use Rattle.lrc_weave.specs.Events.{key_of, is_key, taking, left_by, IsTakenFrom, IsMadeBy, IsTurnOf}
 use Rattle.lrc_weave.proofs.Places.{dropped_less, within_outer}
 use Rattle.lrc_weave.proofs.Members.{in_map, of_map}
@@ -204,7 +205,7 @@ module _ (logs : List (List EntryRecord)) (come : List ℕ) (events : List Event
       (ap (λ e. is_taken_in e later) can.3) t.2 t.3
 
   made_by : (keys left : List Key) (event : Event) (input : Input) → map key_at flight ≡ keys → entry.input ≡ input
-      → IsMadeBy node later keys input left (Some event) → MadeOf event left
+      → IsMadeBy node (is_again input later) keys input left (Some event) → MadeOf event left
   made_by keys left event run same is m =
       (flight, subst (λ e. Makes node before later entry flight e flight) (sym m.0) (runs is), same ∙ sym m.1)
   made_by keys left event (taken envelope) same is m = by_take keys left event envelope same is m
@@ -214,7 +215,7 @@ module _ (logs : List (List EntryRecord)) (come : List ℕ) (events : List Event
       × Holds logs (slice_set come node (come_of come node + 1)) rest × (map key_at rest ≡ new)
   one_step keys new event same t =
       let entry_is : t.0 ≡ entry = same_Some t.0 entry (sym t.2 ∙ next.next) in
-      let made = made_by keys t.1 event entry.input same refl (subst (λ (e : EntryRecord). IsMadeBy node later keys e.input t.1 (Some event)) entry_is t.3) in (
+      let made = made_by keys t.1 event entry.input same refl (subst (λ (e : EntryRecord). IsMadeBy node (is_again e.input later) keys e.input t.1 (Some event)) entry_is t.3) in (
         made.0 ++ sent_by entry,
         then_one woven next made.1,
         holds_more logs come flight made.0 event node entry counted next.next made.1 holds,

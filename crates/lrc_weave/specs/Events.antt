@@ -5,7 +5,7 @@ use Rattle.lrc_protocol.specs.declared.event.Event.{Event}
 use Rattle.lrc_protocol.specs.declared.event.Event.TheVariants.{Run, Deliver, Repeat}
 use Rattle.lrc_protocol.specs.Log.{Input, run, taken, EntryRecord}
 use Rattle.lrc_weave.specs.declared.events.Key.{Key}
-use Rattle.lrc_weave.specs.Woven.{is_taken_in}
+use Rattle.lrc_weave.specs.Again.{is_again}
 
 -- what a message is known by
 abbrev pub key_of : EnvelopeRecord → Key
@@ -31,13 +31,13 @@ IsTakenFrom old envelope again new None = Unit {0}
 IsTakenFrom old envelope again new (Some event) =
     (place : ℕ) × (position (is_key envelope) old ≡ Some place) × (event ≡ taking again place) × (new ≡ left_by again place old)
 
--- an input of a node is made by this event, if by any
-abbrev pub IsMadeBy : ℕ → List EntryRecord → List Key → Input → List Key → Option Event → Type 0
-IsMadeBy node later old run new None = Unit {0}
-IsMadeBy node later old run new (Some event) = (event ≡ Run node) × (new ≡ old)
-IsMadeBy node later old (taken envelope) new event = IsTakenFrom old envelope (is_taken_in envelope later) new event
+-- an input of a node, which is made again later or not, is made by this event, if by any
+abbrev pub IsMadeBy : ℕ → Bool → List Key → Input → List Key → Option Event → Type 0
+IsMadeBy node again old run new None = Unit {0}
+IsMadeBy node again old run new (Some event) = (event ≡ Run node) × (new ≡ old)
+IsMadeBy node again old (taken envelope) new event = IsTakenFrom old envelope again new event
 
 -- the turn at a place of a node's log is made by this event, and its messages are in flight then
 abbrev pub IsTurnOf : ℕ → List EntryRecord → ℕ → List Key → List Key → Event → Type 0
 IsTurnOf node log place old new event = (entry : EntryRecord) × (left : List Key) × (slice_get log place ≡ Some entry)
-    × IsMadeBy node (drop (place + 1) log) old entry.input left (Some event) × (new ≡ left ++ map key_of entry.turn.out)
+    × IsMadeBy node (is_again entry.input (drop (place + 1) log)) old entry.input left (Some event) × (new ≡ left ++ map key_of entry.turn.out)

@@ -1,5 +1,7 @@
 pub mod Logs
 pub mod Matched
+pub mod Compared
 pub mod Woven
 pub mod Next
+pub mod Again
 pub mod Events

@@ -2,8 +2,8 @@
 
 ghost use Rattle.std.specs.Prelude.{◌≡◌, ◌<◌, ◌≤◌, ◌++◌, IfOk, OnOk, length, map, position};
 ghost use Rattle.lrc_node.specs.Logged.{seen_input};
+ghost use Rattle.lrc_weave.specs.Again.{AreAgain};
 ghost use Rattle.lrc_weave.specs.Events.{is_key, key_of, IsMadeBy, IsTakenFrom, IsTurnOf};
-ghost use Rattle.lrc_weave.specs.Woven as woven;
 
 use lrc_node::{Entry, Input};
 use lrc_protocol::Event;
@@ -22,18 +22,20 @@ pub(crate) struct Key {
 }
 
 /// The event that makes the turn at a place of a node's log, with what is in flight before it and after it. None where what the
-/// turn takes is not in flight.
+/// turn takes is not in flight. For each turn of the log it is given whether a later one takes the same message.
 pub(crate) fn turn(
     flight: &mut Vec<Key>,
     node: u8,
     log: &Vec<Entry>,
+    again: &Vec<bool>,
     place: usize,
 ) -> Result<Event, AllocError>
     requires there { place < length log.now.items }
+    requires bits { AreAgain log.now.items again.now.items }
     ensures { IfOk result (λ event. IsTurnOf node log.now.items place flight.old.items flight.new.items event) }
 {
     let entry = &log[place];
-    let Some(event) = event_of(flight, node, &entry.input, &log[place + 1..]) else {
+    let Some(event) = event_of(flight, node, &entry.input, again[place]) else {
         return Err(AllocError);
     };
     send(flight, entry.turn.out.as_slice())?;
@@ -41,12 +43,12 @@ pub(crate) fn turn(
 }
 
 // The event of an input.
-fn event_of(flight: &mut Vec<Key>, node: u8, input: &Input, later: &[Entry]) -> Option<Event>
-    ensures { IsMadeBy node later.now flight.old.items (seen_input input.now) flight.new.items result }
+fn event_of(flight: &mut Vec<Key>, node: u8, input: &Input, again: bool) -> Option<Event>
+    ensures { IsMadeBy node again flight.old.items (seen_input input.now) flight.new.items result }
 {
     match input {
         Input::Run => Some(Event::Run(u32::from(node))),
-        Input::Taken(envelope) => take(flight, envelope, is_taken_in(envelope, later)),
+        Input::Taken(envelope) => take(flight, envelope, again),
     }
 }
 
@@ -77,23 +79,6 @@ fn is_key(envelope: &Envelope, key: Key) -> bool
     ensures { result ≡ is_key envelope.now key }
 {
     key.from == envelope.from && key.to == envelope.to && key.number == envelope.number
-}
-
-// Whether one of these turns takes the message.
-fn is_taken_in(envelope: &Envelope, log: &[Entry]) -> bool
-    ensures { result ≡ woven.is_taken_in envelope.now log.now }
-{
-    log.iter().any(|entry| takes_same(envelope, &entry.input))
-}
-
-// Whether an input is the message.
-fn takes_same(envelope: &Envelope, input: &Input) -> bool
-    ensures { result ≡ woven.takes_same envelope.now (seen_input input.now) }
-{
-    match input {
-        Input::Run => false,
-        Input::Taken(other) => other.from == envelope.from && other.number == envelope.number,
-    }
 }
 
 // Puts messages in flight.

@@ -2,11 +2,15 @@
 //! what their mailboxes kept.
 #![tactic(auto)]
 
+mod again;
+mod compared;
 mod events;
 mod fault;
+mod history;
 pub mod laws;
 mod order;
-mod weave;
+mod spelled;
+mod woven;
 
 pub use fault::WeaveFault;
-pub use weave::{Weave, events_of, weave};
+pub use woven::weave;

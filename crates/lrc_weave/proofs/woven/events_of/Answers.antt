@@ -3,8 +3,9 @@ use Rattle.std.specs.Prelude.{Some}
 use Rattle.std.proofs.lemmas.List.{length-map}
 use Rattle.lrc_weave.specs.Next.{IsNextOf}
 use Rattle.lrc_weave.proofs.Stepping.{so_all}
-use Rattle.lrc_weave.proofs.Coded.{place_of, below_end, so_begin, so_next, smaller}
-use Rattle.lrc_weave.proofs.weave.events_of.Goals as goal
+use Rattle.lrc_weave.proofs.Coded.{next_node, place_of, below_end, so_begin, so_next, smaller}
+use Rattle.lrc_weave.proofs.Repeated.{bits_of}
+use Rattle.lrc_weave.proofs.woven.events_of.Goals as goal
 
 pub loop-node-init : goal.loop-node-init
 loop-node-init c =
@@ -18,6 +19,11 @@ turn-requires c = record {
       (subst (λ xs. IsNextOf (map (λ log. log.items) c.args.logs.now) xs (Some c.in-Some.node)) c.as_slice.ensures.value c.in-Some.ensures)
       (search rules))
       (search rules);
+  bits = bits_of (λ log. log.items) (λ bits. bits.items) c.args.logs.now c.in_ok-again.again.items c.in-Some.node c.index-logs-node.result
+      c.index.result.now c.in_ok-again.ensures
+      (next_node (λ log. log.items) c.args.logs.now c.loop-node.come.items c.in-Some.node
+      (subst (λ xs. IsNextOf (map (λ log. log.items) c.args.logs.now) xs (Some c.in-Some.node)) c.as_slice.ensures.value c.in-Some.ensures))
+      (search rules) (search rules);
 }
 
 pub after-requires : goal.after-requires
@@ -56,4 +62,4 @@ returns c = λ program nodes options wires are matched count.
     (subst (λ o. IsNextOf (map (λ log. log.items) c.args.logs.now) c.loop-node.come.items o) c.in_default.is
     (subst (λ xs. IsNextOf (map (λ log. log.items) c.args.logs.now) xs c.next_turn.result) c.as_slice.ensures.value c.next_turn.ensures))
     program nodes options wires are matched (count ∙ sym (length-map c.args.logs.now (λ log. log.items))) in
-    (w.0, w.1, w.2 ∙ search rules)
+    (w.0, w.1)

@@ -10,6 +10,8 @@ ghost use Rattle.lrc_weave.specs.Logs.{AreLogs};
 ghost use Rattle.lrc_weave.specs.Matched.{AreMatched};
 ghost use Rattle.lrc_weave.specs.Woven.{AreWoven};
 
+use crate::again::all_again;
+use crate::compared::are_matched;
 use crate::events::turn;
 use crate::fault::WeaveFault;
 use crate::order::next_turn;
@@ -21,7 +23,11 @@ use std::alloc::{AllocError, Global};
 /// The events that make all turns of the logs of a program's nodes, ordered by their stamps, and where those are the same by their
 /// nodes. A message's last take is delivered, and each one before it repeated. `Mismatch` exactly where the logs and the mailboxes,
 /// one for each node, tell of different messages.
-pub fn weave(_alloc: Global, logs: &[Vec<Entry>], wires: &[Mailbox]) -> Result<Vec<Event>, WeaveFault>
+pub fn weave(
+    alloc: Global,
+    logs: &[Vec<Entry>],
+    wires: &[Mailbox],
+) -> Result<Vec<Event>, WeaveFault>
     requires few { length logs.now ≤ 16 }
     requires each { length wires.now ≡ length logs.now }
     ensures matched { IfOk result (λ events. AreMatched (map (λ log. log.items) logs.now) wires.now) }
@@ -30,40 +36,32 @@ pub fn weave(_alloc: Global, logs: &[Vec<Entry>], wires: &[Mailbox]) -> Result<V
         → (flight : List Flying) × AreWoven (map (λ log. log.items) logs.now) events.items flight) }
     ensures mismatch { result ≡ Err Mismatch → AreMatched (map (λ log. log.items) logs.now) wires.now → ⊥ }
 {
-    Err(WeaveFault::NoMemory)
+    if !are_matched(alloc, logs, wires)? {
+        return Err(WeaveFault::Mismatch);
+    }
+    Ok(events_of(alloc, logs)?)
 }
 
-/// Events, and how many messages are in flight after them.
-#[derive(Drop)]
-pub struct Weave {
-    pub events: Vec<Event>,
-    pub in_flight: usize,
-}
-
-/// The events that make all turns of the logs of a program's nodes, ordered by their stamps, and where those are the same by their
-/// nodes: where there are mailboxes that tell of the same messages. A message's last take is delivered, and each one before it
-/// repeated.
-pub fn events_of(alloc: Global, logs: &[Vec<Entry>]) -> Result<Weave, AllocError>
+// The events that make all turns of the logs, where there are mailboxes that tell of the same messages.
+fn events_of(alloc: Global, logs: &[Vec<Entry>]) -> Result<Vec<Event>, AllocError>
     requires few { length logs.now ≤ 16 }
-    ensures { IfOk result (λ weave. (program : Program) (nodes : ℕ) (options : OptionsRecord) (wires : List MailboxRecord)
+    ensures { IfOk result (λ events. (program : Program) (nodes : ℕ) (options : OptionsRecord) (wires : List MailboxRecord)
         → AreLogs program nodes options (map (λ log. log.items) logs.now) → AreMatched (map (λ log. log.items) logs.now) wires
         → length wires ≡ length logs.now
-        → (flight : List Flying) × AreWoven (map (λ log. log.items) logs.now) weave.events.items flight × (length flight ≡ weave.in_flight)) }
+        → (flight : List Flying) × AreWoven (map (λ log. log.items) logs.now) events.items flight) }
 {
+    let again = all_again(alloc, logs)?;
     let mut come = vec![in alloc; 0usize; logs.len()]?;
     let mut flight = Vec::new(alloc);
     let mut events = Vec::new(alloc);
     while let Some(node) = next_turn(logs, come.as_slice()) {
         let log = &logs[node];
         let place = come[node];
-        let event = turn(&mut flight, node as u8, log, place)?;
+        let event = turn(&mut flight, node as u8, log, &again[node], place)?;
         events.push(event)?;
         come[node] = after(log, place);
     }
-    Ok(Weave {
-        events,
-        in_flight: flight.len(),
-    })
+    Ok(events)
 }
 
 // The place after one in a log.

@@ -1,0 +1,189 @@
+// Whether logs and mailboxes tell of the same messages.
+
+ghost use Rattle.std.specs.Prelude.{◌≡◌, ◌<◌, ◌∷◌, ◌↔◌, [], IfOk, IsTrue, Some, length, map};
+ghost use Rattle.lrc_node.specs.Logged.{seen_input};
+ghost use Rattle.lrc_protocol.specs.Log.{taken};
+ghost use Rattle.lrc_weave.specs.Compared.{AreByNodes, AreNext, ArePuts, IsLeft, only_to, sends_to, sent_as, taken_in};
+ghost use Rattle.lrc_weave.specs.Logs.{sent_to};
+ghost use Rattle.lrc_weave.specs.Matched.{AreMatched, IsMatched, Takes, puts_by, takes_in};
+
+use crate::history::{has_put_by, is_by_node, is_taken_from, next_take, take_put};
+use lrc_node::{Entry, Input};
+use lrc_post::{Mailbox, Wire};
+use lrc_wire::Envelope;
+use std::alloc::{AllocError, Global};
+use std::marker::Model;
+
+/// Whether logs and mailboxes, one for each node, tell of the same messages.
+pub(crate) fn are_matched(
+    alloc: Global,
+    logs: &[Vec<Entry>],
+    wires: &[Mailbox],
+) -> Result<bool, AllocError>
+    requires each { length wires.now ≡ length logs.now }
+    ensures { IfOk result (λ are. IsTrue are ↔ AreMatched (map (λ log. log.items) logs.now) wires.now) }
+{
+    for owner in 0..wires.len() {
+        if !is_matched(alloc, logs, owner, wires[owner].history())? {
+            return Ok(false);
+        }
+    }
+    Ok(true)
+}
+
+// Whether the logs and one node's mailbox do.
+fn is_matched(
+    alloc: Global,
+    logs: &[Vec<Entry>],
+    owner: usize,
+    history: &[Wire],
+) -> Result<bool, AllocError>
+    requires there { owner < length logs.now }
+    ensures { IfOk result (λ is. IsTrue is ↔ IsMatched (map (λ log. log.items) logs.now) owner history.now) }
+{
+    if !are_by_nodes(history, logs.len()) || !are_puts(alloc, logs, owner, history)? {
+        return Ok(false);
+    }
+    are_takes(alloc, logs[owner].as_slice(), history)
+}
+
+// Whether each put is by one of so many nodes.
+fn are_by_nodes(history: &[Wire], nodes: usize) -> bool
+    ensures { IsTrue result ↔ AreByNodes nodes history.now }
+{
+    history.iter().all(|wire| is_by_node(wire, nodes))
+}
+
+// Whether each node put what its log sends to the owner.
+fn are_puts(
+    alloc: Global,
+    logs: &[Vec<Entry>],
+    owner: usize,
+    history: &[Wire],
+) -> Result<bool, AllocError>
+    ensures { IfOk result (λ are. IsTrue are ↔ ArePuts (map (λ log. log.items) logs.now) owner history.now) }
+{
+    for sender in 0..logs.len() {
+        if !are_puts_of(alloc, owner, sender, logs[sender].as_slice(), history)? {
+            return Ok(false);
+        }
+    }
+    Ok(true)
+}
+
+// Whether a node put what its log sends to the owner, in order.
+fn are_puts_of(
+    alloc: Global,
+    owner: usize,
+    sender: usize,
+    log: &[Entry],
+    history: &[Wire],
+) -> Result<bool, AllocError>
+    ensures { IfOk result (λ are. IsTrue are ↔ (puts_by sender history.now ≡ map Some (sent_to owner log.now))) }
+{
+    let mut rest = history;
+    for entry in log {
+        if !take_turn(
+            alloc,
+            owner,
+            sender,
+            entry.stamp,
+            entry.turn.out.as_slice(),
+            &mut rest,
+        )? {
+            return Ok(false);
+        }
+    }
+    Ok(!has_put_by(rest, sender))
+}
+
+// Whether the next puts of a node are what a turn with this stamp sends to the owner. What stands behind them is left.
+fn take_turn(
+    alloc: Global,
+    owner: usize,
+    sender: usize,
+    stamp: u64,
+    out: &[Envelope],
+    history: &mut &[Wire],
+) -> Result<bool, AllocError>
+    ensures { IfOk result (λ are. AreNext sender (sends_to owner stamp out.now) history.old.now history.new.now are) }
+{
+    for envelope in out {
+        if !take_sent(alloc, owner, sender, stamp, envelope, history)? {
+            return Ok(false);
+        }
+    }
+    Ok(true)
+}
+
+// Whether the next put of a node is a message with this stamp, if the message is for the owner. What stands behind it is left.
+fn take_sent(
+    alloc: Global,
+    owner: usize,
+    sender: usize,
+    stamp: u64,
+    envelope: &Envelope,
+    history: &mut &[Wire],
+) -> Result<bool, AllocError>
+    ensures { IfOk result (λ is. AreNext sender (only_to owner (sent_as stamp envelope.now ∷ [])) history.old.now history.new.now is) }
+{
+    if usize::from(envelope.to) == owner {
+        take_put(alloc, sender, stamp, envelope, history)
+    } else {
+        Ok(true)
+    }
+}
+
+// Whether the takes of a history are what the owner's log takes, in order, each with its stamp.
+fn are_takes(alloc: Global, log: &[Entry], history: &[Wire]) -> Result<bool, AllocError>
+    ensures { IfOk result (λ are. IsTrue are ↔ Takes [] log.now (takes_in history.now)) }
+{
+    let mut rest = history;
+    let mut before = 0;
+    for entry in log {
+        if !take_input(alloc, &entry.input, before, entry.stamp, history, &mut rest)? {
+            return Ok(false);
+        }
+        before = entry.stamp;
+    }
+    Ok(next_take(&mut rest).is_none())
+}
+
+// Whether a turn takes what the next take gives, or nothing. What stands behind that take is left.
+fn take_input(
+    alloc: Global,
+    input: &Input,
+    before: u64,
+    stamp: u64,
+    history: &[Wire],
+    rest: &mut &[Wire],
+) -> Result<bool, AllocError>
+    ensures { IfOk result (λ is. IsLeft before stamp (seen_input input.now) (taken_in history.now rest.old.now)
+        (taken_in history.now rest.new.now) is) }
+{
+    match input {
+        Input::Run => Ok(true),
+        Input::Taken(envelope) => take_message(alloc, envelope, before, stamp, history, rest),
+    }
+}
+
+// Whether the next take gives a message.
+fn take_message(
+    alloc: Global,
+    envelope: &Envelope,
+    before: u64,
+    stamp: u64,
+    history: &[Wire],
+    rest: &mut &[Wire],
+) -> Result<bool, AllocError>
+    ensures { IfOk result (λ is. IsLeft before stamp (taken envelope.now) (taken_in history.now rest.old.now)
+        (taken_in history.now rest.new.now) is) }
+{
+    let Some(place) = next_take(rest) else {
+        return Ok(false);
+    };
+    if place >= history.len() {
+        return Ok(false);
+    }
+    is_taken_from(alloc, &history[place], envelope, before, stamp)
+}

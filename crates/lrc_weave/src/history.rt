@@ -1,0 +1,138 @@
+// The entries of a mailbox's history, one after another.
+
+ghost use Rattle.std.specs.Prelude.{◌≡◌, ◌<◌, ◌∷◌, ◌↔◌, [], IfOk, IsTrue, length, is_some, position};
+ghost use Rattle.std.specs.List.{list_any};
+ghost use Rattle.lrc_weave.specs.Compared.{AreNext, IsNextTake, IsTakenAs, is_by_node, is_take, sent_as};
+ghost use Rattle.lrc_weave.specs.Matched as matched;
+
+use crate::spelled::is_spelled;
+use lrc_post::Wire;
+use lrc_wire::Envelope;
+use std::alloc::{AllocError, Global};
+
+/// Whether the next put of a node is this message with this stamp. What stands behind that put is left.
+pub(crate) fn take_put(
+    alloc: Global,
+    sender: usize,
+    stamp: u64,
+    envelope: &Envelope,
+    history: &mut &[Wire],
+) -> Result<bool, AllocError>
+    ensures { IfOk result (λ is. AreNext sender (sent_as stamp envelope.now ∷ []) history.old.now history.new.now is) }
+{
+    let Some(place) = put_place(history, sender) else {
+        return Ok(false);
+    };
+    let is = is_message(alloc, &history[place], stamp, envelope)?;
+    *history = &history[place + 1..];
+    Ok(is)
+}
+
+// The place of the first put of a node.
+fn put_place(history: &[Wire], sender: usize) -> Option<usize>
+    ensures { result ≡ position (matched.is_put_by sender) history.now }
+{
+    history.iter().position(|wire| is_put_by(wire, sender))
+}
+
+/// Whether a node put any of these.
+pub(crate) fn has_put_by(history: &[Wire], sender: usize) -> bool
+    ensures { result ≡ list_any (matched.is_put_by sender) history.now }
+{
+    history.iter().any(|wire| is_put_by(wire, sender))
+}
+
+/// Whether an entry is no put by a node that is none of so many.
+pub(crate) fn is_by_node(wire: &Wire, nodes: usize) -> bool
+    ensures { result ≡ is_by_node nodes wire.now }
+{
+    match wire {
+        Wire::Put { from, .. } => usize::from(*from) < nodes,
+        Wire::Took { .. } => true,
+    }
+}
+
+// Whether an entry is a put by a node.
+fn is_put_by(wire: &Wire, sender: usize) -> bool
+    ensures { result ≡ matched.is_put_by sender wire.now }
+{
+    match wire {
+        Wire::Put { from, .. } => usize::from(*from) == sender,
+        Wire::Took { .. } => false,
+    }
+}
+
+// Whether an entry is the put of a message with this stamp.
+fn is_message(
+    alloc: Global,
+    wire: &Wire,
+    stamp: u64,
+    envelope: &Envelope,
+) -> Result<bool, AllocError>
+    ensures { IfOk result (λ is. IsTrue is ↔ (matched.message_of wire.now ≡ Some (sent_as stamp envelope.now))) }
+{
+    match wire {
+        Wire::Put {
+            stamp: sent,
+            bytes,
+            ..
+        } if *sent == stamp => is_spelled(alloc, bytes, envelope),
+        _ => Ok(false),
+    }
+}
+
+/// The place that the next take names. What stands behind that take is left.
+pub(crate) fn next_take(history: &mut &[Wire]) -> Option<usize>
+    ensures { IsNextTake history.old.now history.new.now result }
+{
+    let at = take_place(history)?;
+    let place = place_taken(&history[at]);
+    *history = &history[at + 1..];
+    place
+}
+
+// The place of the first take.
+fn take_place(history: &[Wire]) -> Option<usize>
+    ensures { result ≡ position is_take history.now }
+{
+    history.iter().position(is_take)
+}
+
+// Whether an entry is a take.
+fn is_take(wire: &Wire) -> bool
+    ensures { result ≡ is_take wire.now }
+{
+    place_taken(wire).is_some()
+}
+
+// The place that a take names.
+fn place_taken(wire: &Wire) -> Option<usize>
+    ensures { result ≡ matched.place_taken wire.now }
+{
+    match wire {
+        Wire::Put { .. } => None,
+        Wire::Took { place, .. } => Some(*place),
+    }
+}
+
+/// Whether an entry is the put of a message that is taken with this stamp by a node whose turn before had that stamp.
+pub(crate) fn is_taken_from(
+    alloc: Global,
+    wire: &Wire,
+    envelope: &Envelope,
+    before: u64,
+    stamp: u64,
+) -> Result<bool, AllocError>
+    ensures { IfOk result (λ is. IsTrue is ↔ IsTakenAs (matched.message_of wire.now) envelope.now before stamp) }
+{
+    match wire {
+        Wire::Put {
+            stamp: sent,
+            bytes,
+            ..
+        } if stamp.checked_sub(before.max(*sent)) == Some(1) => {
+            is_spelled(alloc, bytes, envelope)
+        }
+        _ => Ok(false),
+    }
+}
