@@ -5,6 +5,7 @@ use Rattle.std.proofs.lemmas.List.{length-map, length_push, map-append}
 use Rattle.lrc_lang.specs.declared.program.Program.{Program}
 use Rattle.lrc_protocol.specs.Node.{OptionsRecord, fresh_node}
 use Rattle.lrc_protocol.specs.Log.{EntryRecord}
+use Rattle.lrc_weave.specs.Logs.{AreLogs}
 use Rattle.lrc_run.specs.declared.nodes.LogOf.{LogOf}
 use Rattle.lrc_run.specs.Threads.{AreFirstLogs, AreOwedFrom, IsOwed}
 use Rattle.lrc_run.specs.Worker.{IsLogOf}
@@ -20,7 +21,7 @@ each_more P (z ∷ xs) x each last (suc n) y at = each_more (λ k. P (suc k)) xs
 module _ (program : Program) (nodes : ℕ) (options : OptionsRecord) where
   -- a log that a thread owed
   its_log : (owed : LogOf) (n : ℕ) (log : List EntryRecord) → IsOwed program nodes options n owed
-      → IsLogOf (fresh_node owed.code.now owed.nodes owed.options owed.me) log → IsLogOf (fresh_node program nodes options n) log
+      → IsLogOf (fresh_node owed.program.now owed.nodes owed.options owed.me) log → IsLogOf (fresh_node program nodes options n) log
   its_log owed n log is h =
       subst (λ m. IsLogOf (fresh_node program nodes options m) log) is.its_number
       (subst (λ o. IsLogOf (fresh_node program nodes o owed.me) log) is.its_options
@@ -33,12 +34,12 @@ module _ (program : Program) (nodes : ℕ) (options : OptionsRecord) where
 
   -- one log more
   pub so_far_more : (logs all : List (List EntryRecord)) (log : List EntryRecord) (one : LogOf) (owed : List LogOf) → all ≡ logs ++ log ∷ []
-      → AreSoFar logs (one ∷ owed) → IsLogOf (fresh_node one.code.now one.nodes one.options one.me) log → AreSoFar all owed
+      → AreSoFar logs (one ∷ owed) → IsLogOf (fresh_node one.program.now one.nodes one.options one.me) log → AreSoFar all owed
   so_far_more logs all log one owed is so_far its =
       let here : length logs + 0 ≡ length logs = omega arith in
       let mine : IsOwed program nodes options (length logs) one = subst (λ n. IsOwed program nodes options n one) here (so_far.1 0 one refl) in (
         subst (AreFirstLogs program nodes options) (sym is)
-        (each_more (λ n l. IsLogOf (fresh_node program nodes options n) l) logs log so_far.0 (its_log one (length logs) log mine its)),
+            (each_more (λ n l. IsLogOf (fresh_node program nodes options n) l) logs log so_far.0 (its_log one (length logs) log mine its)),
         λ place other at.
             let next : length logs + suc place ≡ length all + place = omega (arith, ap length is, length_push logs log) in
             subst (λ n. IsOwed program nodes options n other) next (so_far.1 (suc place) other at),
@@ -49,7 +50,7 @@ module _ (program : Program) (nodes : ℕ) (options : OptionsRecord) where
       (old new : Result B S) (log : Result A S) → IfOk new (λ all. IsOk log × IsOk old)
       → IfOk new (λ all. IfOk log (λ one. IfOk old (λ before. items all ≡ items before ++ one ∷ [])))
       → IfOk old (λ before. AreSoFar (map seen (items before)) (map promise (handle ∷ rest)))
-      → IfOk log (λ one. IsLogOf (fresh_node (promise handle).code.now (promise handle).nodes (promise handle).options (promise handle).me) (seen one))
+      → IfOk log (λ one. IsLogOf (fresh_node (promise handle).program.now (promise handle).nodes (promise handle).options (promise handle).me) (seen one))
       → IfOk new (λ all. AreSoFar (map seen (items all)) (map promise rest))
   joined_more items seen promise handle rest old (Err s) log both more so_far its = tt
   joined_more items seen promise handle rest (Err s) (Ok all) log both more so_far its = let no = both.1 in cc
@@ -58,14 +59,29 @@ module _ (program : Program) (nodes : ℕ) (options : OptionsRecord) where
       so_far_more (map seen (items before)) (map seen (items all)) (seen one) (promise handle) (map promise rest)
       (ap (map seen) more ∙ map-append seen (items before) (one ∷ [])) so_far its
 
-  pub first_logs : {B S : Type 0} (logs : B → List (List EntryRecord)) (owed : List LogOf) (r : Result B S) → IfOk r (λ all. AreSoFar (logs all) owed)
-      → IfOk r (λ all. AreFirstLogs program nodes options (logs all))
-  first_logs logs owed (Ok all) h = h.0
-  first_logs logs owed (Err s) h = tt
-
-  -- threads that are started: one more
-  pub owed_more : (owed : List LogOf) (one : LogOf) → AreOwedFrom program nodes options 0 owed → IsOwed program nodes options (length owed) one
+  owed_more : (owed : List LogOf) (one : LogOf) → AreOwedFrom program nodes options 0 owed → IsOwed program nodes options (length owed) one
       → AreOwedFrom program nodes options 0 (owed ++ one ∷ [])
   owed_more owed one each is =
       let here : length owed ≡ 0 + length owed = omega arith in
       each_more (λ n other. IsOwed program nodes options (0 + n) other) owed one each (subst (λ n. IsOwed program nodes options n one) here is)
+
+  -- threads that are started: one more
+  pub started_more : {H : Type 0} (promise : H → LogOf) (threads all : List H) (thread : H) (me : ℕ) → all ≡ threads ++ thread ∷ [] → length threads ≡ me
+      → AreOwedFrom program nodes options 0 (map promise threads) → IsOwed program nodes options me (promise thread)
+      → (length all ≡ me + 1) × AreOwedFrom program nodes options 0 (map promise all)
+  started_more promise threads all thread me is count owed one =
+      let here : me ≡ length (map promise threads) = sym (length-map threads promise ∙ count) in (
+        ap length is ∙ length_push threads thread ∙ ap (λ n. n + 1) count,
+        subst (AreOwedFrom program nodes options 0) (sym (ap (map promise) is ∙ map-append promise threads (thread ∷ [])))
+            (owed_more (map promise threads) (promise thread) owed (subst (λ n. IsOwed program nodes options n (promise thread)) here one)),
+      )
+
+  -- the logs of all nodes
+  pub all_logs : {A B S : Type 0} (items : B → List A) (seen : A → List EntryRecord) (joined : B) (r : Result B S)
+      → AreFirstLogs program nodes options (map seen (items joined)) → IfOk r (λ all. length (items all) ≡ nodes) → IfOk r (λ all. all ≡ joined)
+      → IfOk r (λ all. AreLogs program nodes options (map seen (items all)))
+  all_logs items seen joined (Ok all) first count same = record {
+    count = length-map (items all) seen ∙ count;
+    each = subst (λ logs. AreFirstLogs program nodes options (map seen (items logs))) (sym same) first;
+  }
+  all_logs items seen joined (Err s) first count same = tt

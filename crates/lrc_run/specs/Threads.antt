@@ -8,7 +8,7 @@ use Rattle.lrc_run.specs.Worker.{IsLogOf}
 
 -- a thread owes the log of this node
 pub record IsOwed (program : Program) (nodes : ℕ) (options : OptionsRecord) (n : ℕ) (owed : LogOf) : Type 0 where
-  pub its_program : owed.code.now ≡ program
+  pub its_program : owed.program.now ≡ program
   pub its_nodes : owed.nodes ≡ nodes
   pub its_options : owed.options ≡ options
   pub its_number : owed.me ≡ n

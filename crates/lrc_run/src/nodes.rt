@@ -9,7 +9,7 @@ ghost use Rattle.lrc_run.specs.Worker.{IsLogOf};
 use crate::gate::Gate;
 use crate::stop::Stop;
 use crate::thread::on_thread;
-use lrc_exec::code::Code;
+use lrc_lang::program::Program;
 use lrc_node::{Entry, Options};
 use lrc_post::Post;
 use std::alloc::Global;
@@ -19,15 +19,15 @@ use std::thread::{Promise, PromisedHandle, Threads};
 
 // What a node's thread owes: the log of this node of the program.
 #[derive(Clone, Copy)]
-struct LogOf<'c, 'p> {
-    code: &'c Code<'p>,
+struct LogOf<'p> {
+    program: &'p Program,
     nodes: u8,
     options: Options,
     me: u8,
 }
 
-impl<'c, 'p> Promise<Result<Vec<Entry>, Stop>> for LogOf<'c, 'p> {
-    ghost kept_by = { λ p r. IfOk r (λ log. IsLogOf (fresh_node p.code.now p.nodes p.options p.me) log.items) };
+impl<'p> Promise<Result<Vec<Entry>, Stop>> for LogOf<'p> {
+    ghost kept_by = { λ p r. IfOk r (λ log. IsLogOf (fresh_node p.program.now p.nodes p.options p.me) log.items) };
 }
 
 /// The turns of all nodes of a program, from node 0 up: each node lives on a thread of its own until the post is closed. Where one
@@ -35,33 +35,31 @@ impl<'c, 'p> Promise<Result<Vec<Entry>, Stop>> for LogOf<'c, 'p> {
 pub(crate) fn logs_of<G: Gate + Sync, R: Threads + Wait + Sync>(
     rt: &R,
     alloc: Global,
-    code: &Code<'_>,
+    program: &Program,
     nodes: u8,
     options: &Options,
     post: &Post,
     gate: &G,
 ) -> Result<Vec<Vec<Entry>>, Stop>
     requires few { nodes ≤ 16 }
-    ensures { IfOk result (λ logs. AreLogs code.now nodes options.now (map (λ log. log.items) logs.items)) }
+    ensures { IfOk result (λ logs. AreLogs program.now nodes options.now (map (λ log. log.items) logs.items)) }
 {
     thread::scope(
         thread::scope_env(),
         rt,
         |scope| -> Result<Vec<Vec<Entry>>, Stop>
             requires { nodes ≤ 16 }
-            ensures { IfOk result (λ logs. AreLogs code.entry.now nodes options.entry.now (map (λ log. log.items) logs.items)) }
+            ensures { IfOk result (λ logs. AreLogs program.entry.now nodes options.entry.now (map (λ log. log.items) logs.items)) }
         {
             let logs = Vec::with_capacity(alloc, usize::from(nodes))?;
             let mut threads = Vec::with_capacity(alloc, usize::from(nodes))?;
             for me in 0..nodes {
                 let body = move || -> Result<Vec<Entry>, Stop>
                     requires { (me < nodes) × (nodes ≤ 16) }
-                    ensures { IfOk result (λ log. IsLogOf (fresh_node code.entry.now nodes options.entry.now me) log.items) }
-                {
-                    on_thread(rt, alloc, code, nodes, options, post, gate, me)
-                };
+                    ensures { IfOk result (λ log. IsLogOf (fresh_node program.entry.now nodes options.entry.now me) log.items) }
+                { on_thread(rt, alloc, program, nodes, options, post, gate, me) };
                 let owed = LogOf {
-                    code,
+                    program,
                     nodes,
                     options: *options,
                     me,
@@ -75,7 +73,7 @@ pub(crate) fn logs_of<G: Gate + Sync, R: Threads + Wait + Sync>(
                     break;
                 }
             }
-            all_of(joined(rt, code, nodes, options, logs, threads)?, nodes)
+            all_of(joined(rt, program, nodes, options, logs, threads)?, nodes)
         },
     )
 }
@@ -84,15 +82,15 @@ pub(crate) fn logs_of<G: Gate + Sync, R: Threads + Wait + Sync>(
 // them.
 fn joined<R: Threads>(
     rt: &R,
-    code: &Code<'_>,
+    program: &Program,
     nodes: u8,
     options: &Options,
     room: Vec<Vec<Entry>>,
-    threads: Vec<PromisedHandle<Result<Vec<Entry>, Stop>, LogOf<'_, '_>>>,
+    threads: Vec<PromisedHandle<Result<Vec<Entry>, Stop>, LogOf<'_>>>,
 ) -> Result<Vec<Vec<Entry>>, Stop>
     requires none { room.items ≡ [] }
-    requires owed { AreOwedFrom code.now nodes options.now 0 (map (λ handle. handle.promise) threads.items) }
-    ensures { IfOk result (λ logs. AreFirstLogs code.now nodes options.now (map (λ log. log.items) logs.items)) }
+    requires owed { AreOwedFrom program.now nodes options.now 0 (map (λ handle. handle.promise) threads.items) }
+    ensures { IfOk result (λ logs. AreFirstLogs program.now nodes options.now (map (λ log. log.items) logs.items)) }
 {
     let mut logs = Ok(room);
     for thread in threads {

@@ -16,7 +16,6 @@ ghost use Rattle.lrc_run.specs.Run.{AreWiresOf, IsLate, IsWovenReport, turns_of}
 use crate::fault::RunFault;
 use crate::gate::Gate;
 use crate::nodes::logs_of;
-use lrc_exec::code::Code;
 use lrc_lang::program::Program;
 use lrc_node::{Entry, Options};
 use lrc_post::{Mailbox, Post, Wires};
@@ -124,9 +123,8 @@ fn live<G: Gate + Sync, R: Threads + Wait + Sync>(
     ensures wires { IfOk result (λ lived. length lived.1 ≡ nodes) }
     ensures late { IfErr result IsLate }
 {
-    let code = Code::new(alloc, program)?;
     let post = Post::new(alloc, nodes, picker)?;
-    let logs = logs_of(rt, alloc, &code, nodes, options, &post, gate)?;
+    let logs = logs_of(rt, alloc, program, nodes, options, &post, gate)?;
     Ok((logs, post.into_wires()))
 }
 

@@ -6,4 +6,4 @@ use Rattle.lrc_run.proofs.nodes.joined.Given as goal
 -- the logs are those of the threads so far, and the others owe theirs
 abbrev pub invariant-loop-thread : goal.invariant-loop-thread
 invariant-loop-thread g l = IfOk l.logs (λ logs.
-    AreSoFar l.code l.nodes l.options (map (λ log. log.items) logs.items) (map (λ handle. handle.promise) (into_iter_items l.thread-iterator)))
+    AreSoFar l.program l.nodes l.options (map (λ log. log.items) logs.items) (map (λ handle. handle.promise) (into_iter_items l.thread-iterator)))

@@ -1,18 +1,39 @@
-use Rattle.std.proofs.Common.{rules, ◌≡◌, ◌<◌, ◌≤◌, ◌++◌, [], ◌∷◌, IfOk, IsOk, length, map, ℕ, ◌+◌, ◌-◌, ◌*◌, ◌/◌, ◌%◌, Bool, true, false, nat_eq, nat_lt, List, slice_index_or, slice_set, bit_and, bit_or, Fits, w8, w32, w64, Bor, MutBor}
-use Rattle.lrc_protocol.specs.Node.{fresh_node}
-use Rattle.lrc_weave.specs.Logs.{AreLogs}
-use Rattle.lrc_run.specs.Threads.{AreFirstLogs, AreOwedFrom}
-use Rattle.lrc_run.specs.Worker.{IsLogOf}
+use Rattle.std.proofs.Common.{◌≡◌, ◌++◌, [], ◌∷◌, sym, ap, subst, map, refl, rules}
+use Rattle.lrc_run.specs.declared.nodes.LogOf.{LogOf}
+use Rattle.lrc_run.specs.Threads.{AreOwedFrom}
+use Rattle.lrc_run.proofs.Joined.{started_more, all_logs}
+use Rattle.lrc_run.proofs.nodes.fn.logs_of.scope.Goals.{else-loop-me-test, then-loop-me-test+in_default, then-loop-me-test+in-Ok+then-is_err}
 use Rattle.lrc_run.proofs.nodes.fn.logs_of.scope.Goals as goal
 
--- src/nodes.rt:56:13
 pub loop-me-preserved : goal.loop-me-preserved
-loop-me-preserved g c = ?
+loop-me-preserved g c =
+    let items : c.push.new.self.items ≡ c.loop-me.threads.items ++ c.in-Ok.thread ∷ [] = search rules in
+    let promised = c.in-Ok.ensures.ok in
+    started_more c.captures.program.now c.captures.nodes c.captures.options.now (λ handle. handle.promise) c.loop-me.threads.items c.push.new.self.items
+    c.in-Ok.thread c.loop-me.me items c.loop-me.invariant.0 c.loop-me.invariant.1
+    (record {
+      its_program = ap (λ (o : LogOf). o.program.now) promised;
+      its_nodes = ap (λ (o : LogOf). o.nodes) promised;
+      its_options = ap (λ (o : LogOf). o.options) promised;
+      its_number = ap (λ (o : LogOf). o.me) promised;
+    })
 
--- src/nodes.rt:78:20
 pub joined-requires : goal.joined-requires
-joined-requires g c = ?
+joined-requires g c = record {
+  none = c.in_ok-logs.ensures.items;
+  owed = elim c.loop-me-test.branch [
+    | else-loop-me-test w ↦ subst (λ threads. AreOwedFrom c.captures.program.now c.captures.nodes c.captures.options.now 0 (map (λ handle. handle.promise) threads.items))
+        (sym w.threads-is) c.loop-me.invariant.1
+    | then-loop-me-test+in_default w ↦ subst (λ threads. AreOwedFrom c.captures.program.now c.captures.nodes c.captures.options.now 0 (map (λ handle. handle.promise) threads.items))
+        (sym w.threads-is) c.loop-me.invariant.1
+    | then-loop-me-test+in-Ok+then-is_err w ↦
+        let items : c.loop-me-test.threads.items ≡ c.loop-me.threads.items = search rules in
+        subst (λ threads. AreOwedFrom c.captures.program.now c.captures.nodes c.captures.options.now 0 (map (λ handle. handle.promise) threads))
+        (sym items) c.loop-me.invariant.1
+  ];
+}
 
--- src/nodes.rt:50:9
 pub returns : goal.returns
-returns g c = ?
+returns g c =
+    all_logs c.captures.program.now c.captures.nodes c.captures.options.now (λ logs. logs.items) (λ log. log.items) c.in_ok-joined.field-0
+    c.all_of.result c.in_ok-joined.ensures c.all_of.ensures.all c.all_of.ensures.same
