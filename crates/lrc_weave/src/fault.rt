@@ -1,4 +1,4 @@
-//! Why logs and mailboxes cannot be woven.
+// Why logs and mailboxes cannot be woven.
 
 ghost use Rattle.std.specs.Prelude.{◌≡◌};
 ghost use Rattle.lrc_weave.specs.declared.fault.WeaveFault.TheVariants.{NoMemory};
