@@ -1,0 +1,11 @@
+//! Tests alone: runs of nodes on threads, and the weave of their turns.
+#![tactic(auto)]
+
+#[cfg(test)]
+mod gates;
+#[cfg(test)]
+mod rows;
+#[cfg(test)]
+mod shell;
+#[cfg(test)]
+mod weaves;
