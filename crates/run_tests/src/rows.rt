@@ -39,7 +39,9 @@ const ORDERED: [Row; 7] = [
     ),
     (
         3,
-        b"words 1; locks 1; if me == 0 { acquire 0; [0] = 5; release 0; } barrier; if me == 1 { acquire 0; [0] = 5; release 0; } barrier; if me == 2 { acquire 0; x = [0]; release 0; print x; }",
+        b"words 1; locks 1; if me == 0 { acquire 0; [0] = 5; release 0; } barrier;
+    if me == 1 { acquire 0; [0] = 5; release 0; } barrier;
+    if me == 2 { acquire 0; x = [0]; release 0; print x; }",
         &[5],
     ),
     (
@@ -103,18 +105,18 @@ fn is_counted<R: Threads + Wait + Sync>(
 }
 
 #[test]
-fn a_counter_counts_each_of_a_few_nodes(rt: HostRuntime) -> Result<(), RunFault> {
-    for (nodes, times) in [(2, 20), (3, 5), (4, 5)] {
-        let is = is_counted(&rt, rt.alloc(), nodes, times)?;
+fn a_counter_counts_each_of_up_to_ten_nodes(rt: HostRuntime) -> Result<(), RunFault> {
+    for nodes in 2..11u32 {
+        let is = is_counted(&rt, rt.alloc(), nodes, 20)?;
         assert!(rt; is);
     }
     Ok(())
 }
 
 #[test]
-fn a_counter_counts_each_of_many_nodes(rt: HostRuntime) -> Result<(), RunFault> {
-    for (nodes, times) in [(8, 2), (16, 1)] {
-        let is = is_counted(&rt, rt.alloc(), nodes, times)?;
+fn a_counter_counts_each_of_up_to_sixteen_nodes(rt: HostRuntime) -> Result<(), RunFault> {
+    for nodes in 11..17u32 {
+        let is = is_counted(&rt, rt.alloc(), nodes, 20)?;
         assert!(rt; is);
     }
     Ok(())
