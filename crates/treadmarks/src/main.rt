@@ -4,16 +4,20 @@
 ghost use Rattle.std.specs.Prelude.{◌≡◌, IfOk, IfSome, is_some, take};
 ghost use Rattle.lrc_cli.specs.Answer.{names_events};
 
+mod progress;
+
+use crate::progress::Watch;
 use lrc_cli::choice::{Choice, ChooseFault};
 use lrc_cli::{choose, execute};
 use std::alloc::Global;
 use std::fs::Files;
-use std::io::{ErrorKind, Read, Write};
+use std::io::{ErrorKind, IsTerminal, Read, Write};
 use std::process::ExitCode;
 use std::rt::Env;
 use std::sync::Wait;
 use std::thread::Threads;
-use std::{env, fs, io};
+use std::time::Clock;
+use std::{env, fs, io, thread};
 use thiserror::Error;
 
 /// One byte more than the longest text of a program has.
@@ -52,20 +56,21 @@ fn main(rt: HostRuntime) -> ExitCode {
     // Neither output has a buffer: what is written to it is with the system.
     let mut out = rt.stdout();
     let mut err = rt.stderr();
-    ExitCode::from(answer(&rt, &mut out, &mut err))
+    let watched = err.is_terminal();
+    ExitCode::from(answer(&rt, &mut out, &mut err, watched))
 }
 
-/// Does what the words ask for, and gives the exit status.
-fn answer<R, W: Write, E: Write>(rt: &R, out: &mut W, err: &mut E) -> u8
+/// Does what the words ask for, and gives the exit status. Where it is watched, a line says that it goes on.
+fn answer<R, W: Write, E: Write>(rt: &R, out: &mut W, err: &mut E, watched: bool) -> u8
 where
-    R: Threads + Wait + Sync + Env + Files + Input + Eprint + AllocGlobal,
+    R: Threads + Wait + Sync + Clock + Env + Files + Input + Eprint + AllocGlobal,
 {
     let words = match words(rt) {
         Ok(words) => words,
         Err(error) => return refuse_words(rt, &error),
     };
     match choose(rt.alloc(), words.as_slice()) {
-        Ok(choice) => match play(rt, &choice, out, err) {
+        Ok(choice) => match play(rt, &choice, out, err, watched) {
             Ok(status) => status,
             Err(fault) => {
                 let _ = eprintln!(rt; "treadmarks: {fault}");
@@ -115,13 +120,48 @@ fn play<R, W: Write, E: Write>(
     choice: &Choice<'_>,
     out: &mut W,
     err: &mut E,
+    watched: bool,
 ) -> Result<u8, ReadFault>
 where
-    R: Threads + Wait + Sync + Files + Input + AllocGlobal,
+    R: Threads + Wait + Sync + Clock + Files + Input + Eprint + AllocGlobal,
 {
     let text = read_text(rt, choice.file())?;
     let events = read_events(rt, choice)?;
-    Ok(execute(rt, rt.alloc(), choice, &text, events.as_deref(), out, err))
+    let events = events.as_deref();
+    if watched {
+        Ok(perform_watched(rt, choice, &text, events, out, err))
+    } else {
+        Ok(execute(rt, rt.alloc(), choice, &text, events, out, err))
+    }
+}
+
+/// Does what a choice names. Where that takes long, a line on standard error says that it goes on, if a thread can be started for it.
+fn perform_watched<R, W: Write, E: Write>(
+    rt: &R,
+    choice: &Choice<'_>,
+    text: &[u8],
+    events: Option<&[u8]>,
+    out: &mut W,
+    err: &mut E,
+) -> u8
+where
+    R: Threads + Wait + Sync + Clock + Eprint + AllocGlobal,
+    requires { is_some events ≡ names_events choice.now }
+{
+    let watch = Watch::new();
+    let shared = &watch;
+    thread::scope(
+        thread::scope_env(),
+        rt,
+        |scope| -> u8
+            requires { is_some events ≡ names_events choice.now }
+        {
+            let _watcher = scope.spawn(move || shared.tell(rt));
+            let status = execute(rt, rt.alloc(), choice, text, events, out, err);
+            shared.end(rt);
+            status
+        },
+    )
 }
 
 /// Reads the program's text. The path `-` is standard input.
