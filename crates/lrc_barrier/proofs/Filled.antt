@@ -1,9 +1,11 @@
 -- Lemmas on arrivals of which one is not kept.
-use Rattle.std.proofs.Common.{ℕ, ◌≡◌, ◌≢◌, ◌+◌, ◌<◌, ◌∙◌, Bool, true, false, Option, Some, None, List, [], ◌∷◌, ◌++◌, length, map, take, append-nil, add-zero, subst, zero-add, set, get_or, is_some, refl, ap, sym, ⊎_elim, arith}
+use Rattle.std.proofs.Common.{ℕ, ◌≡◌, ◌≢◌, ◌+◌, ◌<◌, ◌∙◌, Bool, true, false, Option, Some, None, List, [], ◌∷◌, ◌++◌, length, map, take}
+use Rattle.std.proofs.Common.{append-nil, add-zero, subst, zero-add, set, get_or, is_some, refl, ap, sym, ⊎_elim, arith}
 use Rattle.std.specs.Option.{unwrap_or}
 use Rattle.std.specs.List.{enumerate_from, filter, filter_map, fold, list_all, list_any}
 use Rattle.std.proofs.lemmas.Bool.{cases_eq, true≢false}
-use Rattle.std.proofs.lemmas.List.{take_more, get_or_default, get_or-map, map-append, map-set, set-get_or, get_or-set_other, get_or-set_same, length-map, length-set, length-take-le}
+use Rattle.std.proofs.lemmas.List.{take_more, get_or_default, get_or-map, map-append, map-set, set-get_or}
+use Rattle.std.proofs.lemmas.List.{get_or-set_other, get_or-set_same, length-map, length-set, length-take-le}
 use Rattle.std.proofs.lemmas.List.Sums.{fold_push, list_all-from_AllPass}
 use Rattle.std.proofs.lemmas.Grind.{flat_map-append}
 use Rattle.std.proofs.lemmas.List.Folds.{list_all_at, list_any_none, list_any-from_Any}

@@ -1,5 +1,6 @@
 -- What the last arrival does.
-use Rattle.std.proofs.Common.{ℕ, suc, ◌≡◌, ◌≢◌, ◌+◌, ◌<◌, ◌∙◌, Bool, true, false, if◌then◌else◌, Option, Some, None, Result, Ok, Err, List, [], ◌∷◌, All, IfSome, length, map, set, get_or, replicate, is_some, is_ok, refl, ap, sym, subst, zero-add, ⊎_elim, arith}
+use Rattle.std.proofs.Common.{ℕ, suc, ◌≡◌, ◌≢◌, ◌+◌, ◌<◌, ◌∙◌, Bool, true, false, if◌then◌else◌, Option, Some, None, Result, Ok, Err, List, [], ◌∷◌, All}
+use Rattle.std.proofs.Common.{IfSome, length, map, set, get_or, replicate, is_some, is_ok, refl, ap, sym, subst, zero-add, ⊎_elim, arith}
 use Rattle.std.specs.Option.{unwrap_or}
 use Rattle.std.specs.List.{enumerate_from, flat_map, fold, list_all}
 use Rattle.std.proofs.lemmas.Bool.{cases_eq, true≢false}
@@ -13,7 +14,8 @@ use Rattle.lrc_store.specs.Interval.{IntervalRecord}
 use Rattle.lrc_barrier.specs.declared.fault.BarrierFault.{BarrierFault}
 use Rattle.lrc_barrier.specs.declared.fault.BarrierFault.TheVariants.{WrongEpisode, Twice}
 use Rattle.lrc_barrier.specs.declared.arrival.Arrival.{Arrival}
-use Rattle.lrc_barrier.specs.Barrier.{ManagerRecord, departs, arrivals_of, arrived, asks, departed, departure_to, departures_of, has_arrived, intervals_of, is_news, is_next, joined_time, with_arrival, IsArrival, IsDeparture}
+use Rattle.lrc_barrier.specs.Barrier.{ManagerRecord, departs, arrivals_of, arrived, asks, departed, departure_to, departures_of, has_arrived}
+use Rattle.lrc_barrier.specs.Barrier.{intervals_of, is_news, is_next, joined_time, with_arrival, IsArrival, IsDeparture}
 use Rattle.lrc_barrier.specs.Filled.{all_with, AreArrivals}
 use Rattle.lrc_barrier.proofs.Filled.{arrivals_with, filled_at}
 

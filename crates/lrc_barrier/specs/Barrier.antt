@@ -1,6 +1,7 @@
 -- Barriers with one manager (Keleher, Cox, Dwarkadas and Zwaenepoel 1994): who has arrived, what each node is told at
 -- its departure, and who has brought its pages up to date at a collection (Amza et al. 1996).
-use Rattle.std.specs.Prelude.{◌≡◌, ℕ, ◌+◌, ◌<◌, ◌≤◌, ◌==◌, ◌&&◌, Bool, true, false, not, List, All, IfSome, length, map, replicate, slice_index_or, slice_set, is_some, if◌then◌else◌, Option, Some, None, Result, Ok, Err}
+use Rattle.std.specs.Prelude.{◌≡◌, ℕ, ◌+◌, ◌<◌, ◌≤◌, ◌==◌, ◌&&◌, Bool, true, false, not, List, All, IfSome, length, map, replicate}
+use Rattle.std.specs.Prelude.{slice_index_or, slice_set, is_some, if◌then◌else◌, Option, Some, None, Result, Ok, Err}
 use Rattle.std.specs.List.{enumerate_from, filter, filter_map, flat_map, fold, list_all, list_any}
 use Rattle.lrc_time.specs.Time.{entry, joined, knows, zeros}
 use Rattle.lrc_store.specs.Interval.{IntervalRecord, index_of}

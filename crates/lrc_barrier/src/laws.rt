@@ -6,7 +6,8 @@ ghost use Rattle.lrc_store.specs.Interval.{IntervalRecord, index_of};
 ghost use Rattle.lrc_barrier.specs.declared.arrival.Arrival.{Arrival};
 ghost use Rattle.lrc_barrier.specs.declared.departure.Departure.{Departure};
 ghost use Rattle.lrc_barrier.specs.declared.fault.BarrierFault.TheVariants.{WrongEpisode};
-ghost use Rattle.lrc_barrier.specs.Barrier.{ManagerRecord, ArriveStep, arrived, asks, cleaned, departed, departs, departure_to, departures_of, discards, has_arrived, is_next, joined_time, refuses, waits, with_arrival};
+ghost use Rattle.lrc_barrier.specs.Barrier.{ManagerRecord, ArriveStep, arrived, asks, cleaned, departed, departs, departure_to, departures_of};
+ghost use Rattle.lrc_barrier.specs.Barrier.{discards, has_arrived, is_next, joined_time, refuses, waits, with_arrival};
 
 /// What a node is told at its departure has exactly those of the arrivals' intervals that its own arrival's time didn't
 /// know.

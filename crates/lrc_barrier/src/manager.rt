@@ -1,8 +1,10 @@
 // The manager of the barrier.
 
-ghost use Rattle.std.specs.Prelude.{◌≡◌, ◌<◌, ◌≤◌, ◌+◌, ◌^◌, Bool, if◌then◌else◌, All, Err, IfErr, IfOk, IfSome, IsTrue, OnErr, OnOk, None, Ok, Some, Option, is_ok, is_some, length, replicate, slice_index, slice_index_or, slice_set};
+ghost use Rattle.std.specs.Prelude.{◌≡◌, ◌<◌, ◌≤◌, ◌+◌, ◌^◌, Bool, if◌then◌else◌, All, Err, IfErr, IfOk, IfSome, IsTrue, OnErr, OnOk, None, Ok};
+ghost use Rattle.std.specs.Prelude.{Some, Option, is_ok, is_some, length, replicate, slice_index, slice_index_or, slice_set};
 ghost use Rattle.std.specs.List.{list_all};
-ghost use Rattle.lrc_barrier.specs.Barrier.{first_manager, arrived, arrive_answer, after_arrive, is_accepted, is_next, has_arrived, with_arrival, departed, arrivals_of, departures_of, cleaned, clean_answer, after_clean, IsArrival, IsDeparture, refuses};
+ghost use Rattle.lrc_barrier.specs.Barrier.{first_manager, arrived, arrive_answer, after_arrive, is_accepted, is_next, has_arrived, with_arrival};
+ghost use Rattle.lrc_barrier.specs.Barrier.{departed, arrivals_of, departures_of, cleaned, clean_answer, after_clean, IsArrival, IsDeparture, refuses};
 ghost use Rattle.lrc_barrier.specs.declared.arrival.Arrival.{Arrival};
 ghost use Rattle.lrc_barrier.specs.declared.fault.BarrierFault.{BarrierFault};
 ghost use Rattle.lrc_barrier.specs.declared.fault.BarrierFault.TheVariants.{NoMemory, WrongEpisode, Twice};

@@ -1,6 +1,7 @@
 -- What clap's definitions say of words in which they find no fault: they name one of the commands, with a FILE, and
 -- the values of its number options are numbers.
-use Rattle.std.proofs.Common.{◌≡◌, ◌∙◌, Bool, cond, true, false, refl, ap, subst, codes, List, [], ◌∷◌, Option, Some, None, IfSome, inl, inr, is_some, lit<, option_map}
+use Rattle.std.proofs.Common.{◌≡◌, ◌∙◌, Bool, cond, true, false, refl, ap, subst, codes, List, [], ◌∷◌}
+use Rattle.std.proofs.Common.{Option, Some, None, IfSome, inl, inr, is_some, lit<, option_map}
 use Rattle.std.specs.List.{AllByRecursion}
 use Rattle.std.specs.Option.{option_map_or}
 use Rattle.clap.specs.Words.{App, IsUnsignedIn, Row, Rule, Shape, Text, first_of, subcommand_of}

@@ -1,5 +1,6 @@
 -- The text of a report that is written part by part.
-use Rattle.std.proofs.Common.{◌≡◌, ◌≢◌, ◌∙◌, ◌<◌, ◌≤◌, ◌+◌, ◌==◌, ℕ, Bool, cond, true, false, suc, refl, sym, ap, ap₂, arith, List, [], ◌∷◌, ◌++◌, length, take, get_or, set, Vec, append-nil}
+use Rattle.std.proofs.Common.{◌≡◌, ◌≢◌, ◌∙◌, ◌<◌, ◌≤◌, ◌+◌, ◌==◌, ℕ, Bool, cond, true, false, suc, refl, sym, ap, ap₂}
+use Rattle.std.proofs.Common.{arith, List, [], ◌∷◌, ◌++◌, length, take, get_or, set, Vec, append-nil}
 use Rattle.std.specs.declared.alloc.Global.{Global}
 use Rattle.std.specs.List.{flat_map}
 use Rattle.std.proofs.lemmas.Bool.{eqb-true, eqb-false}

@@ -8,7 +8,8 @@ use Rattle.lrc_trace.specs.declared.act.Deed.TheVariants.{Acquire, Release, Arri
 use Rattle.lrc_trace.specs.Run.{Does, is_arrive, arrives_before, departs_before}
 use Rattle.lrc_trace.proofs.Positions.{slice_get-front, Does-within, Does-longer, Does-last, Does-cases, arrives_before-prefix, departs_before-prefix}
 use Rattle.lrc_time.specs.Time.{joined}
-use Rattle.lrc_clock.specs.Times.{time_at, raised, last_time, joined_times, is_act, is_release, acts_at, releases_at, arrives_at, time_before, stamp_at, released_time, arrived_time}
+use Rattle.lrc_clock.specs.Times.{time_at, raised, last_time, joined_times, is_act, is_release, acts_at, releases_at}
+use Rattle.lrc_clock.specs.Times.{arrives_at, time_before, stamp_at, released_time, arrived_time}
 use Rattle.lrc_clock.specs.Keeping.{KeepsTime, leaves_time, next_time}
 
 -- the last of the times, and their join, depend on what passes before j and the times there alone

@@ -17,7 +17,10 @@ use Rattle.lrc_invariants.proofs.Shift.{AllFrom}
 use Rattle.lrc_invariants.proofs.Managers.{Gathered, gathered, LetGo, let_go, Noted, noted, LetDiscard, let_discard}
 use Rattle.lrc_invariants.proofs.Flows.{Brings, IsFromNode, Stepped, again, once}
 use Rattle.lrc_invariants.proofs.Pending.{Goes}
-use Rattle.lrc_invariants.proofs.Sends.{Came, by_itself, comes, Site, site_of, letter_in, arrival_in, Sends, plain, misses, takes, asks, releasing, arriving, manages, forwarding, grants, gathers, lets_depart, departing, collecting, clean_at_once, notes_clean, lets_discard, discarding, serves, accessing, still_misses, still_collects, cleaning}
+use Rattle.lrc_invariants.proofs.Sends.{Came, by_itself, comes, Site, site_of, letter_in, arrival_in, Sends, plain, misses, takes, asks}
+use Rattle.lrc_invariants.proofs.Sends.{releasing, arriving, manages, forwarding, grants, gathers, lets_depart, departing, collecting}
+use Rattle.lrc_invariants.proofs.Sends.{clean_at_once, notes_clean, lets_discard, discarding, serves, accessing, still_misses, still_collects}
+use Rattle.lrc_invariants.proofs.Sends.{cleaning}
 use Rattle.lrc_coherence.proofs.StampBars.{NoArrives, NotArrive, others-none, grants-none, departures-none, discards-none, other-not}
 
 -- With nothing of arrivals; the node arrives; or the manager notes an arrival.

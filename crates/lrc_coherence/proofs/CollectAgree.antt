@@ -34,7 +34,8 @@ use Rattle.lrc_coherence.proofs.Stored.{stores_just, reached}
 use Rattle.lrc_coherence.proofs.CollectTurns.{in_collection, Steady, Begun, Ended, Kind, steady, begun, ended, Kinds, alone, again, anew, KindsIf, turn_kinds}
 use Rattle.lrc_coherence.proofs.CollectKeepers.{keepers_same}
 use Rattle.lrc_coherence.proofs.CollectFlips.{cleans_in, Flips, goes_on, starts, stops, flips, same_cleans, IsTaken, is_taken}
-use Rattle.lrc_coherence.proofs.CollectPairs.{inside, true_false, Fits, itself, level, steady_first, steady_second, SameStored, begun_first, begun_second, ended_first, ended_second}
+use Rattle.lrc_coherence.proofs.CollectPairs.{inside, true_false, Fits, itself, level, steady_first, steady_second}
+use Rattle.lrc_coherence.proofs.CollectPairs.{SameStored, begun_first, begun_second, ended_first, ended_second}
 
 -- ---- what a turn is told
 

@@ -34,10 +34,12 @@ use Rattle.lrc_coherence.proofs.CollectKeepers.{Namer, namer_of, is_named_by, in
 use Rattle.lrc_coherence.proofs.CollectLocal.{HasKept, has_kept, missing_named, absent_elsewhere}
 use Rattle.lrc_coherence.proofs.CollectFlips.{cleans_in, Flips, goes_on, starts, stops, flips}
 use Rattle.lrc_coherence.proofs.CollectPairs.{inside}
-use Rattle.lrc_coherence.proofs.CollectAgree.{Agree, Did, stays, begins, ends, turned, Whose, own, other, whose, next_fit, next_exclusive, waits, same_waits, same_time, stored_there, node_reached, word_inside, all_agree}
+use Rattle.lrc_coherence.proofs.CollectAgree.{Agree, Did, stays, begins, ends, turned, Whose, own, other, whose, next_fit, next_exclusive}
+use Rattle.lrc_coherence.proofs.CollectAgree.{waits, same_waits, same_time, stored_there, node_reached, word_inside, all_agree}
 use Rattle.lrc_coherence.proofs.CollectCovers.{collecting_inside}
 use Rattle.lrc_coherence.proofs.CollectBases.{awaited_keeper, me_at}
-use Rattle.lrc_coherence.proofs.CollectServes.{names_it, HasBase, Serves, level_served, steady_asks, steady_keeps, begun_asks, begun_keeps, Renews, ended_asks, ended_keeps}
+use Rattle.lrc_coherence.proofs.CollectServes.{names_it, HasBase, Serves, level_served, steady_asks, steady_keeps}
+use Rattle.lrc_coherence.proofs.CollectServes.{begun_asks, begun_keeps, Renews, ended_asks, ended_keeps}
 
 none_of : (o : Option (List Bool)) → is_some o ≡ false → o ≡ None
 none_of None e = refl

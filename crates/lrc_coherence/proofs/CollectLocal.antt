@@ -23,7 +23,8 @@ use Rattle.lrc_local.specs.Own.{HasOwn, OwnCopied}
 use Rattle.lrc_local.specs.Reached.{IsReached}
 use Rattle.lrc_local.specs.Remembered.{IsBetween}
 use Rattle.lrc_local.specs.Needs.{FitsKept}
-use Rattle.lrc_local.proofs.Change.{View, view_of, Change, receives, manages, moves, puts, closes, learns, resumes, begins, cleans, discards, misses, mends, gets_changes, gets_page, is_settled, Walk, stands, goes}
+use Rattle.lrc_local.proofs.Change.{View, view_of, Change, receives, manages, moves, puts, closes, learns, resumes, begins, cleans}
+use Rattle.lrc_local.proofs.Change.{discards, misses, mends, gets_changes, gets_page, is_settled, Walk, stands, goes}
 use Rattle.lrc_local.proofs.Ranges.{Ranged, SameRest, mends-same, clean-same}
 use Rattle.lrc_local.proofs.Lists.{length-placed}
 use Rattle.lrc_local.proofs.Needs.{any_fits}
@@ -33,7 +34,8 @@ use Rattle.lrc_local.proofs.OwnCopies.{set-copy, map-copy}
 use Rattle.lrc_local.proofs.Reach.{first_view}
 use Rattle.lrc_local.proofs.Tokened.{come_to}
 use Rattle.lrc_local.proofs.Always.{ranged, ranged_at, needed, between, copied_own}
-use Rattle.lrc_coherence.proofs.CollectTurns.{keepers_after, KeepsCopies, no_valid, written_absent, dropped_absent, mended-keeps, clean-keeps, learned-keeps, closes-keeps, bases-keep}
+use Rattle.lrc_coherence.proofs.CollectTurns.{keepers_after, KeepsCopies, no_valid, written_absent, dropped_absent}
+use Rattle.lrc_coherence.proofs.CollectTurns.{mended-keeps, clean-keeps, learned-keeps, closes-keeps, bases-keep}
 use Rattle.lrc_coherence.proofs.CollectKeepers.{names, Namer, keeper-named, keeper-unnamed, in_kept, from_kept, IsKept}
 
 -- ---- whom a node asks

@@ -9,7 +9,8 @@ use Rattle.lrc_store.proofs.Orders.{cases_Contains, none_Contains}
 use Rattle.lrc_wire.specs.Envelope.{EnvelopeRecord}
 use Rattle.lrc_wire.specs.Records.{PageReplyRecord}
 use Rattle.lrc_wire.specs.declared.message.Message.{Message}
-use Rattle.lrc_wire.specs.declared.message.Message.TheVariants.{LockRequest, LockForward, LockGrant, Arrive, Depart, Clean, Discard, ChangesRequest, ChangesReply, PageRequest, PageReply}
+use Rattle.lrc_wire.specs.declared.message.Message.TheVariants.{LockRequest, LockForward, LockGrant, Arrive, Depart, Clean, Discard}
+use Rattle.lrc_wire.specs.declared.message.Message.TheVariants.{ChangesRequest, ChangesReply, PageRequest, PageReply}
 use Rattle.lrc_lock.specs.declared.state.Pass.{Pass}
 use Rattle.lrc_lock.specs.Managed.{Requested, refuses as refuses_request, forwards, requested}
 use Rattle.lrc_lock.specs.Held.{lock_at, is_free, forwarded, pass_of, released}
@@ -21,10 +22,12 @@ use Rattle.lrc_protocol.specs.Fetch.{Base, unneeded, due, come, Asked, Need, nee
 use Rattle.lrc_protocol.specs.Mail.{Letter, Wait, nothing, grant, departure, access, upkeep, discard, Collection, numbered, MOST_NUMBER}
 use Rattle.lrc_protocol.specs.Course.{Course, going, trapped, ended}
 use Rattle.lrc_protocol.specs.Node.{Node, Effect, begins, with_memory, sends, acts, acts_by}
-use Rattle.lrc_protocol.specs.Letters.{letter, request_of, forward_to, changes_reply_to, requests_of, page_request_of, changes_request_of, grants_of, arrival_of, departure_of, discards_to}
+use Rattle.lrc_protocol.specs.Letters.{letter, request_of, forward_to, changes_reply_to, requests_of, page_request_of}
+use Rattle.lrc_protocol.specs.Letters.{changes_request_of, grants_of, arrival_of, departure_of, discards_to}
 use Rattle.lrc_protocol.specs.Waits.{waits_or_goes_on, with_needs}
 use Rattle.lrc_protocol.specs.Run.{charged, own_index, closes, reaches, acquire_at, release_at, arrive_at, run_effect}
-use Rattle.lrc_protocol.specs.Take.{needs_to_keep, collects, take_departure, request_by, learns, arrive_by, clean_by, discard_by, page_reply_by, take_effect, with_part}
+use Rattle.lrc_protocol.specs.Take.{needs_to_keep, collects, take_departure, request_by, learns, arrive_by}
+use Rattle.lrc_protocol.specs.Take.{clean_by, discard_by, page_reply_by, take_effect, with_part}
 use Rattle.lrc_protocol.specs.Turn.{TurnRecord, done, turn_with, turn_of, turn_if, turn_by, run_turn}
 use Rattle.lrc_invariants.proofs.Sends.{letter_in, LettersIf, numbered-letters}
 

@@ -26,7 +26,8 @@ use Rattle.lrc_protocol.proofs.Induction.{Comes}
 use Rattle.lrc_invariants.specs.Shape.{HasShape}
 use Rattle.lrc_invariants.proofs.Shift.{AllFrom}
 use Rattle.lrc_invariants.proofs.Shape.{NodeShape, shape_at}
-use Rattle.lrc_invariants.proofs.Sends.{Came, by_itself, comes, arrival_in, site_of, letter_in, Sent, Sending, alone as sent_alone, repeats, anew as sent_anew, SendingIf, sendings}
+use Rattle.lrc_invariants.proofs.Sends.{Came, by_itself, comes, arrival_in, site_of, letter_in, Sent, Sending}
+use Rattle.lrc_invariants.proofs.Sends.{alone as sent_alone, repeats, anew as sent_anew, SendingIf, sendings}
 use Rattle.lrc_invariants.proofs.Flows.{Brings, IsFromNode}
 use Rattle.lrc_invariants.proofs.Pending.{new_of, Took, took, Goes, pending-goes, all_pending}
 use Rattle.lrc_invariants.proofs.Passing.{Passing, passing, serving, same_arrivals}

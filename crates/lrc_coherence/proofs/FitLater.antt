@@ -40,7 +40,8 @@ use Rattle.lrc_local.proofs.Whole.{Whole, met-long}
 use Rattle.lrc_local.proofs.Needs.{any_fits}
 use Rattle.lrc_coherence.proofs.Laws.{bound_in}
 use Rattle.lrc_local.proofs.Turning.{Later, moves, puts, cleans, mends}
-use Rattle.lrc_coherence.proofs.FitCopies.{Wrote, FitsTime, CopyFits, BaseFits, Fit, Facts, Stored, set_fits, write_fits, readable_fits, base-within, base-other, base-kept}
+use Rattle.lrc_coherence.proofs.FitCopies.{Wrote, FitsTime, CopyFits, BaseFits, Fit, Facts, Stored, set_fits}
+use Rattle.lrc_coherence.proofs.FitCopies.{write_fits, readable_fits, base-within, base-other, base-kept}
 use Rattle.lrc_coherence.proofs.FitRepair.{repair_fits}
 
 -- what holds of one node, also within a turn

@@ -15,7 +15,8 @@ use Rattle.lrc_invariants.proofs.Sends.{Came, comes}
 use Rattle.lrc_local.proofs.Change.{View, Walk}
 use Rattle.lrc_local.proofs.Reach.{first_view}
 use Rattle.lrc_coherence.specs.Made.{AllMade}
-use Rattle.lrc_local.proofs.Turning.{First, Brings, rests, manages, closes, learns, begins, discards, misses, gets_changes, gets_page, Later, moves, puts, cleans, mends, Played, begun, goes_on, played-walk}
+use Rattle.lrc_local.proofs.Turning.{First, Brings, rests, manages, closes, learns, begins, discards, misses, gets_changes}
+use Rattle.lrc_local.proofs.Turning.{gets_page, Later, moves, puts, cleans, mends, Played, begun, goes_on, played-walk}
 use Rattle.lrc_coherence.proofs.FitCopies.{Wrote, FitsTime, Fit, Facts, Stored}
 use Rattle.lrc_coherence.proofs.FitFirst.{closed_in, Shuts}
 use Rattle.lrc_coherence.proofs.FitLater.{at_view, stored-before, later-fit}

@@ -24,7 +24,8 @@ use Rattle.lrc_invariants.proofs.Sends.{Came, letter_in}
 use Rattle.lrc_local.proofs.Change.{View, view_of}
 use Rattle.lrc_local.proofs.Ranges.{SameRest, clean-same}
 use Rattle.lrc_coherence.proofs.CopyReplies.{Answers, no_pages, run-carries, sent-out, take-answers}
-use Rattle.lrc_local.proofs.Turning.{First, rests, manages, closes, learns, begins, discards, misses, gets_changes, gets_page, Later, moves, puts, cleans, mends, Played, begun, goes_on}
+use Rattle.lrc_local.proofs.Turning.{First, rests, manages, closes, learns, begins, discards, misses, gets_changes}
+use Rattle.lrc_local.proofs.Turning.{gets_page, Later, moves, puts, cleans, mends, Played, begun, goes_on}
 use Rattle.lrc_coherence.proofs.FitCopies.{FitsTime, later_fits}
 use Rattle.lrc_coherence.proofs.FitRepair.{into_map}
 use Rattle.lrc_coherence.proofs.FitWorlds.{AreFit, TurnFits, wrote_in, ToIs, to-is, lost-in, by_turning}

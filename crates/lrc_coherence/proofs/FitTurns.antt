@@ -35,7 +35,8 @@ use Rattle.lrc_coherence.proofs.Stored.{in_range}
 use Rattle.lrc_coherence.proofs.StampLists.{interval-in}
 use Rattle.lrc_local.proofs.Turning.{First, Brings, knowing, rests, manages, closes, learns, begins, discards, misses, gets_changes, gets_page}
 use Rattle.lrc_coherence.proofs.FitCopies.{Wrote, FitsTime, CopyFits, Fit, Facts, Stored, later_fits, base-within, bound-with, bound-open}
-use Rattle.lrc_coherence.proofs.FitFirst.{closed_in, Shuts, closes-fit, list_any-in, placed-base, above-time, learned-copies, NeedFits, base_of-fits, new-needs, changed-needs, sent-needs}
+use Rattle.lrc_coherence.proofs.FitFirst.{closed_in, Shuts, closes-fit, list_any-in, placed-base, above-time, learned-copies}
+use Rattle.lrc_coherence.proofs.FitFirst.{NeedFits, base_of-fits, new-needs, changed-needs, sent-needs}
 use Rattle.lrc_coherence.proofs.FitLater.{AtView}
 use Rattle.lrc_coherence.proofs.FitRepair.{unnamed}
 

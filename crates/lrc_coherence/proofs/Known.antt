@@ -12,7 +12,8 @@ use Rattle.lrc_store.specs.Store.{StoreRecord, StoredRecord, interval_of, added,
 use Rattle.lrc_wire.specs.Envelope.{EnvelopeRecord}
 use Rattle.lrc_wire.specs.Records.{IndexedChangesRecord, LockGrantRecord, DepartRecord, ChangesRequestRecord, ChangesReplyRecord}
 use Rattle.lrc_wire.specs.declared.message.Message.{Message}
-use Rattle.lrc_wire.specs.declared.message.Message.TheVariants.{LockRequest, LockForward, LockGrant, Arrive, Depart, Clean, Discard, ChangesRequest, ChangesReply, PageRequest, PageReply}
+use Rattle.lrc_wire.specs.declared.message.Message.TheVariants.{LockRequest, LockForward, LockGrant, Arrive, Depart, Clean, Discard}
+use Rattle.lrc_wire.specs.declared.message.Message.TheVariants.{ChangesRequest, ChangesReply, PageRequest, PageReply}
 use Rattle.lrc_copies.proofs.Members.{Contains-first, Contains-later, cases_Contains, none_Contains}
 use Rattle.lrc_protocol.specs.Copy.{Copy, valid, written, invalid, absent}
 use Rattle.lrc_protocol.specs.Expected.{indices_by, is_expected}
@@ -41,8 +42,10 @@ use Rattle.lrc_coherence.proofs.Stocks.{StoreChange, same, closed, granted, depa
 use Rattle.lrc_coherence.proofs.History.{History, KeptByHistory, by_history, closed_record, closed_by}
 use Rattle.lrc_coherence.proofs.StampWorlds.{Placed, placed, each_node, TurnBy, alone, again, anew, turn_at}
 use Rattle.lrc_coherence.proofs.StampMade.{AreListed, closed-index, one_listed, all_made, all_listed}
-use Rattle.lrc_coherence.proofs.StampTurns.{is_changes_reply, AllSilent, NoReplies, silent-replies, grants-replies, SinceIn, Timely, Turned, Says, RunSays, GoesSaying, run-turned, took-turned}
-use Rattle.lrc_coherence.proofs.KnownStores.{changes-more, IsKnown, all_known-more, learned-known, dropped-known, ArePartsOf, parts-known, closed-known, known-of}
+use Rattle.lrc_coherence.proofs.StampTurns.{is_changes_reply, AllSilent, NoReplies, silent-replies, grants-replies, SinceIn}
+use Rattle.lrc_coherence.proofs.StampTurns.{Timely, Turned, Says, RunSays, GoesSaying, run-turned, took-turned}
+use Rattle.lrc_coherence.proofs.KnownStores.{changes-more, IsKnown, all_known-more, learned-known, dropped-known}
+use Rattle.lrc_coherence.proofs.KnownStores.{ArePartsOf, parts-known, closed-known, known-of}
 
 -- ---- replies
 

@@ -4,12 +4,14 @@ use Rattle.std.specs.Prelude.{Option, Some, None, not, find, ◌==◌, All, AllP
 use Rattle.std.specs.List.{AllZip}
 use Rattle.std.proofs.lemmas.Bool.{eq-eqb, eqb-true, ne_eqb}
 use Rattle.std.proofs.lemmas.Option.{same_Some}
-use Rattle.std.proofs.lemmas.List.Elements.{All-head, All-tail, All-push, All-map, All-weaker, All-filter, All-contains, All-contains_itself, Contains-append_left}
+use Rattle.std.proofs.lemmas.List.Elements.{All-head, All-tail, All-push, All-map, All-weaker, All-filter}
+use Rattle.std.proofs.lemmas.List.Elements.{All-contains, All-contains_itself, Contains-append_left}
 use Rattle.lrc_time.specs.Time.{entry}
 use Rattle.lrc_page.specs.declared.changes.Change.{Change}
 use Rattle.lrc_store.specs.declared.key.Key.{Key}
 use Rattle.lrc_store.specs.Interval.{IntervalRecord}
-use Rattle.lrc_store.specs.Store.{StoreRecord, StoredRecord, NoticeRecord, interval_of, is_at, is_covered, unread, without_changes, added, notice_with, stored_with, attached, discarded, stored_at, notice_of, changes_at}
+use Rattle.lrc_store.specs.Store.{StoreRecord, StoredRecord, NoticeRecord, interval_of, is_at, is_covered, unread, without_changes}
+use Rattle.lrc_store.specs.Store.{added, notice_with, stored_with, attached, discarded, stored_at, notice_of, changes_at}
 use Rattle.lrc_store.proofs.Lookups.{passes-find}
 use Rattle.lrc_wire.specs.Records.{IndexedChangesRecord}
 use Rattle.lrc_copies.specs.Stamps.{index_of}

@@ -17,10 +17,12 @@ use Rattle.lrc_store.specs.Interval.{IntervalRecord}
 use Rattle.lrc_store.specs.Store.{StoreRecord}
 use Rattle.lrc_wire.specs.Envelope.{EnvelopeRecord}
 use Rattle.lrc_wire.specs.declared.message.Message.{Message}
-use Rattle.lrc_wire.specs.declared.message.Message.TheVariants.{LockRequest, LockForward, LockGrant, Arrive as Arrives, Depart as Departs, Clean, Discard, ChangesRequest, ChangesReply, PageRequest, PageReply}
+use Rattle.lrc_wire.specs.declared.message.Message.TheVariants.{LockRequest, LockForward, LockGrant, Arrive as Arrives, Depart as Departs, Clean}
+use Rattle.lrc_wire.specs.declared.message.Message.TheVariants.{Discard, ChangesRequest, ChangesReply, PageRequest, PageReply}
 use Rattle.lrc_lock.specs.Held.{lock_at, is_free}
 use Rattle.lrc_lock.specs.Managed.{Requested, refuses as refuses_request, forwards, requested}
-use Rattle.lrc_barrier.specs.Barrier.{ArriveStep, refuses as refuses_arrival, waits, departs as all_depart, CleanStep, refuses_clean, awaits, discards as discards_all}
+use Rattle.lrc_barrier.specs.Barrier.{ArriveStep, refuses as refuses_arrival, waits, departs as all_depart}
+use Rattle.lrc_barrier.specs.Barrier.{CleanStep, refuses_clean, awaits, discards as discards_all}
 use Rattle.lrc_protocol.specs.Copy.{is_readable}
 use Rattle.lrc_protocol.specs.Memory.{Memory, copy_at, value_at, base_at, with_keepers, kept_pages, collected_at}
 use Rattle.lrc_protocol.specs.Fetch.{Need, need_of, is_met, mended, with_changes, with_page}
@@ -32,8 +34,10 @@ use Rattle.lrc_protocol.specs.Letters.{requests_of}
 use Rattle.lrc_protocol.specs.Waits.{waits_or_goes_on, with_needs}
 use Rattle.lrc_protocol.specs.Expected.{is_expected}
 use Rattle.lrc_protocol.specs.Run.{own_index, closes as closes_interval, reaches, acquire_at, release_at, arrive_at, run_effect, charged}
-use Rattle.lrc_protocol.specs.Take.{take_departure, request_by, learns as learns_news, arrive_by, clean_by, discard_by, page_reply_by, take_grant, take_effect, needs_to_keep, with_part}
-use Rattle.lrc_protocol.specs.Turn.{Outcome, done, not_ready, unexpected, worn, turn_with, turn_of, turn_if, turn_by, take_anew, taking, is_addressed, is_repeat, empty_turn}
+use Rattle.lrc_protocol.specs.Take.{take_departure, request_by, learns as learns_news, arrive_by, clean_by, discard_by}
+use Rattle.lrc_protocol.specs.Take.{page_reply_by, take_grant, take_effect, needs_to_keep, with_part}
+use Rattle.lrc_protocol.specs.Turn.{Outcome, done, not_ready, unexpected, worn, turn_with, turn_of, turn_if}
+use Rattle.lrc_protocol.specs.Turn.{turn_by, take_anew, taking, is_addressed, is_repeat, empty_turn}
 use Rattle.lrc_protocol.specs.Log.{Input, run, taken as taken_in, outcome_of}
 use Rattle.lrc_invariants.specs.Waiting.{next_in, is_departing, FixesNext}
 use Rattle.lrc_invariants.proofs.Shift.{awaits_lock, awaits_leave, deed_made}

@@ -12,7 +12,8 @@ use Rattle.lrc_time.proofs.Times.{covers-refl, entry-zeros}
 use Rattle.lrc_store.proofs.Orders.{Contains-first, Contains-later, none_Contains}
 use Rattle.lrc_wire.specs.Envelope.{EnvelopeRecord}
 use Rattle.lrc_wire.specs.Records.{ArriveRecord, DepartRecord}
-use Rattle.lrc_wire.specs.declared.message.Message.TheVariants.{LockRequest, LockForward, LockGrant, Arrive, Depart, Clean, Discard, ChangesRequest, ChangesReply, PageRequest, PageReply}
+use Rattle.lrc_wire.specs.declared.message.Message.TheVariants.{LockRequest, LockForward, LockGrant, Arrive, Depart, Clean, Discard}
+use Rattle.lrc_wire.specs.declared.message.Message.TheVariants.{ChangesRequest, ChangesReply, PageRequest, PageReply}
 use Rattle.lrc_barrier.specs.declared.arrival.Arrival.{Arrival}
 use Rattle.lrc_barrier.specs.declared.departure.Departure.{Departure}
 use Rattle.lrc_barrier.specs.Barrier.{ManagerRecord, first_manager, with_arrival, arrivals_of, departed}
@@ -67,7 +68,8 @@ came_depart b me (comes from (PageReply m)) some = absurd (omega (arith, some))
 module _ (program : Program) (nodes : ℕ) (options : OptionsRecord) where
   module _ (world : World) (flight : List Flying) (n : ℕ) (l after : Logged) (input : Input) (entry_is : EntryRecord)
       (at : slice_get world.nodes n ≡ Some l) (come : Comes world n input flight) (i : IsEntry l input entry_is after)
-      (r : IsReached program nodes options world) (r' : IsReached program nodes options (with_turn world flight n entry_is after)) (h : Former program nodes options world) where
+      (r : IsReached program nodes options world) (r' : IsReached program nodes options (with_turn world flight n entry_is after))
+      (h : Former program nodes options world) where
     abbrev pub next : World
     next = with_turn world flight n entry_is after
 

@@ -16,7 +16,9 @@ use Rattle.lrc_protocol.specs.Locks.{Locks}
 use Rattle.lrc_protocol.specs.Barrier.{Barrier}
 use Rattle.lrc_invariants.proofs.Managers.{Gathered, gathered, LetGo, let_go, Noted, noted, LetDiscard, let_discard}
 use Rattle.lrc_invariants.proofs.LockMoves.{covers-next}
-use Rattle.lrc_invariants.proofs.Sends.{is_other, Came, by_itself, comes, Site, arrival_in, Sends, plain, misses, takes, asks, releasing, arriving, manages, forwarding, grants, gathers, lets_depart, departing, collecting, clean_at_once, notes_clean, lets_discard, discarding, serves, accessing, still_misses, still_collects, cleaning}
+use Rattle.lrc_invariants.proofs.Sends.{is_other, Came, by_itself, comes, Site, arrival_in, Sends, plain, misses, takes, asks, releasing}
+use Rattle.lrc_invariants.proofs.Sends.{arriving, manages, forwarding, grants, gathers, lets_depart, departing, collecting, clean_at_once}
+use Rattle.lrc_invariants.proofs.Sends.{notes_clean, lets_discard, discarding, serves, accessing, still_misses, still_collects, cleaning}
 
 -- the manager's arrivals and notes stay; or it keeps an arrival; or lets all depart
 pub data Line (s : Site) (manager : ManagerRecord) : Came → Barrier → List Letter → Type 0 where

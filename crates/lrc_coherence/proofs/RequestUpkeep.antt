@@ -20,7 +20,8 @@ use Rattle.lrc_local.specs.Own.{HasOwn, OwnCopied}
 use Rattle.lrc_local.specs.Reached.{IsReached}
 use Rattle.lrc_local.proofs.Lists.{All-chosen, length-placed}
 use Rattle.lrc_local.proofs.Needs.{range-within, filter-both, any_fits}
-use Rattle.lrc_local.proofs.Change.{View, view_of, kept_in, needs_in, Change, Walk, stands, goes, receives, manages, moves, puts, closes, learns, resumes, begins, cleans, discards, misses, mends, gets_changes, gets_page, is_settled}
+use Rattle.lrc_local.proofs.Change.{View, view_of, kept_in, needs_in, Change, Walk, stands, goes, receives, manages, moves, puts, closes, learns}
+use Rattle.lrc_local.proofs.Change.{resumes, begins, cleans, discards, misses, mends, gets_changes, gets_page, is_settled}
 use Rattle.lrc_local.proofs.Reach.{first_view}
 use Rattle.lrc_local.proofs.Tokened.{come_to}
 use Rattle.lrc_local.proofs.Always.{copied_own}

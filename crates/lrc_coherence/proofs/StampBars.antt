@@ -6,19 +6,24 @@ use Rattle.lrc_time.specs.Time.{entry, joined}
 use Rattle.lrc_time.proofs.Times.{entry-joined}
 use Rattle.lrc_wire.specs.Records.{ArriveRecord}
 use Rattle.lrc_wire.specs.declared.message.Message.{Message}
-use Rattle.lrc_wire.specs.declared.message.Message.TheVariants.{LockRequest, LockForward, LockGrant, Arrive, Depart, Clean, Discard, ChangesRequest, ChangesReply, PageRequest, PageReply}
+use Rattle.lrc_wire.specs.declared.message.Message.TheVariants.{LockRequest, LockForward, LockGrant, Arrive, Depart, Clean, Discard}
+use Rattle.lrc_wire.specs.declared.message.Message.TheVariants.{ChangesRequest, ChangesReply, PageRequest, PageReply}
 use Rattle.lrc_lock.specs.declared.state.Pass.{Pass}
 use Rattle.lrc_barrier.specs.declared.fault.BarrierFault.TheVariants.{WrongEpisode, Twice}
 use Rattle.lrc_barrier.specs.declared.arrival.Arrival.{Arrival}
 use Rattle.lrc_barrier.specs.declared.departure.Departure.{Departure}
-use Rattle.lrc_barrier.specs.Barrier.{ManagerRecord, ArriveStep, refuses, waits, departs, is_next, has_arrived, with_arrival, arrivals_of, accepted, arrived, departed, departures_of, CleanStep, refuses_clean, awaits, discards, cleaned_with, cleaned_by, cleaned}
+use Rattle.lrc_barrier.specs.Barrier.{ManagerRecord, ArriveStep, refuses, waits, departs, is_next, has_arrived, with_arrival, arrivals_of, accepted}
+use Rattle.lrc_barrier.specs.Barrier.{arrived, departed, departures_of, CleanStep, refuses_clean, awaits, discards, cleaned_with, cleaned_by, cleaned}
 use Rattle.lrc_protocol.specs.Barrier.{Barrier}
 use Rattle.lrc_protocol.specs.Letters.{departure_of, discards_to}
 use Rattle.lrc_protocol.specs.Locks.{Locks, next_time}
 use Rattle.lrc_protocol.specs.Mail.{Letter, Wait, nothing}
 use Rattle.lrc_invariants.specs.Counts.{is_inside}
 use Rattle.lrc_invariants.proofs.Arrivals.{get_set}
-use Rattle.lrc_invariants.proofs.Sends.{is_other, AreOthers, Grants, Came, by_itself, comes, arrival_in, Site, Sends, plain, misses, takes, asks, releasing, arriving, manages, forwarding, grants, gathers, lets_depart, departing, collecting, clean_at_once, notes_clean, lets_discard, discarding, serves, accessing, still_misses, still_collects, cleaning}
+use Rattle.lrc_invariants.proofs.Sends.{is_other, AreOthers, Grants, Came, by_itself, comes, arrival_in, Site, Sends, plain, misses, takes, asks}
+use Rattle.lrc_invariants.proofs.Sends.{releasing, arriving, manages, forwarding, grants, gathers, lets_depart, departing, collecting}
+use Rattle.lrc_invariants.proofs.Sends.{clean_at_once, notes_clean, lets_discard, discarding, serves, accessing, still_misses, still_collects}
+use Rattle.lrc_invariants.proofs.Sends.{cleaning}
 
 -- ---- letters that are no arrival
 

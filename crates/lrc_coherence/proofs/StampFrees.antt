@@ -5,17 +5,21 @@ use Rattle.std.proofs.lemmas.Bool.{cases_eq, cases_lt, false≢true}
 use Rattle.std.proofs.lemmas.List.{get_or_past, get_or-set_same, get_or-set_other, length-set}
 use Rattle.std.proofs.lemmas.Option.{same_Some}
 use Rattle.lrc_wire.specs.declared.message.Message.{Message}
-use Rattle.lrc_wire.specs.declared.message.Message.TheVariants.{LockRequest, LockForward, LockGrant, Arrive, Depart, Clean, Discard, ChangesRequest, ChangesReply, PageRequest, PageReply}
+use Rattle.lrc_wire.specs.declared.message.Message.TheVariants.{LockRequest, LockForward, LockGrant, Arrive, Depart, Clean, Discard}
+use Rattle.lrc_wire.specs.declared.message.Message.TheVariants.{ChangesRequest, ChangesReply, PageRequest, PageReply}
 use Rattle.lrc_lock.specs.declared.fault.LockFault.TheVariants.{NotMine}
 use Rattle.lrc_lock.specs.declared.state.Waiter.{Waiter}
 use Rattle.lrc_lock.specs.declared.state.LockState.{LockState}
 use Rattle.lrc_lock.specs.declared.state.LockState.TheVariants.{Away, Awaited, Free, Held}
-use Rattle.lrc_lock.specs.Held.{HeldRecord, LockStep, refuses, stays, passes, lock_at, with_lock, is_free, released, released_at, forwarded, forwarded_at, granted, granted_at, held_after}
+use Rattle.lrc_lock.specs.Held.{HeldRecord, LockStep, refuses, stays, passes, lock_at, with_lock, is_free, released}
+use Rattle.lrc_lock.specs.Held.{released_at, forwarded, forwarded_at, granted, granted_at, held_after}
 use Rattle.lrc_copies.proofs.Members.{cases_Contains, none_Contains}
 use Rattle.lrc_protocol.specs.Barrier.{Barrier}
 use Rattle.lrc_protocol.specs.Locks.{Locks, next_time}
 use Rattle.lrc_protocol.specs.Mail.{Letter, Wait}
-use Rattle.lrc_invariants.proofs.Sends.{is_other, AreOthers, Came, by_itself, Site, Sends, plain, misses, takes, asks, releasing, arriving, manages, forwarding, grants, gathers, lets_depart, departing, collecting, clean_at_once, notes_clean, lets_discard, discarding, serves, accessing, still_misses, still_collects, cleaning}
+use Rattle.lrc_invariants.proofs.Sends.{is_other, AreOthers, Came, by_itself, Site, Sends, plain, misses, takes, asks, releasing, arriving}
+use Rattle.lrc_invariants.proofs.Sends.{manages, forwarding, grants, gathers, lets_depart, departing, collecting, clean_at_once}
+use Rattle.lrc_invariants.proofs.Sends.{notes_clean, lets_discard, discarding, serves, accessing, still_misses, still_collects, cleaning}
 use Rattle.lrc_coherence.proofs.StampTurns.{is_lock_grant}
 use Rattle.lrc_coherence.proofs.StampAsks.{none_some, stays-same}
 

@@ -1,5 +1,6 @@
 -- In every history the intervals of a pending grant are just those between its receiver's time and its own: the receiver can learn it.
-use Rattle.std.proofs.Common.{◌≡◌, ◌⊎◌, ℕ, zero, suc, ◌+◌, ◌-◌, ◌<◌, List, [], ◌∷◌, ◌++◌, Bool, true, false, length, map, refl, sym, ap, subst, ◌∙◌, inl, inr, ⊎_elim, arith}
+use Rattle.std.proofs.Common.{◌≡◌, ◌⊎◌, ℕ, zero, suc, ◌+◌, ◌-◌, ◌<◌, List, [], ◌∷◌, ◌++◌, Bool, true, false}
+use Rattle.std.proofs.Common.{length, map, refl, sym, ap, subst, ◌∙◌, inl, inr, ⊎_elim, arith}
 use Rattle.std.specs.Prelude.{Option, Some, None, Contains, ◌==◌, slice_get, slice_index_or, if◌then◌else◌}
 use Rattle.std.specs.List.{range_with_len}
 use Rattle.std.proofs.lemmas.Bool.{cases_eq, and_from, eq-eqb, lt-ltb, false≢true}
@@ -15,7 +16,8 @@ use Rattle.lrc_store.specs.Store.{StoreRecord, StoredRecord, interval_of, newer_
 use Rattle.lrc_wire.specs.Envelope.{EnvelopeRecord}
 use Rattle.lrc_wire.specs.Records.{LockForwardRecord, LockGrantRecord}
 use Rattle.lrc_wire.specs.declared.message.Message.{Message}
-use Rattle.lrc_wire.specs.declared.message.Message.TheVariants.{LockRequest, LockForward, LockGrant, Arrive, Depart, Clean, Discard, ChangesRequest, ChangesReply, PageRequest, PageReply}
+use Rattle.lrc_wire.specs.declared.message.Message.TheVariants.{LockRequest, LockForward, LockGrant, Arrive, Depart, Clean, Discard}
+use Rattle.lrc_wire.specs.declared.message.Message.TheVariants.{ChangesRequest, ChangesReply, PageRequest, PageReply}
 use Rattle.lrc_lock.specs.declared.fault.LockFault.TheVariants.{NotMine}
 use Rattle.lrc_lock.specs.declared.state.Pass.{Pass}
 use Rattle.lrc_lock.specs.declared.state.Waiter.{Waiter}
@@ -94,7 +96,8 @@ runs-idle node (access need) turn after e = refl
 runs-idle node (upkeep collection needs) turn after e = refl
 runs-idle node (discard collection) turn after e = refl
 
-pub told_in : (all : List IntervalRecord) (es : List EnvelopeRecord) (e : EnvelopeRecord) → AllTold all es → Contains es e → AllMade all (intervals_in e.message)
+pub told_in : (all : List IntervalRecord) (es : List EnvelopeRecord) (e : EnvelopeRecord) → AllTold all es → Contains es e
+    → AllMade all (intervals_in e.message)
 told_in all [] e t c = absurd (none_Contains e c)
 told_in all (x ∷ es) e t c =
     ⊎_elim

@@ -18,7 +18,8 @@ use Rattle.lrc_invariants.proofs.Flows.{Stepped, again as stepped_again, once, s
 use Rattle.lrc_invariants.proofs.Reached.{IsReached, KeptByReached, by_reached}
 use Rattle.lrc_local.specs.Ranges.{CollectsAt}
 use Rattle.lrc_local.proofs.Always.{exact_at, ranged_at}
-use Rattle.lrc_coherence.proofs.CollectTurns.{Kind, steady, begun, ended, Kinds, alone as kind_alone, again as kind_again, anew as kind_anew, KindsIf, turn_kinds}
+use Rattle.lrc_coherence.proofs.CollectTurns.{Kind, steady, begun, ended, Kinds, alone as kind_alone}
+use Rattle.lrc_coherence.proofs.CollectTurns.{again as kind_again, anew as kind_anew, KindsIf, turn_kinds}
 use Rattle.lrc_coherence.proofs.StampWorlds.{Placed, placed, each_node}
 use Rattle.lrc_coherence.proofs.StampBars.{Bars, calm, arrives, takes_one, turn_bars}
 

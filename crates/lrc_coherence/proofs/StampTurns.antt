@@ -10,7 +10,8 @@ use Rattle.lrc_exec.specs.Meaning.{Thread, Next, quiet, prints, reads, writes, a
 use Rattle.lrc_store.specs.Interval.{IntervalRecord}
 use Rattle.lrc_wire.specs.Envelope.{EnvelopeRecord}
 use Rattle.lrc_wire.specs.declared.message.Message.{Message}
-use Rattle.lrc_wire.specs.declared.message.Message.TheVariants.{LockRequest, LockForward, LockGrant, Arrive, Depart, Clean, Discard, ChangesRequest, ChangesReply, PageRequest, PageReply}
+use Rattle.lrc_wire.specs.declared.message.Message.TheVariants.{LockRequest, LockForward, LockGrant, Arrive, Depart, Clean, Discard}
+use Rattle.lrc_wire.specs.declared.message.Message.TheVariants.{ChangesRequest, ChangesReply, PageRequest, PageReply}
 use Rattle.lrc_lock.specs.declared.state.Pass.{Pass}
 use Rattle.lrc_lock.specs.Managed.{Requested, refuses as refuses_request, forwards, requested}
 use Rattle.lrc_lock.specs.Held.{lock_at, is_free, released, forwarded, pass_of}
@@ -23,7 +24,8 @@ use Rattle.lrc_protocol.specs.Mail.{Letter, Wait, nothing, grant, departure, acc
 use Rattle.lrc_protocol.specs.Course.{Course, going, trapped, ended}
 use Rattle.lrc_protocol.specs.Locks.{next_time}
 use Rattle.lrc_protocol.specs.Node.{Node, Effect, begins, sends, acts, acts_by, memory_after, with_memory, waiting}
-use Rattle.lrc_protocol.specs.Letters.{letter, requests_of, page_request_of, changes_request_of, changes_reply_to, grants_of, departure_of, discards_to, arrival_of}
+use Rattle.lrc_protocol.specs.Letters.{letter, requests_of, page_request_of, changes_request_of}
+use Rattle.lrc_protocol.specs.Letters.{changes_reply_to, grants_of, departure_of, discards_to, arrival_of}
 use Rattle.lrc_protocol.specs.Waits.{waits_or_goes_on, with_needs, clean_memory}
 use Rattle.lrc_protocol.specs.Run.{charged, own_index, closes, reaches, acquire_at, release_at, arrive_at, run_effect}
 use Rattle.lrc_protocol.specs.Take.{take_departure, request_by, learns, arrive_by, clean_by, discard_by, page_reply_by, take_effect, needs_to_keep, with_part}

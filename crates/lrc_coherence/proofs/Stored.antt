@@ -179,7 +179,8 @@ module _ (program : Program) (nodes : ℕ) (options : OptionsRecord) (events : L
       let stored : indices_by (intervals_of l.node.memory.store) q ≡ range_with_len (low + 1) (high - low) = exact.stored q in (
         λ c.
             let between : (low + 1 ≤ index_of i) × (index_of i < low + 1 + (high - low)) =
-            from_range (low + 1) (high - low) (index_of i) (subst (λ ks. Contains ks (index_of i)) stored (index_in q (intervals_of l.node.memory.store) i c refl)) in
+            from_range (low + 1) (high - low) (index_of i)
+            (subst (λ ks. Contains ks (index_of i)) stored (index_in q (intervals_of l.node.memory.store) i c refl)) in
             let least : low + 1 ≤ index_of i = between.0 in
             let most : index_of i < low + 1 + (high - low) = between.1 in
             (made_at made (intervals_of l.node.memory.store) i (are.stored n l at) c, omega (arith, least), omega (arith, most, below)),

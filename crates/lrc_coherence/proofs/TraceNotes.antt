@@ -7,7 +7,8 @@ use Rattle.lrc_page.specs.Place.{page_of, offset_of}
 use Rattle.lrc_trace.specs.declared.trace.Segment.{Segment}
 use Rattle.lrc_trace.specs.Segments.{opened, with_access, IsSegment, AreSegments}
 use Rattle.lrc_trace.specs.Trace.{TraceRecord, MayNote, has_access, noted}
-use Rattle.lrc_trace.proofs.SegmentLists.{segment-opened, segment-with_access, interval-with_access, segments-set, segments-push, noted-open, noted-fresh, note-later}
+use Rattle.lrc_trace.proofs.SegmentLists.{segment-opened, segment-with_access, interval-with_access, segments-set}
+use Rattle.lrc_trace.proofs.SegmentLists.{segments-push, noted-open, noted-fresh, note-later}
 use Rattle.lrc_trace.proofs.Noted.{has_access-with_access, first_of_segments}
 
 -- the segment has some access

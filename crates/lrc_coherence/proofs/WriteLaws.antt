@@ -1,6 +1,7 @@
 -- What closed intervals wrote stays what it was, and the interval that a turn closes has what its node's copies show: the laws
 -- of writes, and of a turn's writes.
-use Rattle.std.proofs.Common.{◌≡◌, ℕ, zero, suc, ◌+◌, ◌≤◌, List, [], ◌∷◌, ◌++◌, Bool, true, false, refl, sym, ap, subst, ◌∙◌, ◌⊎◌, inl, inr, ⊎_elim, arith, append-nil}
+use Rattle.std.proofs.Common.{◌≡◌, ℕ, zero, suc, ◌+◌, ◌≤◌, List, [], ◌∷◌, ◌++◌, Bool, true, false, refl, sym}
+use Rattle.std.proofs.Common.{ap, subst, ◌∙◌, ◌⊎◌, inl, inr, ⊎_elim, arith, append-nil}
 use Rattle.std.specs.Prelude.{Option, Some, None, unwrap_or, ◌==◌, slice_index, Contains, slice_get, if◌then◌else◌}
 use Rattle.std.specs.List.{cons_option}
 use Rattle.std.proofs.lemmas.Bool.{cases_eq, eqb-false}

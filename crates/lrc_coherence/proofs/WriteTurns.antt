@@ -9,7 +9,8 @@ use Rattle.lrc_protocol.specs.Mail.{Wait, nothing, grant, departure, access, upk
 use Rattle.lrc_protocol.specs.Locks.{Locks, next_time}
 use Rattle.lrc_invariants.specs.Waiting.{next_in, acquiring}
 use Rattle.lrc_invariants.specs.Counts.{awaits_acquire}
-use Rattle.lrc_invariants.proofs.Shift.{Part, Acted, Rested, Moved, Shift, plain, misses, takes, asks, releasing, arriving, manages, forwarding, grants, departing, collecting, clean_at_once, discarding, accessing, still_misses, still_collects, cleaning, rests}
+use Rattle.lrc_invariants.proofs.Shift.{Part, Acted, Rested, Moved, Shift, plain, misses, takes, asks, releasing, arriving, manages, forwarding, grants}
+use Rattle.lrc_invariants.proofs.Shift.{departing, collecting, clean_at_once, discarding, accessing, still_misses, still_collects, cleaning, rests}
 use Rattle.lrc_invariants.proofs.Counts.{deed_next, lock_next, ticked_entry, learned_entry}
 use Rattle.lrc_coherence.specs.Written.{written_to}
 

@@ -1,5 +1,6 @@
 -- The test of a value and a list of numbered intervals tells whether the value fits.
-use Rattle.std.proofs.Common.{◌≡◌, ℕ, ◌⊎◌, ◌∙◌, ◌↔◌, Bool, true, false, not, ◌||◌, eqb, IsTrue, List, [], ◌∷◌, Option, Some, None, ap, sym, subst, refl, inl, inr, ⊎_elim}
+use Rattle.std.proofs.Common.{◌≡◌, ℕ, ◌⊎◌, ◌∙◌, ◌↔◌, Bool, true, false, not, ◌||◌, eqb, IsTrue, List, [], ◌∷◌}
+use Rattle.std.proofs.Common.{Option, Some, None, ap, sym, subst, refl, inl, inr, ⊎_elim}
 use Rattle.std.specs.Prelude.{Contains, is_some}
 use Rattle.std.specs.List.{list_all, list_any}
 use Rattle.std.proofs.lemmas.Bool.{and_parts, and_from, or_cases, eqb-true, eq-eqb, not-true, false≢true, cases_Bool}

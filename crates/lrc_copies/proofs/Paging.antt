@@ -1,5 +1,6 @@
 -- Whole pages, word by word.
-use Rattle.std.proofs.Common.{◌≡◌, ℕ, IsTrue, zero, suc, ◌<◌, ◌⊎◌, ◌∙◌, List, [], ◌∷◌, ◌++◌, length, map, get_or, set, replicate, Some, ap, sym, subst, refl, inl, inr, ⊎_elim, arith}
+use Rattle.std.proofs.Common.{◌≡◌, ℕ, IsTrue, zero, suc, ◌<◌, ◌⊎◌, ◌∙◌, List, [], ◌∷◌, ◌++◌, length, map, get_or}
+use Rattle.std.proofs.Common.{set, replicate, Some, ap, sym, subst, refl, inl, inr, ⊎_elim, arith}
 use Rattle.std.specs.Prelude.{Contains, unwrap_or, fold}
 use Rattle.std.proofs.lemmas.Bool.{cases_eq}
 use Rattle.std.proofs.lemmas.List.{length-set, get_or-set_other}
@@ -10,7 +11,8 @@ use Rattle.lrc_page.specs.Changes.{applied, change_at, changes_between}
 use Rattle.lrc_page.proofs.ChangeLists.{length-fold-applied, get_or-fold-applied, change_at-between_same, change_at-between_differs}
 use Rattle.lrc_copies.specs.Word.{IsWriter, Fits, AgreeOn}
 use Rattle.lrc_copies.specs.Sound.{IsAddedLast, difference, AreNext, repaired_value}
-use Rattle.lrc_copies.specs.Page.{PageHistory, AgreeOnPage, AgreeOnChanges, at_word, PageFits, IsPageSound, IsUntouchedBy, IsMoreUntouched, IsWrittenOnce, IsMadeOf, IsClosedWith, page_below, ArePageNext}
+use Rattle.lrc_copies.specs.Page.{PageHistory, AgreeOnPage, AgreeOnChanges, at_word, PageFits, IsPageSound, IsUntouchedBy}
+use Rattle.lrc_copies.specs.Page.{IsMoreUntouched, IsWrittenOnce, IsMadeOf, IsClosedWith, page_below, ArePageNext}
 use Rattle.lrc_copies.proofs.Members.{Contains-first}
 use Rattle.lrc_copies.proofs.Fitting.{fits_open, zero_fits, fits_writers, fits_agreed, newest_fits}
 use Rattle.lrc_copies.proofs.Closing.{difference-same, difference-differs, sound_closed, sound_unwritten, sound_agreed}

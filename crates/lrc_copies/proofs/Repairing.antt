@@ -4,7 +4,8 @@ use Rattle.std.specs.Prelude.{Contains, unwrap_or}
 use Rattle.std.proofs.lemmas.List.Elements.{Contains-append_left, Contains-append_right, Contains-append_cases}
 use Rattle.lrc_copies.specs.Word.{WordHistory, IsWriter, IsUnwritten, AreWritersOrdered, IsLastWriter, IsLastValue, Fits}
 use Rattle.lrc_copies.specs.Sound.{those_below, IsLighterBelow, IsSound, IsNext, AreNext, repaired_value}
-use Rattle.lrc_copies.proofs.Members.{Contains-first, Contains-later, cases_Contains, none_Contains, Contains-filter, Contains-from_filter, AllPairs-first, AllPairs-rest}
+use Rattle.lrc_copies.proofs.Members.{Contains-first, Contains-later, cases_Contains, none_Contains}
+use Rattle.lrc_copies.proofs.Members.{Contains-filter, Contains-from_filter, AllPairs-first, AllPairs-rest}
 use Rattle.lrc_copies.proofs.Fitting.{option_cases, writer_in, ordered_in, fits_writers, same_members, fits_silent, newest_fits}
 use Rattle.lrc_copies.proofs.Heaviest.{found_last}
 

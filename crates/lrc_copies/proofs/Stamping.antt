@@ -1,15 +1,18 @@
 -- Stamped intervals: below, cuts, and what a time covers.
-use Rattle.std.proofs.Common.{◌≡◌, ◌≢◌, ℕ, ◌+◌, ◌<◌, ◌≤◌, ◌⊎◌, ◌∙◌, Bool, true, false, not, eqb, IsTrue, List, [], ◌∷◌, ◌++◌, length, set, ap, sym, subst, refl, inl, inr, ⊎_elim, arith}
+use Rattle.std.proofs.Common.{◌≡◌, ◌≢◌, ℕ, ◌+◌, ◌<◌, ◌≤◌, ◌⊎◌, ◌∙◌, Bool, true, false, not, eqb, IsTrue, List, []}
+use Rattle.std.proofs.Common.{◌∷◌, ◌++◌, length, set, ap, sym, subst, refl, inl, inr, ⊎_elim, arith}
 use Rattle.std.specs.Prelude.{Contains, AllPairs}
 use Rattle.std.proofs.lemmas.Bool.{cases_eq, cases_lt, leb-true, le-leb, eqb-true, eq-eqb, and_parts, and_from, not-true, false≢true}
 use Rattle.std.proofs.lemmas.List.{length-set}
 use Rattle.std.proofs.lemmas.List.Elements.{Contains-append_left, Contains-push, Contains-push_cases, Contains-get_or}
 use Rattle.std.proofs.lemmas.List.Quantifiers.{all_pairs_push}
 use Rattle.lrc_time.specs.Time.{entry, zeros, joined, Covers, weight_of}
-use Rattle.lrc_time.proofs.Times.{covers-refl, covers-trans, covers-joined_first, covers-joined_second, entry-zeros, entry-joined, covers-raised, entry-set_same, entry-set_other, weight-covers, weight-covers_strictly, weight-raised}
+use Rattle.lrc_time.proofs.Times.{covers-refl, covers-trans, covers-joined_first, covers-joined_second, entry-zeros, entry-joined}
+use Rattle.lrc_time.proofs.Times.{covers-raised, entry-set_same, entry-set_other, weight-covers, weight-covers_strictly, weight-raised}
 use Rattle.lrc_copies.specs.Sound.{IsAddedLast}
 use Rattle.lrc_copies.specs.Stamps.{Stamps, index_of, stamp_weight, is_covered, covered, is_same, is_below, IsCut, AreStamped, IsClosedAt}
-use Rattle.lrc_copies.proofs.Members.{Contains-first, Contains-later, cases_Contains, none_Contains, Contains-filter, Contains-from_filter, AllPairs-first, AllPairs-rest}
+use Rattle.lrc_copies.proofs.Members.{Contains-first, Contains-later, cases_Contains, none_Contains}
+use Rattle.lrc_copies.proofs.Members.{Contains-filter, Contains-from_filter, AllPairs-first, AllPairs-rest}
 
 -- of two members one comes first, or they are the same
 pub pairs_of : {X : Type 0} (R : X → X → Type 0) (xs : List X) (a b : X) → AllPairs R xs → Contains xs a → Contains xs b

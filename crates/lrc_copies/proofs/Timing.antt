@@ -1,5 +1,6 @@
 -- Copies by times.
-use Rattle.std.proofs.Common.{◌≡◌, ℕ, ◌∙◌, ◌↔◌, ◌&&◌, Bool, not, ◌<◌, ◌≤◌, ◌⊎◌, true, eqb, ltb, IsTrue, Option, List, [], ◌∷◌, ◌++◌, length, map, sym, subst, inl, inr, ⊎_elim, arith}
+use Rattle.std.proofs.Common.{◌≡◌, ℕ, ◌∙◌, ◌↔◌, ◌&&◌, Bool, not, ◌<◌, ◌≤◌, ◌⊎◌, true, eqb, ltb, IsTrue, Option, List}
+use Rattle.std.proofs.Common.{[], ◌∷◌, ◌++◌, length, map, sym, subst, inl, inr, ⊎_elim, arith}
 use Rattle.std.specs.Prelude.{Contains, AllPairs, fold}
 use Rattle.std.proofs.lemmas.Bool.{ltb-true, eqb-true, and_parts, and_from, not-true, false≢true, or_cases}
 use Rattle.std.proofs.lemmas.List.Elements.{Contains-append_left, Contains-append_right, Contains-append_cases, Contains-push_cases}
@@ -8,10 +9,12 @@ use Rattle.lrc_page.specs.declared.changes.Change.{Change}
 use Rattle.lrc_page.specs.Changes.{applied}
 use Rattle.lrc_page.proofs.ChangeLists.{length-fold-applied}
 use Rattle.lrc_copies.specs.Page.{PageHistory, PageFits, IsPageSound, IsUntouchedBy, IsMoreUntouched, IsClosedWith, page_below, ArePageNext}
-use Rattle.lrc_copies.specs.Stamps.{Stamps, stamp_weight, is_covered, covered, is_below, comes_before, page_of_stamps, IsCut, AreStamped, IsClosedAt, IsBetween, AreLacking}
+use Rattle.lrc_copies.specs.Stamps.{Stamps, stamp_weight, is_covered, covered, is_below, comes_before}
+use Rattle.lrc_copies.specs.Stamps.{page_of_stamps, IsCut, AreStamped, IsClosedAt, IsBetween, AreLacking}
 use Rattle.lrc_copies.proofs.Members.{Contains-later, cases_Contains, Contains-filter, Contains-from_filter}
 use Rattle.lrc_copies.proofs.Paging.{page_fits_more, page_closed, page_open, page_repaired}
-use Rattle.lrc_copies.proofs.Stamping.{test_cases, not_from, covered-up, below-covered, added_last, below_none, into_stamp, from_stamp, covered_below, below_covered}
+use Rattle.lrc_copies.proofs.Stamping.{test_cases, not_from, covered-up, below-covered, added_last, below_none}
+use Rattle.lrc_copies.proofs.Stamping.{into_stamp, from_stamp, covered_below, below_covered}
 
 -- what comes before weighs no more
 before-lighter : {A : Type 0} (s : Stamps A) (a b : A) → IsTrue (comes_before s a b) → stamp_weight s a ≤ stamp_weight s b

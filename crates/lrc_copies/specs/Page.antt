@@ -1,5 +1,6 @@
 -- A whole page, of any length: what holds of each of its words, in the terms of changes.
-use Rattle.std.specs.Prelude.{◌≡◌, ℕ, ◌<◌, ◌≤◌, ◌⊎◌, ◌≢◌, Bool, IsTrue, Option, Some, None, unwrap_or, List, ◌∷◌, length, filter, slice_index, Contains, AllPairs}
+use Rattle.std.specs.Prelude.{◌≡◌, ℕ, ◌<◌, ◌≤◌, ◌⊎◌, ◌≢◌, Bool, IsTrue, Option, Some, None, unwrap_or}
+use Rattle.std.specs.Prelude.{List, ◌∷◌, length, filter, slice_index, Contains, AllPairs}
 use Rattle.lrc_page.specs.declared.changes.Change.{Change}
 use Rattle.lrc_page.specs.Changes.{change_at, changes_between}
 use Rattle.lrc_copies.specs.Word.{WordHistory, Fits}

@@ -4,7 +4,8 @@ use Rattle.lrc_page.specs.declared.size.Size.{Size}
 use Rattle.lrc_page.specs.Page.{zero_page}
 use Rattle.lrc_page.specs.Changes.{applied}
 use Rattle.lrc_copies.specs.Sound.{IsAddedLast}
-use Rattle.lrc_copies.specs.Page.{PageHistory, AgreeOnPage, AgreeOnChanges, page_below, PageFits, IsPageSound, IsUntouchedBy, IsMoreUntouched, IsWrittenOnce, IsMadeOf, IsClosedWith, ArePageNext}
+use Rattle.lrc_copies.specs.Page.{PageHistory, AgreeOnPage, AgreeOnChanges, page_below, PageFits, IsPageSound, IsUntouchedBy}
+use Rattle.lrc_copies.specs.Page.{IsMoreUntouched, IsWrittenOnce, IsMadeOf, IsClosedWith, ArePageNext}
 
 -- Before the first write a page is zero.
 abbrev pub ZeroPageFitsNothing : Type 0 → Type 0

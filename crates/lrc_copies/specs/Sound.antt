@@ -1,5 +1,6 @@
 -- When the changes of intervals can be relied on, and what they make of a copy.
-use Rattle.std.specs.Prelude.{◌≡◌, ℕ, ◌<◌, ◌≤◌, ◌⊎◌, ◌==◌, Bool, IsTrue, Option, Some, None, unwrap_or, if◌then◌else◌, List, [], ◌∷◌, ◌++◌, filter, fold, Contains, AllPairs}
+use Rattle.std.specs.Prelude.{◌≡◌, ℕ, ◌<◌, ◌≤◌, ◌⊎◌, ◌==◌, Bool, IsTrue, Option, Some, None, unwrap_or}
+use Rattle.std.specs.Prelude.{if◌then◌else◌, List, [], ◌∷◌, ◌++◌, filter, fold, Contains, AllPairs}
 use Rattle.lrc_copies.specs.Word.{WordHistory, IsWriter, IsBelowNone, Fits}
 
 -- the members of the list that are below the interval

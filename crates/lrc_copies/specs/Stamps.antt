@@ -1,6 +1,7 @@
 -- Intervals with stamps, as nodes tell one another of them: which are below which, and in which order their changes are
 -- applied.
-use Rattle.std.specs.Prelude.{◌≡◌, ℕ, ◌≤◌, ◌+◌, ◌<◌, ◌⊎◌, ◌==◌, ◌&&◌, ◌||◌, Bool, IsTrue, not, nat_lt, Option, None, List, length, filter, slice_set, Contains, AllPairs}
+use Rattle.std.specs.Prelude.{◌≡◌, ℕ, ◌≤◌, ◌+◌, ◌<◌, ◌⊎◌, ◌==◌, ◌&&◌, ◌||◌, Bool, IsTrue, not, nat_lt, Option}
+use Rattle.std.specs.Prelude.{None, List, length, filter, slice_set, Contains, AllPairs}
 use Rattle.lrc_time.specs.Time.{entry, knows, Covers, weight_of}
 use Rattle.lrc_page.specs.declared.changes.Change.{Change}
 use Rattle.lrc_copies.specs.Page.{PageHistory}

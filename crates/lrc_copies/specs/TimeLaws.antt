@@ -5,7 +5,8 @@ use Rattle.lrc_page.specs.declared.changes.Change.{Change}
 use Rattle.lrc_page.specs.Changes.{applied}
 use Rattle.lrc_copies.specs.Sound.{IsAddedLast}
 use Rattle.lrc_copies.specs.Page.{PageFits, IsPageSound, IsUntouchedBy, IsClosedWith}
-use Rattle.lrc_copies.specs.Stamps.{Stamps, stamp_weight, is_covered, covered, is_below, comes_before, page_of_stamps, IsCut, AreStamped, IsClosedAt, IsBetween, AreLacking}
+use Rattle.lrc_copies.specs.Stamps.{Stamps, stamp_weight, is_covered, covered, is_below, comes_before}
+use Rattle.lrc_copies.specs.Stamps.{page_of_stamps, IsCut, AreStamped, IsClosedAt, IsBetween, AreLacking}
 
 -- An interval that is below another weighs less.
 abbrev pub StampsBelowWeighLess : Type 0 → Type 0

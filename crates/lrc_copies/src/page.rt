@@ -1,6 +1,9 @@
 // A whole page, of any length. Each function is a theorem: its body is empty, and its clause is the law.
 
-ghost use Rattle.lrc_copies.specs.PageLaws.{OnlyMembersCountForThePage, OnlyMembersCountForSoundness, ZeroPageFitsNothing, ZeroPageOfASizeFitsNothing, UntouchedPageKeepsFitting, WritingKeepsThePageFitting, WritingIsOverTheSameTwin, OpenIntervalKeepsThePageFitting, ClosingAWrittenPageStaysSound, ClosingAnUntouchedPageStaysSound, RepairingKeepsThePageFitting};
+ghost use Rattle.lrc_copies.specs.PageLaws.{OnlyMembersCountForThePage, OnlyMembersCountForSoundness, ZeroPageFitsNothing, ZeroPageOfASizeFitsNothing};
+ghost use Rattle.lrc_copies.specs.PageLaws.{UntouchedPageKeepsFitting, WritingKeepsThePageFitting, WritingIsOverTheSameTwin};
+ghost use Rattle.lrc_copies.specs.PageLaws.{OpenIntervalKeepsThePageFitting, ClosingAWrittenPageStaysSound, ClosingAnUntouchedPageStaysSound};
+ghost use Rattle.lrc_copies.specs.PageLaws.{RepairingKeepsThePageFitting};
 
 /// Before the first write a page is zero.
 pub fn zero_page_fits_nothing<A>()

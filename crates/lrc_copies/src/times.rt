@@ -1,6 +1,9 @@
 // Copies by times. Each function is a theorem: its body is empty, and its clause is the law.
 
-ghost use Rattle.lrc_copies.specs.TimeLaws.{ZerosAreACut, JoinsAreCuts, JoinsCoverEither, ClosingUntouchedKeepsThePageFitting, StampsBelowWeighLess, ClosingKeepsStamps, ClosingAddsLast, ClosingKeepsCuts, ClosingAtATimeStaysSound, ClosingAtATimeFits, ClosingKeepsThePageFitting, UncoveredIntervalsMakeNoDifference, UntouchedPageFitsALaterTime, RepairingReachesALaterTime, MissingIntervalsAreLacking};
+ghost use Rattle.lrc_copies.specs.TimeLaws.{ZerosAreACut, JoinsAreCuts, JoinsCoverEither, ClosingUntouchedKeepsThePageFitting, StampsBelowWeighLess};
+ghost use Rattle.lrc_copies.specs.TimeLaws.{ClosingKeepsStamps, ClosingAddsLast, ClosingKeepsCuts, ClosingAtATimeStaysSound, ClosingAtATimeFits};
+ghost use Rattle.lrc_copies.specs.TimeLaws.{ClosingKeepsThePageFitting, UncoveredIntervalsMakeNoDifference, UntouchedPageFitsALaterTime};
+ghost use Rattle.lrc_copies.specs.TimeLaws.{RepairingReachesALaterTime, MissingIntervalsAreLacking};
 
 /// An interval that is below another weighs less.
 pub fn stamps_below_weigh_less<A>()

@@ -1,6 +1,8 @@
 // One word of a page. Each function is a theorem: its body is empty, and its clause is the law.
 
-ghost use Rattle.lrc_copies.specs.WordLaws.{ZeroFitsNothing, UnwrittenWordsAreZero, OnlyWritersCount, OnlyMembersCount, OpenIntervalKeepsTheFit, OrderedWritersHaveALast, ClosingStaysSound, ClosingWithoutAWriteStaysSound, AddingOneKeepsTheFit, RepairingKeepsTheFit, FittingIsDecided};
+ghost use Rattle.lrc_copies.specs.WordLaws.{ZeroFitsNothing, UnwrittenWordsAreZero, OnlyWritersCount, OnlyMembersCount, OpenIntervalKeepsTheFit};
+ghost use Rattle.lrc_copies.specs.WordLaws.{OrderedWritersHaveALast, ClosingStaysSound, ClosingWithoutAWriteStaysSound, AddingOneKeepsTheFit};
+ghost use Rattle.lrc_copies.specs.WordLaws.{RepairingKeepsTheFit, FittingIsDecided};
 
 /// Before the first write a word is zero.
 pub fn zero_fits_nothing<A>()

@@ -1,5 +1,6 @@
 -- How flat code grows.
-use Rattle.std.proofs.Common.{◌≡◌, ℕ, zero, suc, ◌+◌, ◌-◌, ◌<◌, ◌≤◌, List, [], ◌∷◌, ◌++◌, length, get_or, Some, refl, sym, ap, ◌∙◌, subst, ⊎_elim, arith, append_assoc, length-append}
+use Rattle.std.proofs.Common.{◌≡◌, ℕ, zero, suc, ◌+◌, ◌-◌, ◌<◌, ◌≤◌, List, [], ◌∷◌, ◌++◌, length, get_or, Some, refl}
+use Rattle.std.proofs.Common.{sym, ap, ◌∙◌, subst, ⊎_elim, arith, append_assoc, length-append}
 use Rattle.std.specs.Prelude.{slice_get, slice_set}
 use Rattle.std.specs.Borrow.{Bor}
 use Rattle.std.proofs.Math.ListN.{get_or-append}
@@ -7,9 +8,11 @@ use Rattle.std.proofs.Math.Seq.{get_or-append_seam, set-append_seam}
 use Rattle.std.proofs.lemmas.Bool.{cases_lt}
 use Rattle.std.proofs.lemmas.List.{append-nil}
 use Rattle.std.proofs.lemmas.Option.{slice_get-get_or, slice_get_within, get_or_from_slice_get}
-use Rattle.lrc_lang.specs.declared.program.Statement.{Statement, Row_of-Statement, end_of-Statement, more_of-Statement, items-the_row-Statement, items_hidden-the_row-Statement-0, roll-Statement, roll-out-Statement}
+use Rattle.lrc_lang.specs.declared.program.Statement.{Statement, Row_of-Statement, end_of-Statement, more_of-Statement, items-the_row-Statement}
+use Rattle.lrc_lang.specs.declared.program.Statement.{items_hidden-the_row-Statement-0, roll-Statement, roll-out-Statement}
 use Rattle.lrc_lang.specs.declared.program.Statement.TheBlock.{hidden-the_row-Statement-0, shown-the_row-Statement-0}
-use Rattle.lrc_lang.specs.declared.program.Statement.TheVariants.{Assign, Read, Write, Acquire, Release, Barrier, Print, If', While', If, While, outs-If', outs-While', rolls-If, rolls-While}
+use Rattle.lrc_lang.specs.declared.program.Statement.TheVariants.{Assign, Read, Write, Acquire, Release, Barrier, Print, If', While', If}
+use Rattle.lrc_lang.specs.declared.program.Statement.TheVariants.{While, outs-If', outs-While', rolls-If, rolls-While}
 use Rattle.lrc_exec.specs.declared.code.Instruction.{Instruction}
 use Rattle.lrc_exec.specs.Meaning.{block}
 use Rattle.lrc_exec.specs.Flat.{rests_from, rest_at, where_it_holds, where_it_fails, IsSound, IsSoundFrom, IsGrown, IsCodeOf}
@@ -185,7 +188,8 @@ grown_one code i next_within then_within otherwise_within then_leads otherwise_l
           let here : k ≡ length code = omega (arith, slice_get_within (code ++ i ∷ []) k j is) in
           let same : i ≡ j = sym (get_or-append_seam code i [] j) ∙ ap (λ n. get_or (code ++ i ∷ []) n j) (sym here)
           ∙ get_or_from_slice_get (code ++ i ∷ []) k j j is in
-          subst (λ n. IsSound (code ++ i ∷ []) n j) (sym here) (subst (λ x. IsSound (code ++ i ∷ []) (length code) x) same (sound (few_of_one i.statement.now few)));
+          subst (λ n. IsSound (code ++ i ∷ []) n j) (sym here)
+          (subst (λ x. IsSound (code ++ i ∷ []) (length code) x) same (sound (few_of_one i.statement.now few)));
     }
 
 -- a block that a vector holds

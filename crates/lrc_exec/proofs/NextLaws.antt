@@ -6,7 +6,8 @@ use Rattle.lrc_lang.specs.declared.program.Statement.{Statement}
 use Rattle.lrc_lang.specs.declared.program.Statement.TheVariants.{Assign, Read, Write, Acquire, Release, Barrier, Print, If', While'}
 use Rattle.lrc_trace.specs.declared.act.Cause.{Cause}
 use Rattle.lrc_trace.specs.declared.act.Cause.TheVariants.{WordOutOfRange, LockOutOfRange, LockHeld, LockNotHeld}
-use Rattle.lrc_exec.specs.Meaning.{Thread, Next, quiet, prints, reads, writes, acquires, releases, arrives, departs, traps, ends, or_trap, value_in, if_below, holds, act_of, first_act, next_of}
+use Rattle.lrc_exec.specs.Meaning.{Thread, Next, quiet, prints, reads, writes, acquires, releases, arrives, departs, traps}
+use Rattle.lrc_exec.specs.Meaning.{ends, or_trap, value_in, if_below, holds, act_of, first_act, next_of}
 
 -- neither thread is at a barrier, and the setting stays
 pub record Keeps (before after : Thread) : Type 0 where

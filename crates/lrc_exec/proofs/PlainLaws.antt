@@ -1,5 +1,6 @@
 -- Laws of the plain machine: an order may be cut anywhere, and each entry makes one act.
-use Rattle.std.proofs.Common.{◌≡◌, ℕ, zero, suc, ◌+◌, ◌≤◌, true, List, [], ◌∷◌, ◌++◌, length, take, set, replicate, Option, Some, None, refl, sym, ap, ◌∙◌, subst, arith, length-set}
+use Rattle.std.proofs.Common.{◌≡◌, ℕ, zero, suc, ◌+◌, ◌≤◌, true, List, [], ◌∷◌, ◌++◌, length, take, set, replicate}
+use Rattle.std.proofs.Common.{Option, Some, None, refl, sym, ap, ◌∙◌, subst, arith, length-set}
 use Rattle.std.specs.Prelude.{option_map, option_and_then, map, slice_index}
 use Rattle.std.proofs.lemmas.List.{length-map}
 use Rattle.lrc_lang.specs.declared.program.Program.{Program}

@@ -1,5 +1,6 @@
 -- What a machine's thread does next, and where an answer leads it.
-use Rattle.std.proofs.Common.{◌≡◌, ℕ, zero, suc, ◌+◌, ◌-◌, ◌≤◌, Bool, true, false, List, ◌∷◌, ◌++◌, length, get_or, Option, Some, None, refl, sym, ap, ◌∙◌, subst, arith}
+use Rattle.std.proofs.Common.{◌≡◌, ℕ, zero, suc, ◌+◌, ◌-◌, ◌≤◌, Bool, true, false, List, ◌∷◌, ◌++◌, length}
+use Rattle.std.proofs.Common.{get_or, Option, Some, None, refl, sym, ap, ◌∙◌, subst, arith}
 use Rattle.std.specs.Prelude.{slice_get, slice_set, unwrap_or, nat_lt, if◌then◌else◌}
 use Rattle.std.proofs.lemmas.Option.{slice_get-get_or}
 use Rattle.lrc_lang.specs.declared.program.Expression.{Expression}
@@ -10,7 +11,8 @@ use Rattle.lrc_trace.specs.declared.act.Cause.{Cause}
 use Rattle.lrc_trace.specs.declared.act.Cause.TheVariants.{WordOutOfRange, LockOutOfRange, LockHeld, LockNotHeld}
 use Rattle.lrc_exec.specs.declared.code.Instruction.{Instruction}
 use Rattle.lrc_exec.specs.declared.machine.Machine.TheInside.{Inside}
-use Rattle.lrc_exec.specs.Meaning.{Thread, Next, or_trap, value_in, traps, block, holds, then_does, then_keeps, then_holds, chosen, act_of, first_act, next_of, ends}
+use Rattle.lrc_exec.specs.Meaning.{Thread, Next, or_trap, value_in, traps, block, holds, then_does}
+use Rattle.lrc_exec.specs.Meaning.{then_keeps, then_holds, chosen, act_of, first_act, next_of, ends}
 use Rattle.lrc_exec.specs.Ask.{GoesOn, done, answered}
 use Rattle.lrc_exec.specs.Flat.{rest_at, where_it_holds, where_it_fails, IsSound}
 use Rattle.lrc_exec.specs.Running.{thread_of, IsRunning}

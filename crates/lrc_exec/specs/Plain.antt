@@ -1,11 +1,13 @@
 -- The plain machine: one flat memory, as sequential consistency has it.
-use Rattle.std.specs.Prelude.{ℕ, ◌+◌, Bool, Option, Some, None, List, [], ◌∷◌, is_none, nat_le, if◌then◌else◌, map, option_map, option_and_then, replicate, slice_index, slice_index_or, slice_set}
+use Rattle.std.specs.Prelude.{ℕ, ◌+◌, Bool, Option, Some, None, List, [], ◌∷◌, is_none, nat_le, if◌then◌else◌, map}
+use Rattle.std.specs.Prelude.{option_map, option_and_then, replicate, slice_index, slice_index_or, slice_set}
 use Rattle.std.specs.List.{list_all, range_with_len}
 use Rattle.lrc_lang.specs.declared.program.Program.{Program}
 use Rattle.lrc_trace.specs.declared.act.Act.{Act}
 use Rattle.lrc_trace.specs.declared.act.Deed.{Deed}
 use Rattle.lrc_trace.specs.declared.act.Deed.TheVariants.{Quiet, Print, Read, Write, Acquire, Release, Arrive, Depart, Trap, End}
-use Rattle.lrc_exec.specs.Meaning.{Setting, Thread, thread_at_start, Next, quiet, prints, reads, writes, acquires, releases, arrives, departs, traps, ends, next_of}
+use Rattle.lrc_exec.specs.Meaning.{Setting, Thread, thread_at_start, Next, quiet, prints, reads, writes}
+use Rattle.lrc_exec.specs.Meaning.{acquires, releases, arrives, departs, traps, ends, next_of}
 
 -- the machine between two acts: the words of the memory, for each lock its holder or none, for each node how often it
 -- has arrived, and its thread, or none once it has trapped or ended

@@ -1,5 +1,6 @@
 -- Rounds: in each, every node from 0 up makes its next act, where it can and has steps left for it.
-use Rattle.std.specs.Prelude.{◌≡◌, ℕ, zero, suc, ◌-◌, Option, Some, None, List, [], ◌∷◌, ◌++◌, is_some, nat_le, if◌then◌else◌, option_and_then, replicate, slice_index, slice_set, unwrap_or}
+use Rattle.std.specs.Prelude.{◌≡◌, ℕ, zero, suc, ◌-◌, Option, Some, None, List, [], ◌∷◌, ◌++◌, is_some, nat_le}
+use Rattle.std.specs.Prelude.{if◌then◌else◌, option_and_then, replicate, slice_index, slice_set, unwrap_or}
 use Rattle.std.specs.List.{range_with_len}
 use Rattle.lrc_lang.specs.declared.program.Program.{Program}
 use Rattle.lrc_trace.specs.declared.act.Act.{Act}

@@ -8,13 +8,16 @@ ghost use Rattle.lrc_exec.specs.Rounds.{AreActsOfRounds};
 
 /// The plain machine's acts for an order, cut at any point, are its acts for the order cut there.
 pub fn an_order_can_be_cut()
-    ensures { (program : Program) (nodes cut : ℕ) (order : List ℕ) (acts : List Act) → plain program nodes order ≡ Some acts → plain program nodes (take cut order) ≡ Some (take cut acts) }
+    ensures { (program : Program) (nodes cut : ℕ) (order : List ℕ) (acts : List Act) → plain program nodes order ≡ Some acts
+        → plain program nodes (take cut order) ≡ Some (take cut acts) }
 {}
 
 /// The acts for two orders in a row are those for the first, and then those that the machine makes from there for the
 /// second.
 pub fn orders_follow_each_other()
-    ensures { (program : Program) (nodes : ℕ) (first second : List ℕ) (acts : List Act) (machine : Plain) → plain_from (plain_start program nodes) first ≡ Some (acts, machine) → plain program nodes (first ++ second) ≡ option_map (λ more. acts ++ more.0) (plain_from machine second) }
+    ensures { (program : Program) (nodes : ℕ) (first second : List ℕ) (acts : List Act) (machine : Plain)
+        → plain_from (plain_start program nodes) first ≡ Some (acts, machine)
+        → plain program nodes (first ++ second) ≡ option_map (λ more. acts ++ more.0) (plain_from machine second) }
 {}
 
 /// The plain machine makes one act for each entry of an order, by that entry's node.
@@ -24,5 +27,6 @@ pub fn each_entry_makes_an_act()
 
 /// The rounds of a program make one list of acts and no other.
 pub fn rounds_are_determined()
-    ensures { (program : Program) (nodes steps : ℕ) (first second : List Act) → AreActsOfRounds program nodes steps first → AreActsOfRounds program nodes steps second → first ≡ second }
+    ensures { (program : Program) (nodes steps : ℕ) (first second : List Act) → AreActsOfRounds program nodes steps first
+        → AreActsOfRounds program nodes steps second → first ≡ second }
 {}

@@ -22,17 +22,20 @@ use Rattle.lrc_protocol.specs.Log.{Input, EntryRecord, Logged}
 use Rattle.lrc_protocol.specs.World.{World, Flying, fresh_world, with_turn, pending, run_of}
 use Rattle.lrc_protocol.proofs.Worlds.{IsEntry, get_set_same, get_set_other}
 use Rattle.lrc_protocol.proofs.Induction.{Comes}
-use Rattle.lrc_invariants.specs.Barriers.{says_arrive, says_clean, says_discard, arrive_from, depart_to, clean_from, discard_to, kept_of, noted_of, awaits_depart, awaits_word}
+use Rattle.lrc_invariants.specs.Barriers.{says_arrive, says_clean, says_discard, arrive_from, depart_to, clean_from}
+use Rattle.lrc_invariants.specs.Barriers.{discard_to, kept_of, noted_of, awaits_depart, awaits_word}
 use Rattle.lrc_invariants.proofs.Sends.{Came, Site, site_of, letter_in, arrival_in}
 use Rattle.lrc_invariants.proofs.Managers.{departs-only, discards-only}
 use Rattle.lrc_invariants.proofs.Standing.{arrive_test, depart_test, clean_test, discard_test}
 use Rattle.lrc_invariants.proofs.Moves.{in-now, Brought, brought, sent_from, among_letters, counted_in}
 use Rattle.lrc_invariants.proofs.Arrivals.{get_set, kept_before}
-use Rattle.lrc_invariants.proofs.Barring.{Barring, arrives_at, gathers_at, lets_depart_at, departs_at, collects_at, clean_once_at, cleans_at, notes_at, lets_discard_at, discards_at, other_at}
+use Rattle.lrc_invariants.proofs.Barring.{Barring, arrives_at, gathers_at, lets_depart_at, departs_at, collects_at}
+use Rattle.lrc_invariants.proofs.Barring.{clean_once_at, cleans_at, notes_at, lets_discard_at, discards_at, other_at}
 use Rattle.lrc_invariants.proofs.Passing.{Passing, arrives_so, told_so, gathers_so, lets_depart_so, other_so}
 use Rattle.lrc_invariants.proofs.Timely.{Timely, is_kept, is_sent, is_told}
 use Rattle.lrc_invariants.proofs.AllTimely.{manager_after}
-use Rattle.lrc_invariants.proofs.Exclusive.{Exclusive, all_exclusive, one_of, Kind, stays, begins, notes, ends, kind, mv, timely, me_is, is, depart_sent, fresh_wait}
+use Rattle.lrc_invariants.proofs.Exclusive.{Exclusive, all_exclusive, one_of, Kind, stays, begins, notes, ends}
+use Rattle.lrc_invariants.proofs.Exclusive.{kind, mv, timely, me_is, is, depart_sent, fresh_wait}
 use Rattle.lrc_invariants.proofs.Reached.{IsReached, KeptByReached, by_reached}
 
 -- ---- what a letter says
@@ -82,7 +85,8 @@ arrive_letter s _ _ _ letters (cleans_at had needs w) x m there e =
     none_such (arrive_test s.me s.me) letters x refl there (passes_arrive s.me x m e)
 arrive_letter s _ _ _ letters (notes_at from episode before after at step manager_is) x m there e = absurd (none_Contains x there)
 arrive_letter s _ _ _ letters (lets_discard_at from episode over before after at step manager_is) x m there e =
-    none_such (arrive_test s.me s.me) letters x (discards-only (arrive_test s.me s.me) over (λ to. refl) (range_with_len 0 s.nodes)) there (passes_arrive s.me x m e)
+    none_such (arrive_test s.me s.me) letters x
+    (discards-only (arrive_test s.me s.me) over (λ to. refl) (range_with_len 0 s.nodes)) there (passes_arrive s.me x m e)
 arrive_letter s _ _ _ letters (discards_at from episode collection w) x m there e = absurd (none_Contains x there)
 arrive_letter s _ _ _ letters (other_at same inside collecting silent) x m there e =
     none_such (arrive_test s.me s.me) letters x (silent s.me).arrives there (passes_arrive s.me x m e)
@@ -115,7 +119,8 @@ clean_letter s _ _ barrier letters (cleans_at had needs w) x k there e = elim (c
 ]
 clean_letter s _ _ _ letters (notes_at from episode before after at step manager_is) x k there e = absurd (none_Contains x there)
 clean_letter s _ _ _ letters (lets_discard_at from episode over before after at step manager_is) x k there e =
-    none_such (clean_test s.me s.me) letters x (discards-only (clean_test s.me s.me) over (λ to. refl) (range_with_len 0 s.nodes)) there (passes_clean s.me x k e)
+    none_such (clean_test s.me s.me) letters x (discards-only (clean_test s.me s.me) over (λ to. refl) (range_with_len 0 s.nodes))
+    there (passes_clean s.me x k e)
 clean_letter s _ _ _ letters (discards_at from episode collection w) x k there e = absurd (none_Contains x there)
 clean_letter s _ _ _ letters (other_at same inside collecting silent) x k there e =
     none_such (clean_test s.me s.me) letters x (silent s.me).cleans there (passes_clean s.me x k e)
@@ -137,7 +142,8 @@ unfolding episode_in
 depart_letter all first [] x m full there e = absurd (none_Contains x there)
 depart_letter all first (None ∷ places) x m full there e = cc
 depart_letter all first (Some a ∷ places) x m full there e =
-    elim (cases_Contains (departure_of (departure_to all (first, a))) (map departure_of (map (departure_to all) (enumerate_from (first + 1) (filter_map (λ a. a) places)))) x there) [
+    elim (cases_Contains (departure_of (departure_to all (first, a)))
+    (map departure_of (map (departure_to all) (enumerate_from (first + 1) (filter_map (λ a. a) places)))) x there) [
       | inl is ↦ (
         0,
         (let to : x.to ≡ first = ap (λ (x : Letter). x.to) (sym is) in omega (arith, to)),
@@ -257,7 +263,8 @@ module _ (program : Program) (nodes : ℕ) (options : OptionsRecord) where
           )
           | inr new ↦
               let k : _ =
-              arrive_letter (site_of l.node) moves.came after.node.mail.wait after.node.barrier moves.letters moves.bars (letter_in e) m (sent_letter e new) says in
+              arrive_letter (site_of l.node) moves.came after.node.mail.wait after.node.barrier moves.letters moves.bars
+              (letter_in e) m (sent_letter e new) says in
               (k.0, λ lm at_from. k.1 ∙ ap (λ (x : Logged). x.node.barrier.episode) (own_node e new lm at_from).1)
         ]
 
@@ -277,7 +284,8 @@ module _ (program : Program) (nodes : ℕ) (options : OptionsRecord) where
           )
           | inr new ↦
               let k : _ =
-              clean_letter (site_of l.node) moves.came after.node.mail.wait after.node.barrier moves.letters moves.bars (letter_in e) episode (sent_letter e new) says in
+              clean_letter (site_of l.node) moves.came after.node.mail.wait after.node.barrier moves.letters moves.bars
+              (letter_in e) episode (sent_letter e new) says in
               (k.0, λ lm at_from. k.1 ∙ ap (λ (x : Logged). x.node.barrier.episode) (own_node e new lm at_from).1)
         ]
 
@@ -339,7 +347,8 @@ module _ (program : Program) (nodes : ℕ) (options : OptionsRecord) where
               ∙ elim (get_set old_manager.arrivals from told.0 (arrival_in a) x told.2.1) [
                 | inl here ↦
                     let c : Brought l.node.setting.me from (Arrive a) (pending world) =
-                    brought l.node.setting.me from (Arrive a) moves.came moves.o (pending world) entry.turn.out (pending next) came_is moves.brings moves.goes in
+                    brought l.node.setting.me from (Arrive a) moves.came moves.o (pending world) entry.turn.out
+                    (pending next) came_is moves.brings moves.goes in
                     let to_from : c.envelope.from ≡ e.to = c.from_is ∙ here.0 ∙ to_is in
                     let some : 1 ≤ count_by (arrive_from e.to) (pending world) + kept_of old_manager e.to =
                     subst (λ k. 1 ≤ count_by (arrive_from k) (pending world) + kept_of old_manager k) to_from
@@ -383,7 +392,8 @@ module _ (program : Program) (nodes : ℕ) (options : OptionsRecord) where
         → Kind program nodes options world flight n l after input entry at come i r r' h.exclusive → Told e episode
     unfolding Told
     word-new e k there new says (stays st calm_if) =
-        none_such (discard_test e.to l.node.setting.me) _ (letter_in e) (st.words e.to) (sent_letter e new) (passes_discard l.node.setting.me (letter_in e) k says)
+        none_such (discard_test e.to l.node.setting.me) _ (letter_in e) (st.words e.to) (sent_letter e new)
+        (passes_discard l.node.setting.me (letter_in e) k says)
     word-new e k there new says (begins from a now departures came_is wait_is manager_is letters_is g managed) =
         none_such (discard_test e.to l.node.setting.me) (map departure_of departures) (letter_in e)
         (departs-only (discard_test e.to l.node.setting.me) (λ d. refl) departures)
@@ -404,9 +414,11 @@ module _ (program : Program) (nodes : ℕ) (options : OptionsRecord) where
               (and_from (says_discard e.message) (e.to == e.to) (ap says_discard says) (eq-eqb e.to e.to refl)) in
               let arrived : lm.node.barrier.episode ≡ t.stand.manager.done + (count_by (arrive_from e.to) (pending next) + kept_of t.stand.manager e.to) =
               (t.stand.each e.to lm at_to).arrived in
-              let departs : count_by (arrive_from e.to) (pending next) + kept_of t.stand.manager e.to + count_by (depart_to e.to) (pending next) ≡ awaits_depart lm.node.mail.wait =
+              let departs : count_by (arrive_from e.to) (pending next) + kept_of t.stand.manager e.to + count_by (depart_to e.to)
+              (pending next) ≡ awaits_depart lm.node.mail.wait =
               (t.stand.each e.to lm at_to).departs in
-              let discards : count_by (clean_from e.to) (pending next) + noted_of t.stand.manager e.to + count_by (discard_to e.to) (pending next) ≡ awaits_word lm.node.mail.wait =
+              let discards : count_by (clean_from e.to) (pending next) + noted_of t.stand.manager e.to + count_by
+              (discard_to e.to) (pending next) ≡ awaits_word lm.node.mail.wait =
               (t.stand.each e.to lm at_to).discards in
               let most : awaits_depart lm.node.mail.wait + awaits_word lm.node.mail.wait ≤ 1 = one_of lm.node.mail.wait in
               omega (arith, is_over, over_is, done_same, some, arrived, departs, discards, most),

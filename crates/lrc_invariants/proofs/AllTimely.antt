@@ -146,7 +146,8 @@ module _ (program : Program) (nodes : ℕ) (options : OptionsRecord) where
                 gate program nodes options world h.stand n l at
                 (subst (λ k. 1 ≤ count_by (arrive_from k) (pending world) + kept_of h.stand.manager k) (sym e) some) in
                 ap (λ (x : Logged). x.node.locks.time) (sym same)
-                ∙ own_time (site_of l.node) mv.came mv.acts after.node.mail.wait after.node.locks after.node.barrier mv.letters mv.passes g.waits (told_nothing g);
+                ∙ own_time (site_of l.node) mv.came mv.acts after.node.mail.wait after.node.locks after.node.barrier mv.letters
+                mv.passes g.waits (told_nothing g);
             is_own = inl (e, same);
           }
       | inr ne ↦ record {
@@ -300,7 +301,8 @@ module _ (program : Program) (nodes : ℕ) (options : OptionsRecord) where
                     (ap (λ (x : Logged). time_in x.node.mail.wait) own.1 ∙ e)) [
                       | inl told ↦
                           let c : Brought l.node.setting.me told.0 (Depart told.1) (pending world) =
-                          brought l.node.setting.me told.0 (Depart told.1) mv.came mv.o (pending world) entry.turn.out (pending next) told.2 mv.brings mv.goes in
+                          brought l.node.setting.me told.0 (Depart told.1) mv.came mv.o (pending world) entry.turn.out
+                          (pending next) told.2 mv.brings mv.goes in
                           newest-stays g t
                           (subst (IsNewestTime nodes world.acts world.times h.stand.manager.done) told.3
                           (h.told c.envelope told.1 l c.among c.message_is (ap (slice_get world.nodes) (c.to ∙ me_is) ∙ at)))

@@ -15,14 +15,16 @@ use Rattle.lrc_wire.specs.Envelope.{EnvelopeRecord}
 use Rattle.lrc_wire.specs.Records.{ArriveRecord, DepartRecord}
 use Rattle.lrc_wire.specs.declared.message.Message.TheVariants.{Arrive, Depart, Clean, Discard}
 use Rattle.lrc_barrier.specs.declared.fault.BarrierFault.TheVariants.{WrongEpisode, Twice}
-use Rattle.lrc_barrier.specs.Barrier.{ManagerRecord, refuses, waits, departs, is_accepted, with_arrival, arrivals_of, departures_of, departed, is_next, has_arrived, arrived, refuses_clean, awaits, discards, cleaned_by, cleaned}
+use Rattle.lrc_barrier.specs.Barrier.{ManagerRecord, refuses, waits, departs, is_accepted, with_arrival, arrivals_of, departures_of, departed}
+use Rattle.lrc_barrier.specs.Barrier.{is_next, has_arrived, arrived, refuses_clean, awaits, discards, cleaned_by, cleaned}
 use Rattle.lrc_protocol.specs.declared.event.Event.{Event}
 use Rattle.lrc_protocol.specs.Mail.{Wait, nothing, grant, departure, access, upkeep, discard, awaits_departure, awaits_discard}
 use Rattle.lrc_protocol.specs.Node.{OptionsRecord}
 use Rattle.lrc_protocol.specs.Log.{Logged}
 use Rattle.lrc_protocol.specs.World.{World, pending, run_of}
 use Rattle.lrc_protocol.specs.Expected.{is_expected, is_arrival, is_clean}
-use Rattle.lrc_invariants.specs.Barriers.{says_clean, says_discard, arrive_from, depart_to, clean_from, discard_to, kept_of, noted_of, awaits_depart, awaits_word, IsNewestTime}
+use Rattle.lrc_invariants.specs.Barriers.{says_clean, says_discard, arrive_from, depart_to, clean_from, discard_to}
+use Rattle.lrc_invariants.specs.Barriers.{kept_of, noted_of, awaits_depart, awaits_word, IsNewestTime}
 use Rattle.lrc_invariants.proofs.Sends.{arrival_in}
 use Rattle.lrc_invariants.proofs.Moves.{counted_in}
 use Rattle.lrc_invariants.proofs.AllStand.{AllStand}
@@ -37,7 +39,9 @@ none_or_some None never = absurd (never refl)
 none_or_some (Some x) never = (x, refl)
 
 clean_if : (manager : ManagerRecord) (cleans : List Bool) (a b c : Bool) → a ≡ true → b ≡ false
-    → is_clean (if a then (if b then refuses_clean Twice else (if c then discards manager.done (record manager { cleans = None }) else awaits (record manager { cleans = Some cleans }))) else refuses_clean WrongEpisode) ≡ true
+    → is_clean (if a then (if b then refuses_clean Twice else
+    (if c then discards manager.done (record manager { cleans = None }) else awaits
+    (record manager { cleans = Some cleans }))) else refuses_clean WrongEpisode) ≡ true
 clean_if manager cleans true false true e f = refl
 clean_if manager cleans true false false e f = refl
 clean_if manager cleans true true c e f = cc
@@ -82,7 +86,8 @@ waits_to_discard (upkeep collection needs) some = absurd (omega (arith, some))
 
 -- ---- in a run
 
-module _ (program : Program) (nodes : ℕ) (options : OptionsRecord) (events : List Event) (world : World) (run : run_of program nodes options events ≡ Some world) where
+module _ (program : Program) (nodes : ℕ) (options : OptionsRecord) (events : List Event) (world : World)
+    (run : run_of program nodes options events ≡ Some world) where
   a : Addressed program nodes options world
   a = all_addressed program nodes options events world run
 
@@ -105,12 +110,14 @@ module _ (program : Program) (nodes : ℕ) (options : OptionsRecord) (events : L
       let arrived : l.node.barrier.episode ≡ stand.manager.done + (count_by (arrive_from e.from) (pending world) + kept_of stand.manager e.from) =
       (stand.each e.from l at).arrived in
       let none : count_by (arrive_from e.from) (pending world) + kept_of stand.manager e.from ≡ 0 = (a.exclusive.busy under_way.0 under_way.1 e.from l at).1 in
-      let discards : count_by (clean_from e.from) (pending world) + noted_of stand.manager e.from + count_by (discard_to e.from) (pending world) ≡ awaits_word l.node.mail.wait =
+      let discards : count_by (clean_from e.from) (pending world) + noted_of stand.manager e.from + count_by (discard_to e.from)
+      (pending world) ≡ awaits_word l.node.mail.wait =
       (stand.each e.from l at).discards in
       let most : awaits_word l.node.mail.wait ≤ 1 = at_most_word l.node.mail.wait in
       let unnoted : noted_of stand.manager e.from ≡ 0 = omega (arith, some, discards, most) in
       let first_one : slice_index_or under_way.0 e.from false ≡ false =
-      no_place _ (sym (ap (λ (o : Option (List Bool)). cond {A = ℕ} (unwrap_or (option_map (λ cleans. slice_index_or cleans e.from false) o) false) 1 0) under_way.1) ∙ unnoted) in
+      no_place _ (sym (ap (λ (o : Option (List Bool)).
+      cond {A = ℕ} (unwrap_or (option_map (λ cleans. slice_index_or cleans e.from false) o) false) 1 0) under_way.1) ∙ unnoted) in
       ap (λ o. unwrap_or (option_map is_clean (option_map (λ manager. cleaned manager e.from episode) o)) false) (stand.here first at_first)
       ∙ clean_by stand.manager e.from episode under_way.0 under_way.1 (omega (arith, is_of, arrived, none)) first_one
     where
@@ -129,7 +136,8 @@ module _ (program : Program) (nodes : ℕ) (options : OptionsRecord) (events : L
       let some : 1 ≤ count_by (discard_to e.to) (pending world) =
       counted_in (discard_to e.to) (pending world) e there
       (and_from (says_discard e.message) (e.to == e.to) (ap says_discard says) (eq-eqb e.to e.to refl)) in
-      let discards : count_by (clean_from e.to) (pending world) + noted_of stand.manager e.to + count_by (discard_to e.to) (pending world) ≡ awaits_word l.node.mail.wait =
+      let discards : count_by (clean_from e.to) (pending world) + noted_of stand.manager e.to + count_by (discard_to e.to)
+      (pending world) ≡ awaits_word l.node.mail.wait =
       (stand.each e.to l at).discards in
       and_from ((e.from == 0) && awaits_discard l.node.mail.wait) (episode == l.node.barrier.episode)
       (and_from (e.from == 0) (awaits_discard l.node.mail.wait) (eq-eqb e.from 0 (a.word e episode there says).0)
@@ -168,7 +176,8 @@ module _ (program : Program) (nodes : ℕ) (options : OptionsRecord) (events : L
   depart_accepted l e m there says at =
       let t : Timely program nodes options world = a.exclusive.timely in
       let some : 1 ≤ count_by (depart_to e.to) (pending world) = is_told program nodes options world e m there says in
-      let departs : count_by (arrive_from e.to) (pending world) + kept_of stand.manager e.to + count_by (depart_to e.to) (pending world) ≡ awaits_depart l.node.mail.wait =
+      let departs : count_by (arrive_from e.to) (pending world) + kept_of stand.manager e.to + count_by (depart_to e.to)
+      (pending world) ≡ awaits_depart l.node.mail.wait =
       (stand.each e.to l at).departs in
       let most : awaits_depart l.node.mail.wait ≤ 1 = at_most_one l.node.mail.wait in
       let arrived_so : l.node.barrier.episode ≡ stand.manager.done + (count_by (arrive_from e.to) (pending world) + kept_of stand.manager e.to) =

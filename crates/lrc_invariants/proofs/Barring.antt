@@ -13,7 +13,9 @@ use Rattle.lrc_protocol.specs.Locks.{Locks}
 use Rattle.lrc_protocol.specs.Barrier.{Barrier}
 use Rattle.lrc_invariants.specs.Counts.{is_inside}
 use Rattle.lrc_invariants.specs.Barriers.{is_collecting}
-use Rattle.lrc_invariants.proofs.Sends.{Came, by_itself, comes, Site, arrival_in, Sends, plain, misses, takes, asks, releasing, arriving, manages, forwarding, grants, gathers, lets_depart, departing, collecting, clean_at_once, notes_clean, lets_discard, discarding, serves, accessing, still_misses, still_collects, cleaning}
+use Rattle.lrc_invariants.proofs.Sends.{Came, by_itself, comes, Site, arrival_in, Sends, plain, misses, takes, asks, releasing, arriving}
+use Rattle.lrc_invariants.proofs.Sends.{manages, forwarding, grants, gathers, lets_depart, departing, collecting, clean_at_once}
+use Rattle.lrc_invariants.proofs.Sends.{notes_clean, lets_discard, discarding, serves, accessing, still_misses, still_collects, cleaning}
 use Rattle.lrc_invariants.proofs.Standing.{Silent, silent_none, silent_one, silent_others, silent_grants}
 
 pub data Barring (s : Site) : Came → Wait → Barrier → List Letter → Type 0 where

@@ -15,7 +15,9 @@ use Rattle.lrc_protocol.specs.Turn.{TurnRecord}
 use Rattle.lrc_protocol.specs.Follows.{deeds_in}
 use Rattle.lrc_invariants.specs.Waiting.{next_in, is_departing, is_access, acquiring, FixesNext}
 use Rattle.lrc_invariants.specs.Counts.{closes, count, awaits_acquire}
-use Rattle.lrc_invariants.proofs.Shift.{Part, Acted, Rested, Moved, is_plain, deed_in, Learnable, Shift, plain, misses, takes, asks, releasing, arriving, manages, forwarding, grants, departing, collecting, clean_at_once, discarding, accessing, still_misses, still_collects, cleaning, rests}
+use Rattle.lrc_invariants.proofs.Shift.{Part, Acted, Rested, Moved, is_plain, deed_in, Learnable, Shift, plain, misses, takes, asks, releasing, arriving}
+use Rattle.lrc_invariants.proofs.Shift.{manages, forwarding, grants, departing, collecting, clean_at_once, discarding, accessing, still_misses}
+use Rattle.lrc_invariants.proofs.Shift.{still_collects, cleaning, rests}
 
 -- ---- one deed more
 

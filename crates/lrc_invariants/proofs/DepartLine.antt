@@ -79,7 +79,8 @@ learns_so s _ _ _ _ _ _ _ a one = cc
 -- of a turn
 abbrev Learning : Node → List EnvelopeRecord → Locks → Type 0
 Learning node was locks =
-    ((d : DepartRecord) × (from : ℕ) × Brought node.setting.me from (Depart d) was × (node.mail.wait ≡ departure) × (locks.time ≡ joined node.locks.time d.time))
+    ((d : DepartRecord) × (from : ℕ) × Brought node.setting.me from (Depart d) was × (node.mail.wait ≡ departure)
+    × (locks.time ≡ joined node.locks.time d.time))
     ⊎ ((c : Collection) × (node.mail.wait ≡ discard c) × (locks.time ≡ node.locks.time))
 
 not_some : {X : Type 0} → None ≡ Some Departs → X
@@ -123,7 +124,8 @@ module _ (nodes : ℕ) (acts : List Act) (times : List (List ℕ)) (timed : leng
   rule-prefix more later node j le =
       ap (λ t. joined t (arrived_time nodes (acts ++ more) (times ++ later) (departs_before (acts ++ more) node j) j))
       (time_before-prefix acts more times later timed nodes node j le)
-      ∙ ap (λ k. joined (time_before nodes acts times node j) (arrived_time nodes (acts ++ more) (times ++ later) k j)) (departs_before-prefix acts more node j le)
+      ∙ ap (λ k. joined (time_before nodes acts times node j) (arrived_time nodes (acts ++ more) (times ++ later) k j))
+      (departs_before-prefix acts more node j le)
       ∙ ap (joined (time_before nodes acts times node j)) (arrived_time-prefix acts more times later timed nodes (departs_before acts node j) j le)
 
   pub learn-more : (deed : Option Deed)
@@ -140,10 +142,12 @@ module _ (nodes : ℕ) (acts : List Act) (times : List (List ℕ)) (timed : leng
             time_at-prefix acts more times later timed j lt ∙ all j node does' ∙ sym (rule-prefix more later node j (omega (arith, lt)))
         | inr (here, own, is) ↦
             subst (λ j. time_at (times ++ later) j
-            ≡ joined (time_before nodes (acts ++ more) (times ++ later) node j) (arrived_time nodes (acts ++ more) (times ++ later) (departs_before (acts ++ more) node j) j)) (sym here)
+            ≡ joined (time_before nodes (acts ++ more) (times ++ later) node j)
+            (arrived_time nodes (acts ++ more) (times ++ later) (departs_before (acts ++ more) node j) j)) (sym here)
             (get_or_push times time [] (length acts) timed
             ∙ one (ap Some is)
-            ∙ ap (λ node. joined (time_before nodes acts times node (length acts)) (arrived_time nodes acts times (departs_before acts node (length acts)) (length acts))) own
+            ∙ ap (λ node. joined (time_before nodes acts times node (length acts))
+            (arrived_time nodes acts times (departs_before acts node (length acts)) (length acts))) own
             ∙ sym (rule-prefix more later node (length acts) (omega arith)))
       ]
 
@@ -179,7 +183,8 @@ module _ (program : Program) (nodes : ℕ) (options : OptionsRecord) where
       let present : l.node.locks.time ≡ last = subst (λ w. IsPresent n w last l.node.locks.time) waited p.present in
       let some : 1 ≤ count_by (depart_to n) (pending world) =
       subst (λ k. 1 ≤ count_by (depart_to k) (pending world)) (b.to ∙ me_is) (is_told program nodes options world b.envelope d b.among b.message_is) in
-      let gate : count_by (arrive_from n) (pending world) + kept_of h.stand.manager n + count_by (depart_to n) (pending world) ≡ awaits_depart l.node.mail.wait =
+      let gate : count_by (arrive_from n) (pending world) + kept_of h.stand.manager n + count_by (depart_to n)
+      (pending world) ≡ awaits_depart l.node.mail.wait =
       (h.stand.each n l at).departs in
       let most : awaits_depart l.node.mail.wait ≤ 1 = at_most_one l.node.mail.wait in
       time ∙ ap (λ t. joined t d.time) present
@@ -191,7 +196,8 @@ module _ (program : Program) (nodes : ℕ) (options : OptionsRecord) where
       let p : AtPresent (setting_of program nodes n) world.acts world.times l.node = (all_present program nodes options r.events world r.runs).each n l at in
       let last : List ℕ = time_before nodes world.acts world.times n (length world.acts) in
       let present : l.node.locks.time ≡ joined last c.time = subst (λ w. IsPresent n w last l.node.locks.time) waited p.present in
-      let gate : count_by (arrive_from n) (pending world) + kept_of h.stand.manager n + count_by (depart_to n) (pending world) ≡ awaits_depart l.node.mail.wait =
+      let gate : count_by (arrive_from n) (pending world) + kept_of h.stand.manager n + count_by (depart_to n)
+      (pending world) ≡ awaits_depart l.node.mail.wait =
       (h.stand.each n l at).departs in
       let zero : awaits_depart l.node.mail.wait ≡ 0 = ap awaits_depart waited in
       time ∙ present

@@ -1,5 +1,6 @@
 -- In every run no node departs before every node has arrived.
-use Rattle.std.proofs.Common.{◌≡◌, ℕ, zero, suc, ◌+◌, ◌<◌, ◌≤◌, ◌&&◌, List, [], ◌∷◌, ◌++◌, Bool, true, false, cond, length, map, take, take_all, refl, sym, ap, subst, ◌∙◌, inl, inr, arith, append-nil}
+use Rattle.std.proofs.Common.{◌≡◌, ℕ, zero, suc, ◌+◌, ◌<◌, ◌≤◌, ◌&&◌, List, [], ◌∷◌, ◌++◌, Bool, true, false, cond, length}
+use Rattle.std.proofs.Common.{map, take, take_all, refl, sym, ap, subst, ◌∙◌, inl, inr, arith, append-nil}
 use Rattle.std.specs.Prelude.{Option, Some, None, ◌==◌, option_map, filter, count_by, slice_get}
 use Rattle.std.specs.Option.{option_to_list}
 use Rattle.std.proofs.lemmas.List.{length_push}
@@ -139,7 +140,8 @@ module _ (program : Program) (nodes : ℕ) (options : OptionsRecord) where
       own.departed in
       let most : is_inside l.node.mail.wait ≤ 1 = at_most_one l.node.mail.wait in
       let outside : awaits_depart after.node.mail.wait ≤ is_inside after.node.mail.wait = waits_inside after.node.mail.wait in
-      let gate : count_by (arrive_from n) (pending world') + kept_of h.manager n + count_by (depart_to n) (pending world') ≡ awaits_depart after.node.mail.wait = so.departs in
+      let gate : count_by (arrive_from n) (pending world') + kept_of h.manager n + count_by (depart_to n)
+      (pending world') ≡ awaits_depart after.node.mail.wait = so.departs in
       let episode : after.node.barrier.episode ≡ h.manager.done + (count_by (arrive_from n) (pending world') + kept_of h.manager n) = so.arrived in
       let his_episode : lo.node.barrier.episode ≡ h.manager.done + (count_by (arrive_from other) (pending world') + kept_of h.manager other) =
       other_so.arrived in

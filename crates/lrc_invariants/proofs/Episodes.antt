@@ -18,7 +18,9 @@ use Rattle.lrc_protocol.specs.Follows.{turns_of, deeds_in}
 use Rattle.lrc_protocol.proofs.Texts.{follows_at}
 use Rattle.lrc_invariants.specs.Waiting.{next_in, FixesNext}
 use Rattle.lrc_invariants.specs.Counts.{is_arrive, is_depart, count, is_inside}
-use Rattle.lrc_invariants.proofs.Shift.{Part, part_of, Moved, is_plain, Shift, plain, misses, takes, asks, releasing, arriving, manages, forwarding, grants, departing, collecting, clean_at_once, discarding, accessing, still_misses, still_collects, cleaning, rests}
+use Rattle.lrc_invariants.proofs.Shift.{Part, part_of, Moved, is_plain, Shift, plain, misses, takes, asks, releasing, arriving, manages, forwarding}
+use Rattle.lrc_invariants.proofs.Shift.{grants, departing, collecting, clean_at_once, discarding, accessing, still_misses, still_collects, cleaning}
+use Rattle.lrc_invariants.proofs.Shift.{rests}
 use Rattle.lrc_invariants.proofs.Inputs.{KeptByShifts, at_each}
 use Rattle.lrc_invariants.proofs.Waiting.{NodeFits, node-fits, departs_arrived}
 use Rattle.lrc_invariants.proofs.Counts.{number, count_more, made, none_made, lock_next, departure_next, access_next}
@@ -106,7 +108,8 @@ module _ (p : Part) (fits : FixesNext p.wait (next_in p.course)) where
       let a : (next : Next) × ((next_in p.course ≡ Some next) × (is_plain next ≡ true)) = access_next (next_in p.course) (next_then (access need) w) in
       acted (access need) nothing p.episode deed after a.0 0 0 w m a.1.0 (λ v. arrive-plain v a.0 a.1.1) (λ v. depart-plain v a.0 a.1.1) (omega arith) refl
   steps-kept _ _ _ _ deed after (still_misses before {need = need} w) m = rested (access before) (access need) deed after w m refl
-  steps-kept _ _ _ _ deed after (still_collects before had {collection = c} {needs = ns} w same) m = rested (upkeep before had) (upkeep c ns) deed after w m refl
+  steps-kept _ _ _ _ deed after (still_collects before had {collection = c} {needs = ns} w same) m =
+      rested (upkeep before had) (upkeep c ns) deed after w m refl
   steps-kept _ _ _ _ deed after (cleaning before had {collection = c} w same) m = rested (upkeep before had) (discard c) deed after w m refl
   steps-kept _ _ _ _ deed after rests m = rested p.wait p.wait deed after refl m refl
 
@@ -130,7 +133,8 @@ node-counted l turn after t sh h =
       fits = node-fits l turn after t sh h.fits;
       arrived = s.arrived ∙ ap (λ k. k + number is_arrive deed) h.arrived ∙ sym arrives_more;
       inside = arrives_more ∙ ap (λ k. k + number is_arrive deed) h.inside
-          ∙ rearranged (count is_depart (deeds_in l.turns)) (is_inside l.node.mail.wait) (number is_arrive deed) (number is_depart deed) (is_inside after.mail.wait) s.inside
+          ∙ rearranged (count is_depart (deeds_in l.turns)) (is_inside l.node.mail.wait) (number is_arrive deed)
+          (number is_depart deed) (is_inside after.mail.wait) s.inside
           ∙ ap (λ k. k + is_inside after.mail.wait) (sym departs_more);
     }
 
@@ -138,7 +142,8 @@ fresh-counted : (program : Program) (nodes : ℕ) (options : OptionsRecord) (n :
     → Counted (record { node = fresh_node program nodes options n; turns = [] })
 fresh-counted program nodes options n = record { fits = departs_arrived (start_of program nodes n); arrived = refl; inside = refl }
 
-module _ (program : Program) (nodes : ℕ) (options : OptionsRecord) (events : List Event) (world : World) (e : run_of program nodes options events ≡ Some world) (n : ℕ) (l : Logged) (at : slice_get world.nodes n ≡ Some l) where
+module _ (program : Program) (nodes : ℕ) (options : OptionsRecord) (events : List Event) (world : World)
+    (e : run_of program nodes options events ≡ Some world) (n : ℕ) (l : Logged) (at : slice_get world.nodes n ≡ Some l) where
   counted : Counted (record { node = l.node; turns = turns_of l.log })
   counted = at_each Counted node-counted program nodes options events world n l (fresh-counted program nodes options n) e at
 

@@ -1,6 +1,7 @@
 -- In every run a collection is exclusive: while it is under way all nodes are inside the barrier and none is told to discard;
 -- and else nobody is told to collect, or does.
-use Rattle.std.proofs.Common.{◌≡◌, ◌⊎◌, ℕ, ◌+◌, ◌<◌, ◌≤◌, List, [], ◌∷◌, Bool, true, false, cond, is_some, length, map, refl, sym, ap, subst, ◌∙◌, inl, inr, arith}
+use Rattle.std.proofs.Common.{◌≡◌, ◌⊎◌, ℕ, ◌+◌, ◌<◌, ◌≤◌, List, [], ◌∷◌, Bool, true, false, cond, is_some}
+use Rattle.std.proofs.Common.{length, map, refl, sym, ap, subst, ◌∙◌, inl, inr, arith}
 use Rattle.std.specs.Prelude.{Option, Some, None, ◌==◌, Contains, unwrap_or, count_by, slice_get, slice_set, slice_index_or, replicate, if◌then◌else◌}
 use Rattle.std.specs.List.{range_with_len, enumerate_from}
 use Rattle.std.proofs.lemmas.Bool.{cases_eq, eq-eqb, and_from}
@@ -29,14 +30,16 @@ use Rattle.lrc_protocol.proofs.Turned.{Turned, Turns, turns}
 use Rattle.lrc_protocol.proofs.Induction.{Comes}
 use Rattle.lrc_protocol.specs.Follows.{turns_of}
 use Rattle.lrc_invariants.specs.Counts.{is_inside}
-use Rattle.lrc_invariants.specs.Barriers.{says_depart, says_discard, arrive_from, depart_to, clean_from, discard_to, kept_of, noted_of, awaits_depart, awaits_word, is_collecting}
+use Rattle.lrc_invariants.specs.Barriers.{says_depart, says_discard, arrive_from, depart_to, clean_from, discard_to}
+use Rattle.lrc_invariants.specs.Barriers.{kept_of, noted_of, awaits_depart, awaits_word, is_collecting}
 use Rattle.lrc_invariants.proofs.Shape.{NodeShape, shape_at}
 use Rattle.lrc_invariants.proofs.Sends.{Came, comes, site_of, letter_in, arrival_in}
 use Rattle.lrc_invariants.proofs.Flows.{IsFromNode, stepped, counts, came_count, count_of}
 use Rattle.lrc_invariants.proofs.Managers.{Gathered, gathered, LetGo, let_go, Noted, noted, LetDiscard, let_discard, as_many, departs-once, discards-once}
 use Rattle.lrc_invariants.proofs.Standing.{same_manager, arrive_test, depart_test, clean_test, discard_test}
 use Rattle.lrc_invariants.proofs.Moves.{in-now, Brought, brought, among_letters, counted_in, Moves, moves}
-use Rattle.lrc_invariants.proofs.Barring.{Barring, arrives_at, gathers_at, lets_depart_at, departs_at, collects_at, clean_once_at, cleans_at, notes_at, lets_discard_at, discards_at, other_at}
+use Rattle.lrc_invariants.proofs.Barring.{Barring, arrives_at, gathers_at, lets_depart_at, departs_at, collects_at}
+use Rattle.lrc_invariants.proofs.Barring.{clean_once_at, cleans_at, notes_at, lets_discard_at, discards_at, other_at}
 use Rattle.lrc_invariants.proofs.AllStand.{AllStand, its_manager}
 use Rattle.lrc_invariants.proofs.Timely.{get_within, Timely, Gate, gate, is_told, all_in, waits_for_departure}
 use Rattle.lrc_invariants.proofs.AllTimely.{manager_after, all_timely}
@@ -199,7 +202,8 @@ module _ (program : Program) (nodes : ℕ) (options : OptionsRecord) where
 
     -- what the node was told
     told_collect : (b : Bool) (from : ℕ) (m : DepartRecord) → mv.came ≡ comes from (Depart m)
-        → ((e : EnvelopeRecord) (m : DepartRecord) (x : Logged) → Contains (pending world) e → e.message ≡ Depart m → slice_get world.nodes e.to ≡ Some x → m.collect ≡ b)
+        → ((e : EnvelopeRecord) (m : DepartRecord) (x : Logged) → Contains (pending world) e → e.message ≡ Depart m
+        → slice_get world.nodes e.to ≡ Some x → m.collect ≡ b)
         → m.collect ≡ b
     told_collect b from m e all =
         let c : Brought l.node.setting.me from (Depart m) (pending world) =
@@ -236,7 +240,8 @@ module _ (program : Program) (nodes : ℕ) (options : OptionsRecord) where
         (λ cleans some. none_some cleans (sym g.arrives.free ∙ some))
     by_bars _ wait barrier letters (lets_depart_at from m was now departures at_manager step manager_is) c e b ls =
         begins from m now departures c e (named_as barrier now b manager_is) ls
-        (subst (λ x. LetGo x from (arrival_in m) now departures) (is was at_manager) (let_go was from (arrival_in m) now departures step)) (ap is_some at_manager)
+        (subst (λ x. LetGo x from (arrival_in m) now departures) (is was at_manager)
+        (let_go was from (arrival_in m) now departures step)) (ap is_some at_manager)
     by_bars _ wait barrier letters (departs_at from m w no_collection) c e b ls =
         stays
         (steady barrier letters b refl ls (λ k. refl) (λ k. refl) (λ none. (ap is_collecting e, λ k. refl)))
@@ -293,7 +298,8 @@ module _ (program : Program) (nodes : ℕ) (options : OptionsRecord) where
     unfolding collect_in
     all_asked arrivals k [] x d there e = absurd (none_Contains x there)
     all_asked arrivals k (a ∷ rest) x d there e =
-        elim (cases_Contains (departure_of (departure_to arrivals (k, a))) (map departure_of (map (departure_to arrivals) (enumerate_from (k + 1) rest))) x there) [
+        elim (cases_Contains (departure_of (departure_to arrivals (k, a)))
+        (map departure_of (map (departure_to arrivals) (enumerate_from (k + 1) rest))) x there) [
           | inl same ↦
               same_Some d.collect (asks arrivals) (ap collect_in (sym e) ∙ ap (λ (x : Letter). collect_in x.message) (sym same))
           | inr later ↦ all_asked arrivals (k + 1) rest x d later e
@@ -302,7 +308,8 @@ module _ (program : Program) (nodes : ℕ) (options : OptionsRecord) where
     -- ---- where a collection begins
 
     module _ (from : ℕ) (m : ArriveRecord) (now : ManagerRecord) (departures : List Departure) (came_is : mv.came ≡ comes from (Arrive m))
-        (manager_is : new_manager ≡ now) (letters_is : mv.letters ≡ map departure_of departures) (g : LetGo old_manager from (arrival_in m) now departures) where
+        (manager_is : new_manager ≡ now) (letters_is : mv.letters ≡ map departure_of departures)
+        (g : LetGo old_manager from (arrival_in m) now departures) where
       abbrev full : ManagerRecord
       full = with_arrival old_manager from (arrival_in m)
 
@@ -338,9 +345,11 @@ module _ (program : Program) (nodes : ℕ) (options : OptionsRecord) where
       begun k lm at_k =
           let lt : k < nodes = subst (λ n. k < n) timely.stand.count (slice_get_within next.nodes k lm at_k) in
           let some : 1 ≤ count_by (depart_to k) (pending next) = told_once k lt in
-          let departs : count_by (arrive_from k) (pending next) + kept_of new_manager k + count_by (depart_to k) (pending next) ≡ awaits_depart lm.node.mail.wait =
+          let departs : count_by (arrive_from k) (pending next) + kept_of new_manager k + count_by (depart_to k)
+          (pending next) ≡ awaits_depart lm.node.mail.wait =
           (timely.stand.each k lm at_k).departs in
-          let discards : count_by (clean_from k) (pending next) + noted_of new_manager k + count_by (discard_to k) (pending next) ≡ awaits_word lm.node.mail.wait =
+          let discards : count_by (clean_from k) (pending next) + noted_of new_manager k + count_by (discard_to k)
+          (pending next) ≡ awaits_word lm.node.mail.wait =
           (timely.stand.each k lm at_k).discards in
           let most : awaits_depart lm.node.mail.wait + awaits_word lm.node.mail.wait ≤ 1 = one_of lm.node.mail.wait in
           record {
@@ -392,9 +401,11 @@ module _ (program : Program) (nodes : ℕ) (options : OptionsRecord) where
         let none : came_count (discard_test k) l.node.setting.me mv.came ≡ 0 = ap (came_count (discard_test k) l.node.setting.me) came_is in
         let one : count_by (discard_test k l.node.setting.me) mv.letters ≡ 1 =
         ap (count_by (discard_test k l.node.setting.me)) letters_is ∙ discards-once over nodes k lt in
-        let departs : count_by (arrive_from k) (pending next) + kept_of new_manager k + count_by (depart_to k) (pending next) ≡ awaits_depart lm.node.mail.wait =
+        let departs : count_by (arrive_from k) (pending next) + kept_of new_manager k + count_by (depart_to k)
+        (pending next) ≡ awaits_depart lm.node.mail.wait =
         (timely.stand.each k lm at_k).departs in
-        let discards : count_by (clean_from k) (pending next) + noted_of new_manager k + count_by (discard_to k) (pending next) ≡ awaits_word lm.node.mail.wait =
+        let discards : count_by (clean_from k) (pending next) + noted_of new_manager k + count_by (discard_to k)
+        (pending next) ≡ awaits_word lm.node.mail.wait =
         (timely.stand.each k lm at_k).discards in
         let most : awaits_depart lm.node.mail.wait + awaits_word lm.node.mail.wait ≤ 1 = one_of lm.node.mail.wait in
         record {
@@ -442,7 +453,8 @@ module _ (program : Program) (nodes : ℕ) (options : OptionsRecord) where
         (k.no_clean, k.collecting)
 
     Busy : ℕ → Logged → Type 0
-    Busy m lm = (is_inside lm.node.mail.wait ≡ 1) × (count_by (arrive_from m) (pending next) + kept_of new_manager m ≡ 0) × (count_by (discard_to m) (pending next) ≡ 0)
+    Busy m lm = (is_inside lm.node.mail.wait ≡ 1) × (count_by (arrive_from m) (pending next) + kept_of new_manager m ≡ 0)
+        × (count_by (discard_to m) (pending next) ≡ 0)
 
     busy_by : Kind → (cleans : List Bool) → new_manager.cleans ≡ Some cleans → (m : ℕ) (lm : Logged) → slice_get next.nodes m ≡ Some lm → Busy m lm
     unfolding Busy

@@ -8,7 +8,8 @@ use Rattle.lrc_lang.specs.declared.program.Statement.TheVariants.{Assign, Read, 
 use Rattle.lrc_trace.specs.declared.act.Cause.{Cause}
 use Rattle.lrc_trace.specs.declared.act.Cause.TheVariants.{WordOutOfRange, LockOutOfRange, LockHeld, LockNotHeld}
 use Rattle.lrc_trace.specs.declared.act.Deed.{Deed}
-use Rattle.lrc_exec.specs.Meaning.{Thread, Next, quiet, prints, reads, writes, acquires, releases, arrives, departs, traps, ends, or_trap, value_in, holds, then_holds, act_of, first_act, next_of}
+use Rattle.lrc_exec.specs.Meaning.{Thread, Next, quiet, prints, reads, writes, acquires, releases, arrives, departs, traps}
+use Rattle.lrc_exec.specs.Meaning.{ends, or_trap, value_in, holds, then_holds, act_of, first_act, next_of}
 use Rattle.lrc_protocol.specs.Course.{Course, going, trapped, ended, thread_of, course_of}
 use Rattle.lrc_invariants.specs.Waiting.{next_in}
 use Rattle.lrc_invariants.proofs.Shift.{Acted, course_in}

@@ -57,7 +57,8 @@ module _ (program : Program) (nodes : ℕ) (options : OptionsRecord) where
       record {
         each = λ m lm is. elim (cases_eq n m) [
           | inl e ↦
-              let same : after ≡ lm = same_Some after lm (sym (get_set_same world.nodes n l after at) ∙ ap (slice_get (slice_set world.nodes n after)) e ∙ is) in
+              let same : after ≡ lm = same_Some after lm
+              (sym (get_set_same world.nodes n l after at) ∙ ap (slice_get (slice_set world.nodes n after)) e ∙ is) in
               subst (λ k. Sends (setting_of program nodes k) options (envelopes_in (flight ++ sent_by entry)) lm.node) e
               (subst (λ (x : Logged). Sends (setting_of program nodes n) options (envelopes_in (flight ++ sent_by entry)) x.node) same
               (record {
@@ -71,7 +72,8 @@ module _ (program : Program) (nodes : ℕ) (options : OptionsRecord) where
                     (comes-rises world _ input flight n to options.first (options.first + slice_index l.node.mail.sent to) comes (own.numbers to lt)));
               }))
           | inr ne ↦
-              let old : Sends (setting_of program nodes m) options (envelopes_in world.flight) lm.node = h.each m lm (sym (get_set_other world.nodes n m after ne) ∙ is) in
+              let old : Sends (setting_of program nodes m) options (envelopes_in world.flight) lm.node =
+              h.each m lm (sym (get_set_other world.nodes n m after ne) ∙ is) in
               record {
                 setting = old.setting;
                 options = old.options;

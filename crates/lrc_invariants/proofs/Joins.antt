@@ -1,5 +1,6 @@
 -- The time of a barrier: what the manager joins, and the join of the times at the arrives.
-use Rattle.std.proofs.Common.{◌≡◌, ◌⊎◌, ℕ, zero, suc, ◌+◌, ◌<◌, ◌≤◌, List, [], ◌∷◌, ◌++◌, true, false, cond, is_some, length, map, refl, sym, ap, subst, ◌∙◌, inl, inr, arith, append-nil}
+use Rattle.std.proofs.Common.{◌≡◌, ◌⊎◌, ℕ, zero, suc, ◌+◌, ◌<◌, ◌≤◌, List, [], ◌∷◌, ◌++◌, true, false, cond, is_some}
+use Rattle.std.proofs.Common.{length, map, refl, sym, ap, subst, ◌∙◌, inl, inr, arith, append-nil}
 use Rattle.std.specs.Prelude.{Option, Some, None, Contains, slice_index_or}
 use Rattle.std.specs.List.{filter_map, fold, list_all}
 use Rattle.std.proofs.lemmas.Bool.{cases_Bool}
@@ -44,7 +45,8 @@ module _ (nodes : ℕ) (acts : List Act) (times : List (List ℕ)) (timed : leng
             (sym before ∙ ap (λ p. arrives_before longer p (length acts)) (Does-one_node own does) ∙ same))
       ] in
       ap (arrived_time nodes longer later number) size
-      ∙ ap (λ b. cond b (joined (arrived_time nodes longer later number (length acts)) (time_at later (length acts))) (arrived_time nodes longer later number (length acts))) fails
+      ∙ ap (λ b. cond b (joined (arrived_time nodes longer later number (length acts)) (time_at later (length acts)))
+      (arrived_time nodes longer later number (length acts))) fails
       ∙ arrived_time-prefix acts (act_of n d ∷ []) times (time ∷ []) timed nodes number (length acts) (omega arith)
 
   pub arrived-stays : (deed : Option Deed) → (deed ≡ Some Arrive → arrives_before acts n (length acts) ≡ number → ⊥)
@@ -149,7 +151,8 @@ module _ (acts : List Act) (times : List (List ℕ)) (timed : length times ≡ l
   pub had-more : (deed : Option Deed) (m episode : ℕ) (had : List ℕ) → (n ≡ m → ⊥) ⊎ (deed ≡ None) → HadTime acts times m episode had
       → HadTime (acts ++ more_acts n deed) (times ++ more_times n time deed) m episode had
   had-more None m episode had ne h =
-      subst (λ acts. HadTime acts (times ++ []) m episode had) (sym (append-nil acts)) (subst (λ times. HadTime acts times m episode had) (sym (append-nil times)) h)
+      subst (λ acts. HadTime acts (times ++ []) m episode had) (sym (append-nil acts))
+      (subst (λ times. HadTime acts times m episode had) (sym (append-nil times)) h)
   had-more (Some d) m episode had ne h = elim ne [
     | inl other ↦ had-other d m episode had other h
     | inr none ↦ absurd (some_none none)

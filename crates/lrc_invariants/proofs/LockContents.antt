@@ -7,7 +7,8 @@ use Rattle.std.proofs.lemmas.Option.{same_Some}
 use Rattle.lrc_time.specs.Time.{entry}
 use Rattle.lrc_wire.specs.Envelope.{EnvelopeRecord}
 use Rattle.lrc_wire.specs.declared.message.Message.{Message}
-use Rattle.lrc_wire.specs.declared.message.Message.TheVariants.{LockRequest, LockForward, LockGrant, Arrive, Depart, Clean, Discard, ChangesRequest, ChangesReply, PageRequest, PageReply}
+use Rattle.lrc_wire.specs.declared.message.Message.TheVariants.{LockRequest, LockForward, LockGrant, Arrive, Depart, Clean, Discard}
+use Rattle.lrc_wire.specs.declared.message.Message.TheVariants.{ChangesRequest, ChangesReply, PageRequest, PageReply}
 use Rattle.lrc_barrier.specs.declared.departure.Departure.{Departure}
 use Rattle.lrc_lock.specs.declared.fault.LockFault.TheVariants.{NotMine}
 use Rattle.lrc_lock.specs.declared.state.Pass.{Pass}
@@ -24,7 +25,10 @@ use Rattle.lrc_protocol.specs.Letters.{departure_of, discards_to}
 use Rattle.lrc_invariants.specs.Waiting.{next_in, acquiring}
 use Rattle.lrc_invariants.proofs.Shift.{AllFrom}
 use Rattle.lrc_invariants.proofs.Pending.{Goes}
-use Rattle.lrc_invariants.proofs.Sends.{is_other, AreOthers, Grants, Came, by_itself, comes, letter_in, Site, Sends, plain, misses, takes, asks, releasing, arriving, manages, forwarding, grants, gathers, lets_depart, departing, collecting, clean_at_once, notes_clean, lets_discard, discarding, serves, accessing, still_misses, still_collects, cleaning}
+use Rattle.lrc_invariants.proofs.Sends.{is_other, AreOthers, Grants, Came, by_itself, comes, letter_in, Site, Sends, plain, misses, takes, asks}
+use Rattle.lrc_invariants.proofs.Sends.{releasing, arriving, manages, forwarding, grants, gathers, lets_depart, departing, collecting}
+use Rattle.lrc_invariants.proofs.Sends.{clean_at_once, notes_clean, lets_discard, discarding, serves, accessing, still_misses, still_collects}
+use Rattle.lrc_invariants.proofs.Sends.{cleaning}
 use Rattle.lrc_invariants.proofs.Flows.{AllOf, count-append, count-cons}
 use Rattle.lrc_invariants.proofs.LockPasses.{recent_in}
 

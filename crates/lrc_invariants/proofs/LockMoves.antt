@@ -12,13 +12,15 @@ use Rattle.lrc_time.proofs.Times.{covers-refl, covers-raised, covers-joined_firs
 use Rattle.lrc_exec.specs.Meaning.{Thread, Next, quiet, prints, reads, writes, acquires, releases, arrives, departs, traps, ends}
 use Rattle.lrc_wire.specs.Records.{LockForwardRecord, LockGrantRecord}
 use Rattle.lrc_wire.specs.declared.message.Message.{Message}
-use Rattle.lrc_wire.specs.declared.message.Message.TheVariants.{LockRequest, LockForward, LockGrant, Arrive, Depart, Clean, Discard, ChangesRequest, ChangesReply, PageRequest, PageReply}
+use Rattle.lrc_wire.specs.declared.message.Message.TheVariants.{LockRequest, LockForward, LockGrant, Arrive, Depart, Clean, Discard}
+use Rattle.lrc_wire.specs.declared.message.Message.TheVariants.{ChangesRequest, ChangesReply, PageRequest, PageReply}
 use Rattle.lrc_lock.specs.declared.fault.LockFault.TheVariants.{NotMine}
 use Rattle.lrc_lock.specs.declared.state.Pass.{Pass}
 use Rattle.lrc_lock.specs.declared.state.Waiter.{Waiter}
 use Rattle.lrc_lock.specs.declared.state.LockState.{LockState}
 use Rattle.lrc_lock.specs.declared.state.LockState.TheVariants.{Away, Awaited, Free, Held}
-use Rattle.lrc_lock.specs.Held.{HeldRecord, LockStep, refuses, stays, passes as passes_on, lock_at, is_free, is_held, with_lock, state_after, held_after, taken, asked, released, released_at, forwarded, forwarded_at, granted, granted_at, pass_of}
+use Rattle.lrc_lock.specs.Held.{HeldRecord, LockStep, refuses, stays, passes as passes_on, lock_at, is_free, is_held, with_lock, state_after}
+use Rattle.lrc_lock.specs.Held.{held_after, taken, asked, released, released_at, forwarded, forwarded_at, granted, granted_at, pass_of}
 use Rattle.lrc_barrier.specs.declared.departure.Departure.{Departure}
 use Rattle.lrc_protocol.specs.Course.{Course, deed_of}
 use Rattle.lrc_protocol.specs.Mail.{Letter, Wait, nothing, grant, departure, access, discard}
@@ -32,7 +34,9 @@ use Rattle.lrc_invariants.proofs.Shift.{Acted, Rested, Moved, is_plain}
 use Rattle.lrc_invariants.proofs.Counts.{deed_next, lock_next, departure_next, access_next}
 use Rattle.lrc_invariants.proofs.Calls.{let_go}
 use Rattle.lrc_invariants.proofs.Tokens.{awaits_it, taken_is}
-use Rattle.lrc_invariants.proofs.Sends.{is_other, AreOthers, Grants, Came, by_itself, comes, Site, Sends, plain, misses, takes as takes_free, asks, releasing, arriving, manages, forwarding, grants, gathers, lets_depart, departing, collecting, clean_at_once, notes_clean, lets_discard, discarding, serves, accessing, still_misses, still_collects, cleaning}
+use Rattle.lrc_invariants.proofs.Sends.{is_other, AreOthers, Grants, Came, by_itself, comes, Site, Sends, plain, misses, takes as takes_free, asks}
+use Rattle.lrc_invariants.proofs.Sends.{releasing, arriving, manages, forwarding, grants, gathers, lets_depart, departing, collecting, clean_at_once}
+use Rattle.lrc_invariants.proofs.Sends.{notes_clean, lets_discard, discarding, serves, accessing, still_misses, still_collects, cleaning}
 
 -- ---- words
 

@@ -13,7 +13,8 @@ use Rattle.lrc_lock.specs.declared.state.Waiter.{Waiter}
 use Rattle.lrc_lock.specs.declared.state.LockState.{LockState}
 use Rattle.lrc_lock.specs.declared.state.LockState.TheVariants.{Away, Awaited, Free, Held}
 use Rattle.lrc_lock.specs.Lock.{manager_of}
-use Rattle.lrc_lock.specs.Held.{LockStep, refuses, lock_at, is_free, is_held, with_lock, state_after, held_after, taken, asked, released, released_at, forwarded, forwarded_at, granted, granted_at, pass_of}
+use Rattle.lrc_lock.specs.Held.{LockStep, refuses, lock_at, is_free, is_held, with_lock, state_after, held_after, taken, asked}
+use Rattle.lrc_lock.specs.Held.{released, released_at, forwarded, forwarded_at, granted, granted_at, pass_of}
 use Rattle.lrc_protocol.specs.Mail.{Letter, Wait, nothing, grant as grant_of}
 use Rattle.lrc_protocol.specs.Locks.{Locks, next_time}
 use Rattle.lrc_protocol.specs.Barrier.{Barrier}
@@ -22,9 +23,12 @@ use Rattle.lrc_invariants.specs.Waiting.{next_in, acquiring}
 use Rattle.lrc_invariants.specs.Tokens.{is_awaited, AwaitsOne, HoldsTokens}
 use Rattle.lrc_invariants.proofs.Calls.{acquired, let_go}
 use Rattle.lrc_invariants.proofs.Tokens.{awaits_it, taken_is}
-use Rattle.lrc_invariants.proofs.Sends.{Grants, Came, by_itself, comes, Site, Sends, plain, misses, takes as takes_free, asks as asks_for, releasing, arriving, manages as manages_request, forwarding, grants, gathers, lets_depart, departing, collecting, clean_at_once, notes_clean, lets_discard, discarding, serves, accessing, still_misses, still_collects, cleaning}
+use Rattle.lrc_invariants.proofs.Sends.{Grants, Came, by_itself, comes, Site, Sends, plain, misses, takes as takes_free, asks as asks_for, releasing}
+use Rattle.lrc_invariants.proofs.Sends.{arriving, manages as manages_request, forwarding, grants, gathers, lets_depart, departing, collecting}
+use Rattle.lrc_invariants.proofs.Sends.{clean_at_once, notes_clean, lets_discard, discarding, serves, accessing, still_misses, still_collects, cleaning}
 use Rattle.lrc_invariants.proofs.LockMoves.{own_after, other_after, own_state, other_state, held_within}
-use Rattle.lrc_invariants.proofs.LockMessages.{Saying, no, request, forward, grant, AllSilent, Says, silent, says, ComesSaying, others-silent, all_others-silent, departures-silent, discards-silent, said, unsaid}
+use Rattle.lrc_invariants.proofs.LockMessages.{Saying, no, request, forward, grant, AllSilent, Says, silent, says, ComesSaying}
+use Rattle.lrc_invariants.proofs.LockMessages.{others-silent, all_others-silent, departures-silent, discards-silent, said, unsaid}
 
 -- With the node, who asked last, what came of whom, what is sent to whom, and who asked last then: the lock's state, before and
 -- after.

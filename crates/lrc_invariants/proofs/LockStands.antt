@@ -1,5 +1,6 @@
 -- In every run, for each lock: the balance of each node.
-use Rattle.std.proofs.Common.{◌≡◌, ℕ, zero, suc, ◌+◌, ◌<◌, List, [], ◌∷◌, Bool, true, false, cond, length, map, refl, sym, ap, subst, ◌∙◌, inl, inr, arith, zero-add}
+use Rattle.std.proofs.Common.{◌≡◌, ℕ, zero, suc, ◌+◌, ◌<◌, List, [], ◌∷◌, Bool, true, false, cond, length}
+use Rattle.std.proofs.Common.{map, refl, sym, ap, subst, ◌∙◌, inl, inr, arith, zero-add}
 use Rattle.std.specs.Prelude.{Option, Some, None, ◌==◌, sum_by, slice_get, slice_set, slice_index, if◌then◌else◌}
 use Rattle.std.specs.List.{range_with_len}
 use Rattle.std.proofs.lemmas.Bool.{cases_eq, ne_eqb}
@@ -30,7 +31,8 @@ use Rattle.lrc_invariants.proofs.Sends.{Came, site_of, Sent}
 use Rattle.lrc_invariants.proofs.Flows.{Brings, Stepped, again, once, stepped, count_of, counts}
 use Rattle.lrc_invariants.proofs.Shift.{AllFrom}
 use Rattle.lrc_invariants.proofs.Reached.{IsReached, KeptByReached, by_reached}
-use Rattle.lrc_invariants.proofs.LockMessages.{Saying, no, request, Test, IsTest, asks, about, onto, granted_to, asks-test, about-test, onto-test, granted-test, on_letters, count-says, count-comes}
+use Rattle.lrc_invariants.proofs.LockMessages.{Saying, no, request, Test, IsTest, asks, about, onto, granted_to, asks-test}
+use Rattle.lrc_invariants.proofs.LockMessages.{about-test, onto-test, granted-test, on_letters, count-says, count-comes}
 use Rattle.lrc_invariants.proofs.LockPasses.{Passing, same, Passed, recent_in, passings}
 use Rattle.lrc_invariants.proofs.LockBalance.{is_node, leads_to, Numbers, Balanced, Changes, balanced-own, balanced-other, retargeted}
 use Rattle.lrc_invariants.proofs.TokenWorlds.{state_in, first_at}

@@ -1,5 +1,6 @@
 -- What the barrier's manager keeps, after each of its calls.
-use Rattle.std.proofs.Common.{◌≡◌, ℕ, zero, suc, ◌+◌, ◌<◌, ◌≤◌, ◌&&◌, List, [], ◌∷◌, Bool, true, false, cond, not, is_some, length, map, refl, sym, ap, subst, ◌∙◌, inl, inr, arith}
+use Rattle.std.proofs.Common.{◌≡◌, ℕ, zero, suc, ◌+◌, ◌<◌, ◌≤◌, ◌&&◌, List, [], ◌∷◌, Bool, true, false, cond, not}
+use Rattle.std.proofs.Common.{is_some, length, map, refl, sym, ap, subst, ◌∙◌, inl, inr, arith}
 use Rattle.std.specs.Prelude.{Option, Some, None, ◌==◌, unwrap_or, option_map, count_by, replicate, slice_index_or, slice_set, if◌then◌else◌}
 use Rattle.std.specs.List.{enumerate_from, list_all, range_with_len}
 use Rattle.std.proofs.lemmas.Bool.{cases_eq, eqb-true, eq-eqb, ne_eqb, and_parts}
@@ -8,7 +9,8 @@ use Rattle.std.proofs.lemmas.Option.{same_Some}
 use Rattle.lrc_barrier.specs.declared.arrival.Arrival.{Arrival}
 use Rattle.lrc_barrier.specs.declared.departure.Departure.{Departure}
 use Rattle.lrc_barrier.specs.declared.fault.BarrierFault.TheVariants.{WrongEpisode, Twice}
-use Rattle.lrc_barrier.specs.Barrier.{ManagerRecord, is_next, has_arrived, with_arrival, arrivals_of, asks, departure_to, departures_of, departed, ArriveStep, refuses, waits, departs, arrived, CleanStep, refuses_clean, awaits, discards, cleaned_by, cleaned}
+use Rattle.lrc_barrier.specs.Barrier.{ManagerRecord, is_next, has_arrived, with_arrival, arrivals_of, asks, departure_to, departures_of, departed}
+use Rattle.lrc_barrier.specs.Barrier.{ArriveStep, refuses, waits, departs, arrived, CleanStep, refuses_clean, awaits, discards, cleaned_by, cleaned}
 use Rattle.lrc_barrier.proofs.Filled.{all_arrived}
 use Rattle.lrc_protocol.specs.Mail.{Letter}
 use Rattle.lrc_protocol.specs.Letters.{letter, departure_of, discards_to}
@@ -95,7 +97,8 @@ module _ (before : ManagerRecord) (from : ℕ) (arrival : Arrival) (after : Mana
 
   pub let_go : (departures : List Departure) → arrived before from arrival ≡ departs departures after → LetGo departures
   let_go departures e =
-      let_go_by departures (is_next before arrival.episode) (has_arrived before from) (list_all is_some (with_arrival before from arrival).arrivals) refl refl refl e
+      let_go_by departures (is_next before arrival.episode) (has_arrived before from)
+      (list_all is_some (with_arrival before from arrival).arrivals) refl refl refl e
 
 -- ---- a Clean
 
@@ -174,7 +177,8 @@ module _ (before : ManagerRecord) (from episode : ℕ) (after : ManagerRecord) w
   let_discard_with : (over : ℕ) (o : Option (List Bool)) → before.cleans ≡ o → cleaned_by before from episode o ≡ discards over after → LetDiscard over
   let_discard_with over None is e = cc
   let_discard_with over (Some cleans) is e =
-      let_discard_by over cleans (episode == before.done) (slice_index_or cleans from false) (list_all (λ clean. clean) (slice_set cleans from true)) is refl refl refl e
+      let_discard_by over cleans (episode == before.done) (slice_index_or cleans from false)
+      (list_all (λ clean. clean) (slice_set cleans from true)) is refl refl refl e
 
   pub let_discard : (over : ℕ) → cleaned before from episode ≡ discards over after → LetDiscard over
   let_discard over e = let_discard_with over before.cleans refl e

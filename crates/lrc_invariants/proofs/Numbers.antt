@@ -51,7 +51,8 @@ sent-envelopes stamp (envelope ∷ out) = ap (λ es. envelope ∷ es) (sent-enve
 pub between-sent : (a b : ℕ) (flight : List Flying) (entry : EntryRecord)
     → numbers_between a b (envelopes_in (flight ++ sent_by entry)) ≡ numbers_between a b (envelopes_in flight) ++ numbers_between a b entry.turn.out
 between-sent a b flight entry =
-    ap (numbers_between a b) (map-append (λ (f : Flying). f.envelope) flight (sent_by entry) ∙ ap (λ es. envelopes_in flight ++ es) (sent-envelopes entry.stamp entry.turn.out))
+    ap (numbers_between a b) (map-append (λ (f : Flying). f.envelope) flight (sent_by entry)
+    ∙ ap (λ es. envelopes_in flight ++ es) (sent-envelopes entry.stamp entry.turn.out))
     ∙ between-append a b (envelopes_in flight) entry.turn.out
 
 -- ---- what comes to a node leaves the order
@@ -60,7 +61,8 @@ mark_by : (b : Bool) (f : Flying) → (if b then marked f else f).envelope ≡ f
 mark_by true f = refl
 mark_by false f = refl
 
-pub marks : (k place : ℕ) (flight : List Flying) → envelopes_in (map (λ at. if at.0 == place then marked at.1 else at.1) (enumerate_from k flight)) ≡ envelopes_in flight
+pub marks : (k place : ℕ) (flight : List Flying)
+    → envelopes_in (map (λ at. if at.0 == place then marked at.1 else at.1) (enumerate_from k flight)) ≡ envelopes_in flight
 marks k place [] = refl
 marks k place (f ∷ flight) =
     ap (λ e. e ∷ envelopes_in (map (λ at. if at.0 == place then marked at.1 else at.1) (enumerate_from (k + 1) flight))) (mark_by (k == place) f)
@@ -76,7 +78,8 @@ cond_drops true least bound x rest r = let at_least : least ≤ x = r.0 in rises
 cond_drops false least bound x rest r = r
 
 pub map_cond : (c : Bool) (e : EnvelopeRecord) (rest : List EnvelopeRecord)
-    → map (λ (e : EnvelopeRecord). e.number) (cond c (e ∷ rest) rest) ≡ cond c (e.number ∷ map (λ (e : EnvelopeRecord). e.number) rest) (map (λ (e : EnvelopeRecord). e.number) rest)
+    → map (λ (e : EnvelopeRecord). e.number) (cond c (e ∷ rest) rest) ≡ cond c
+    (e.number ∷ map (λ (e : EnvelopeRecord). e.number) rest) (map (λ (e : EnvelopeRecord). e.number) rest)
 map_cond true e rest = refl
 map_cond false e rest = refl
 
@@ -106,7 +109,8 @@ comes-rises world _ _ _ a b least bound (repeated place at) r =
 
 from_by : (c : Bool) (e : EnvelopeRecord) (b : ℕ) (rest other : List EnvelopeRecord) → c ≡ true
     → map (λ (e : EnvelopeRecord). e.number) rest ≡ map (λ (e : EnvelopeRecord). e.number) other
-    → map (λ (e : EnvelopeRecord). e.number) (cond (c && (e.to == b)) (e ∷ rest) rest) ≡ map (λ (e : EnvelopeRecord). e.number) (cond (e.to == b) (e ∷ other) other)
+    → map (λ (e : EnvelopeRecord). e.number) (cond (c && (e.to == b)) (e ∷ rest) rest) ≡ map (λ (e : EnvelopeRecord). e.number)
+    (cond (e.to == b) (e ∷ other) other)
 from_by c e b rest other is same =
     ap (λ c. map (λ (e : EnvelopeRecord). e.number) (cond (c && (e.to == b)) (e ∷ rest) rest)) is
     ∙ map_cond (e.to == b) e rest

@@ -51,7 +51,8 @@ fresh-owned program nodes options n = record {
   own = entry-zeros nodes n;
 }
 
-module _ (program : Program) (nodes : ℕ) (options : OptionsRecord) (events : List Event) (world : World) (e : run_of program nodes options events ≡ Some world) where
+module _ (program : Program) (nodes : ℕ) (options : OptionsRecord) (events : List Event) (world : World)
+    (e : run_of program nodes options events ≡ Some world) where
   whole : Whole program nodes options world
   whole = run-whole program nodes options events world e
 

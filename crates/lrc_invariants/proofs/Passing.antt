@@ -5,7 +5,8 @@ use Rattle.std.specs.List.{range_with_len}
 use Rattle.std.proofs.lemmas.Option.{same_Some}
 use Rattle.lrc_wire.specs.Records.{ArriveRecord, DepartRecord}
 use Rattle.lrc_wire.specs.declared.message.Message.{Message}
-use Rattle.lrc_wire.specs.declared.message.Message.TheVariants.{LockRequest, LockForward, LockGrant, Arrive, Depart, Clean, Discard, ChangesRequest, ChangesReply, PageRequest, PageReply}
+use Rattle.lrc_wire.specs.declared.message.Message.TheVariants.{LockRequest, LockForward, LockGrant, Arrive, Depart, Clean, Discard}
+use Rattle.lrc_wire.specs.declared.message.Message.TheVariants.{ChangesRequest, ChangesReply, PageRequest, PageReply}
 use Rattle.lrc_exec.specs.Meaning.{Thread, arrives}
 use Rattle.lrc_lock.specs.declared.state.Pass.{Pass}
 use Rattle.lrc_barrier.specs.declared.departure.Departure.{Departure}
@@ -16,7 +17,10 @@ use Rattle.lrc_protocol.specs.Locks.{Locks}
 use Rattle.lrc_protocol.specs.Barrier.{Barrier}
 use Rattle.lrc_invariants.specs.Waiting.{next_in}
 use Rattle.lrc_invariants.specs.Barriers.{says_arrive, says_depart, time_in}
-use Rattle.lrc_invariants.proofs.Sends.{Came, by_itself, comes, Site, is_other, AreOthers, Grants, arrival_in, Sends, plain, misses, takes, asks, releasing, arriving, manages, forwarding, grants, gathers, lets_depart, departing, collecting, clean_at_once, notes_clean, lets_discard, discarding, serves, accessing, still_misses, still_collects, cleaning}
+use Rattle.lrc_invariants.proofs.Sends.{Came, by_itself, comes, Site, is_other, AreOthers, Grants, arrival_in, Sends, plain, misses, takes, asks}
+use Rattle.lrc_invariants.proofs.Sends.{releasing, arriving, manages, forwarding, grants, gathers, lets_depart, departing, collecting}
+use Rattle.lrc_invariants.proofs.Sends.{clean_at_once, notes_clean, lets_discard, discarding, serves, accessing, still_misses, still_collects}
+use Rattle.lrc_invariants.proofs.Sends.{cleaning}
 use Rattle.lrc_invariants.proofs.Managers.{Noted, noted, LetDiscard, let_discard}
 
 -- none of these letters is an Arrive or a Depart
@@ -80,7 +84,11 @@ quiet_discards (to ∷ nodes) episode = (refl, refl, quiet_discards nodes episod
 
 pub same_arrivals : (o : Option ManagerRecord) → Keeps o o
 same_arrivals None = λ manager is. record { done = refl; arrivals = refl }
-same_arrivals (Some x) = λ manager is. record { done = ap (λ (m : ManagerRecord). m.done) (is x refl); arrivals = ap (λ (m : ManagerRecord). m.arrivals) (is x refl) }
+same_arrivals (Some x) = λ manager is. record {
+  done = ap (λ (m : ManagerRecord). m.done) (is x refl);
+  arrivals =
+      ap (λ (m : ManagerRecord). m.arrivals) (is x refl);
+}
 
 noting_same : (o : Option ManagerRecord) (before after : ManagerRecord) → o ≡ Some before → SameArrivals before after → Keeps o (Some after)
 noting_same o before after at same = λ manager is. record {

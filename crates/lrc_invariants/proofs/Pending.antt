@@ -29,7 +29,8 @@ use Rattle.lrc_invariants.proofs.Numbers.{envelopes_in, map_cond, rises-range, m
 use Rattle.lrc_invariants.proofs.InFlight.{Sends}
 use Rattle.lrc_invariants.proofs.TakenNumbers.{Takes, TakesIf, by_itself, repeats, anew, takes}
 use Rattle.lrc_invariants.proofs.TakenBelow.{AllTaken, Before, before, taken-kept, taken-fresh}
-use Rattle.lrc_invariants.proofs.TakenMessages.{is_taken_by, still, pending-is, filter-all, filter-same, filter-others, Same, Others, Split, splits, others, own-taken, other-taken, nowhere-taken, repeat-same, repeat-other, repeat-itself, repeat-below}
+use Rattle.lrc_invariants.proofs.TakenMessages.{is_taken_by, still, pending-is, filter-all, filter-same, filter-others, Same, Others, Split, splits}
+use Rattle.lrc_invariants.proofs.TakenMessages.{others, own-taken, other-taken, nowhere-taken, repeat-same, repeat-other, repeat-itself, repeat-below}
 
 -- ---- what a turn takes
 

@@ -18,7 +18,8 @@ use Rattle.lrc_protocol.specs.Mail.{Wait, nothing, grant, departure, access, upk
 use Rattle.lrc_protocol.specs.Locks.{Locks}
 use Rattle.lrc_invariants.specs.Waiting.{next_in, FixesNext}
 use Rattle.lrc_invariants.specs.Present.{IsPresent}
-use Rattle.lrc_invariants.proofs.Shift.{Part, Acted, Rested, Moved, Shift, plain, misses, takes, asks, releasing, arriving, manages, forwarding, grants, departing, collecting, clean_at_once, discarding, accessing, still_misses, still_collects, cleaning, rests}
+use Rattle.lrc_invariants.proofs.Shift.{Part, Acted, Rested, Moved, Shift, plain, misses, takes, asks, releasing, arriving, manages, forwarding, grants}
+use Rattle.lrc_invariants.proofs.Shift.{departing, collecting, clean_at_once, discarding, accessing, still_misses, still_collects, cleaning, rests}
 use Rattle.lrc_invariants.proofs.Counts.{deed_next, lock_next, departure_next, access_next}
 
 -- ---- the time at a node's last act, by one act more or none

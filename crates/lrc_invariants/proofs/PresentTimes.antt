@@ -50,7 +50,8 @@ module _ (program : Program) (nodes : ℕ) (options : OptionsRecord) where
       let s : Setting = setting_of program nodes n in
       let present : IsPresent node.setting.me node.mail.wait (last_in nodes world.acts world.times n) node.locks.time =
       subst (λ (x : Setting). IsPresent x.me node.mail.wait (last_in nodes world.acts world.times n) node.locks.time) (sym h.setting) h.present in
-      let kept : IsPresent node.setting.me after.mail.wait (last_after (deed_made turn) (last_in nodes world.acts world.times n) after.locks.time) after.locks.time =
+      let kept : IsPresent node.setting.me after.mail.wait
+      (last_after (deed_made turn) (last_in nodes world.acts world.times n) after.locks.time) after.locks.time =
       present-kept (part_of node) h.fits (last_in nodes world.acts world.times n) present
       sh.acts after.mail.wait after.locks after.barrier.episode (deed_made turn) after.course sh.shift sh.moved in
       record {
@@ -60,7 +61,8 @@ module _ (program : Program) (nodes : ℕ) (options : OptionsRecord) where
             subst (λ last. IsPresent n after.mail.wait last after.locks.time)
             (ap (λ deed. last_after deed (last_in nodes world.acts world.times n) after.locks.time) deed_is
             ∙ sym (last_own nodes world.acts world.times timed n after.locks.time deed))
-            (subst (λ (x : Setting). IsPresent x.me after.mail.wait (last_after (deed_made turn) (last_in nodes world.acts world.times n) after.locks.time) after.locks.time) h.setting kept);
+            (subst (λ (x : Setting). IsPresent x.me after.mail.wait
+            (last_after (deed_made turn) (last_in nodes world.acts world.times n) after.locks.time) after.locks.time) h.setting kept);
       }
 
   -- another node
@@ -85,7 +87,8 @@ module _ (program : Program) (nodes : ℕ) (options : OptionsRecord) where
       → AtPresent (setting_of program nodes m) (world.acts ++ more_acts n deed) (world.times ++ more_times n after.node.locks.time deed) node
       → AtPresent (setting_of program nodes m) (with_turn world flight n entry after).acts (with_turn world flight n entry after).times node
   by_act world flight n entry after deed e m node h =
-      subst (λ act. AtPresent (setting_of program nodes m) (world.acts ++ option_to_list act) (world.times ++ map (λ (a : Act). after.node.locks.time) (option_to_list act)) node)
+      subst (λ act. AtPresent (setting_of program nodes m) (world.acts ++ option_to_list act)
+      (world.times ++ map (λ (a : Act). after.node.locks.time) (option_to_list act)) node)
       (sym e) h
 
   pub all-kept : KeptByTurns AllPresent
@@ -99,9 +102,12 @@ module _ (program : Program) (nodes : ℕ) (options : OptionsRecord) where
         timed = timed-kept world flight n l after input entry at comes i h.timed;
         each = λ m lm is. elim (cases_eq n m) [
           | inl e ↦
-              let same : after ≡ lm = same_Some after lm (sym (get_set_same world.nodes n l after at) ∙ ap (slice_get (slice_set world.nodes n after)) e ∙ is) in
-              subst (λ k. AtPresent (setting_of program nodes k) (with_turn world flight n entry after).acts (with_turn world flight n entry after).times lm.node) e
-              (subst (λ (x : Logged). AtPresent (setting_of program nodes n) (with_turn world flight n entry after).acts (with_turn world flight n entry after).times x.node) same
+              let same : after ≡ lm = same_Some after lm
+              (sym (get_set_same world.nodes n l after at) ∙ ap (slice_get (slice_set world.nodes n after)) e ∙ is) in
+              subst (λ k. AtPresent (setting_of program nodes k) (with_turn world flight n entry after).acts
+              (with_turn world flight n entry after).times lm.node) e
+              (subst (λ (x : Logged). AtPresent (setting_of program nodes n) (with_turn world flight n entry after).acts
+              (with_turn world flight n entry after).times x.node) same
               (by_act world flight n entry after t.deed act_is n after.node (here world n l.node after.node entry.turn t.deed h.timed t sh act_is deed_is own)))
           | inr ne ↦
               by_act world flight n entry after t.deed act_is m lm.node

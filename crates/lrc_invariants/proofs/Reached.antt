@@ -88,4 +88,5 @@ module _ (program : Program) (nodes : ℕ) (options : OptionsRecord) where
     pub by_reached : (events : List Event) (world : World) → P (fresh_world program nodes options) → run_of program nodes options events ≡ Some world → P world
     unfolding BothIf
     by_reached events world start e =
-        (subst BothIf e (by_events events (Some (fresh_world program nodes options)) (record { reached = record { events = []; runs = refl }; holds = start }))).holds
+        (subst BothIf e (by_events events (Some (fresh_world program nodes options))
+        (record { reached = record { events = []; runs = refl }; holds = start }))).holds

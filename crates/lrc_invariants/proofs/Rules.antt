@@ -26,7 +26,9 @@ use Rattle.lrc_protocol.proofs.Induction.{KeptByTurns, by_turns}
 use Rattle.lrc_invariants.specs.Waiting.{next_in, FixesNext}
 use Rattle.lrc_invariants.specs.Present.{IsPresent}
 use Rattle.lrc_invariants.specs.Rules.{FollowsRule}
-use Rattle.lrc_invariants.proofs.Shift.{Part, part_of, Acted, Rested, Moved, is_plain, Shift, Shifted, ShiftedIf, shifts, deed_made, plain, misses, takes, asks, releasing, arriving, manages, forwarding, grants, departing, collecting, clean_at_once, discarding, accessing, still_misses, still_collects, cleaning, rests}
+use Rattle.lrc_invariants.proofs.Shift.{Part, part_of, Acted, Rested, Moved, is_plain, Shift, Shifted, ShiftedIf, shifts, deed_made}
+use Rattle.lrc_invariants.proofs.Shift.{plain, misses, takes, asks, releasing, arriving, manages, forwarding, grants, departing}
+use Rattle.lrc_invariants.proofs.Shift.{collecting, clean_at_once, discarding, accessing, still_misses, still_collects, cleaning, rests}
 use Rattle.lrc_invariants.proofs.Counts.{deed_next, lock_next, departure_next, access_next}
 use Rattle.lrc_invariants.proofs.Present.{more_acts, more_times}
 use Rattle.lrc_invariants.proofs.PresentTimes.{AtPresent, AllPresent, all-kept, all-fresh, deed_back}
@@ -129,9 +131,12 @@ module _ (nodes : ℕ) (acts : List Act) (times : List (List ℕ)) (timed : leng
   rules-more (Some d) r all = λ j node deed h. elim (Does-cases h) [
     | inl (lt, h') ↦ rule-before (act_of n d ∷ []) (time ∷ []) j node deed lt (all j node deed h')
     | inr (at_last, own, is) ↦
-        subst (λ j. FollowsRule node (time_before nodes (acts ++ act_of n d ∷ []) (times ++ time ∷ []) node j) deed (time_at (times ++ time ∷ []) j)) (sym at_last)
-        (subst (λ node. FollowsRule node (time_before nodes (acts ++ act_of n d ∷ []) (times ++ time ∷ []) node (length acts)) deed (time_at (times ++ time ∷ []) (length acts))) own
-        (subst (λ deed. FollowsRule n (time_before nodes (acts ++ act_of n d ∷ []) (times ++ time ∷ []) n (length acts)) deed (time_at (times ++ time ∷ []) (length acts))) is
+        subst (λ j. FollowsRule node (time_before nodes (acts ++ act_of n d ∷ []) (times ++ time ∷ []) node j) deed
+        (time_at (times ++ time ∷ []) j)) (sym at_last)
+        (subst (λ node. FollowsRule node (time_before nodes (acts ++ act_of n d ∷ []) (times ++ time ∷ []) node (length acts))
+        deed (time_at (times ++ time ∷ []) (length acts))) own
+        (subst (λ deed. FollowsRule n (time_before nodes (acts ++ act_of n d ∷ []) (times ++ time ∷ []) n (length acts)) deed
+        (time_at (times ++ time ∷ []) (length acts))) is
         (rule-last d (r d refl))))
   ]
 

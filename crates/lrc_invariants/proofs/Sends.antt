@@ -11,7 +11,8 @@ use Rattle.lrc_store.specs.Interval.{IntervalRecord}
 use Rattle.lrc_wire.specs.Envelope.{EnvelopeRecord}
 use Rattle.lrc_wire.specs.Records.{LockRequestRecord, LockForwardRecord, LockGrantRecord, ArriveRecord, DepartRecord}
 use Rattle.lrc_wire.specs.declared.message.Message.{Message}
-use Rattle.lrc_wire.specs.declared.message.Message.TheVariants.{LockRequest, LockForward, LockGrant, Arrive, Depart, Clean, Discard, ChangesRequest, ChangesReply, PageRequest, PageReply}
+use Rattle.lrc_wire.specs.declared.message.Message.TheVariants.{LockRequest, LockForward, LockGrant, Arrive, Depart, Clean, Discard}
+use Rattle.lrc_wire.specs.declared.message.Message.TheVariants.{ChangesRequest, ChangesReply, PageRequest, PageReply}
 use Rattle.lrc_lock.specs.declared.state.Pass.{Pass}
 use Rattle.lrc_lock.specs.declared.fault.LockFault.TheVariants.{NotMine}
 use Rattle.lrc_lock.specs.Lock.{manager_of}
@@ -19,25 +20,30 @@ use Rattle.lrc_lock.specs.Held.{lock_at, is_free, taken, asked, released, forwar
 use Rattle.lrc_lock.specs.Managed.{refuses as refuses_request, forwards}
 use Rattle.lrc_barrier.specs.declared.arrival.Arrival.{Arrival}
 use Rattle.lrc_barrier.specs.declared.departure.Departure.{Departure}
-use Rattle.lrc_barrier.specs.Barrier.{ManagerRecord, ArriveStep, refuses as refuses_arrival, waits, departs as all_depart, is_accepted, arrived, CleanStep, refuses_clean, awaits, discards, cleaned}
+use Rattle.lrc_barrier.specs.Barrier.{ManagerRecord, ArriveStep, refuses as refuses_arrival, waits, departs as all_depart}
+use Rattle.lrc_barrier.specs.Barrier.{is_accepted, arrived, CleanStep, refuses_clean, awaits, discards, cleaned}
 use Rattle.lrc_protocol.specs.Copy.{is_readable}
 use Rattle.lrc_protocol.specs.Memory.{copy_at, kept_pages, with_keepers, base_at}
 use Rattle.lrc_protocol.specs.Fetch.{Base, unneeded, due, come, Asked, Need, need_of, is_met, with_changes, with_page}
-use Rattle.lrc_protocol.specs.Mail.{envelope_of, numbered, Letter, Wait, nothing, grant, departure, access, upkeep, discard, Collection, collection_of, awaits_discard, needs_of, is_idle, MOST_NUMBER}
+use Rattle.lrc_protocol.specs.Mail.{envelope_of, numbered, Letter, Wait, nothing, grant, departure, access, upkeep, discard}
+use Rattle.lrc_protocol.specs.Mail.{Collection, collection_of, awaits_discard, needs_of, is_idle, MOST_NUMBER}
 use Rattle.lrc_protocol.specs.Course.{Course, going, trapped, ended, deed_of, course_of}
 use Rattle.lrc_protocol.specs.Locks.{Locks, ticked, with_time, with_held, with_managed, next_time}
 use Rattle.lrc_protocol.specs.Barrier.{Barrier, with_arrive, with_manager}
 use Rattle.lrc_protocol.specs.Node.{Node, Effect, sends, acts, acts_by, value_read, with_memory, begins_of, may_begin}
-use Rattle.lrc_protocol.specs.Letters.{letter, forward_to, grants_of, own_news, asks_for_collection, departure_of, discards_to, changes_request_of, page_request_of, requests_of}
+use Rattle.lrc_protocol.specs.Letters.{letter, forward_to, grants_of, own_news, asks_for_collection, departure_of}
+use Rattle.lrc_protocol.specs.Letters.{discards_to, changes_request_of, page_request_of, requests_of}
 use Rattle.lrc_protocol.specs.Waits.{waits_or_goes_on, with_needs}
 use Rattle.lrc_protocol.specs.Expected.{is_expected, is_taken, is_clean}
 use Rattle.lrc_protocol.specs.Run.{own_index, closes, reaches, acquire_at, release_at, arrive_at, run_effect, charged}
 use Rattle.lrc_protocol.specs.Take.{take_departure, request_by, learns, arrive_by, clean_by, discard_by, page_reply_by, take_effect, needs_to_keep, with_part}
-use Rattle.lrc_protocol.specs.Turn.{TurnRecord, Outcome, done, not_ready, unexpected, worn, turn_with, turn_of, turn_if, turn_by, take_anew, take_turn, taking, is_addressed, is_repeat, empty_turn}
+use Rattle.lrc_protocol.specs.Turn.{TurnRecord, Outcome, done, not_ready, unexpected, worn, turn_with, turn_of, turn_if}
+use Rattle.lrc_protocol.specs.Turn.{turn_by, take_anew, take_turn, taking, is_addressed, is_repeat, empty_turn}
 use Rattle.lrc_protocol.specs.Log.{Input, run, taken as taken_in, outcome_of}
 use Rattle.lrc_invariants.specs.Shape.{HasShape}
 use Rattle.lrc_invariants.specs.Waiting.{next_in, is_access, is_departing, acquiring}
-use Rattle.lrc_invariants.proofs.Shift.{Acted, Moved, is_plain, Part, Learnable, learnable, awaits_lock, awaits_leave, deed_made, deed_back, AllFrom, FromIf, numbered-from}
+use Rattle.lrc_invariants.proofs.Shift.{Acted, Moved, is_plain, Part, Learnable, learnable, awaits_lock}
+use Rattle.lrc_invariants.proofs.Shift.{awaits_leave, deed_made, deed_back, AllFrom, FromIf, numbered-from}
 
 -- ---- letters
 
@@ -198,7 +204,8 @@ acted_by : (s : Site) (came : Came) (letters : List Letter) (node : Node) (c : C
 acted_by s came letters node (going thread) at c k = record {
   acts = true;
   moved =
-      subst (λ c. Acted c (Some (deed_of (value_read node (next_of thread)) (next_of thread))) (course_of (value_read node (next_of thread)) (next_of thread))) c
+      subst (λ c. Acted c (Some (deed_of (value_read node (next_of thread)) (next_of thread)))
+      (course_of (value_read node (next_of thread)) (next_of thread))) c
       (record { value = value_read node (next_of thread); deed_is = refl; course_is = refl });
   sent = k;
 }
@@ -613,5 +620,6 @@ taken-sends node envelope shape =
 
 -- each input to a node of this shape sends so, or is no turn
 pub sendings : (node : Node) (input : Input) → HasShape node.setting node.locks → SendingIf node input (outcome_of node input)
-sendings node run shape = alone-if node (turn_by node (if is_idle node.mail.wait then begins_of node.left node.course else None)) (wait-sends node node.mail.wait refl)
+sendings node run shape = alone-if node (turn_by node (if is_idle node.mail.wait then begins_of node.left node.course else None))
+    (wait-sends node node.mail.wait refl)
 sendings node (taken_in envelope) shape = taken-sends node envelope shape

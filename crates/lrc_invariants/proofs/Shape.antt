@@ -11,7 +11,8 @@ use Rattle.lrc_time.specs.Time.{entry}
 use Rattle.lrc_time.proofs.Times.{length-zeros, length-joined_same}
 use Rattle.lrc_lock.specs.declared.state.LockState.{LockState}
 use Rattle.lrc_lock.specs.declared.state.LockState.TheVariants.{Away, Awaited, Held}
-use Rattle.lrc_lock.specs.Held.{HeldRecord, SamePlace, LockStep, refuses, stays, passes, lock_at, is_free, with_lock, first_state, taken, released, forwarded, granted, held_after}
+use Rattle.lrc_lock.specs.Held.{HeldRecord, SamePlace, LockStep, refuses, stays, passes, lock_at, is_free}
+use Rattle.lrc_lock.specs.Held.{with_lock, first_state, taken, released, forwarded, granted, held_after}
 use Rattle.lrc_lock.specs.Lock.{manager_of}
 use Rattle.lrc_lock.specs.Managed.{ManagedRecord, SameManager, Requested, refuses as refuses_request, forwards, requested}
 use Rattle.lrc_exec.specs.Meaning.{Setting}
@@ -24,7 +25,8 @@ use Rattle.lrc_protocol.specs.Log.{Local, Logged}
 use Rattle.lrc_protocol.specs.World.{World, run_of}
 use Rattle.lrc_protocol.specs.Follows.{turns_of}
 use Rattle.lrc_invariants.specs.Shape.{HasShape}
-use Rattle.lrc_invariants.proofs.Shift.{Part, part_of, Shift, plain, misses, takes, asks, releasing, arriving, manages, forwarding, grants, departing, collecting, clean_at_once, discarding, accessing, still_misses, still_collects, cleaning, rests}
+use Rattle.lrc_invariants.proofs.Shift.{Part, part_of, Shift, plain, misses, takes, asks, releasing, arriving, manages, forwarding, grants, departing}
+use Rattle.lrc_invariants.proofs.Shift.{collecting, clean_at_once, discarding, accessing, still_misses, still_collects, cleaning, rests}
 use Rattle.lrc_invariants.proofs.Inputs.{KeptByShifts, at_each}
 
 -- ---- tokens
@@ -58,7 +60,8 @@ requested_by managed lock asker true to next e =
     subst (SameManager managed) (same_Some _ next (ap managed_in e)) (record { me = refl; nodes = refl; locks = length-set managed.recent lock asker })
 requested_by managed lock asker false to next e = cc
 
-requested-place : (managed : ManagedRecord) (lock asker to : ℕ) (next : ManagedRecord) → requested managed lock asker ≡ forwards to next → SameManager managed next
+requested-place : (managed : ManagedRecord) (lock asker to : ℕ) (next : ManagedRecord)
+    → requested managed lock asker ≡ forwards to next → SameManager managed next
 requested-place managed lock asker to next e = requested_by managed lock asker (manager_of managed.nodes lock == managed.me) to next e
 
 -- ---- clock and tokens
@@ -85,7 +88,8 @@ holds s locks held p h = record {
   askers = h.askers;
 }
 
-manages_so : (s : Setting) (locks : Locks) (managed : ManagedRecord) → SameManager locks.managed managed → HasShape s locks → HasShape s (with_managed managed locks)
+manages_so : (s : Setting) (locks : Locks) (managed : ManagedRecord) → SameManager locks.managed managed → HasShape s locks
+    → HasShape s (with_managed managed locks)
 manages_so s locks managed p h = record {
   times = h.times;
   holder = h.holder;

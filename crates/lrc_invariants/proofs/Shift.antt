@@ -13,14 +13,16 @@ use Rattle.lrc_exec.specs.Meaning.{Thread, Next, quiet, prints, reads, writes, a
 use Rattle.lrc_store.specs.Interval.{IntervalRecord}
 use Rattle.lrc_wire.specs.Envelope.{EnvelopeRecord}
 use Rattle.lrc_wire.specs.declared.message.Message.{Message}
-use Rattle.lrc_wire.specs.declared.message.Message.TheVariants.{LockRequest, LockForward, LockGrant, Arrive, Depart, Clean, Discard, ChangesRequest, ChangesReply, PageRequest, PageReply}
+use Rattle.lrc_wire.specs.declared.message.Message.TheVariants.{LockRequest, LockForward, LockGrant, Arrive, Depart, Clean, Discard}
+use Rattle.lrc_wire.specs.declared.message.Message.TheVariants.{ChangesRequest, ChangesReply, PageRequest, PageReply}
 use Rattle.lrc_lock.specs.Held.{lock_at, is_free, taken, asked, released, forwarded, granted, held_after}
 use Rattle.lrc_lock.specs.Managed.{ManagedRecord, Requested, refuses as refuses_request, forwards, requested}
 use Rattle.lrc_barrier.specs.Barrier.{ArriveStep, refuses as refuses_arrival, waits, departs as all_depart, CleanStep, refuses_clean, awaits, discards}
 use Rattle.lrc_protocol.specs.Copy.{is_readable}
 use Rattle.lrc_protocol.specs.Memory.{copy_at, kept_pages, with_keepers, base_at}
 use Rattle.lrc_protocol.specs.Fetch.{Need, need_of, is_met, with_changes, with_page}
-use Rattle.lrc_protocol.specs.Mail.{envelope_of, numbered, Letter, Wait, nothing, grant, departure, access, upkeep, discard, Collection, collection_of, is_idle, awaits_grant, awaits_departure, MOST_NUMBER}
+use Rattle.lrc_protocol.specs.Mail.{envelope_of, numbered, Letter, Wait, nothing, grant, departure, access, upkeep, discard}
+use Rattle.lrc_protocol.specs.Mail.{Collection, collection_of, is_idle, awaits_grant, awaits_departure, MOST_NUMBER}
 use Rattle.lrc_protocol.specs.Course.{Course, going, trapped, ended, deed_of, course_of}
 use Rattle.lrc_protocol.specs.Locks.{Locks, ticked, with_time, with_held, with_managed, next_time}
 use Rattle.lrc_protocol.specs.Barrier.{clean_step}
@@ -30,7 +32,8 @@ use Rattle.lrc_protocol.specs.Waits.{waits_or_goes_on, with_needs}
 use Rattle.lrc_protocol.specs.Expected.{is_expected, is_learnable}
 use Rattle.lrc_protocol.specs.Run.{own_index, closes, reaches, acquire_at, release_at, arrive_at, run_effect, charged}
 use Rattle.lrc_protocol.specs.Take.{take_departure, request_by, learns, arrive_by, clean_by, discard_by, page_reply_by, take_effect, needs_to_keep, with_part}
-use Rattle.lrc_protocol.specs.Turn.{TurnRecord, Outcome, done, not_ready, unexpected, worn, turn_with, turn_of, turn_if, turn_by, take_anew, take_turn, taking, is_addressed, is_repeat, empty_turn}
+use Rattle.lrc_protocol.specs.Turn.{TurnRecord, Outcome, done, not_ready, unexpected, worn, turn_with, turn_of, turn_if}
+use Rattle.lrc_protocol.specs.Turn.{turn_by, take_anew, take_turn, taking, is_addressed, is_repeat, empty_turn}
 use Rattle.lrc_protocol.specs.Log.{Input, run, taken as taken_in, outcome_of}
 use Rattle.lrc_invariants.specs.Waiting.{next_in, is_access, is_departing, acquiring}
 
@@ -127,7 +130,8 @@ pub data Shift (p : Part) : Bool → Wait → Locks → ℕ → Type 0 where
   discarding : (collection : Collection) → p.wait ≡ discard collection → Shift p true nothing p.locks p.episode
   accessing : (need : Need) → p.wait ≡ access need → Shift p true nothing p.locks p.episode
   still_misses : (before : Need) {need : Need} → p.wait ≡ access before → Shift p false (access need) p.locks p.episode
-  still_collects : (before : Collection) (had : List Need) {collection : Collection} {needs : List Need} → p.wait ≡ upkeep before had → collection.time ≡ before.time
+  still_collects : (before : Collection) (had : List Need) {collection : Collection} {needs : List Need}
+      → p.wait ≡ upkeep before had → collection.time ≡ before.time
       → Shift p false (upkeep collection needs) p.locks p.episode
   cleaning : (before : Collection) (had : List Need) {collection : Collection} → p.wait ≡ upkeep before had → collection.time ≡ before.time
       → Shift p false (discard collection) p.locks p.episode
@@ -152,7 +156,8 @@ acts_by-shifts : (p : Part) (letters : List Letter) (node : Node) (c : Course) �
     → Shift p true node.mail.wait node.locks node.barrier.episode → Shifts p (acts_by letters node c)
 acts_by-shifts p letters node (going thread) at c s = record {
   acts = true;
-  moved = subst (λ c. Acted c (Some (deed_of (value_read node (next_of thread)) (next_of thread))) (course_of (value_read node (next_of thread)) (next_of thread))) c
+  moved = subst (λ c. Acted c (Some (deed_of (value_read node (next_of thread)) (next_of thread)))
+      (course_of (value_read node (next_of thread)) (next_of thread))) c
       (record { value = value_read node (next_of thread); deed_is = refl; course_is = refl });
   shift = s;
 }
@@ -272,12 +277,17 @@ comes-shifts : (p : Part) (node : Node) (change : Need → Need) (w : Wait) → 
     → Shifts p (waits_or_goes_on [] node (with_needs change w))
 comes-shifts p node change (access need) e c l b =
     either p (is_met (change need)) _ _
-    (λ met. acts-shifts p [] _ c (subst (λ locks. Shift p true nothing locks node.barrier.episode) (sym l) (subst (Shift p true nothing p.locks) (sym b) (accessing need e))))
-    (λ unmet. sends-shifts p [] _ c (subst (λ locks. Shift p false (access (change need)) locks node.barrier.episode) (sym l) (subst (Shift p false (access (change need)) p.locks) (sym b) (still_misses need e))))
+    (λ met. acts-shifts p [] _ c (subst (λ locks. Shift p true nothing locks node.barrier.episode) (sym l)
+    (subst (Shift p true nothing p.locks) (sym b) (accessing need e))))
+    (λ unmet. sends-shifts p [] _ c (subst (λ locks. Shift p false (access (change need)) locks node.barrier.episode) (sym l)
+    (subst (Shift p false (access (change need)) p.locks) (sym b) (still_misses need e))))
 comes-shifts p node change (upkeep collection needs) e c l b =
     either p (list_all is_met (map change needs)) _ _
-    (λ met. sends-shifts p _ _ c (subst (λ locks. Shift p false (discard collection) locks node.barrier.episode) (sym l) (subst (Shift p false (discard collection) p.locks) (sym b) (cleaning collection needs e refl))))
-    (λ unmet. sends-shifts p [] _ c (subst (λ locks. Shift p false (upkeep collection (map change needs)) locks node.barrier.episode) (sym l) (subst (Shift p false (upkeep collection (map change needs)) p.locks) (sym b) (still_collects collection needs e refl))))
+    (λ met. sends-shifts p _ _ c (subst (λ locks. Shift p false (discard collection) locks node.barrier.episode) (sym l)
+    (subst (Shift p false (discard collection) p.locks) (sym b) (cleaning collection needs e refl))))
+    (λ unmet. sends-shifts p [] _ c (subst
+    (λ locks. Shift p false (upkeep collection (map change needs)) locks node.barrier.episode) (sym l)
+    (subst (Shift p false (upkeep collection (map change needs)) p.locks) (sym b) (still_collects collection needs e refl))))
 comes-shifts p node change nothing e c l b = same_wait p node nothing e c l b
 comes-shifts p node change (grant lock) e c l b = same_wait p node (grant lock) e c l b
 comes-shifts p node change departure e c l b = same_wait p node departure e c l b

@@ -7,7 +7,8 @@ use Rattle.std.proofs.lemmas.List.{length-set}
 use Rattle.lrc_wire.specs.Envelope.{EnvelopeRecord}
 use Rattle.lrc_wire.specs.Records.{ArriveRecord, DepartRecord, LockGrantRecord}
 use Rattle.lrc_wire.specs.declared.message.Message.{Message}
-use Rattle.lrc_wire.specs.declared.message.Message.TheVariants.{LockRequest, LockForward, LockGrant, Arrive, Depart, Clean, Discard, ChangesRequest, ChangesReply, PageRequest, PageReply}
+use Rattle.lrc_wire.specs.declared.message.Message.TheVariants.{LockRequest, LockForward, LockGrant, Arrive, Depart, Clean, Discard}
+use Rattle.lrc_wire.specs.declared.message.Message.TheVariants.{ChangesRequest, ChangesReply, PageRequest, PageReply}
 use Rattle.lrc_lock.specs.declared.state.Pass.{Pass}
 use Rattle.lrc_barrier.specs.declared.departure.Departure.{Departure}
 use Rattle.lrc_barrier.specs.Barrier.{ManagerRecord, with_arrival, arrivals_of, departed}
@@ -15,10 +16,17 @@ use Rattle.lrc_protocol.specs.Mail.{Letter, Wait, nothing, grant, departure, acc
 use Rattle.lrc_protocol.specs.Letters.{letter, departure_of, discards_to}
 use Rattle.lrc_protocol.specs.Locks.{Locks}
 use Rattle.lrc_protocol.specs.Barrier.{Barrier}
-use Rattle.lrc_invariants.specs.Barriers.{says_arrive, says_depart, says_clean, says_discard, arrive_from, depart_to, clean_from, discard_to, kept_of, noted_of, awaits_depart, awaits_word, StandsAt}
-use Rattle.lrc_invariants.proofs.Sends.{Came, by_itself, comes, Site, is_other, AreOthers, Grants, arrival_in, Sends, plain, misses, takes, asks, releasing, arriving, manages, forwarding, grants, gathers, lets_depart, departing, collecting, clean_at_once, notes_clean, lets_discard, discarding, serves, accessing, still_misses, still_collects, cleaning}
+use Rattle.lrc_invariants.specs.Barriers.{says_arrive, says_depart, says_clean, says_discard, arrive_from, depart_to, clean_from}
+use Rattle.lrc_invariants.specs.Barriers.{discard_to, kept_of, noted_of, awaits_depart, awaits_word, StandsAt}
+use Rattle.lrc_invariants.proofs.Sends.{Came, by_itself, comes, Site, is_other, AreOthers, Grants, arrival_in, Sends, plain, misses, takes, asks}
+use Rattle.lrc_invariants.proofs.Sends.{releasing, arriving, manages, forwarding, grants, gathers, lets_depart, departing, collecting}
+use Rattle.lrc_invariants.proofs.Sends.{clean_at_once, notes_clean, lets_discard, discarding, serves, accessing, still_misses, still_collects}
+use Rattle.lrc_invariants.proofs.Sends.{cleaning}
 use Rattle.lrc_invariants.proofs.Flows.{IsFromNode, came_count, count_of, count-cons}
-use Rattle.lrc_invariants.proofs.Managers.{passing, failing, Gathered, gathered, LetGo, let_go, Noted, noted, LetDiscard, let_discard, Places, places-arrival, places-departed, places-noted, places-over, noted_in, kept-more, kept-all, kept-departed, noted-departed, noted-free, noted-more, noted-all, as_many, departs-once, departs-only, discards-once, discards-only}
+use Rattle.lrc_invariants.proofs.Managers.{passing, failing, Gathered, gathered, LetGo, let_go, Noted, noted, LetDiscard, let_discard, Places}
+use Rattle.lrc_invariants.proofs.Managers.{places-arrival, places-departed, places-noted, places-over, noted_in, kept-more, kept-all, kept-departed}
+use Rattle.lrc_invariants.proofs.Managers.{noted-departed, noted-free, noted-more, noted-all, as_many, departs-once, departs-only, discards-once}
+use Rattle.lrc_invariants.proofs.Managers.{discards-only}
 
 -- ---- the four tests
 
@@ -232,7 +240,8 @@ module _ (s : Site) (nodes : ℕ) (within : s.me < nodes) (manager : ManagerReco
     pub places : Places nodes new
     pub kept : Kept new wait episode
 
-  module _ (is : (before : ManagerRecord) → s.barrier.manager ≡ Some before → before ≡ manager) (places : Places nodes manager) (nodes_is : s.nodes ≡ nodes) where
+  module _ (is : (before : ManagerRecord) → s.barrier.manager ≡ Some before → before ≡ manager) (places : Places nodes manager)
+      (nodes_is : s.nodes ≡ nodes) where
     -- the manager is as it was
     still : (wait : Wait) (episode : ℕ) → Kept manager wait episode → After (unwrap_or s.barrier.manager manager) wait episode
     still wait episode k =

@@ -55,7 +55,8 @@ in_flight (g ∷ flight) zero f least bound at r =
     let same : g ≡ f = same_Some g f at in
     let c : Bool = are_between f.envelope.from f.envelope.to f.envelope in
     first_below c least bound f.envelope.number (numbers_between f.envelope.from f.envelope.to (envelopes_in flight))
-    (and_from (f.envelope.from == f.envelope.from) (f.envelope.to == f.envelope.to) (eq-eqb f.envelope.from f.envelope.from refl) (eq-eqb f.envelope.to f.envelope.to refl))
+    (and_from (f.envelope.from == f.envelope.from) (f.envelope.to == f.envelope.to) (eq-eqb f.envelope.from f.envelope.from refl)
+    (eq-eqb f.envelope.to f.envelope.to refl))
     (subst (Rises least bound) (map_cond c f.envelope (filter (are_between f.envelope.from f.envelope.to) (envelopes_in flight)))
     (subst (λ (g : Flying). Rises least bound (numbers_between f.envelope.from f.envelope.to (envelopes_in (g ∷ flight)))) same r))
 in_flight (g ∷ flight) (suc place) f least bound at r =
@@ -77,7 +78,8 @@ came world _ _ _ (repeated place {flying = f} at) = λ least bound r. in_flight 
 
 -- the numbers taken after a turn are below what those before and the new one are below
 taken-below : (world : World) (n : ℕ) (node : Node) (input : Input) (t : List (List ℕ)) (a least bound : ℕ) → Takes node input t → Came world n input
-    → Rises least bound (numbers_between a n (envelopes_in world.flight)) → Below bound (slice_index_or node.mail.taken a []) → Below bound (slice_index_or t a [])
+    → Rises least bound (numbers_between a n (envelopes_in world.flight)) → Below bound (slice_index_or node.mail.taken a [])
+    → Below bound (slice_index_or t a [])
 taken-below world n node _ _ a least bound by_itself c r h = h
 taken-below world n node _ _ a least bound (repeats envelope again) c r h = h
 taken-below world n node _ _ a least bound (anew envelope new) c r h =
@@ -91,7 +93,8 @@ pub record Before (nodes : ℕ) (world : World) (m : ℕ) (lm : Logged) : Type 0
   pub old : Logged
   pub at : slice_get world.nodes m ≡ Some old
   pub grows : (to : ℕ) → to < nodes → slice_index old.node.mail.sent to ≤ slice_index lm.node.mail.sent to
-  pub takes_more : (a least bound : ℕ) → Rises least bound (numbers_between a m (envelopes_in world.flight)) → Below bound (slice_index_or old.node.mail.taken a [])
+  pub takes_more : (a least bound : ℕ) → Rises least bound (numbers_between a m (envelopes_in world.flight))
+      → Below bound (slice_index_or old.node.mail.taken a [])
       → Below bound (slice_index_or lm.node.mail.taken a [])
 
 module _ (program : Program) (nodes : ℕ) (options : OptionsRecord) where
@@ -141,7 +144,8 @@ module _ (program : Program) (nodes : ℕ) (options : OptionsRecord) where
         let ob : Before nodes world b lb = before world flight n l after input entry at comes i h b lb at_b in
         let lt : b < nodes = subst (λ k. b < k) h.count (slice_get_within world.nodes b ob.old ob.at) in
         let grown : slice_index oa.old.node.mail.sent b ≤ slice_index la.node.mail.sent b = oa.grows b lt in
-        below-more (options.first + slice_index oa.old.node.mail.sent b) (options.first + slice_index la.node.mail.sent b) (slice_index_or lb.node.mail.taken a [])
+        below-more (options.first + slice_index oa.old.node.mail.sent b) (options.first + slice_index la.node.mail.sent b)
+        (slice_index_or lb.node.mail.taken a [])
         (omega (arith, grown))
         (ob.takes_more a options.first (options.first + slice_index oa.old.node.mail.sent b)
         ((h.sends.each a oa.old oa.at).numbers b lt) (h.below a b oa.old ob.old oa.at ob.at));

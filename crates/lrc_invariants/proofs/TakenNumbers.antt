@@ -4,7 +4,8 @@ use Rattle.std.specs.Prelude.{Option, Some, None, nat_lt, if◌then◌else◌, f
 use Rattle.std.specs.List.{list_all}
 use Rattle.lrc_exec.specs.Meaning.{Next, quiet, prints, reads, writes, acquires, releases, arrives, departs, traps, ends}
 use Rattle.lrc_wire.specs.declared.message.Message.{Message}
-use Rattle.lrc_wire.specs.declared.message.Message.TheVariants.{LockRequest, LockForward, LockGrant, Arrive, Depart, Clean, Discard, ChangesRequest, ChangesReply, PageRequest, PageReply}
+use Rattle.lrc_wire.specs.declared.message.Message.TheVariants.{LockRequest, LockForward, LockGrant, Arrive, Depart, Clean, Discard}
+use Rattle.lrc_wire.specs.declared.message.Message.TheVariants.{ChangesRequest, ChangesReply, PageRequest, PageReply}
 use Rattle.lrc_lock.specs.Managed.{Requested, refuses as refuses_request, forwards, requested}
 use Rattle.lrc_lock.specs.Held.{lock_at, is_free}
 use Rattle.lrc_barrier.specs.Barrier.{ArriveStep, refuses as refuses_arrival, waits, departs as all_depart, CleanStep, refuses_clean, awaits, discards}
@@ -22,7 +23,8 @@ use Rattle.lrc_protocol.specs.Run.{charged, own_index, closes, reaches, acquire_
 use Rattle.lrc_protocol.specs.Take.{request_by, learns, arrive_by, collects, clean_by, discard_by, page_reply_by, take_effect, needs_to_keep, with_part}
 use Rattle.lrc_wire.specs.Envelope.{EnvelopeRecord}
 use Rattle.lrc_protocol.specs.Expected.{is_expected}
-use Rattle.lrc_protocol.specs.Turn.{Outcome, done, not_ready, unexpected, worn, turn_with, turn_of, turn_if, turn_by, take_anew, take_turn, taking, is_addressed, is_repeat, empty_turn}
+use Rattle.lrc_protocol.specs.Turn.{Outcome, done, not_ready, unexpected, worn, turn_with, turn_of, turn_if, turn_by}
+use Rattle.lrc_protocol.specs.Turn.{take_anew, take_turn, taking, is_addressed, is_repeat, empty_turn}
 use Rattle.lrc_protocol.specs.Log.{Input, run, taken, outcome_of}
 
 -- the numbers taken are these
@@ -70,7 +72,8 @@ run-taken node (quiet after) = acts-taken [] node
 run-taken node (prints value after) = acts-taken [] node
 run-taken node (reads word after) = reaches-taken node (page_of word node.options.size)
 run-taken node (writes word value after) = reaches-taken node (page_of word node.options.size)
-run-taken node (acquires lock after) = optional node.mail.taken (nat_lt (own_index node) MOST_NUMBER) (acquire_at lock (closes node)) (acquire-taken lock (closes node))
+run-taken node (acquires lock after) = optional node.mail.taken (nat_lt (own_index node) MOST_NUMBER)
+    (acquire_at lock (closes node)) (acquire-taken lock (closes node))
 run-taken node (releases lock after) = optional node.mail.taken (nat_lt (own_index node) MOST_NUMBER) (release_at lock (closes node)) (acts-taken _ _)
 run-taken node (arrives after) = optional node.mail.taken (nat_lt (own_index node) MOST_NUMBER) (arrive_at (closes node)) (acts-taken _ _)
 run-taken node (departs after) = acts-taken [] node
@@ -160,7 +163,8 @@ expected_or_not : (node : Node) (input : Input) (b : Bool) (o : Outcome) → Tak
 expected_or_not node input true o h = h
 expected_or_not node input false o h = tt
 
-repeated_or_not : (node : Node) (envelope : EnvelopeRecord) (b : Bool) (o : Outcome) → is_repeat node envelope ≡ b → (b ≡ false → TakesIf node (taken envelope) o)
+repeated_or_not : (node : Node) (envelope : EnvelopeRecord) (b : Bool) (o : Outcome) → is_repeat node envelope ≡ b
+    → (b ≡ false → TakesIf node (taken envelope) o)
     → TakesIf node (taken envelope) (if b then done empty_turn node else o)
 repeated_or_not node envelope true o e h = repeats envelope e
 repeated_or_not node envelope false o e h = h refl

@@ -13,7 +13,8 @@ use Rattle.lrc_protocol.specs.Mail.{Wait, grant, departure, access, discard}
 use Rattle.lrc_protocol.specs.Locks.{Locks, next_time}
 use Rattle.lrc_invariants.specs.Waiting.{next_in, acquiring, FixesNext}
 use Rattle.lrc_invariants.specs.Tokens.{is_awaited, HoldsTokens, AwaitsOne}
-use Rattle.lrc_invariants.proofs.Shift.{Part, Moved, is_plain, Shift, plain, misses, takes, asks, releasing, arriving, manages, forwarding, grants, departing, collecting, clean_at_once, discarding, accessing, still_misses, still_collects, cleaning, rests}
+use Rattle.lrc_invariants.proofs.Shift.{Part, Moved, is_plain, Shift, plain, misses, takes, asks, releasing, arriving, manages, forwarding, grants}
+use Rattle.lrc_invariants.proofs.Shift.{departing, collecting, clean_at_once, discarding, accessing, still_misses, still_collects, cleaning, rests}
 use Rattle.lrc_invariants.proofs.Counts.{lock_next, departure_next, access_next}
 use Rattle.lrc_invariants.proofs.Holding.{Same, Takes, Drops, Goes, Went, went, Stands, stands, goes_now}
 use Rattle.lrc_invariants.proofs.Tokens.{set_kept, forward_held, taken_is, awaits_it, awaits_for}

@@ -13,7 +13,8 @@ use Rattle.lrc_invariants.proofs.Departs.{all_departed}
 use Rattle.lrc_invariants.proofs.DepartLine.{all_learn}
 use Rattle.lrc_invariants.proofs.Joining.{keeps_time, is_synchronized}
 
-module _ (program : Program) (nodes : ℕ) (options : OptionsRecord) (events : List Event) (world : World) (e : run_of program nodes options events ≡ Some world) where
+module _ (program : Program) (nodes : ℕ) (options : OptionsRecord) (events : List Event) (world : World)
+    (e : run_of program nodes options events ≡ Some world) where
   pub keeps : KeepsTime nodes world.acts world.times
   keeps = keeps_time program nodes options events world e (all_learn program nodes options events world e)
 

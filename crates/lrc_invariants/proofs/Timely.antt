@@ -217,7 +217,8 @@ module _ (program : Program) (nodes : ℕ) (options : OptionsRecord) where
     unfolding depart_time
     departure_time arrivals k [] l d sized there e = absurd (none_Contains l there)
     departure_time arrivals k (a ∷ rest) l d sized there e =
-        elim (cases_Contains (departure_of (departure_to arrivals (k, a))) (map departure_of (map (departure_to arrivals) (enumerate_from (k + 1) rest))) l there) [
+        elim (cases_Contains (departure_of (departure_to arrivals (k, a)))
+        (map departure_of (map (departure_to arrivals) (enumerate_from (k + 1) rest))) l there) [
           | inl is ↦
               same_Some d.time (joined_time (length a.time) arrivals) (ap depart_time (sym e) ∙ ap (λ (l : Letter). depart_time l.message) (sym is))
               ∙ ap (λ n. joined_time n arrivals) (sized a (Contains-first a rest))

@@ -15,8 +15,10 @@ use Rattle.lrc_protocol.specs.Mail.{Letter, nothing, grant}
 use Rattle.lrc_protocol.specs.Locks.{next_time}
 use Rattle.lrc_invariants.proofs.Present.{more_acts, more_times}
 use Rattle.lrc_invariants.proofs.Sends.{Came, comes, Site}
-use Rattle.lrc_invariants.proofs.LockMoves.{Status, absent, free_here, held_here, brings, IsNeither, NoGrants, OneGrant, Move, still, takes, keeps, passes, gives, gets, covers-next}
-use Rattle.lrc_invariants.proofs.LockActs.{HeldNow, NobodyHolds, HoldsAlone, released-still, released-now, nobody-still, alone-still, alone-taken, nobody-released}
+use Rattle.lrc_invariants.proofs.LockMoves.{Status, absent, free_here, held_here, brings, IsNeither, NoGrants, OneGrant}
+use Rattle.lrc_invariants.proofs.LockMoves.{Move, still, takes, keeps, passes, gives, gets, covers-next}
+use Rattle.lrc_invariants.proofs.LockActs.{HeldNow, NobodyHolds, HoldsAlone, released-still, released-now}
+use Rattle.lrc_invariants.proofs.LockActs.{nobody-still, alone-still, alone-taken, nobody-released}
 
 -- By where each node stands with the token, the nodes' times, the pending grants of the lock, and the acts with their times:
 pub data Token (l nodes : ℕ) (st : ℕ → Status) (T : ℕ → List ℕ) (pending : List EnvelopeRecord) (acts : List Act) (times : List (List ℕ)) : Type 0 where

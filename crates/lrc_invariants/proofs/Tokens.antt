@@ -8,12 +8,14 @@ use Rattle.lrc_lock.specs.declared.state.LockState.{LockState}
 use Rattle.lrc_lock.specs.declared.state.LockState.TheVariants.{Away, Awaited, Free, Held}
 use Rattle.lrc_lock.specs.declared.state.Waiter.{Waiter}
 use Rattle.lrc_lock.specs.declared.fault.LockFault.TheVariants.{NotMine}
-use Rattle.lrc_lock.specs.Held.{HeldRecord, LockStep, refuses, stays, passes, lock_at, is_free, is_held, with_lock, state_after, held_after, taken, asked, released, released_at, forwarded, forwarded_at, granted_at}
+use Rattle.lrc_lock.specs.Held.{HeldRecord, LockStep, refuses, stays, passes, lock_at, is_free, is_held, with_lock, state_after}
+use Rattle.lrc_lock.specs.Held.{held_after, taken, asked, released, released_at, forwarded, forwarded_at, granted_at}
 use Rattle.lrc_protocol.specs.Mail.{Wait, nothing, grant, departure, access, upkeep, discard, awaits_grant}
 use Rattle.lrc_protocol.specs.Locks.{Locks, next_time}
 use Rattle.lrc_invariants.specs.Waiting.{next_in, acquiring, FixesNext}
 use Rattle.lrc_invariants.specs.Tokens.{is_awaited, AwaitsOne}
-use Rattle.lrc_invariants.proofs.Shift.{Part, Shift, plain, misses, takes, asks, releasing, arriving, manages, forwarding, grants, departing, collecting, clean_at_once, discarding, accessing, still_misses, still_collects, cleaning, rests}
+use Rattle.lrc_invariants.proofs.Shift.{Part, Shift, plain, misses, takes, asks, releasing, arriving, manages, forwarding, grants, departing}
+use Rattle.lrc_invariants.proofs.Shift.{collecting, clean_at_once, discarding, accessing, still_misses, still_collects, cleaning, rests}
 
 -- ---- one lock's state, by a test
 
@@ -102,7 +104,8 @@ asks_one held l lt a other = elim (cases_eq l other) [
 ]
 
 -- once the token has come
-comes_one : (held : HeldRecord) (l : ℕ) (s : LockState) → l < length held.locks → is_awaited s ≡ false → AwaitsOne (grant l) held → AwaitsOne nothing (with_lock held l s)
+comes_one : (held : HeldRecord) (l : ℕ) (s : LockState) → l < length held.locks → is_awaited s ≡ false → AwaitsOne (grant l) held
+    → AwaitsOne nothing (with_lock held l s)
 comes_one held l s lt e a other = elim (cases_eq l other) [
   | inl same ↦ subst (λ o. is_awaited (lock_at (with_lock held l s) o) ≡ false) same (ap is_awaited (get_or-set_same held.locks l s Away lt) ∙ e)
   | inr ne ↦ ap is_awaited (get_or-set_other held.locks l other s Away (λ e. ne (sym e))) ∙ a other ∙ no_other l other ne
@@ -126,7 +129,8 @@ none_still : (w : Wait) (held after : HeldRecord) → ((l : ℕ) → awaits_gran
     → ((l : ℕ) → is_awaited (lock_at after l) ≡ is_awaited (lock_at held l)) → AwaitsOne nothing held → AwaitsOne w after
 none_still w held after none s a l = s l ∙ a l ∙ sym (none l)
 
-module _ (p : Part) (s : Setting) (count : length p.locks.held.locks ≡ s.locks) (fits : FixesNext p.wait (next_in p.course)) (a : AwaitsOne p.wait p.locks.held) where
+module _ (p : Part) (s : Setting) (count : length p.locks.held.locks ≡ s.locks) (fits : FixesNext p.wait (next_in p.course))
+    (a : AwaitsOne p.wait p.locks.held) where
   -- a lock that the text acquires or releases is one of the program
   pub awaits-kept : (below : (lock : ℕ) → acquiring (next_in p.course) ≡ Some lock → lock < s.locks)
       → (acts : Bool) (wait : Wait) (locks : Locks) (episode : ℕ) → Shift p acts wait locks episode → AwaitsOne wait locks.held

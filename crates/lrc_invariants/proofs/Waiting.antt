@@ -6,13 +6,16 @@ use Rattle.lrc_lang.specs.declared.program.Statement.TheVariants.{Assign, Read, 
 use Rattle.lrc_trace.specs.declared.act.Cause.{Cause}
 use Rattle.lrc_trace.specs.declared.act.Cause.TheVariants.{WordOutOfRange, LockOutOfRange, LockHeld, LockNotHeld}
 use Rattle.lrc_trace.specs.declared.act.Deed.{Deed}
-use Rattle.lrc_exec.specs.Meaning.{Thread, Next, quiet, prints, reads, writes, acquires, releases, arrives, departs, traps, ends, or_trap, value_in, holds, then_holds, act_of, first_act, next_of}
+use Rattle.lrc_exec.specs.Meaning.{Thread, Next, quiet, prints, reads, writes, acquires, releases, arrives, departs, traps}
+use Rattle.lrc_exec.specs.Meaning.{ends, or_trap, value_in, holds, then_holds, act_of, first_act, next_of}
 use Rattle.lrc_protocol.specs.Course.{Course, going, trapped, ended, course_of}
 use Rattle.lrc_protocol.specs.Mail.{Wait, grant, departure, access, upkeep, discard}
 use Rattle.lrc_protocol.specs.Locks.{Locks}
 use Rattle.lrc_protocol.specs.Log.{Local}
 use Rattle.lrc_invariants.specs.Waiting.{next_in, is_departing, is_access, acquiring, FixesNext}
-use Rattle.lrc_invariants.proofs.Shift.{Part, part_of, Acted, Rested, Moved, is_plain, Shift, plain, misses, takes, asks, releasing, arriving, manages, forwarding, grants, departing, collecting, clean_at_once, discarding, accessing, still_misses, still_collects, cleaning, rests, course_in}
+use Rattle.lrc_invariants.proofs.Shift.{Part, part_of, Acted, Rested, Moved, is_plain, Shift, plain, misses, takes, asks, releasing, arriving, manages}
+use Rattle.lrc_invariants.proofs.Shift.{forwarding, grants, departing, collecting, clean_at_once, discarding, accessing, still_misses, still_collects}
+use Rattle.lrc_invariants.proofs.Shift.{cleaning, rests, course_in}
 use Rattle.lrc_invariants.proofs.Inputs.{KeptByShifts}
 
 -- whether a text arrives next
@@ -203,7 +206,8 @@ fits-kept p _ _ _ _ deed after (grants lock time w k) m f =
     after_act p.course after deed m ∙ not_by_lock (next_in p.course) lock (awaited p (grant lock) w f)
 fits-kept p _ _ _ _ deed after (departing time w k) m f =
     after_act p.course after deed m ∙ not_by_departure (next_in p.course) (awaited p departure w f)
-fits-kept p _ _ _ _ deed after (collecting time {collection = c} {needs = ns} w k same) m f = rested (upkeep c ns) p.course after deed m (awaited p departure w f)
+fits-kept p _ _ _ _ deed after (collecting time {collection = c} {needs = ns} w k same) m f =
+    rested (upkeep c ns) p.course after deed m (awaited p departure w f)
 fits-kept p _ _ _ _ deed after (clean_at_once time {collection = c} w k same) m f = rested (discard c) p.course after deed m (awaited p departure w f)
 fits-kept p _ _ _ _ deed after (discarding collection w) m f =
     after_act p.course after deed m ∙ not_by_departure (next_in p.course) (awaited p (discard collection) w f)

@@ -1,5 +1,6 @@
 -- Where a node stands at the barrier, counted over the pending messages and what the manager keeps.
-use Rattle.std.specs.Prelude.{◌≡◌, ℕ, ◌+◌, ◌==◌, ◌&&◌, Bool, true, false, cond, unwrap_or, option_map, Option, Some, None, List, length, count_by, slice_index_or}
+use Rattle.std.specs.Prelude.{◌≡◌, ℕ, ◌+◌, ◌==◌, ◌&&◌, Bool, true, false, cond, unwrap_or, option_map}
+use Rattle.std.specs.Prelude.{Option, Some, None, List, length, count_by, slice_index_or}
 use Rattle.lrc_wire.specs.Envelope.{EnvelopeRecord}
 use Rattle.lrc_wire.specs.declared.message.Message.{Message}
 use Rattle.lrc_wire.specs.declared.message.Message.TheVariants.{Arrive, Depart, Clean, Discard}

@@ -38,7 +38,10 @@ pub race_eq-cmp : (a b : Race) → race_eq a b ≡ eq_by_cmp race_cmp a b
 race_eq-cmp a b = sym (simp (is_eq-then, is_eq-nat))
 
 pub race_total : IsTotalOrder race_cmp
-race_total = then_total (on_total (λ (r : Race). r.word) nat_cmp_total) (then_total (on_total (λ (r : Race). r.node_a) nat_cmp_total) (then_total (on_total (λ (r : Race). r.node_b) nat_cmp_total) (then_total (on_total (λ (r : Race). r.interval_a) nat_cmp_total) (on_total (λ (r : Race). r.interval_b) nat_cmp_total))))
+race_total = then_total (on_total (λ (r : Race). r.word) nat_cmp_total)
+    (then_total (on_total (λ (r : Race). r.node_a) nat_cmp_total)
+    (then_total (on_total (λ (r : Race). r.node_b) nat_cmp_total)
+    (then_total (on_total (λ (r : Race). r.interval_a) nat_cmp_total) (on_total (λ (r : Race). r.interval_b) nat_cmp_total))))
 
 race_equivalence : IsEquivalence race_eq
 race_equivalence =
@@ -61,7 +64,14 @@ race_eq-exact a b h =
     let q : a.node_b ≡ b.node_b = eqb-true a.node_b b.node_b nodes_b in
     let i : a.interval_a ≡ b.interval_a = eqb-true a.interval_a b.interval_a intervals_a in
     let j : a.interval_b ≡ b.interval_b = eqb-true a.interval_b b.interval_b intervals_b in
-    let e : ◌≡◌ {A = Race} (record { word = a.word; node_a = a.node_a; node_b = a.node_b; interval_a = a.interval_a; interval_b = a.interval_b }) (record { word = b.word; node_a = b.node_a; node_b = b.node_b; interval_a = b.interval_a; interval_b = b.interval_b }) = cc in e
+    let e : ◌≡◌ {A = Race} (record {
+      word = a.word;
+      node_a = a.node_a;
+      node_b = a.node_b;
+      interval_a = a.interval_a;
+      interval_b =
+          a.interval_b;
+    }) (record { word = b.word; node_a = b.node_a; node_b = b.node_b; interval_a = b.interval_a; interval_b = b.interval_b }) = cc in e
 
 -- a list, sorted, and then without equal neighbours
 module _ (xs sorted unique : List Race) (permutation : IsPermutation xs sorted) (in_order : IsSorted race_cmp sorted) (is : unique ≡ dedup race_eq sorted) where
@@ -70,6 +80,8 @@ module _ (xs sorted unique : List Race) (permutation : IsPermutation xs sorted) 
 
   pub unique-contains : (race : Race) → Contains unique race ↔ Contains xs race
   unique-contains race = (
-    λ h. Contains-permutation sorted xs race (IsPermutation-sym xs sorted permutation) (Contains-from_dedup race_eq sorted race (subst (λ zs. Contains zs race) is h)),
-    λ h. subst (λ zs. Contains zs race) (sym is) (Contains-dedup race_equivalence race_eq-exact sorted race (Contains-permutation xs sorted race permutation h)),
+    λ h. Contains-permutation sorted xs race (IsPermutation-sym xs sorted permutation)
+        (Contains-from_dedup race_eq sorted race (subst (λ zs. Contains zs race) is h)),
+    λ h. subst (λ zs. Contains zs race) (sym is)
+        (Contains-dedup race_equivalence race_eq-exact sorted race (Contains-permutation xs sorted race permutation h)),
   )

@@ -30,10 +30,13 @@ above_or_one bound (c ∷ counts) =
 
 module _ (nodes : ℕ) (run : List Act) (n node : ℕ) (deed : Deed) (here : Does run n node deed) where
   -- what breaks it is what the act does there
-  Breaks-cases : Breaks nodes run n → ((l : ℕ) × (deed ≡ Acquire l) × ((other : ℕ) × Holds run n other l)) ⊎ (((l : ℕ) × (deed ≡ Release l) × (Holds run n node l → ⊥)) ⊎ ((deed ≡ Depart) × ((other : ℕ) × (other < nodes) × (arrives_before run other n ≤ departs_before run node n))))
+  Breaks-cases : Breaks nodes run n → ((l : ℕ) × (deed ≡ Acquire l) × ((other : ℕ) × Holds run n other l))
+      ⊎ (((l : ℕ) × (deed ≡ Release l) × (Holds run n node l → ⊥))
+      ⊎ ((deed ≡ Depart) × ((other : ℕ) × (other < nodes) × (arrives_before run other n ≤ departs_before run node n))))
   Breaks-cases (acquire {other = other} {l = l} d h) = inl (l, Does-one_deed here d, (other, h))
   Breaks-cases (release {node = p} {l = l} d h) = inr (inl (l, Does-one_deed here d, λ mine. h (subst (λ m. Holds run n m l) (Does-one_node here d) mine)))
-  Breaks-cases (depart {node = p} {other = other} d lt le) = inr (inr (Does-one_deed here d, (other, lt, subst (λ m. arrives_before run other n ≤ departs_before run m n) (Does-one_node d here) le)))
+  Breaks-cases (depart {node = p} {other = other} d lt le) =
+      inr (inr (Does-one_deed here d, (other, lt, subst (λ m. arrives_before run other n ≤ departs_before run m n) (Does-one_node d here) le)))
 
   -- no other deed breaks it
   pub others_go_on : ((l : ℕ) → deed ≡ Acquire l → ⊥) → ((l : ℕ) → deed ≡ Release l → ⊥) → (deed ≡ Depart → ⊥) → Breaks nodes run n → ⊥
@@ -45,7 +48,8 @@ module _ (nodes : ℕ) (run : List Act) (n node : ℕ) (deed : Deed) (here : Doe
       ]
 
   module _ (table : List (Option ℕ)) (all : AreHolders run n table) where
-    pub decides_acquire : (l : ℕ) → deed ≡ Acquire l → l < length table → (o : Option ℕ) → get_or table l None ≡ o → (r : Bool) → is_some o ≡ not r → MatchBool r (Breaks nodes run n → ⊥) (Breaks nodes run n)
+    pub decides_acquire : (l : ℕ) → deed ≡ Acquire l → l < length table → (o : Option ℕ) → get_or table l None ≡ o → (r : Bool)
+        → is_some o ≡ not r → MatchBool r (Breaks nodes run n → ⊥) (Breaks nodes run n)
     decides_acquire l is within None e true t = λ b.
         elim (Breaks-cases b) [
           | inl (m, e', (other, h)) ↦
@@ -59,7 +63,8 @@ module _ (nodes : ℕ) (run : List Act) (n node : ℕ) (deed : Deed) (here : Doe
     decides_acquire l is within None e false t = absurd (false≢true t)
     decides_acquire l is within (Some q) e true t = absurd (true≢false t)
 
-    pub decides_release : (l : ℕ) → deed ≡ Release l → l < length table → (o : Option ℕ) → get_or table l None ≡ o → (r : Bool) → r ≡ option_eq nat_eq o (Some node) → MatchBool r (Breaks nodes run n → ⊥) (Breaks nodes run n)
+    pub decides_release : (l : ℕ) → deed ≡ Release l → l < length table → (o : Option ℕ) → get_or table l None ≡ o → (r : Bool)
+        → r ≡ option_eq nat_eq o (Some node) → MatchBool r (Breaks nodes run n → ⊥) (Breaks nodes run n)
     decides_release l is within (Some p) e true t = λ b.
         elim (Breaks-cases b) [
           | inl (m, e', _) ↦ let never : ⊥ = cc in never
@@ -69,11 +74,14 @@ module _ (nodes : ℕ) (run : List Act) (n node : ℕ) (deed : Deed) (here : Doe
               other (subst (λ x. Holds run n node x) same mine)
           | inr (inr (e', _)) ↦ let never : ⊥ = cc in never
         ]
-    decides_release l is within (Some p) e false t = release (Does-deed is here) (λ h. eqb-false p node (sym t) (same_Some p node (sym e ∙ (all l node within).1 h)))
+    decides_release l is within (Some p) e false t = release (Does-deed is here)
+        (λ h. eqb-false p node (sym t) (same_Some p node (sym e ∙ (all l node within).1 h)))
     decides_release l is within None e false t = release (Does-deed is here) (λ h. none-some node (sym e ∙ (all l node within).1 h))
     decides_release l is within None e true t = absurd (true≢false t)
 
-  pub decides_depart : deed ≡ Depart → (counts : List ℕ) (bound : ℕ) → length counts ≡ nodes → ((q : ℕ) → q < nodes → get_or counts q 0 ≡ arrives_before run q n) → bound ≡ departs_before run node n → (r : Bool) → IsTrue r ↔ All (λ c. bound < c) counts → MatchBool r (Breaks nodes run n → ⊥) (Breaks nodes run n)
+  pub decides_depart : deed ≡ Depart → (counts : List ℕ) (bound : ℕ) → length counts ≡ nodes
+      → ((q : ℕ) → q < nodes → get_or counts q 0 ≡ arrives_before run q n) → bound ≡ departs_before run node n → (r : Bool)
+      → IsTrue r ↔ All (λ c. bound < c) counts → MatchBool r (Breaks nodes run n → ⊥) (Breaks nodes run n)
   decides_depart is counts bound long arrives departs true t = λ b.
       elim (Breaks-cases b) [
         | inl (m, e', _) ↦ let never : ⊥ = cc in never

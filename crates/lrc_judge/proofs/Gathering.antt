@@ -19,14 +19,16 @@ module _ (run : List Act) where
   }
 
   -- the same positions, said otherwise
-  pub Gathers-same : (these those : ℕ → Type 0) (reach : Reach) → ((k : ℕ) → these k → those k) → ((k : ℕ) → those k → these k) → Gathers run these reach → Gathers run those reach
+  pub Gathers-same : (these those : ℕ → Type 0) (reach : Reach) → ((k : ℕ) → these k → those k) → ((k : ℕ) → those k → these k)
+      → Gathers run these reach → Gathers run those reach
   Gathers-same these those reach to from g = record {
     sound = λ i p d h lt. let (k, t, r) = g.sound i p d h lt in (k, to k t, r);
     complete = λ i k p d h t r. g.complete i k p d h (from k t) r;
   }
 
   -- the ones or the others
-  pub Gathers-joined : (these those : ℕ → Type 0) (x y z : Reach) → Gathers run these x → Gathers run those y → ((p : ℕ) → get_or z.latest p 0 ≡ max (get_or x.latest p 0) (get_or y.latest p 0)) → Gathers run (λ k. these k ⊎ those k) z
+  pub Gathers-joined : (these those : ℕ → Type 0) (x y z : Reach) → Gathers run these x → Gathers run those y
+      → ((p : ℕ) → get_or z.latest p 0 ≡ max (get_or x.latest p 0) (get_or y.latest p 0)) → Gathers run (λ k. these k ⊎ those k) z
   Gathers-joined these those x y z g h e = record {
     sound = λ i p d act lt.
         elim (cases_lt i (get_or x.latest p 0)) [
@@ -43,7 +45,8 @@ module _ (run : List Act) where
 
   -- Where an act is by the node, what comes right before it gives what the act is reached by: one more than its own
   -- position is put at its node.
-  pub Gathers-here : (n node : ℕ) (deed : Deed) (before after : Reach) → Does run n node deed → node < length before.latest → Gathers run (λ k. Precedes run k n) before → after.latest ≡ set before.latest node (n + 1) → Gathers run (λ k. k ≡ n) after
+  pub Gathers-here : (n node : ℕ) (deed : Deed) (before after : Reach) → Does run n node deed → node < length before.latest
+      → Gathers run (λ k. Precedes run k n) before → after.latest ≡ set before.latest node (n + 1) → Gathers run (λ k. k ≡ n) after
   Gathers-here n node deed before after here within g e = record {
     sound = λ i p d act lt.
         elim (cases_eq p node) [
@@ -79,5 +82,6 @@ module _ (run : List Act) where
   }
 
   -- what is gathered for one position reaches it
-  pub Gathers-one : (n : ℕ) (reach : Reach) → Gathers run (λ k. k ≡ n) reach → (i p : ℕ) (d : Deed) → Does run i p d → i < get_or reach.latest p 0 → Reaches run i n
+  pub Gathers-one : (n : ℕ) (reach : Reach) → Gathers run (λ k. k ≡ n) reach → (i p : ℕ) (d : Deed) → Does run i p d
+      → i < get_or reach.latest p 0 → Reaches run i n
   Gathers-one n reach g i p d act lt = let (k, is, r) = g.sound i p d act lt in subst (λ m. Reaches run i m) is r

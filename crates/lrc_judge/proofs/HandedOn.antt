@@ -16,10 +16,12 @@ use Rattle.lrc_judge.proofs.Gathering.{Gathers-same, Gathers-joined}
 
 -- what comes right before an act: its node's earlier acts, and for an acquire the releases of the lock, for a depart the
 -- arrives with its number
-pub Precedes-cases : {run : List Act} {k n : ℕ} → Precedes run k n → (node : ℕ) (deed : Deed) → Does run n node deed → Acted run n node k ⊎ (((l : ℕ) × (deed ≡ Acquire l) × Released run n l k) ⊎ ((deed ≡ Depart) × Arrived run n (departs_before run node n) k))
+pub Precedes-cases : {run : List Act} {k n : ℕ} → Precedes run k n → (node : ℕ) (deed : Deed) → Does run n node deed
+    → Acted run n node k ⊎ (((l : ℕ) × (deed ≡ Acquire l) × Released run n l k) ⊎ ((deed ≡ Depart) × Arrived run n (departs_before run node n) k))
 Precedes-cases (program {a = a} lt h g) node deed here = inl (lt, (a, Does-node (Does-one_node g here) h))
 Precedes-cases (lock {p = p} {l = l} lt h g) node deed here = inr (inl (l, Does-one_deed here g, (lt, (p, h))))
-Precedes-cases {run} {k} {n} (barrier {p = p} lt h g e) node deed here = inr (inr (Does-one_deed here g, (lt, (p, h, e ∙ ap (λ m. departs_before run m n) (Does-one_node g here)))))
+Precedes-cases {run} {k} {n} (barrier {p = p} lt h g e) node deed here =
+    inr (inr (Does-one_deed here g, (lt, (p, h, e ∙ ap (λ m. departs_before run m n) (Does-one_node g here)))))
 
 module _ (run : List Act) (n node : ℕ) (deed : Deed) (here : Does run n node deed) (own : Reach) (g : Gathers run (Acted run n node) own) where
   -- where the act is neither an acquire nor a depart, only its node's acts come before it
@@ -32,7 +34,8 @@ module _ (run : List Act) (n node : ℕ) (deed : Deed) (here : Does run n node d
         | inr (inr (e, arrived)) ↦ absurd (not_depart e)
       ]) g
 
-  pub handed_to_acquire : (l : ℕ) (released joined : Reach) → deed ≡ Acquire l → Gathers run (Released run n l) released → ((p : ℕ) → get_or joined.latest p 0 ≡ max (get_or own.latest p 0) (get_or released.latest p 0)) → Gathers run (λ k. Precedes run k n) joined
+  pub handed_to_acquire : (l : ℕ) (released joined : Reach) → deed ≡ Acquire l → Gathers run (Released run n l) released
+      → ((p : ℕ) → get_or joined.latest p 0 ≡ max (get_or own.latest p 0) (get_or released.latest p 0)) → Gathers run (λ k. Precedes run k n) joined
   handed_to_acquire l released joined is h e =
       Gathers-same run (λ k. Acted run n node k ⊎ Released run n l k) (λ k. Precedes run k n) joined (λ k t.
       elim t [
@@ -47,7 +50,9 @@ module _ (run : List Act) (n node : ℕ) (deed : Deed) (here : Does run n node d
         | inr (inr (e', arrived)) ↦ let never : ⊥ = cc in absurd never
       ]) (Gathers-joined run (Acted run n node) (Released run n l) own released joined g h e)
 
-  pub handed_to_depart : (arrived joined : Reach) → deed ≡ Depart → Gathers run (Arrived run n (departs_before run node n)) arrived → ((p : ℕ) → get_or joined.latest p 0 ≡ max (get_or own.latest p 0) (get_or arrived.latest p 0)) → Gathers run (λ k. Precedes run k n) joined
+  pub handed_to_depart : (arrived joined : Reach) → deed ≡ Depart
+      → Gathers run (Arrived run n (departs_before run node n)) arrived
+      → ((p : ℕ) → get_or joined.latest p 0 ≡ max (get_or own.latest p 0) (get_or arrived.latest p 0)) → Gathers run (λ k. Precedes run k n) joined
   handed_to_depart arrived joined is h e =
       Gathers-same run (λ k. Acted run n node k ⊎ Arrived run n (departs_before run node n) k) (λ k. Precedes run k n) joined (λ k t.
       elim t [
@@ -86,7 +91,8 @@ module _ (run : List Act) (n : ℕ) (P : ℕ → Type 0) where
       ]) g
 
   -- it does, and what n is reached by is joined to what was
-  pub next-joined : (x here z : Reach) → P n → Gathers run (λ k. (k < n) × P k) x → Gathers run (λ k. k ≡ n) here → ((p : ℕ) → get_or z.latest p 0 ≡ max (get_or x.latest p 0) (get_or here.latest p 0)) → Gathers run (λ k. (k < n + 1) × P k) z
+  pub next-joined : (x here z : Reach) → P n → Gathers run (λ k. (k < n) × P k) x → Gathers run (λ k. k ≡ n) here
+      → ((p : ℕ) → get_or z.latest p 0 ≡ max (get_or x.latest p 0) (get_or here.latest p 0)) → Gathers run (λ k. (k < n + 1) × P k) z
   next-joined x here z holds g h e =
       Gathers-same run (λ k. ((k < n) × P k) ⊎ (k ≡ n)) (λ k. (k < n + 1) × P k) z (λ k t.
       elim t [
@@ -99,7 +105,8 @@ module _ (run : List Act) (n : ℕ) (P : ℕ → Type 0) where
       ]) (Gathers-joined run (λ k. (k < n) × P k) (λ k. k ≡ n) x here z g h e)
 
   -- it does, and all before n where it does happen before n
-  pub next-only : (here : Reach) → P n → ((k : ℕ) → k < n → P k → HappensBefore run k n) → Gathers run (λ k. k ≡ n) here → Gathers run (λ k. (k < n + 1) × P k) here
+  pub next-only : (here : Reach) → P n → ((k : ℕ) → k < n → P k → HappensBefore run k n) → Gathers run (λ k. k ≡ n) here
+      → Gathers run (λ k. (k < n + 1) × P k) here
   next-only here holds before g = record {
     sound = λ i p d h lt. let (k, t, r) = g.sound i p d h lt in (k, (omega arith, subst P (sym t) holds), r);
     complete = λ i k p d h (lt, t) r.
@@ -116,7 +123,8 @@ module _ (run : List Act) (n : ℕ) (P : ℕ → ℕ → Type 0) (table : List R
   each-same fails x d h = next-same run n (P x) (get_or table x d) (fails x) (old x d h)
 
   -- one place changes
-  pub each-set : (y : ℕ) (z : Reach) → ((x : ℕ) → P x n → x ≡ y) → Gathers run (λ k. (k < n + 1) × P y k) z → EachGathers run (λ x k. (k < n + 1) × P x k) (set table y z)
+  pub each-set : (y : ℕ) (z : Reach) → ((x : ℕ) → P x n → x ≡ y) → Gathers run (λ k. (k < n + 1) × P y k) z
+      → EachGathers run (λ x k. (k < n + 1) × P x k) (set table y z)
   each-set y z one g x d h =
       let within : x < length table = rw (← length-set table y z) h in
       elim (cases_eq x y) [
@@ -125,7 +133,8 @@ module _ (run : List Act) (n : ℕ) (P : ℕ → ℕ → Type 0) (table : List R
       ]
 
   -- one place is added
-  pub each-push : (z : Reach) → ((x : ℕ) → P x n → x ≡ length table) → Gathers run (λ k. (k < n + 1) × P (length table) k) z → EachGathers run (λ x k. (k < n + 1) × P x k) (table ++ z ∷ [])
+  pub each-push : (z : Reach) → ((x : ℕ) → P x n → x ≡ length table) → Gathers run (λ k. (k < n + 1) × P (length table) k) z
+      → EachGathers run (λ x k. (k < n + 1) × P x k) (table ++ z ∷ [])
   each-push z one g x d h =
       let long = length_push table z in
       elim (cases_eq x (length table)) [

@@ -31,11 +31,13 @@ pub IsKept-none : {p : Place} {a : Access} → IsKept [] p a → ⊥
 IsKept-none h = let (k, lt, e) = h.there in absurd (omega arith)
 
 -- this segment keeps it
-kept_in : {segments : List Segment} {p : Place} {a : Access} (s : Segment) → Contains segments s → Contains s.accesses.items a → s.place ≡ p → IsKept segments p a
+kept_in : {segments : List Segment} {p : Place} {a : Access} (s : Segment) → Contains segments s → Contains s.accesses.items a
+    → s.place ≡ p → IsKept segments p a
 kept_in s there has at = record { segment = s; there = there; has = has; at = at }
 
 -- a segment more
-pub IsKept-push : (segments : List Segment) (new : Segment) (p : Place) (a : Access) → IsKept (segments ++ new ∷ []) p a ↔ (IsKept segments p a ⊎ (Contains new.accesses.items a × (new.place ≡ p)))
+pub IsKept-push : (segments : List Segment) (new : Segment) (p : Place) (a : Access) → IsKept (segments ++ new ∷ []) p a
+    ↔ (IsKept segments p a ⊎ (Contains new.accesses.items a × (new.place ≡ p)))
 IsKept-push segments new p a = (
   λ h.
       elim (Contains-push_cases segments new h.segment h.there) [
@@ -50,7 +52,9 @@ IsKept-push segments new p a = (
 )
 
 -- a segment more, for one access
-pub IsKept-new : (segments more : List Segment) (new : Segment) (place : Place) (access : Access) → new.place ≡ place → new.accesses.items ≡ [] ++ access ∷ [] → more ≡ segments ++ new ∷ [] → (p : Place) (a : Access) → IsKept more p a ↔ (IsKept segments p a ⊎ ((p ≡ place) × (a ≡ access)))
+pub IsKept-new : (segments more : List Segment) (new : Segment) (place : Place) (access : Access) → new.place ≡ place
+    → new.accesses.items ≡ [] ++ access ∷ [] → more ≡ segments ++ new ∷ [] → (p : Place) (a : Access) → IsKept more p a
+    ↔ (IsKept segments p a ⊎ ((p ≡ place) × (a ≡ access)))
 IsKept-new segments more new place access at only e p a = (
   λ h.
       elim ((IsKept-push segments new p a).0 (subst (λ xs. IsKept xs p a) e h)) [
@@ -68,7 +72,9 @@ IsKept-new segments more new place access at only e p a = (
 )
 
 -- an access more in the segment at i
-module _ (segments : List Segment) (i : ℕ) (old new : Segment) (access : Access) (place : Place) (within : i < length segments) (is : get_or segments i old ≡ old) (old_at : old.place ≡ place) (new_at : new.place ≡ place) (more : (a : Access) → Contains new.accesses.items a ↔ (Contains old.accesses.items a ⊎ (a ≡ access))) where
+module _ (segments : List Segment) (i : ℕ) (old new : Segment) (access : Access) (place : Place) (within : i < length segments)
+    (is : get_or segments i old ≡ old) (old_at : old.place ≡ place) (new_at : new.place ≡ place)
+    (more : (a : Access) → Contains new.accesses.items a ↔ (Contains old.accesses.items a ⊎ (a ≡ access))) where
   kept_forth : (p : Place) (a : Access) → IsKept (set segments i new) p a → IsKept segments p a ⊎ ((p ≡ place) × (a ≡ access))
   kept_forth p a h =
       let s = h.segment in
@@ -97,7 +103,8 @@ module _ (segments : List Segment) (i : ℕ) (old new : Segment) (access : Acces
         | inl here ↦
             let same : old ≡ s = sym is ∙ get_or_default segments i old s within ∙ ap (λ m. get_or segments m s) (sym here) ∙ e in
             let before = subst (λ (x : Segment). Contains x.accesses.items a) (sym same) h.has in
-            kept_in new (i, omega arith, get_or-set_same segments i new new within) ((more a).1 (inl before)) (new_at ∙ sym old_at ∙ ap (λ (x : Segment). x.place) same ∙ h.at)
+            kept_in new (i, omega arith, get_or-set_same segments i new new within) ((more a).1 (inl before))
+            (new_at ∙ sym old_at ∙ ap (λ (x : Segment). x.place) same ∙ h.at)
       ]
   kept_back p a (inr (there, new')) =
       let long = length-set segments i new in
@@ -114,22 +121,26 @@ one_access run n true false p q x y (v, a) (w, b) = let e = Does-one_deed a b in
 one_access run n false true p q x y (v, a) (w, b) = let e = Does-one_deed a b in let never : ⊥ = cc in absurd never
 
 same_place : (p q : Place) → p.word ≡ q.word → p.node ≡ q.node → p.interval ≡ q.interval → p ≡ q
-same_place p q words nodes intervals = let e : ◌≡◌ {A = Place} (record { word = p.word; node = p.node; interval = p.interval }) (record { word = q.word; node = q.node; interval = q.interval }) = cc in e
+same_place p q words nodes intervals = let e : ◌≡◌ {A = Place} (record { word = p.word; node = p.node; interval = p.interval })
+    (record { word = q.word; node = q.node; interval = q.interval }) = cc in e
 
 same_access : (a b : Access) → a.position ≡ b.position → a.is_write ≡ b.is_write → a ≡ b
-same_access a b positions kinds = let e : ◌≡◌ {A = Access} (record { position = a.position; is_write = a.is_write }) (record { position = b.position; is_write = b.is_write }) = cc in e
+same_access a b positions kinds = let e : ◌≡◌ {A = Access} (record { position = a.position; is_write = a.is_write })
+    (record { position = b.position; is_write = b.is_write }) = cc in e
 
 -- The segments of the positions before n, and of those before n + 1.
 module _ (run : List Act) (n node : ℕ) (deed : Deed) (here : Does run n node deed) where
   -- an act that accesses nothing
-  pub AreSegments-same : (segments : List Segment) → ((w v : ℕ) → deed ≡ Read w v → ⊥) → ((w v : ℕ) → deed ≡ Write w v → ⊥) → AreSegments run n segments → AreSegments run (n + 1) segments
+  pub AreSegments-same : (segments : List Segment) → ((w v : ℕ) → deed ≡ Read w v → ⊥) → ((w v : ℕ) → deed ≡ Write w v → ⊥)
+      → AreSegments run n segments → AreSegments run (n + 1) segments
   AreSegments-same segments not_read not_write old = record {
     exact = λ place access. (
       λ h. let (lt, is) = (old.exact place access).0 h in (omega arith, is),
       λ (lt, is).
           elim (cases_eq access.position n) [
             | inr other ↦ (old.exact place access).1 (omega arith, is)
-            | inl there ↦ absurd (none access.is_write place.node place.word (subst (λ m. AccessesBy access.is_write run m place.node place.word) there is.stands))
+            | inl there ↦ absurd (none access.is_write place.node place.word
+                (subst (λ m. AccessesBy access.is_write run m place.node place.word) there is.stands))
           ],
     );
   }
@@ -139,7 +150,10 @@ module _ (run : List Act) (n node : ℕ) (deed : Deed) (here : Does run n node d
       none false q word (v, d) = not_read word v (Does-one_deed here d)
 
   -- an act that accesses a word
-  pub AreSegments-more : (segments more : List Segment) (place : Place) (is_write : Bool) → place.node ≡ node → AccessesBy is_write run n node place.word → place.interval ≡ interval_at run node n → AreSegments run n segments → ((p : Place) (a : Access) → IsKept more p a ↔ (IsKept segments p a ⊎ ((p ≡ place) × (a ≡ record { position = n; is_write = is_write })))) → AreSegments run (n + 1) more
+  pub AreSegments-more : (segments more : List Segment) (place : Place) (is_write : Bool) → place.node ≡ node
+      → AccessesBy is_write run n node place.word → place.interval ≡ interval_at run node n → AreSegments run n segments
+      → ((p : Place) (a : Access) → IsKept more p a
+      ↔ (IsKept segments p a ⊎ ((p ≡ place) × (a ≡ record { position = n; is_write = is_write })))) → AreSegments run (n + 1) more
   AreSegments-more segments more place is_write own stands interval old adds = record {
     exact = λ p a. (
       λ h.
@@ -159,8 +173,12 @@ module _ (run : List Act) (n node : ℕ) (deed : Deed) (here : Does run n node d
             | inl there ↦
                 let stands' : AccessesBy a.is_write run n p.node p.word = subst (λ m. AccessesBy a.is_write run m p.node p.word) there is.stands in
                 let (kind, nodes, words) = one_access run n a.is_write is_write p.node node p.word place.word stands' stands in
-                let intervals : p.interval ≡ place.interval = is.interval ∙ ap (λ m. interval_at run p.node m) there ∙ ap (λ q. interval_at run q n) nodes ∙ sym interval in
-                (adds p a).1 (inr (same_place p place words (nodes ∙ sym own) intervals, same_access a (record { position = n; is_write = is_write }) there kind))
+                let intervals : p.interval ≡ place.interval = is.interval ∙ ap (λ m. interval_at run p.node m) there
+                ∙ ap (λ q. interval_at run q n) nodes ∙ sym interval in
+                (adds p a).1 (inr (
+                  same_place p place words (nodes ∙ sym own) intervals,
+                  same_access a (record { position = n; is_write = is_write }) there kind,
+                ))
           ],
     );
   }

@@ -23,7 +23,8 @@ use Rattle.lrc_judge.specs.Races.{is_clash, AreRacing, name_of, IsRaceWith, Adds
 use Rattle.lrc_judge.proofs.Keeping.{Contains-pushed}
 
 -- what two nested tests found
-pub clashing : (order : Order) (xs ys : List Access) → list_any (λ x. list_any (λ y. is_clash order x y) ys) xs ≡ true → (x : Access) × (y : Access) × Contains xs x × Contains ys y × (is_clash order x y ≡ true)
+pub clashing : (order : Order) (xs ys : List Access) → list_any (λ x. list_any (λ y. is_clash order x y) ys) xs ≡ true
+    → (x : Access) × (y : Access) × Contains xs x × Contains ys y × (is_clash order x y ≡ true)
 clashing order xs ys found =
     let (i, x, lt, at, inner) = Any-from_list_any (λ x. list_any (λ y. is_clash order x y) ys) xs found in
     let (j, y, lt', at', clash) = Any-from_list_any (λ y. is_clash order x y) ys inner in
@@ -34,15 +35,18 @@ module _ (order : Order) (a : Segment) (segments : List Segment) (before : List 
   pub AddsRaces-none : AddsRaces order a (take 0 segments) before before
   AddsRaces-none = record { exact = λ race. (λ h. inl h, λ h. elim h [ inl old ↦ old | inr (b, (k, lt, e), _, _) ↦ absurd (omega arith) ]) }
 
-  pub AddsRaces-all : (n : ℕ) (after : List Race) → length segments ≤ n → AddsRaces order a (take n segments) before after → AddsRaces order a segments before after
+  pub AddsRaces-all : (n : ℕ) (after : List Race) → length segments ≤ n → AddsRaces order a (take n segments) before after
+      → AddsRaces order a segments before after
   AddsRaces-all n after long h = subst (λ xs. AddsRaces order a xs before after) (take_all n segments long) h
 
-  module _ (i : ℕ) (b : Segment) (within : i < length segments) (is : b ≡ get_or segments i b) (after : List Race) (old : AddsRaces order a (take i segments) before after) where
+  module _ (i : ℕ) (b : Segment) (within : i < length segments) (is : b ≡ get_or segments i b) (after : List Race)
+      (old : AddsRaces order a (take i segments) before after) where
     more : take (i + 1) segments ≡ take i segments ++ b ∷ []
     more = take_more segments i b within ∙ ap (λ x. take i segments ++ x ∷ []) (sym is)
 
     -- the races with the segments so far are those with one segment more, or the race of that one
-    IsRaceWith-more : (race : Race) → IsRaceWith order a (take (i + 1) segments) race ↔ (IsRaceWith order a (take i segments) race ⊎ (AreRacing order a b × (race ≡ name_of a b)))
+    IsRaceWith-more : (race : Race) → IsRaceWith order a (take (i + 1) segments) race
+        ↔ (IsRaceWith order a (take i segments) race ⊎ (AreRacing order a b × (race ≡ name_of a b)))
     IsRaceWith-more race = (
       λ (s, there, r, e).
           elim (Contains-push_cases (take i segments) b s (subst (λ xs. Contains xs s) more there)) [
@@ -68,7 +72,8 @@ module _ (order : Order) (a : Segment) (segments : List Segment) (before : List 
       );
     }
 
-    pub AddsRaces-more : (found : Race) (longer : List Race) → AreRacing order a b → found ≡ name_of a b → longer ≡ after ++ found ∷ [] → AddsRaces order a (take (i + 1) segments) before longer
+    pub AddsRaces-more : (found : Race) (longer : List Race) → AreRacing order a b → found ≡ name_of a b
+        → longer ≡ after ++ found ∷ [] → AddsRaces order a (take (i + 1) segments) before longer
     AddsRaces-more found longer r named e = record {
       exact = λ race. (
         λ h.
@@ -91,14 +96,16 @@ module _ (order : Order) (segments : List Segment) where
   pub HasRaces-none : HasRaces order (take 0 segments) segments []
   HasRaces-none = record { exact = λ race. (λ (k, lt, e). absurd (omega arith), λ (a, (k, lt, e), r). absurd (omega arith)) }
 
-  pub HasRaces-more : (i : ℕ) (a : Segment) → i < length segments → a ≡ get_or segments i a → (before after : List Race) → HasRaces order (take i segments) segments before → AddsRaces order a segments before after → HasRaces order (take (i + 1) segments) segments after
+  pub HasRaces-more : (i : ℕ) (a : Segment) → i < length segments → a ≡ get_or segments i a → (before after : List Race)
+      → HasRaces order (take i segments) segments before → AddsRaces order a segments before after → HasRaces order (take (i + 1) segments) segments after
   HasRaces-more i a within is before after old adds =
       let more : take (i + 1) segments ≡ take i segments ++ a ∷ [] = take_more segments i a within ∙ ap (λ x. take i segments ++ x ∷ []) (sym is) in
       record {
         exact = λ race. (
           λ h.
               elim ((adds.exact race).0 h) [
-                | inl earlier ↦ let (s, there, r) = (old.exact race).0 earlier in (s, subst (λ xs. Contains xs s) (sym more) (Contains-append_left (take i segments) (a ∷ []) s there), r)
+                | inl earlier ↦ let (s, there, r) = (old.exact race).0 earlier in
+                    (s, subst (λ xs. Contains xs s) (sym more) (Contains-append_left (take i segments) (a ∷ []) s there), r)
                 | inr r ↦ (a, subst (λ xs. Contains xs a) (sym more) (Contains-push (take i segments) a), r)
               ],
           λ (s, there, r). (adds.exact race).1 (elim (Contains-push_cases (take i segments) a s (subst (λ xs. Contains xs s) more there)) [
@@ -149,12 +156,18 @@ name_at p q = record { word = p.word; node_a = p.node; node_b = q.node; interval
 
 module _ (run : List Act) (order : Order) (is : IsOrderOf run order) (segments : List Segment) (all : AreSegments run (length run) segments) where
   -- two accesses that clash race, the one way round or the other
-  clash-Races : (i j p q word : ℕ) → p ≢ q → ConflictAt run i p j q word → is_before order i j ≡ false → is_before order j i ≡ false → (i ≡ j → ⊥) → Races run i j ⊎ Races run j i
+  clash-Races : (i j p q word : ℕ) → p ≢ q → ConflictAt run i p j q word → is_before order i j ≡ false
+      → is_before order j i ≡ false → (i ≡ j → ⊥) → Races run i j ⊎ Races run j i
   clash-Races i j p q word apart conflict forth back other =
       elim (cases_order i j) [
         | inl same ↦ absurd (other same)
         | inr (inl before) ↦ inl (record { earlier = before; conflict = (p, q, word, conflict); unordered = λ h. false≢true (sym forth ∙ (is i j).1 h) })
-        | inr (inr after) ↦ inr (record { earlier = after; conflict = (q, p, word, ConflictAt-symmetric conflict); unordered = λ h. false≢true (sym back ∙ (is j i).1 h) })
+        | inr (inr after) ↦ inr (record {
+          earlier = after;
+          conflict = (q, p, word, ConflictAt-symmetric conflict);
+          unordered =
+              λ h. false≢true (sym back ∙ (is j i).1 h);
+        })
       ]
 
   -- what races among the segments is a race that the run names
@@ -167,7 +180,8 @@ module _ (run : List Act) (order : Order) (is : IsOrderOf run order) (segments :
       let y = r.y in
       let ax = ((all.exact a.place x).0 (record { segment = a; there = among.first; has = r.first; at = refl })).1 in
       let ay = ((all.exact b.place y).0 (record { segment = b; there = among.second; has = r.second; at = refl })).1 in
-      let stands : AccessesBy y.is_write run y.position b.place.node a.place.word = subst (λ m. AccessesBy y.is_write run y.position b.place.node m) (sym r.word) ay.stands in
+      let stands : AccessesBy y.is_write run y.position b.place.node a.place.word =
+      subst (λ m. AccessesBy y.is_write run y.position b.place.node m) (sym r.word) ay.stands in
       let lower = r.ascending in
       let (writes, unordered) = and_parts (x.is_write || y.is_write) _ r.clash in
       let (forth, back) = and_parts (not (is_before order x.position y.position)) _ unordered in
@@ -181,7 +195,8 @@ module _ (run : List Act) (order : Order) (is : IsOrderOf run order) (segments :
         ];
       } in
       let other : x.position ≡ y.position → ⊥ = λ e.
-      let nodes = AccessesBy-node run y.position a.place.node b.place.node a.place.word a.place.word x.is_write y.is_write (subst (λ m. AccessesBy x.is_write run m a.place.node a.place.word) e ax.stands) stands in
+      let nodes = AccessesBy-node run y.position a.place.node b.place.node a.place.word a.place.word x.is_write y.is_write
+      (subst (λ m. AccessesBy x.is_write run m a.place.node a.place.word) e ax.stands) stands in
       omega arith in
       let names : Names run (name_of a b) x.position y.position = record {
         ascending = lower;
@@ -195,13 +210,16 @@ module _ (run : List Act) (order : Order) (is : IsOrderOf run order) (segments :
   module _ (race : Race) (i j : ℕ) (names : Names run race i j) where
     -- neither happens before the other
     apart_forth : is_before order i j ≡ false
-    apart_forth = false_from_ne_true _ (λ e. let h = (is i j).0 e in elim names.races [ inl r ↦ r.unordered h | inr r ↦ let lt = forward h in let gt = r.earlier in omega arith ])
+    apart_forth = false_from_ne_true _ (λ e. let h = (is i j).0 e in
+        elim names.races [ inl r ↦ r.unordered h | inr r ↦ let lt = forward h in let gt = r.earlier in omega arith ])
 
     apart_back : is_before order j i ≡ false
-    apart_back = false_from_ne_true _ (λ e. let h = (is j i).0 e in elim names.races [ inl r ↦ let lt = forward h in let gt = r.earlier in omega arith | inr r ↦ r.unordered h ])
+    apart_back = false_from_ne_true _ (λ e. let h = (is j i).0 e in
+        elim names.races [ inl r ↦ let lt = forward h in let gt = r.earlier in omega arith | inr r ↦ r.unordered h ])
 
     -- the accesses, of these kinds, are kept, and clash
-    of_kinds : (v w : Bool) → AccessesBy v run i race.node_a race.word → AccessesBy w run j race.node_b race.word → (v || w) ≡ true → IsRaceAmong order segments race
+    of_kinds : (v w : Bool) → AccessesBy v run i race.node_a race.word → AccessesBy w run j race.node_b race.word
+        → (v || w) ≡ true → IsRaceAmong order segments race
     of_kinds v w hx hy writes =
         let p : Place = record { word = race.word; node = race.node_a; interval = race.interval_a } in
         let q : Place = record { word = race.word; node = race.node_b; interval = race.interval_b } in

@@ -55,7 +55,8 @@ read_at (x ∷ xs) (suc i) h = read_at xs i (omega arith)
 read_at [] i h = absurd (omega arith)
 
 module _ (run : List Act) (order : Order) (all : AreRows run (length run) order.rows.items) where
-  forth : (i j : ℕ) (a b : Option Row) → slice_get order.rows.items i ≡ a → slice_get order.rows.items j ≡ b → i < j → is_reached i a b ≡ true → HappensBefore run i j
+  forth : (i j : ℕ) (a b : Option Row) → slice_get order.rows.items i ≡ a → slice_get order.rows.items j ≡ b → i < j
+      → is_reached i a b ≡ true → HappensBefore run i j
   forth i j (Some a) (Some b) ea eb lt reached =
       let long = all.long in
       let first = slice_get_within order.rows.items i a ea in

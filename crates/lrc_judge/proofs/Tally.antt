@@ -19,7 +19,8 @@ use Rattle.lrc_judge.specs.declared.reading.Stored.{Stored}
 -- the last write before position n, if there is one
 abbrev pub IsLast : List Act → ℕ → ℕ → ℕ → Option Stored → Type 0
 IsLast run j word n None = (k v : ℕ) → k < n → WrittenBefore run j word k v → ⊥
-IsLast run j word n (Some w) = (w.position < n) × WrittenBefore run j word w.position w.value × ((k v : ℕ) → k < n → WrittenBefore run j word k v → k ≤ w.position)
+IsLast run j word n (Some w) = (w.position < n) × WrittenBefore run j word w.position w.value
+    × ((k v : ℕ) → k < n → WrittenBefore run j word k v → k ≤ w.position)
 
 -- of the writes before position n that happen before j: whether one writes the value, whether any two are ordered, and
 -- the last
@@ -42,7 +43,8 @@ module _ (run : List Act) (j word value : ℕ) where
   }
 
   -- a position without such a write
-  pub IsTally-same : (n : ℕ) (is_written are_ordered : Bool) (last : Option Stored) → ((v : ℕ) → WrittenBefore run j word n v → ⊥) → IsTally run j word value n is_written are_ordered last → IsTally run j word value (n + 1) is_written are_ordered last
+  pub IsTally-same : (n : ℕ) (is_written are_ordered : Bool) (last : Option Stored) → ((v : ℕ) → WrittenBefore run j word n v → ⊥)
+      → IsTally run j word value n is_written are_ordered last → IsTally run j word value (n + 1) is_written are_ordered last
   IsTally-same n is_written are_ordered last none t = record {
     written = (
       λ h. elim (t.written.0 h) [ inl nothing ↦ inl nothing | inr (i, lt, w) ↦ inr (i, omega arith, w) ],
@@ -63,14 +65,17 @@ module _ (run : List Act) (j word value : ℕ) where
       latest (Some w) (lt, a, max) = (omega arith, a, λ k v lt' b. max k v (below k v lt' b) b)
 
   -- a position with such a write
-  module _ (before : ℕ → ℕ → Bool) (is : (i k : ℕ) → (before i k ≡ true) ↔ HappensBefore run i k) (write : Stored) (here : WrittenBefore run j word write.position write.value) where
+  module _ (before : ℕ → ℕ → Bool) (is : (i k : ℕ) → (before i k ≡ true) ↔ HappensBefore run i k) (write : Stored)
+      (here : WrittenBefore run j word write.position write.value) where
     abbrev n : ℕ
     n = write.position
 
     abbrev v : ℕ
     v = write.value
 
-    more_here : (is_written are_ordered : Bool) (last : Option Stored) → IsTally run j word value n is_written are_ordered last → IsTally run j word value (n + 1) (is_written || (v == value)) (are_ordered && option_map_or (λ (w : Stored). before w.position n) last true) (Some write)
+    more_here : (is_written are_ordered : Bool) (last : Option Stored) → IsTally run j word value n is_written are_ordered last
+        → IsTally run j word value (n + 1) (is_written || (v == value))
+        (are_ordered && option_map_or (λ (w : Stored). before w.position n) last true) (Some write)
     more_here is_written are_ordered last t = record {
       written = (
         λ h. elim (or_cases is_written (v == value) h) [
@@ -86,11 +91,17 @@ module _ (run : List Act) (j word value : ℕ) where
               ]
         ],
       );
-      ordered = (λ h. let both = and_parts are_ordered _ h in ordered last t.latest both.1 (t.ordered.0 both.0), λ o. and_from are_ordered _ (t.ordered.1 (λ i k x y lt. o i k x y (omega arith))) (related last t.latest o));
+      ordered = (
+        λ h. let both = and_parts are_ordered _ h in ordered last t.latest both.1 (t.ordered.0 both.0),
+        λ o. and_from are_ordered _ (t.ordered.1 (λ i k x y lt. o i k x y (omega arith))) (related last t.latest o),
+      );
       latest = (omega arith, here, λ k x lt b. omega arith);
     }
       where
-        ordered : (last : Option Stored) → IsLast run j word n last → option_map_or (λ (w : Stored). before w.position n) last true ≡ true → ((i k x y : ℕ) → k < n → WrittenBefore run j word i x → WrittenBefore run j word k y → i < k → HappensBefore run i k) → (i k x y : ℕ) → k < n + 1 → WrittenBefore run j word i x → WrittenBefore run j word k y → i < k → HappensBefore run i k
+        ordered : (last : Option Stored) → IsLast run j word n last
+            → option_map_or (λ (w : Stored). before w.position n) last true ≡ true
+            → ((i k x y : ℕ) → k < n → WrittenBefore run j word i x → WrittenBefore run j word k y → i < k
+            → HappensBefore run i k) → (i k x y : ℕ) → k < n + 1 → WrittenBefore run j word i x → WrittenBefore run j word k y → i < k → HappensBefore run i k
         ordered None none yes' old i k x y lt a b lower =
             elim (cases_eq k n) [
               | inl there ↦ absurd (none i x (omega arith) a)
@@ -109,14 +120,21 @@ module _ (run : List Act) (j word value : ℕ) where
                   subst (λ m. HappensBefore run i m) (sym there) to_n
             ]
 
-        related : (last : Option Stored) → IsLast run j word n last → ((i k x y : ℕ) → k < n + 1 → WrittenBefore run j word i x → WrittenBefore run j word k y → i < k → HappensBefore run i k) → option_map_or (λ (w : Stored). before w.position n) last true ≡ true
+        related : (last : Option Stored) → IsLast run j word n last
+            → ((i k x y : ℕ) → k < n + 1 → WrittenBefore run j word i x → WrittenBefore run j word k y → i < k
+            → HappensBefore run i k) → option_map_or (λ (w : Stored). before w.position n) last true ≡ true
         related None none o = refl
         related (Some w) (within, written, max) o = (is w.position n).1 (o w.position n w.value v (omega arith) written here within)
 
-    pub IsTally-more : (at : ℕ) (is_written are_ordered : Bool) (last : Option Stored) → write.position ≡ at → IsTally run j word value at is_written are_ordered last → IsTally run j word value (at + 1) (is_written || (write.value == value)) (are_ordered && option_map_or (λ (w : Stored). before w.position write.position) last true) (Some write)
+    pub IsTally-more : (at : ℕ) (is_written are_ordered : Bool) (last : Option Stored) → write.position ≡ at
+        → IsTally run j word value at is_written are_ordered last
+        → IsTally run j word value (at + 1) (is_written || (write.value == value))
+        (are_ordered && option_map_or (λ (w : Stored). before w.position write.position) last true) (Some write)
     IsTally-more at is_written are_ordered last e t =
         let there = subst (λ m. IsTally run j word value m is_written are_ordered last) (sym e) t in
-        subst (λ m. IsTally run j word value (m + 1) (is_written || (write.value == value)) (are_ordered && option_map_or (λ (w : Stored). before w.position write.position) last true) (Some write)) e (more_here is_written are_ordered last there)
+        subst (λ m. IsTally run j word value (m + 1) (is_written || (write.value == value))
+        (are_ordered && option_map_or (λ (w : Stored). before w.position write.position) last true) (Some write)) e
+        (more_here is_written are_ordered last there)
 
   -- at the read itself the tally decides what it may give
   module _ (is_written are_ordered : Bool) (last : Option Stored) (t : IsTally run j word value j is_written are_ordered last) where
@@ -162,7 +180,8 @@ module _ (run : List Act) (j word value : ℕ) where
     pub from_may : MayRead run j word value → (is_written ≡ true) × (are_ordered ≡ true → value ≡ option_map_or (λ (w : Stored). w.value) last 0)
     from_may m = (write_of_some m.weak, λ h. (latest_is last t.latest).1 (m.strong (ordered_all h)))
 
-    pub decides : (r : Bool) → r ≡ (is_written && (not are_ordered || (value == option_map_or (λ (w : Stored). w.value) last 0))) → IsTrue r ↔ MayRead run j word value
+    pub decides : (r : Bool) → r ≡ (is_written && (not are_ordered || (value == option_map_or (λ (w : Stored). w.value) last 0)))
+        → IsTrue r ↔ MayRead run j word value
     decides r e = (
       λ yes'.
           let both = and_parts is_written _ (sym e ∙ yes') in
@@ -200,7 +219,13 @@ record SomeTally (run : List Act) (j word value n : ℕ) : Type 0 where
 
 module _ (run : List Act) (j word value : ℕ) where
   some_same : (n : ℕ) → ((v : ℕ) → WrittenBefore run j word n v → ⊥) → SomeTally run j word value n → SomeTally run j word value (n + 1)
-  some_same n none t = record { is_written = t.is_written; are_ordered = t.are_ordered; last = t.last; tally = IsTally-same run j word value n t.is_written t.are_ordered t.last none t.tally }
+  some_same n none t = record {
+    is_written = t.is_written;
+    are_ordered = t.are_ordered;
+    last = t.last;
+    tally =
+        IsTally-same run j word value n t.is_written t.are_ordered t.last none t.tally;
+  }
 
   some_more : (n v : ℕ) → WrittenBefore run j word n v → SomeTally run j word value n → SomeTally run j word value (n + 1)
   some_more n v here t =

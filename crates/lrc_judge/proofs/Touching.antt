@@ -23,7 +23,8 @@ use Rattle.lrc_judge.specs.Unreached.{IsSomeUnreached}
 
 -- ---- the latest positions of the nodes
 
-pub AreLatest-zeros : (run : List Act) (n : ℕ) (these : ℕ → ℕ → Type 0) (latest : List ℕ) → ((p : ℕ) → get_or latest p 0 ≡ 0) → ((i p : ℕ) → i < n → these i p → ⊥) → AreLatest run n these latest
+pub AreLatest-zeros : (run : List Act) (n : ℕ) (these : ℕ → ℕ → Type 0) (latest : List ℕ) → ((p : ℕ) → get_or latest p 0 ≡ 0)
+    → ((i p : ℕ) → i < n → these i p → ⊥) → AreLatest run n these latest
 AreLatest-zeros run n these latest zeros none = record {
   sound = λ i p e. let z = zeros p in absurd (omega arith);
   complete = λ i p lt h. absurd (none i p lt h);
@@ -40,7 +41,8 @@ module _ (run : List Act) (n : ℕ) (these : ℕ → ℕ → Type 0) (latest : L
         ];
   }
 
-  pub AreLatest-next : (node : ℕ) → node < length latest → these n node → ((p : ℕ) → these n p → p ≡ node) → AreLatest run (n + 1) these (set latest node (n + 1))
+  pub AreLatest-next : (node : ℕ) → node < length latest → these n node → ((p : ℕ) → these n p → p ≡ node)
+      → AreLatest run (n + 1) these (set latest node (n + 1))
   AreLatest-next node within now one = record {
     sound = λ i p e.
         elim (cases_eq p node) [
@@ -85,30 +87,40 @@ module _ (run : List Act) (n node word value : ℕ) where
 
 -- ---- a word
 
-pub IsTouched-none : (run : List Act) (n word : ℕ) (touched : Touched) → ((p : ℕ) → get_or touched.accessed p 0 ≡ 0) → ((p : ℕ) → get_or touched.written p 0 ≡ 0) → ((i p : ℕ) → i < n → Accesses run i p word → ⊥) → IsTouched run n word touched
+pub IsTouched-none : (run : List Act) (n word : ℕ) (touched : Touched) → ((p : ℕ) → get_or touched.accessed p 0 ≡ 0)
+    → ((p : ℕ) → get_or touched.written p 0 ≡ 0) → ((i p : ℕ) → i < n → Accesses run i p word → ⊥) → IsTouched run n word touched
 IsTouched-none run n word touched accessed written none = record {
   accessed = AreLatest-zeros run n _ touched.accessed accessed none;
   written = AreLatest-zeros run n _ touched.written written (λ i p lt h. none i p lt (inr h));
 }
 
 -- an act that does not access the word leaves what is kept of it
-pub IsTouched-same : (run : List Act) (n word : ℕ) (touched : Touched) → ((p : ℕ) → Accesses run n p word → ⊥) → IsTouched run n word touched → IsTouched run (n + 1) word touched
+pub IsTouched-same : (run : List Act) (n word : ℕ) (touched : Touched) → ((p : ℕ) → Accesses run n p word → ⊥)
+    → IsTouched run n word touched → IsTouched run (n + 1) word touched
 IsTouched-same run n word touched none old = record {
   accessed = AreLatest-same run n _ touched.accessed old.accessed none;
   written = AreLatest-same run n _ touched.written old.written (λ p h. none p (inr h));
 }
 
 -- a read, or a write, by one node
-pub IsTouched-read : (run : List Act) (n node word value : ℕ) (touched after : Touched) → Does run n node (Read word value) → node < length touched.accessed → after.accessed ≡ set touched.accessed node (n + 1) → after.written ≡ touched.written → IsTouched run n word touched → IsTouched run (n + 1) word after
+pub IsTouched-read : (run : List Act) (n node word value : ℕ) (touched after : Touched) → Does run n node (Read word value)
+    → node < length touched.accessed → after.accessed ≡ set touched.accessed node (n + 1) → after.written ≡ touched.written
+    → IsTouched run n word touched → IsTouched run (n + 1) word after
 IsTouched-read run n node word value touched after here within accessed written old = record {
-  accessed = subst (λ l. AreLatest run (n + 1) (λ i p. Accesses run i p word) l) (sym accessed) (AreLatest-next run n _ touched.accessed old.accessed node within (inl (value, here)) (λ p h. (read_is run n node word value here p word h).0));
-  written = subst (λ l. AreLatest run (n + 1) (λ i p. Writes run i p word) l) (sym written) (AreLatest-same run n _ touched.written old.written (λ p h. read_writes_nothing run n node word value here p word h));
+  accessed = subst (λ l. AreLatest run (n + 1) (λ i p. Accesses run i p word) l) (sym accessed)
+      (AreLatest-next run n _ touched.accessed old.accessed node within (inl (value, here)) (λ p h. (read_is run n node word value here p word h).0));
+  written = subst (λ l. AreLatest run (n + 1) (λ i p. Writes run i p word) l) (sym written)
+      (AreLatest-same run n _ touched.written old.written (λ p h. read_writes_nothing run n node word value here p word h));
 }
 
-pub IsTouched-write : (run : List Act) (n node word value : ℕ) (touched after : Touched) → Does run n node (Write word value) → node < length touched.accessed → node < length touched.written → after.accessed ≡ set touched.accessed node (n + 1) → after.written ≡ set touched.written node (n + 1) → IsTouched run n word touched → IsTouched run (n + 1) word after
+pub IsTouched-write : (run : List Act) (n node word value : ℕ) (touched after : Touched) → Does run n node (Write word value)
+    → node < length touched.accessed → node < length touched.written → after.accessed ≡ set touched.accessed node (n + 1)
+    → after.written ≡ set touched.written node (n + 1) → IsTouched run n word touched → IsTouched run (n + 1) word after
 IsTouched-write run n node word value touched after here within within' accessed written old = record {
-  accessed = subst (λ l. AreLatest run (n + 1) (λ i p. Accesses run i p word) l) (sym accessed) (AreLatest-next run n _ touched.accessed old.accessed node within (inr (value, here)) (λ p h. (write_is run n node word value here p word h).0));
-  written = subst (λ l. AreLatest run (n + 1) (λ i p. Writes run i p word) l) (sym written) (AreLatest-next run n _ touched.written old.written node within' (value, here) (λ p h. (write_is run n node word value here p word (inr h)).0));
+  accessed = subst (λ l. AreLatest run (n + 1) (λ i p. Accesses run i p word) l) (sym accessed)
+      (AreLatest-next run n _ touched.accessed old.accessed node within (inr (value, here)) (λ p h. (write_is run n node word value here p word h).0));
+  written = subst (λ l. AreLatest run (n + 1) (λ i p. Writes run i p word) l) (sym written)
+      (AreLatest-next run n _ touched.written old.written node within' (value, here) (λ p h. (write_is run n node word value here p word (inr h)).0));
 }
 
 same_or : (run : List Act) (n word : ℕ) (o : Option Touched) → ((p : ℕ) → Accesses run n p word → ⊥) → IsTouchedOr run n word o → IsTouchedOr run (n + 1) word o
@@ -127,7 +139,8 @@ AreTouched-none run words empty = λ word.
     subst (λ o. IsTouchedOr run 0 word o) (sym none) (λ i p lt h. absurd (omega arith))
 
 -- an act that is no access
-pub AreTouched-same : (run : List Act) (n : ℕ) (words : BTreeMap ℕ Touched) → ((p word : ℕ) → Accesses run n p word → ⊥) → AreTouched run n words → AreTouched run (n + 1) words
+pub AreTouched-same : (run : List Act) (n : ℕ) (words : BTreeMap ℕ Touched) → ((p word : ℕ) → Accesses run n p word → ⊥)
+    → AreTouched run n words → AreTouched run (n + 1) words
 AreTouched-same run n words none old = λ word. same_or run n word (get nat_cmp words word) (λ p. none p word) (old word)
 
 -- another word is at another key
@@ -143,7 +156,9 @@ apart_at k q other =
     ]
 
 -- an access of one word
-pub AreTouched-next : (run : List Act) (n word : ℕ) (words after : BTreeMap ℕ Touched) (touched : Touched) → Updates nat_cmp words after word (Some touched) → IsTouched run (n + 1) word touched → ((p w : ℕ) → Accesses run n p w → w ≡ word) → AreTouched run n words → AreTouched run (n + 1) after
+pub AreTouched-next : (run : List Act) (n word : ℕ) (words after : BTreeMap ℕ Touched) (touched : Touched)
+    → Updates nat_cmp words after word (Some touched) → IsTouched run (n + 1) word touched
+    → ((p w : ℕ) → Accesses run n p w → w ≡ word) → AreTouched run n words → AreTouched run (n + 1) after
 AreTouched-next run n word words after touched updates now one old = λ w.
     elim (cases_eq w word) [
       | inl same ↦
@@ -157,7 +172,8 @@ AreTouched-next run n word words after touched updates now one old = λ w.
 -- ---- races
 
 -- a position that is not reached does not happen before
-module _ (run : List Act) (position node word : ℕ) (deed : Deed) (reach : Reach) (here : Does run position node deed) (gathers : Gathers run (λ k. k ≡ position) reach) where
+module _ (run : List Act) (position node word : ℕ) (deed : Deed) (reach : Reach) (here : Does run position node deed)
+    (gathers : Gathers run (λ k. k ≡ position) reach) where
   deed_of : (i p w : ℕ) → Accesses run i p w → (d : Deed) × Does run i p d
   deed_of i p w (inl (v, h)) = (Read w v, h)
   deed_of i p w (inr (v, h)) = (Write w v, h)
@@ -176,8 +192,10 @@ module _ (run : List Act) (position node word : ℕ) (deed : Deed) (reach : Reac
       ]
 
   -- accesses of one kind, where just these conflict with the act
-  module _ (these : ℕ → ℕ → Type 0) (latest : List ℕ) (kept : AreLatest run position these latest) (access : (i p : ℕ) → these i p → Accesses run i p word) where
-    pub unreached_races : ((i p : ℕ) → p ≢ node → these i p → ConflictAt run i p position node word) → IsSomeUnreached latest node reach → (i : ℕ) × Races run i position
+  module _ (these : ℕ → ℕ → Type 0) (latest : List ℕ) (kept : AreLatest run position these latest)
+      (access : (i p : ℕ) → these i p → Accesses run i p word) where
+    pub unreached_races : ((i p : ℕ) → p ≢ node → these i p → ConflictAt run i p position node word)
+        → IsSomeUnreached latest node reach → (i : ℕ) × Races run i position
     unreached_races conflict u =
         let i = get_or latest u.other 0 - 1 in
         let lt = u.later in
@@ -192,7 +210,8 @@ module _ (run : List Act) (position node word : ℕ) (deed : Deed) (reach : Reac
           },
         )
 
-    pub races_unreached : ((i p q w : ℕ) → ConflictAt run i p position q w → (p ≢ node) × these i p) → (i : ℕ) × Races run i position → IsSomeUnreached latest node reach
+    pub races_unreached : ((i p q w : ℕ) → ConflictAt run i p position q w → (p ≢ node) × these i p) → (i : ℕ)
+        × Races run i position → IsSomeUnreached latest node reach
     races_unreached kind (i, r) =
         let (p, q, w, c) = r.conflict in
         let (apart, h) = kind i p q w c in
@@ -205,16 +224,19 @@ module _ (run : List Act) (position node word : ℕ) (deed : Deed) (reach : Reac
 
 -- ---- by the deed
 
-module _ (run : List Act) (position node word value : ℕ) (reach : Reach) (gathers : Gathers run (λ k. k ≡ position) reach) (touched : Touched) (kept : IsTouched run position word touched) where
+module _ (run : List Act) (position node word value : ℕ) (reach : Reach) (gathers : Gathers run (λ k. k ≡ position) reach)
+    (touched : Touched) (kept : IsTouched run position word touched) where
   pub read_races : Does run position node (Read word value) → IsSomeUnreached touched.written node reach ↔ ((i : ℕ) × Races run i position)
   read_races here = (
-    unreached_races run position node word (Read word value) reach here gathers (λ i p. Writes run i p word) touched.written kept.written (λ i p h. inr h) (λ i p apart h. record {
-      apart = apart;
-      first = inr h;
-      second = inl (value, here);
-      writes = inl h;
-    }),
-    races_unreached run position node word (Read word value) reach here gathers (λ i p. Writes run i p word) touched.written kept.written (λ i p h. inr h) (λ i p q w c.
+    unreached_races run position node word (Read word value) reach here gathers
+        (λ i p. Writes run i p word) touched.written kept.written (λ i p h. inr h) (λ i p apart h. record {
+          apart = apart;
+          first = inr h;
+          second = inl (value, here);
+          writes = inl h;
+        }),
+    races_unreached run position node word (Read word value) reach here gathers
+        (λ i p. Writes run i p word) touched.written kept.written (λ i p h. inr h) (λ i p q w c.
         let (is, same) = read_is run position node word value here q w c.second in
         elim c.writes [
           | inl h ↦ (λ e. c.apart (e ∙ sym is), subst (λ v. Writes run i p v) same h)
@@ -224,13 +246,15 @@ module _ (run : List Act) (position node word value : ℕ) (reach : Reach) (gath
 
   pub write_races : Does run position node (Write word value) → IsSomeUnreached touched.accessed node reach ↔ ((i : ℕ) × Races run i position)
   write_races here = (
-    unreached_races run position node word (Write word value) reach here gathers (λ i p. Accesses run i p word) touched.accessed kept.accessed (λ i p h. h) (λ i p apart h. record {
-      apart = apart;
-      first = h;
-      second = inr (value, here);
-      writes = inr (value, here);
-    }),
-    races_unreached run position node word (Write word value) reach here gathers (λ i p. Accesses run i p word) touched.accessed kept.accessed (λ i p h. h) (λ i p q w c.
+    unreached_races run position node word (Write word value) reach here gathers
+        (λ i p. Accesses run i p word) touched.accessed kept.accessed (λ i p h. h) (λ i p apart h. record {
+          apart = apart;
+          first = h;
+          second = inr (value, here);
+          writes = inr (value, here);
+        }),
+    races_unreached run position node word (Write word value) reach here gathers
+        (λ i p. Accesses run i p word) touched.accessed kept.accessed (λ i p h. h) (λ i p q w c.
         let (is, same) = write_is run position node word value here q w c.second in
         (λ e. c.apart (e ∙ sym is), subst (λ v. Accesses run i p v) same c.first)),
   )
@@ -240,7 +264,8 @@ pub races_access : (run : List Act) (i position : ℕ) → Races run i position 
 races_access run i position r = let (p, q, w, c) = r.conflict in (q, w, c.second)
 
 -- an act that is neither a read nor a write accesses nothing
-pub no_access : (run : List Act) (n node : ℕ) (deed : Deed) → Does run n node deed → ((w v : ℕ) → deed ≡ Read w v → ⊥) → ((w v : ℕ) → deed ≡ Write w v → ⊥) → (p w : ℕ) → Accesses run n p w → ⊥
+pub no_access : (run : List Act) (n node : ℕ) (deed : Deed) → Does run n node deed → ((w v : ℕ) → deed ≡ Read w v → ⊥)
+    → ((w v : ℕ) → deed ≡ Write w v → ⊥) → (p w : ℕ) → Accesses run n p w → ⊥
 no_access run n node deed here not_read not_write p w (inl (v, h)) = not_read w v (Does-one_deed here h)
 no_access run n node deed here not_read not_write p w (inr (v, h)) = not_write w v (Does-one_deed here h)
 

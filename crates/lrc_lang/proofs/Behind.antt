@@ -9,7 +9,8 @@ use Rattle.lrc_lang.specs.declared.token.Sign.{Sign}
 use Rattle.lrc_lang.specs.declared.token.Sign.TheVariants as signs
 use Rattle.lrc_lang.specs.Token.{Token, Lexeme, token, bad_byte, bad_number}
 use Rattle.lrc_lang.specs.Symbol.{Names, names_with, symbol_of, symbol_of_sign}
-use Rattle.lrc_lang.specs.Counts.{names_of, open_with, open_of, operators_with, operators_of, last_of, IsOpening, IsTooDeep, IsNameTooMany, IsOperator, IsOperatorTooMany}
+use Rattle.lrc_lang.specs.Counts.{names_of, open_with, open_of, operators_with, operators_of, last_of, IsOpening}
+use Rattle.lrc_lang.specs.Counts.{IsTooDeep, IsNameTooMany, IsOperator, IsOperatorTooMany}
 use Rattle.lrc_lang.specs.Faults.{IsUnexpected, IsNumberTooLarge, IsOverLimit, IsFaultOf, IsFaultless}
 use Rattle.lrc_lang.specs.Parser.State as state
 use Rattle.lrc_lang.specs.Parser.State.{State, state_with}

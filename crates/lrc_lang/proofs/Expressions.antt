@@ -6,8 +6,10 @@ use Rattle.lrc_lang.specs.declared.program.Operator.{Operator}
 use Rattle.lrc_lang.specs.Token.{Token}
 use Rattle.lrc_lang.specs.Symbol.{Symbol, number, name, operator, keyword, sign, Names, symbols_after}
 use Rattle.lrc_lang.specs.Tree.{Expression, binary}
-use Rattle.lrc_lang.specs.Grammar.{Joins, factors, terms, sums, joins, IsFactor, a_number, a_name, me, nodes, parentheses, IsTerm, factor, product, IsSum, term, sum, IsExpression, one_sum, comparison}
-use Rattle.lrc_lang.specs.Parser.Partial.{Pending, Level, no_pending, Partial, joined, term_of, whole_of, waiting, level_with, awaiting, begin, close, go_on, moved, partial_with, value_in, value_of}
+use Rattle.lrc_lang.specs.Grammar.{Joins, factors, terms, sums, joins, IsFactor, a_number, a_name, me, nodes, parentheses}
+use Rattle.lrc_lang.specs.Grammar.{IsTerm, factor, product, IsSum, term, sum, IsExpression, one_sum, comparison}
+use Rattle.lrc_lang.specs.Parser.Partial.{Pending, Level, no_pending, Partial, joined, term_of, whole_of, waiting, level_with}
+use Rattle.lrc_lang.specs.Parser.Partial.{awaiting, begin, close, go_on, moved, partial_with, value_in, value_of}
 use Rattle.lrc_lang.proofs.Options.{none_some, some_same}
 
 -- ---- what completes an expression

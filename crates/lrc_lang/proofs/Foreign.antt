@@ -6,7 +6,10 @@ use Rattle.lrc_lang.specs.Tree.{Expression, Block}
 use Rattle.lrc_lang.specs.Parser.Partial as partial
 use Rattle.lrc_lang.specs.Parser.Partial.{Level, no_pending, Partial, nothing, partial_with, value_of}
 use Rattle.lrc_lang.specs.Parser.Body as body
-use Rattle.lrc_lang.specs.Parser.Body.{Purpose, assigned, word_read, word_written, written, acquired, released, printed, if_condition, while_condition, Place, at_statement, after_name, after_equals, in_expression, after_word, before_end, after_then, after_else, Owner, then_of, else_of, inside_of, Around, Body, push, body_with, whole_of, if_some, Ending, semicolon, bracket, brace, is_ending, ending_of}
+use Rattle.lrc_lang.specs.Parser.Body.{Purpose, assigned, word_read, word_written, written, acquired, released, printed, if_condition, while_condition}
+use Rattle.lrc_lang.specs.Parser.Body.{Place, at_statement, after_name, after_equals, in_expression, after_word, before_end, after_then, after_else}
+use Rattle.lrc_lang.specs.Parser.Body.{Owner, then_of, else_of, inside_of, Around, Body, push, body_with, whole_of, if_some, Ending, semicolon, bracket}
+use Rattle.lrc_lang.specs.Parser.Body.{brace, is_ending, ending_of}
 
 pub data IsForeign : Symbol → Type 0 where
   the_end : IsForeign finish

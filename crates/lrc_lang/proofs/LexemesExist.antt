@@ -7,7 +7,8 @@ use Rattle.std.proofs.lemmas.Slice.Eq.{bytes_eq-Decides}
 use native.Mathlib.Decide.{dec_le, ℕ_discrete}
 use Rattle.lrc_lang.specs.declared.token.Sign.{Sign}
 use Rattle.lrc_lang.specs.Token.{number, name, keyword, sign, finish, Lexeme, token, bad_byte, bad_number, Placed}
-use Rattle.lrc_lang.specs.Lexemes.{IsBlank, IsDigit, IsLetter, IsLetterOrDigit, IsWithinLine, BeginsWith, IsSpan, value_of, keyword_text, IsKeyword, sign_text, at, Lexes, passes_blank, passes_line_feed, passes_comment, stops_at_end, Follows, NextIs}
+use Rattle.lrc_lang.specs.Lexemes.{IsBlank, IsDigit, IsLetter, IsLetterOrDigit, IsWithinLine, BeginsWith, IsSpan, value_of, keyword_text, IsKeyword}
+use Rattle.lrc_lang.specs.Lexemes.{sign_text, at, Lexes, passes_blank, passes_line_feed, passes_comment, stops_at_end, Follows, NextIs}
 use Rattle.lrc_lang.specs.Lexer.{IsReady, Passes, Takes}
 use Rattle.lrc_lang.proofs.LexemesSpans.{span_takes, span_keeps}
 use Rattle.lrc_lang.proofs.LexemesSteps.{number_is_taken, bad_number_is_taken, keyword_is_taken, name_is_taken}

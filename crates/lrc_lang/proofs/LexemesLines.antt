@@ -6,7 +6,8 @@ use Rattle.std.proofs.lemmas.List.Sums.{sum_by-cons}
 use Rattle.lrc_lang.specs.declared.token.Sign.{Sign}
 use Rattle.lrc_lang.specs.declared.token.Sign.TheVariants as signs
 use Rattle.lrc_lang.specs.Token.{finish, Lexeme, token, Placed}
-use Rattle.lrc_lang.specs.Lexemes.{IsDigit, IsLetterOrDigit, IsSpan, sign_text, at, Lexes, passes_blank, passes_line_feed, passes_comment, takes_number, takes_keyword, takes_name, takes_sign, stops_at_number, stops_at_byte, stops_at_end}
+use Rattle.lrc_lang.specs.Lexemes.{IsDigit, IsLetterOrDigit, IsSpan, sign_text, at, Lexes, passes_blank, passes_line_feed, passes_comment}
+use Rattle.lrc_lang.specs.Lexemes.{takes_number, takes_keyword, takes_name, takes_sign, stops_at_number, stops_at_byte, stops_at_end}
 
 -- how many line feeds a text has
 abbrev feeds : List ℕ → ℕ

@@ -1,7 +1,9 @@
 -- Signs: one byte, or one byte and `=`.
 use Rattle.std.proofs.Common.{◌≡◌, ◌≢◌, ◌⊎◌, ℕ, ◌≤◌, List, [], ◌∷◌, ◌++◌, length, refl, sym, ap, ◌∙◌, subst, arith, inl, inr}
 use Rattle.lrc_lang.specs.declared.token.Sign.{Sign}
-use Rattle.lrc_lang.specs.declared.token.Sign.TheVariants.{Semicolon, Assign, OpenBracket, CloseBracket, OpenBrace, CloseBrace, OpenParenthesis, CloseParenthesis, Plus, Minus, Star, Slash, Percent, Equal, NotEqual, Less, LessOrEqual, Greater, GreaterOrEqual}
+use Rattle.lrc_lang.specs.declared.token.Sign.TheVariants.{Semicolon, Assign, OpenBracket, CloseBracket, OpenBrace, CloseBrace, OpenParenthesis}
+use Rattle.lrc_lang.specs.declared.token.Sign.TheVariants.{CloseParenthesis, Plus, Minus, Star, Slash, Percent, Equal, NotEqual, Less, LessOrEqual}
+use Rattle.lrc_lang.specs.declared.token.Sign.TheVariants.{Greater, GreaterOrEqual}
 use Rattle.lrc_lang.specs.Token.{sign, token, bad_byte}
 use Rattle.lrc_lang.specs.Lexemes.{IsDigit, IsLetter, BeginsWith, HasFront, sign_text, takes_sign, stops_at_byte}
 use Rattle.lrc_lang.specs.Lexer.{IsReady, Takes}

@@ -4,7 +4,9 @@ use Rattle.std.proofs.lemmas.List.{nil_from_length}
 use Rattle.std.proofs.lemmas.Slice.{first_rest}
 use Rattle.lrc_lang.specs.declared.token.Keyword.{Keyword}
 use Rattle.lrc_lang.specs.Token.{number, name, keyword, finish, token, bad_number}
-use Rattle.lrc_lang.specs.Lexemes.{IsBlank, IsLineFeed, IsHash, IsDigit, IsLetter, IsLetterOrDigit, IsWithinLine, BeginsWith, IsSpan, value_of, IsNoNumber, keyword_text, IsKeyword, Lexes, passes_blank, passes_line_feed, passes_comment, takes_number, takes_keyword, takes_name, stops_at_number, stops_at_end}
+use Rattle.lrc_lang.specs.Lexemes.{IsBlank, IsLineFeed, IsHash, IsDigit, IsLetter, IsLetterOrDigit, IsWithinLine, BeginsWith}
+use Rattle.lrc_lang.specs.Lexemes.{IsSpan, value_of, IsNoNumber, keyword_text, IsKeyword, Lexes, passes_blank, passes_line_feed}
+use Rattle.lrc_lang.specs.Lexemes.{passes_comment, takes_number, takes_keyword, takes_name, stops_at_number, stops_at_end}
 use Rattle.lrc_lang.specs.Lexer.{Passes, Takes}
 
 pub number_is_taken : {text digits rest : List ℕ} {value : ℕ} → BeginsWith IsDigit text → IsSpan IsDigit text digits rest → ¬ BeginsWith IsLetter rest

@@ -1,5 +1,6 @@
 -- A text has one list of lexemes at most: its first byte tells which rule holds, and each rule takes one front.
-use Rattle.std.proofs.Common.{◌≡◌, ◌⊎◌, ℕ, ◌+◌, cond, eqb, leb, ◌&&◌, ◌||◌, List, [], ◌∷◌, ◌++◌, length, take, drop, refl, sym, ap, ◌∙◌, subst, arith, inl, inr, All}
+use Rattle.std.proofs.Common.{◌≡◌, ◌⊎◌, ℕ, ◌+◌, cond, eqb, leb, ◌&&◌, ◌||◌, List, [], ◌∷◌, ◌++◌, length}
+use Rattle.std.proofs.Common.{take, drop, refl, sym, ap, ◌∙◌, subst, arith, inl, inr, All}
 use Rattle.std.proofs.lemmas.Bool.Decides.{nat_tests}
 use Rattle.std.proofs.lemmas.List.{take_at, drop_at}
 use Rattle.std.proofs.lemmas.List.Elements.{All-head, All-tail}
@@ -8,7 +9,10 @@ use Rattle.lrc_lang.specs.declared.token.Keyword.TheVariants as keywords
 use Rattle.lrc_lang.specs.declared.token.Sign.{Sign}
 use Rattle.lrc_lang.specs.declared.token.Sign.TheVariants as signs
 use Rattle.lrc_lang.specs.Token.{number, name, keyword, sign, finish, token, bad_byte, bad_number, Placed}
-use Rattle.lrc_lang.specs.Lexemes.{IsBlank, IsLineFeed, IsHash, IsDigit, IsLetter, IsLetterOrDigit, IsWithinLine, BeginsWith, HasFront, IsSpan, value_of, IsNumber, IsNoNumber, keyword_text, IsKeyword, sign_text, IsSign, BeginsNothing, at, Lexes, passes_blank, passes_line_feed, passes_comment, takes_number, takes_keyword, takes_name, takes_sign, stops_at_number, stops_at_byte, stops_at_end}
+use Rattle.lrc_lang.specs.Lexemes.{IsBlank, IsLineFeed, IsHash, IsDigit, IsLetter, IsLetterOrDigit, IsWithinLine, BeginsWith, HasFront, IsSpan, value_of}
+use Rattle.lrc_lang.specs.Lexemes.{IsNumber, IsNoNumber, keyword_text, IsKeyword, sign_text, IsSign, BeginsNothing, at, Lexes, passes_blank}
+use Rattle.lrc_lang.specs.Lexemes.{passes_line_feed, passes_comment, takes_number, takes_keyword, takes_name, takes_sign, stops_at_number, stops_at_byte}
+use Rattle.lrc_lang.specs.Lexemes.{stops_at_end}
 
 -- ---- spans
 

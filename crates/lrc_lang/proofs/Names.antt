@@ -1,5 +1,6 @@
 -- Names that are borrowed from the text.
-use Rattle.std.proofs.Common.{◌≡◌, ℕ, suc, ◌+◌, ◌≤◌, Bool, true, false, cond, not, ltb, ◌||◌, List, [], ◌∷◌, map, length, Some, None, unwrap_or, Bor, refl, ap, subst, arith, ltb-false}
+use Rattle.std.proofs.Common.{◌≡◌, ℕ, suc, ◌+◌, ◌≤◌, Bool, true, false, cond, not, ltb, ◌||◌, List, [], ◌∷◌, map}
+use Rattle.std.proofs.Common.{length, Some, None, unwrap_or, Bor, refl, ap, subst, arith, ltb-false}
 use Rattle.std.specs.List.{list_any, position_or_len}
 use Rattle.std.specs.Str.{bytes_eq}
 use Rattle.lrc_lang.specs.Symbol.{Names, is_among, number_of}

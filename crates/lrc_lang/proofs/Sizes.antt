@@ -1,5 +1,6 @@
 -- A text within the limits is a program within them: its names, its depth and its operators.
-use Rattle.std.proofs.Common.{◌≡◌, ◌<◌, ◌≤◌, ℕ, suc, ◌+◌, ◌-◌, max, List, [], ◌∷◌, ◌++◌, length, true, false, Bool, cond, not, ◌||◌, if◌then◌else◌, refl, sym, subst, inr, ◌∙◌, arith, length-append}
+use Rattle.std.proofs.Common.{◌≡◌, ◌<◌, ◌≤◌, ℕ, suc, ◌+◌, ◌-◌, max, List, [], ◌∷◌, ◌++◌, length, true, false, Bool, cond}
+use Rattle.std.proofs.Common.{not, ◌||◌, if◌then◌else◌, refl, sym, subst, inr, ◌∙◌, arith, length-append}
 use Rattle.std.specs.List.{list_any, position_or_len}
 use Rattle.std.specs.Str.{bytes_eq}
 use Rattle.std.proofs.Math.Nat.{max-le}
@@ -10,9 +11,11 @@ use Rattle.lrc_lang.specs.Token.{Token, Placed}
 use Rattle.lrc_lang.specs.Symbol.{Symbol, Names, is_among, number_of, names_with, symbol_of, symbol_of_sign, symbols_after}
 use Rattle.lrc_lang.specs.Statements.{Expression, binary, Statement, Block}
 use Rattle.lrc_lang.specs.Tree.{ProgramTree}
-use Rattle.lrc_lang.specs.Sizes.{names_in_expression, operators_in, names_in_statement, names_in, depth_of_statement, depth_of, operators_in_statement, most_operators}
+use Rattle.lrc_lang.specs.Sizes.{names_in_expression, operators_in, names_in_statement, names_in}
+use Rattle.lrc_lang.specs.Sizes.{depth_of_statement, depth_of, operators_in_statement, most_operators}
 use Rattle.lrc_lang.specs.Counts.{names_of, open_with, open_of, operators_with, operators_of, IsTooDeep, IsNameTooMany, IsOperatorTooMany}
-use Rattle.lrc_lang.specs.Grammar.{IsFactor, a_number, a_name, parentheses, IsTerm, factor, product, IsSum, term, sum, IsExpression, one_sum, comparison, IsStatement, IsBlock, braces, AreStatements, none, one_more, AreSymbolsOf, program}
+use Rattle.lrc_lang.specs.Grammar.{IsFactor, a_number, a_name, parentheses, IsTerm, factor, product, IsSum, term, sum, IsExpression, one_sum}
+use Rattle.lrc_lang.specs.Grammar.{comparison, IsStatement, IsBlock, braces, AreStatements, none, one_more, AreSymbolsOf, program}
 use Rattle.lrc_lang.specs.Grammar as grammar
 use Rattle.lrc_lang.specs.Faults.{AreFaultless, IsText}
 use Rattle.lrc_lang.proofs.Names.{position-le}

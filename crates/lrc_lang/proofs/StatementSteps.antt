@@ -9,11 +9,17 @@ use Rattle.lrc_lang.specs.Grammar.{IsExpression, IsStatement, IsBlock, braces, A
 use Rattle.lrc_lang.specs.Parser.Partial as partial
 use Rattle.lrc_lang.specs.Parser.Partial.{Level, no_pending, Partial, nothing, partial_with, value_of}
 use Rattle.lrc_lang.specs.Parser.Body as body
-use Rattle.lrc_lang.specs.Parser.Body.{Purpose, assigned, word_read, word_written, written, acquired, released, printed, if_condition, while_condition, Place, at_statement, after_name, after_equals, in_expression, after_word, before_end, after_then, after_else, Owner, then_of, else_of, inside_of, Around, Body, push, body_with, whole_of, if_some, Ending, semicolon, bracket, brace, is_ending, ending_of}
+use Rattle.lrc_lang.specs.Parser.Body.{Purpose, assigned, word_read, word_written, written, acquired, released, printed, if_condition, while_condition}
+use Rattle.lrc_lang.specs.Parser.Body.{Place, at_statement, after_name, after_equals, in_expression, after_word, before_end, after_then, after_else}
+use Rattle.lrc_lang.specs.Parser.Body.{Owner, then_of, else_of, inside_of, Around, Body, push, body_with, whole_of, if_some, Ending, semicolon, bracket}
+use Rattle.lrc_lang.specs.Parser.Body.{brace, is_ending, ending_of}
 use Rattle.lrc_lang.proofs.Expressions as expressions
 use Rattle.lrc_lang.proofs.Expressions.{Completes, Starts, starts, split_expression, join_expression, turns, back, ended, completion, completed}
 use Rattle.lrc_lang.proofs.Options.{none_some}
-use Rattle.lrc_lang.proofs.Statements.{CompletesBody, FromExpression, FromOwner, FromPlace, FromPurpose, FromStatement, FromThen, acquires, assigns, begins, closes, enter, from_else, from_inside, from_then, has_else, in_brackets, in_else, in_end, in_equals, in_name, in_statement, in_then, in_whole, in_word, is_all, names_word, no_else, prints, reads, releases, repeats, tests, writes}
+use Rattle.lrc_lang.proofs.Statements.{CompletesBody, FromExpression, FromOwner, FromPlace, FromPurpose, FromStatement, FromThen, acquires, assigns}
+use Rattle.lrc_lang.proofs.Statements.{begins, closes, enter, from_else, from_inside, from_then, has_else, in_brackets, in_else, in_end, in_equals}
+use Rattle.lrc_lang.proofs.Statements.{in_name, in_statement, in_then, in_whole, in_word, is_all, names_word, no_else, prints, reads, releases, repeats}
+use Rattle.lrc_lang.proofs.Statements.{tests, writes}
 
 -- The next symbol can stand there, and the symbols behind it complete what has come with it; or it is the end of the
 -- text, and the block is complete.

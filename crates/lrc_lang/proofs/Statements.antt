@@ -7,7 +7,10 @@ use Rattle.lrc_lang.specs.Tree.{Expression, Statement, Block, empty, next}
 use Rattle.lrc_lang.specs.Grammar.{IsExpression, IsStatement, IsBlock, AreStatements, none, one_more}
 use Rattle.lrc_lang.specs.Parser.Partial.{Partial, nothing}
 use Rattle.lrc_lang.specs.Parser.Body as body
-use Rattle.lrc_lang.specs.Parser.Body.{Purpose, assigned, word_read, word_written, written, acquired, released, printed, if_condition, while_condition, Place, at_statement, after_name, after_equals, in_expression, after_word, before_end, after_then, after_else, Owner, then_of, else_of, inside_of, Around, Body, push, body_with, whole_of, if_some, Ending, semicolon, bracket, brace, is_ending, ending_of}
+use Rattle.lrc_lang.specs.Parser.Body.{Purpose, assigned, word_read, word_written, written, acquired, released, printed, if_condition, while_condition}
+use Rattle.lrc_lang.specs.Parser.Body.{Place, at_statement, after_name, after_equals, in_expression, after_word, before_end, after_then, after_else}
+use Rattle.lrc_lang.specs.Parser.Body.{Owner, then_of, else_of, inside_of, Around, Body, push, body_with, whole_of, if_some, Ending, semicolon, bracket}
+use Rattle.lrc_lang.specs.Parser.Body.{brace, is_ending, ending_of}
 use Rattle.lrc_lang.proofs.Expressions.{Completes}
 
 -- The symbols complete statements to a block, up to the end of the text.

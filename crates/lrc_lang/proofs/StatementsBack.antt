@@ -8,11 +8,17 @@ use Rattle.lrc_lang.specs.Grammar as grammar
 use Rattle.lrc_lang.specs.Grammar.{IsExpression, IsStatement, IsBlock, braces, AreStatements, none, one_more}
 use Rattle.lrc_lang.specs.Parser.Partial.{no_pending, Partial, nothing, partial_with, value_of}
 use Rattle.lrc_lang.specs.Parser.Body as body
-use Rattle.lrc_lang.specs.Parser.Body.{Purpose, assigned, word_read, word_written, written, acquired, released, printed, if_condition, while_condition, Place, at_statement, after_name, after_equals, in_expression, after_word, before_end, after_then, after_else, Owner, then_of, else_of, inside_of, Around, Body, push, body_with, whole_of, if_some, Ending, semicolon, bracket, brace, is_ending, ending_of}
+use Rattle.lrc_lang.specs.Parser.Body.{Purpose, assigned, word_read, word_written, written, acquired, released, printed, if_condition, while_condition}
+use Rattle.lrc_lang.specs.Parser.Body.{Place, at_statement, after_name, after_equals, in_expression, after_word, before_end, after_then, after_else}
+use Rattle.lrc_lang.specs.Parser.Body.{Owner, then_of, else_of, inside_of, Around, Body, push, body_with, whole_of, if_some, Ending, semicolon, bracket}
+use Rattle.lrc_lang.specs.Parser.Body.{brace, is_ending, ending_of}
 use Rattle.lrc_lang.proofs.Expressions as expressions
 use Rattle.lrc_lang.proofs.Expressions.{Completes, Starts, starts, split_expression, join_expression, turns, back, ended, completion, completed}
 use Rattle.lrc_lang.proofs.Options.{none_some, some_same}
-use Rattle.lrc_lang.proofs.Statements.{CompletesBody, FromExpression, FromOwner, FromPlace, FromPurpose, FromStatement, FromThen, Leaves, acquires, assigns, begins, closes, from_else, from_inside, from_then, has_else, in_brackets, in_else, in_end, in_equals, in_name, in_statement, in_then, in_whole, in_word, is_all, leave, names_word, no_else, prints, reads, releases, repeats, tests, writes}
+use Rattle.lrc_lang.proofs.Statements.{CompletesBody, FromExpression, FromOwner, FromPlace, FromPurpose, FromStatement, FromThen, Leaves, acquires}
+use Rattle.lrc_lang.proofs.Statements.{assigns, begins, closes, from_else, from_inside, from_then, has_else, in_brackets, in_else, in_end, in_equals}
+use Rattle.lrc_lang.proofs.Statements.{in_name, in_statement, in_then, in_whole, in_word, is_all, leave, names_word, no_else, prints, reads, releases}
+use Rattle.lrc_lang.proofs.Statements.{repeats, tests, writes}
 
 at_same : {x y : Body} (whole : Block) (all : List Symbol) → Some x ≡ Some y → CompletesBody y whole all → CompletesBody x whole all
 at_same whole all q k = subst (λ b. CompletesBody b whole all) (sym (some_same q)) k

@@ -7,9 +7,13 @@ use Rattle.lrc_lang.specs.Tree.{Expression, Statement, Block, empty}
 use Rattle.lrc_lang.specs.Grammar as grammar
 use Rattle.lrc_lang.specs.Grammar.{IsExpression, IsStatement, IsBlock, braces, AreStatements, none, one_more}
 use Rattle.lrc_lang.specs.Parser.Partial.{Partial, nothing}
-use Rattle.lrc_lang.specs.Parser.Body.{Purpose, assigned, word_read, word_written, written, acquired, released, printed, if_condition, while_condition, Place, at_statement, after_name, after_equals, in_expression, after_word, before_end, after_then, after_else, Owner, then_of, else_of, inside_of, Around, Body, push}
+use Rattle.lrc_lang.specs.Parser.Body.{Purpose, assigned, word_read, word_written, written, acquired, released, printed, if_condition}
+use Rattle.lrc_lang.specs.Parser.Body.{while_condition, Place, at_statement, after_name, after_equals, in_expression, after_word}
+use Rattle.lrc_lang.specs.Parser.Body.{before_end, after_then, after_else, Owner, then_of, else_of, inside_of, Around, Body, push}
 use Rattle.lrc_lang.proofs.Expressions.{completion, completed}
-use Rattle.lrc_lang.proofs.Statements.{CompletesBody, FromExpression, FromOwner, FromPlace, FromPurpose, FromStatement, acquires, assigns, closes, from_else, from_inside, from_then, in_else, in_end, in_equals, in_name, in_statement, in_then, in_whole, in_word, is_all, names_word, no_else, prints, reads, releases, repeats, tests, writes}
+use Rattle.lrc_lang.proofs.Statements.{CompletesBody, FromExpression, FromOwner, FromPlace, FromPurpose, FromStatement, acquires, assigns}
+use Rattle.lrc_lang.proofs.Statements.{closes, from_else, from_inside, from_then, in_else, in_end, in_equals, in_name, in_statement, in_then}
+use Rattle.lrc_lang.proofs.Statements.{in_whole, in_word, is_all, names_word, no_else, prints, reads, releases, repeats, tests, writes}
 
 -- the braces that close these blocks, and then the end of the text
 abbrev closing : List Around → List Token

@@ -9,7 +9,8 @@ use Rattle.lrc_lang.specs.Grammar.{AreSymbolsOf, program}
 use Rattle.lrc_lang.specs.Parser.Body.{Body, body_with, whole_of, if_some}
 use Rattle.lrc_lang.specs.Parser.Body as body
 use Rattle.lrc_lang.specs.Parser.State as state
-use Rattle.lrc_lang.specs.Parser.State.{Stage, words, words_number, words_end, locks, locks_number, locks_end, statements, nothing, State, state_with, program_in}
+use Rattle.lrc_lang.specs.Parser.State.{Stage, words, words_number, words_end, locks, locks_number, locks_end}
+use Rattle.lrc_lang.specs.Parser.State.{statements, nothing, State, state_with, program_in}
 use Rattle.lrc_lang.proofs.Statements.{CompletesBody, all_statements, statements_all}
 use Rattle.lrc_lang.proofs.StatementSteps as steps
 use Rattle.lrc_lang.proofs.StatementSteps.{turns_body}

@@ -1,7 +1,8 @@
 -- The statements of the code as the definitions see them.
 use Rattle.std.proofs.Common.{◌≡◌, List, [], ◌∷◌, ◌++◌, Vec, refl, ap, ◌∙◌}
 use Rattle.std.specs.declared.alloc.Global.{Global}
-use Rattle.lrc_lang.specs.declared.program.Statement.{Statement, Row_of-Statement, end_of-Statement, more_of-Statement, items-the_row-Statement, items_hidden-the_row-Statement-0}
+use Rattle.lrc_lang.specs.declared.program.Statement.{Statement, Row_of-Statement, end_of-Statement, more_of-Statement}
+use Rattle.lrc_lang.specs.declared.program.Statement.{items-the_row-Statement, items_hidden-the_row-Statement-0}
 use Rattle.lrc_lang.specs.declared.program.Statement.TheBlock.{hidden-the_row-Statement-0}
 use Rattle.lrc_lang.specs.Tree.{next, statement_of, row_of, block_of}
 use Rattle.lrc_lang.specs.Parser.Body.{push}

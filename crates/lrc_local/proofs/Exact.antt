@@ -6,7 +6,8 @@ use Rattle.std.proofs.lemmas.Bool.{cases_eq, cases_lt}
 use Rattle.std.proofs.lemmas.List.{get_or_past}
 use Rattle.std.proofs.lemmas.List.Elements.{All-weaker}
 use Rattle.lrc_time.specs.Time.{entry, Covers, joined}
-use Rattle.lrc_time.proofs.Times.{same_times, covers-refl, covers-trans, covers-raised, covers-joined_first, entry-joined, length-joined_same, entry-set_same, entry-set_other}
+use Rattle.lrc_time.proofs.Times.{same_times, covers-refl, covers-trans, covers-raised, covers-joined_first}
+use Rattle.lrc_time.proofs.Times.{entry-joined, length-joined_same, entry-set_same, entry-set_other}
 use Rattle.lrc_store.specs.Interval.{IntervalRecord, index_of}
 use Rattle.lrc_store.specs.Store.{StoreRecord, IsStore, intervals_of, added, discarded}
 use Rattle.lrc_store.proofs.Stores.{intervals_of-added, intervals_of-discarded}
@@ -16,8 +17,10 @@ use Rattle.lrc_protocol.specs.Locks.{next_time}
 use Rattle.lrc_local.specs.Ranges.{InRange, HasRanges, CollectsAt}
 use Rattle.lrc_local.specs.Stored.{StoresExactly}
 use Rattle.lrc_local.proofs.Stores.{SameIntervals, append_none, own-same, parts-same, Longer, learned-longer, length-last_with, last_with}
-use Rattle.lrc_local.proofs.Indices.{Ascends, range-join, range-below, range-ascends, indices-append, indices-here, indices-there, indices-none, entry-last_next, by_indices, by_node-ascend, none_left}
-use Rattle.lrc_local.proofs.Change.{View, pages_in, News, Change, receives, manages, moves, puts, closes, learns, resumes, begins, cleans, discards, misses, mends, gets_changes, gets_page}
+use Rattle.lrc_local.proofs.Indices.{Ascends, range-join, range-below, range-ascends, indices-append, indices-here}
+use Rattle.lrc_local.proofs.Indices.{indices-there, indices-none, entry-last_next, by_indices, by_node-ascend, none_left}
+use Rattle.lrc_local.proofs.Change.{View, pages_in, News, Change, receives, manages, moves, puts, closes, learns, resumes}
+use Rattle.lrc_local.proofs.Change.{begins, cleans, discards, misses, mends, gets_changes, gets_page}
 use Rattle.lrc_local.proofs.Ranges.{SameRest, copy-same, clean-same, Ranged}
 
 -- the same intervals, and the same collected time

@@ -1,6 +1,7 @@
 -- What is known of the changes of a key, and the keys that a copy lacks.
 use Rattle.std.proofs.Common.{◌≡◌, ◌≢◌, ℕ, zero, suc, ◌<◌, List, [], ◌∷◌, Bool, true, false, refl, sym, ap, subst, ◌∙◌, ◌⊎◌, inl, inr, ⊎_elim, arith}
-use Rattle.std.specs.Prelude.{Option, Some, None, is_some, is_none, All, AllPairs, Contains, ◌==◌, ◌&&◌, ◌||◌, fold, map, find, option_map, option_and_then, if◌then◌else◌}
+use Rattle.std.specs.Prelude.{Option, Some, None, is_some, is_none, All, AllPairs, Contains, ◌==◌, ◌&&◌, ◌||◌}
+use Rattle.std.specs.Prelude.{fold, map, find, option_map, option_and_then, if◌then◌else◌}
 use Rattle.std.specs.List.{list_any}
 use Rattle.std.proofs.lemmas.Bool.{cond_both, and_parts, and_from, cases_eq, eqb-true, eq-eqb, false_from_ne_true}
 use Rattle.std.proofs.lemmas.List.Elements.{All-nil, All-cons, All-head, All-tail, All-map, All-contains, All-contains_itself}
@@ -8,7 +9,8 @@ use Rattle.lrc_page.specs.declared.changes.Change.{Change}
 use Rattle.lrc_store.specs.declared.key.Key.{Key}
 use Rattle.lrc_store.specs.Interval.{IntervalRecord, index_of, by_weight}
 use Rattle.lrc_store.specs.Order.{placed, ascending_part}
-use Rattle.lrc_store.specs.Store.{NoticeRecord, StoredRecord, StoreRecord, IsStore, interval_of, intervals_of, is_at, stored_at, notice_of, notice_at, changes_at, attached, stored_with, notice_with, is_missing, key_of, missing_of}
+use Rattle.lrc_store.specs.Store.{NoticeRecord, StoredRecord, StoreRecord, IsStore, interval_of, intervals_of, is_at, stored_at, notice_of}
+use Rattle.lrc_store.specs.Store.{notice_at, changes_at, attached, stored_with, notice_with, is_missing, key_of, missing_of}
 use Rattle.lrc_store.proofs.Lookups.{find-map, passes-find, notice_at-attached_other}
 use Rattle.lrc_store.proofs.Orders.{cases_Contains, none_Contains}
 use Rattle.lrc_store.proofs.Stores.{interval_of-stored_with, kept_page}

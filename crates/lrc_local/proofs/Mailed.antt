@@ -8,9 +8,12 @@ use Rattle.lrc_time.proofs.Times.{entry-set_same, entry-joined, length-zeros}
 use Rattle.lrc_barrier.specs.Barrier.{ManagerRecord, first_manager}
 use Rattle.lrc_protocol.specs.Mail.{Wait}
 use Rattle.lrc_protocol.specs.Locks.{Locks}
-use Rattle.lrc_invariants.proofs.Shift.{Part, Shift, plain, misses as misses_shift, takes, asks, releasing, arriving, manages as manages_shift, forwarding, grants, departing, collecting, clean_at_once, discarding, accessing, still_misses, still_collects, cleaning, rests}
+use Rattle.lrc_invariants.proofs.Shift.{Part, Shift, plain, misses as misses_shift, takes, asks, releasing, arriving, manages as manages_shift}
+use Rattle.lrc_invariants.proofs.Shift.{forwarding, grants, departing, collecting, clean_at_once, discarding, accessing, still_misses, still_collects}
+use Rattle.lrc_invariants.proofs.Shift.{cleaning, rests}
 use Rattle.lrc_local.specs.Ranges.{HasManager}
-use Rattle.lrc_local.proofs.Change.{View, Change, receives, manages, moves, puts, closes, learns, resumes, begins, cleans, discards, misses, mends, gets_changes, gets_page}
+use Rattle.lrc_local.proofs.Change.{View, Change, receives, manages, moves, puts, closes, learns, resumes, begins}
+use Rattle.lrc_local.proofs.Change.{cleans, discards, misses, mends, gets_changes, gets_page}
 
 pub record Mailed (v : View) : Type 0 where
   pub taken : length v.taken ≡ v.setting.nodes

@@ -6,7 +6,9 @@ use Rattle.std.proofs.lemmas.Option.{same_Some}
 use Rattle.std.proofs.lemmas.List.{length-set}
 use Rattle.lrc_barrier.specs.declared.arrival.Arrival.{Arrival}
 use Rattle.lrc_barrier.specs.declared.fault.BarrierFault.TheVariants.{WrongEpisode, Twice}
-use Rattle.lrc_barrier.specs.Barrier.{ManagerRecord, ArriveStep, refuses, waits, departs, arrived, accepted, with_arrival, departed, departures_of, arrivals_of, is_next, has_arrived, after_arrive, CleanStep, refuses_clean, awaits, discards, cleaned, cleaned_by, cleaned_with, after_clean}
+use Rattle.lrc_barrier.specs.Barrier.{ManagerRecord, ArriveStep, refuses, waits, departs, arrived, accepted, with_arrival, departed, departures_of}
+use Rattle.lrc_barrier.specs.Barrier.{arrivals_of, is_next, has_arrived, after_arrive, CleanStep, refuses_clean, awaits, discards, cleaned, cleaned_by}
+use Rattle.lrc_barrier.specs.Barrier.{cleaned_with, after_clean}
 
 pub record Manages (now : Option ManagerRecord) (after : ManagerRecord) : Type 0 where
   pub before : ManagerRecord

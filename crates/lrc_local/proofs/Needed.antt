@@ -16,10 +16,12 @@ use Rattle.lrc_local.specs.Stored.{StoresExactly}
 use Rattle.lrc_local.specs.Needs.{FitsNeed, FitsKept}
 use Rattle.lrc_local.proofs.Stores.{parts-same}
 use Rattle.lrc_local.proofs.Indices.{Ascends}
-use Rattle.lrc_local.proofs.Change.{View, pages_in, kept_in, needs_in, Change, receives, manages, moves, puts, closes, learns, resumes, begins, cleans, discards, misses, mends, gets_changes, gets_page, is_settled}
+use Rattle.lrc_local.proofs.Change.{View, pages_in, kept_in, needs_in, Change, receives, manages, moves, puts, closes, learns, resumes}
+use Rattle.lrc_local.proofs.Change.{begins, cleans, discards, misses, mends, gets_changes, gets_page, is_settled}
 use Rattle.lrc_local.proofs.Ranges.{Ranged, SameRest, clean-same, keeps-ranges}
 use Rattle.lrc_local.proofs.Exact.{is_store}
-use Rattle.lrc_local.proofs.Needs.{need-fits, needs-fit, needs-with, kept-below, kept-ascends, ascends-filter, pages_needed, same_pages, open-settled, settled-needs, settled-kept, kept-same}
+use Rattle.lrc_local.proofs.Needs.{need-fits, needs-fit, needs-with, kept-below, kept-ascends, ascends-filter}
+use Rattle.lrc_local.proofs.Needs.{pages_needed, same_pages, open-settled, settled-needs, settled-kept, kept-same}
 use Rattle.lrc_local.proofs.Replies.{changes-fit, page-fits, asked-exactly, clean-readable}
 
 pub record Needed (v : View) : Type 0 where

@@ -25,7 +25,9 @@ use Rattle.lrc_protocol.specs.Traced.{Traced, untraced, traced, traced_by, trace
 use Rattle.lrc_protocol.proofs.Traces.{traced_node, traced_more}
 use Rattle.lrc_protocol.proofs.Turned.{Turned, Turns, turns}
 use Rattle.lrc_invariants.specs.Waiting.{next_in}
-use Rattle.lrc_invariants.proofs.Shift.{Part, part_of, Moved, deed_in, deed_made, Learnable, Shift, Shifted, ShiftedIf, shifts, plain, misses, takes, asks, releasing, arriving, manages, forwarding, grants, departing, collecting, clean_at_once, discarding, accessing, still_misses, still_collects, cleaning, rests}
+use Rattle.lrc_invariants.proofs.Shift.{Part, part_of, Moved, deed_in, deed_made, Learnable, Shift, Shifted, ShiftedIf, shifts, plain}
+use Rattle.lrc_invariants.proofs.Shift.{misses, takes, asks, releasing, arriving, manages, forwarding, grants, departing, collecting}
+use Rattle.lrc_invariants.proofs.Shift.{clean_at_once, discarding, accessing, still_misses, still_collects, cleaning, rests}
 use Rattle.lrc_invariants.proofs.Counts.{deed_next}
 use Rattle.lrc_local.specs.Reached.{LeadsTo, IsReached}
 use Rattle.lrc_local.specs.Traced.{IsTraced, CanNoteDeed, CanNoteAct}

@@ -8,7 +8,8 @@ use Rattle.lrc_time.specs.Time.{entry}
 use Rattle.lrc_page.specs.declared.changes.Change.{Change as PageChange}
 use Rattle.lrc_store.specs.declared.key.Key.{Key}
 use Rattle.lrc_store.specs.Interval.{IntervalRecord, index_of}
-use Rattle.lrc_store.specs.Store.{NoticeRecord, StoredRecord, StoreRecord, interval_of, is_at, is_covered, unread, without_changes, added, stored_with, notice_with}
+use Rattle.lrc_store.specs.Store.{NoticeRecord, StoredRecord, StoreRecord, interval_of, is_at, is_covered}
+use Rattle.lrc_store.specs.Store.{unread, without_changes, added, stored_with, notice_with}
 use Rattle.lrc_store.proofs.Stores.{interval_of-stored_with, kept_page}
 use Rattle.lrc_store.proofs.Records.{interval_of-without_changes}
 use Rattle.lrc_store.proofs.Orders.{cases_Contains, none_Contains}
@@ -20,7 +21,8 @@ use Rattle.lrc_protocol.specs.Locks.{next_time}
 use Rattle.lrc_protocol.specs.Expected.{indices_by}
 use Rattle.lrc_local.specs.Own.{IsAttached, OwnAttached}
 use Rattle.lrc_local.proofs.Indices.{of_node}
-use Rattle.lrc_local.proofs.Change.{View, News, Change, receives, manages, moves, puts, closes, learns, resumes, begins, cleans, discards, misses, mends, gets_changes, gets_page}
+use Rattle.lrc_local.proofs.Change.{View, News, Change, receives, manages, moves, puts, closes, learns, resumes}
+use Rattle.lrc_local.proofs.Change.{begins, cleans, discards, misses, mends, gets_changes, gets_page}
 use Rattle.lrc_local.proofs.Ranges.{Ranged, clean-same}
 
 -- ---- one interval gets changes

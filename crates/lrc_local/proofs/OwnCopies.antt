@@ -25,7 +25,8 @@ use Rattle.lrc_local.specs.Own.{HasOwn, OwnCopied}
 use Rattle.lrc_local.proofs.Lists.{All-chosen}
 use Rattle.lrc_local.proofs.Stores.{SameIntervals, own-same, parts-same, Longer, learned-longer}
 use Rattle.lrc_local.proofs.Keys.{All-part}
-use Rattle.lrc_local.proofs.Change.{View, News, Change, receives, manages, moves, puts, closes, learns, resumes, begins, cleans, discards, misses, mends, gets_changes, gets_page}
+use Rattle.lrc_local.proofs.Change.{View, News, Change, receives, manages, moves, puts, closes, learns, resumes}
+use Rattle.lrc_local.proofs.Change.{begins, cleans, discards, misses, mends, gets_changes, gets_page}
 use Rattle.lrc_local.proofs.Ranges.{Ranged, clean-same}
 use Rattle.lrc_local.proofs.Exact.{stored-within, nothing-left}
 use Rattle.lrc_local.proofs.Replies.{bases-copies}

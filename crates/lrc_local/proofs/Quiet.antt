@@ -10,7 +10,8 @@ use Rattle.lrc_protocol.specs.Waits.{with_needs}
 use Rattle.lrc_store.specs.Interval.{IntervalRecord}
 use Rattle.lrc_local.specs.Waits.{NoneWritten, IsQuiet}
 use Rattle.lrc_local.proofs.Lists.{All-placed}
-use Rattle.lrc_local.proofs.Change.{View, Change, receives, manages, moves, puts, closes, learns, resumes, begins, cleans, discards, misses, mends, gets_changes, gets_page, is_settled, is_open}
+use Rattle.lrc_local.proofs.Change.{View, Change, receives, manages, moves, puts, closes, learns, resumes, begins, cleans}
+use Rattle.lrc_local.proofs.Change.{discards, misses, mends, gets_changes, gets_page, is_settled, is_open}
 
 abbrev Unwritten : Copy → Type 0
 Unwritten copy = changes_of copy ≡ None

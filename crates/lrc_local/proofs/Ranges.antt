@@ -12,7 +12,8 @@ use Rattle.lrc_store.specs.Interval.{IntervalRecord}
 use Rattle.lrc_store.specs.Store.{StoreRecord, intervals_of, added, is_covered}
 use Rattle.lrc_store.proofs.Stores.{intervals_of-added, intervals_of-discarded}
 use Rattle.lrc_protocol.specs.Copy.{Copy, changes_of, closed, invalidated, dropped}
-use Rattle.lrc_protocol.specs.Memory.{Memory, with_copy, all_changes, closed_interval, with_interval, is_named, learned, least, namers_of, keeper_at, with_keepers, with_base, collected_at}
+use Rattle.lrc_protocol.specs.Memory.{Memory, with_copy, all_changes, closed_interval, with_interval, is_named, learned}
+use Rattle.lrc_protocol.specs.Memory.{least, namers_of, keeper_at, with_keepers, with_base, collected_at}
 use Rattle.lrc_protocol.specs.Fetch.{Need, mended}
 use Rattle.lrc_protocol.specs.Mail.{Wait, nothing, grant, departure, access, upkeep, discard}
 use Rattle.lrc_protocol.specs.Locks.{next_time}
@@ -20,7 +21,8 @@ use Rattle.lrc_protocol.specs.Waits.{clean_memory, with_needs}
 use Rattle.lrc_local.specs.Ranges.{InRange, HasRanges, CollectsAt}
 use Rattle.lrc_local.proofs.Lists.{length-placed, All-placed, All-chosen, places-below, least_or-below}
 use Rattle.lrc_local.proofs.Stores.{SameIntervals, own-same, parts-same, Longer, learned-longer, length-last_with}
-use Rattle.lrc_local.proofs.Change.{View, pages_in, Change, receives, manages, moves, puts, closes, learns, resumes, begins, cleans, discards, misses, mends, gets_changes, gets_page, is_settled, is_open}
+use Rattle.lrc_local.proofs.Change.{View, pages_in, Change, receives, manages, moves, puts, closes, learns, resumes, begins}
+use Rattle.lrc_local.proofs.Change.{cleans, discards, misses, mends, gets_changes, gets_page, is_settled, is_open}
 
 -- ---- parts of a memory
 

@@ -76,4 +76,11 @@ module _ (program : Program) (nodes : ℕ) (options : OptionsRecord) (me : ℕ) 
   come l leads =
       subst ComeIf leads.made
       (by_inputs leads.inputs (Some (record { node = fresh_node program nodes options me; turns = [] }))
-      (record { tokened = fresh-tokened program nodes options me; walked = stands; sent = length-replicate nodes 0; early = omega arith; entered = omega arith }))
+      (record {
+        tokened = fresh-tokened program nodes options me;
+        walked = stands;
+        sent = length-replicate nodes 0;
+        early =
+            omega arith;
+        entered = omega arith;
+      }))

@@ -9,7 +9,8 @@ use Rattle.lrc_protocol.specs.Waits.{with_needs}
 use Rattle.lrc_invariants.specs.Waiting.{next_in}
 use Rattle.lrc_local.specs.Needs.{ReachesFor}
 use Rattle.lrc_local.proofs.Needed.{changed_page, sent_page}
-use Rattle.lrc_local.proofs.Change.{View, Change, receives, manages, moves, puts, closes, learns, resumes, begins, cleans, discards, misses, mends, gets_changes, gets_page, is_settled}
+use Rattle.lrc_local.proofs.Change.{View, Change, receives, manages, moves, puts, closes, learns, resumes, begins}
+use Rattle.lrc_local.proofs.Change.{cleans, discards, misses, mends, gets_changes, gets_page, is_settled}
 
 settled-reaches : (size : Size) (next : Option Next) (w : Wait) → is_settled w ≡ true → ReachesFor size next w
 settled-reaches size next nothing s = tt

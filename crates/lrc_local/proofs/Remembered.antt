@@ -23,7 +23,8 @@ use Rattle.lrc_local.specs.Remembered.{IsBetween}
 use Rattle.lrc_local.proofs.Lists.{length-placed}
 use Rattle.lrc_local.proofs.Stores.{own-same, parts-same, learned-longer}
 use Rattle.lrc_local.proofs.Indices.{range-above, by_indices}
-use Rattle.lrc_local.proofs.Change.{View, News, Change, receives, manages, moves, puts, closes, learns, resumes, begins, cleans, discards, misses, mends, gets_changes, gets_page}
+use Rattle.lrc_local.proofs.Change.{View, News, Change, receives, manages, moves, puts, closes, learns, resumes}
+use Rattle.lrc_local.proofs.Change.{begins, cleans, discards, misses, mends, gets_changes, gets_page}
 use Rattle.lrc_local.proofs.Ranges.{Ranged, SameRest, clean-same}
 use Rattle.lrc_local.proofs.Exact.{next-indices}
 use Rattle.lrc_local.proofs.Replies.{bases-copies}

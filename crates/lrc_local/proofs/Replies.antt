@@ -14,7 +14,8 @@ use Rattle.lrc_store.proofs.Orders.{cases_Contains, none_Contains, filter-Contai
 use Rattle.lrc_wire.specs.Records.{IndexedChangesRecord}
 use Rattle.lrc_protocol.specs.Copy.{Copy, valid, written, invalid, absent, is_readable}
 use Rattle.lrc_protocol.specs.Memory.{Memory, copy_at, lacking, lacking_in, with_base, repaired}
-use Rattle.lrc_protocol.specs.Fetch.{Base, unneeded, due, come, Asked, Need, indices_of, some_asked, asked_of, unknown_of, asks, awaits_changes, is_due_from, awaits_page, with_changes, with_page, first_values, mended}
+use Rattle.lrc_protocol.specs.Fetch.{Base, unneeded, due, come, Asked, Need, indices_of, some_asked, asked_of, unknown_of, asks}
+use Rattle.lrc_protocol.specs.Fetch.{awaits_changes, is_due_from, awaits_page, with_changes, with_page, first_values, mended}
 use Rattle.lrc_protocol.specs.Take.{with_part}
 use Rattle.lrc_protocol.specs.Waits.{clean_memory}
 use Rattle.lrc_local.specs.Needs.{FitsBase, FitsNeed}

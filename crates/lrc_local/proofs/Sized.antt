@@ -12,7 +12,8 @@ use Rattle.lrc_page.specs.Page.{words_of}
 use Rattle.lrc_page.proofs.ChangeLists.{each-between}
 use Rattle.lrc_store.specs.declared.key.Key.{Key}
 use Rattle.lrc_store.specs.Interval.{IntervalRecord}
-use Rattle.lrc_store.specs.Store.{NoticeRecord, StoredRecord, StoreRecord, interval_of, is_at, is_covered, unread, without_changes, added, stored_with, notice_with}
+use Rattle.lrc_store.specs.Store.{NoticeRecord, StoredRecord, StoreRecord, interval_of, is_at, is_covered}
+use Rattle.lrc_store.specs.Store.{unread, without_changes, added, stored_with, notice_with}
 use Rattle.lrc_wire.specs.Records.{IndexedChangesRecord}
 use Rattle.lrc_time.specs.Time.{entry}
 use Rattle.lrc_protocol.specs.Copy.{Copy, valid, written, invalid, absent, changes_of}
@@ -22,7 +23,8 @@ use Rattle.lrc_protocol.specs.Locks.{next_time}
 use Rattle.lrc_local.specs.Ranges.{IsWhole}
 use Rattle.lrc_local.specs.Sized.{AreInPage, IsSized}
 use Rattle.lrc_local.proofs.Lists.{All-chosen}
-use Rattle.lrc_local.proofs.Change.{View, Change, receives, manages, moves, puts, closes, learns, resumes, begins, cleans, discards, misses, mends, gets_changes, gets_page}
+use Rattle.lrc_local.proofs.Change.{View, Change, receives, manages, moves, puts, closes, learns, resumes, begins}
+use Rattle.lrc_local.proofs.Change.{cleans, discards, misses, mends, gets_changes, gets_page}
 use Rattle.lrc_local.proofs.Ranges.{clean-same}
 use Rattle.lrc_local.proofs.Whole.{Whole}
 

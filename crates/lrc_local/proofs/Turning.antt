@@ -12,15 +12,18 @@ use Rattle.lrc_store.specs.Interval.{IntervalRecord}
 use Rattle.lrc_wire.specs.Envelope.{EnvelopeRecord}
 use Rattle.lrc_wire.specs.Records.{ChangesReplyRecord, PageReplyRecord}
 use Rattle.lrc_wire.specs.declared.message.Message.{Message}
-use Rattle.lrc_wire.specs.declared.message.Message.TheVariants.{LockRequest, LockForward, LockGrant, Arrive, Depart, Clean, Discard, ChangesRequest, ChangesReply, PageRequest, PageReply}
+use Rattle.lrc_wire.specs.declared.message.Message.TheVariants.{LockRequest, LockForward, LockGrant, Arrive, Depart, Clean, Discard}
+use Rattle.lrc_wire.specs.declared.message.Message.TheVariants.{ChangesRequest, ChangesReply, PageRequest, PageReply}
 use Rattle.lrc_lock.specs.Held.{lock_at, is_free}
 use Rattle.lrc_lock.specs.Managed.{Requested, refuses as refuses_request, forwards, requested}
-use Rattle.lrc_barrier.specs.Barrier.{ManagerRecord, ArriveStep, refuses as refuses_arrival, waits, departs as all_depart, CleanStep, refuses_clean, awaits, discards as discards_all}
+use Rattle.lrc_barrier.specs.Barrier.{ManagerRecord, ArriveStep, refuses as refuses_arrival, waits}
+use Rattle.lrc_barrier.specs.Barrier.{departs as all_depart, CleanStep, refuses_clean, awaits, discards as discards_all}
 use Rattle.lrc_barrier.specs.declared.arrival.Arrival.{Arrival}
 use Rattle.lrc_protocol.specs.Copy.{is_readable}
 use Rattle.lrc_protocol.specs.Memory.{copy_at, base_at, with_word, with_interval, learned, with_keepers, collected_at}
 use Rattle.lrc_protocol.specs.Fetch.{Need, need_of, is_met, mended, with_changes, with_page}
-use Rattle.lrc_protocol.specs.Mail.{numbered, Letter, Wait, nothing, grant, departure, access, upkeep, discard, Collection, collection_of, needs_of, is_idle, awaits_grant, awaits_departure, MOST_NUMBER}
+use Rattle.lrc_protocol.specs.Mail.{numbered, Letter, Wait, nothing, grant, departure, access, upkeep, discard, Collection}
+use Rattle.lrc_protocol.specs.Mail.{collection_of, needs_of, is_idle, awaits_grant, awaits_departure, MOST_NUMBER}
 use Rattle.lrc_protocol.specs.Course.{Course, going, trapped, ended}
 use Rattle.lrc_protocol.specs.Locks.{next_time}
 use Rattle.lrc_protocol.specs.Barrier.{arrive_step, clean_step}
@@ -29,8 +32,10 @@ use Rattle.lrc_protocol.specs.Letters.{requests_of}
 use Rattle.lrc_protocol.specs.Waits.{waits_or_goes_on, with_needs, clean_memory}
 use Rattle.lrc_protocol.specs.Expected.{is_expected}
 use Rattle.lrc_protocol.specs.Run.{own_index, closes as closes_interval, reaches, acquire_at, release_at, arrive_at, run_effect, charged}
-use Rattle.lrc_protocol.specs.Take.{collects, take_departure, request_by, learns as learns_news, arrive_by, clean_by, discard_by, page_reply_by, take_effect, with_part}
-use Rattle.lrc_protocol.specs.Turn.{Outcome, done, not_ready, unexpected, worn, turn_with, turn_of, turn_if, turn_by, take_anew, taking, is_addressed, is_repeat, empty_turn}
+use Rattle.lrc_protocol.specs.Take.{collects, take_departure, request_by, learns as learns_news, arrive_by}
+use Rattle.lrc_protocol.specs.Take.{clean_by, discard_by, page_reply_by, take_effect, with_part}
+use Rattle.lrc_protocol.specs.Turn.{Outcome, done, not_ready, unexpected, worn, turn_with, turn_of, turn_if}
+use Rattle.lrc_protocol.specs.Turn.{turn_by, take_anew, taking, is_addressed, is_repeat, empty_turn}
 use Rattle.lrc_protocol.specs.Log.{Input, run, taken as taken_in, outcome_of}
 use Rattle.lrc_invariants.specs.Waiting.{next_in}
 use Rattle.lrc_invariants.proofs.TextHolds.{TextIs}
@@ -38,7 +43,11 @@ use Rattle.lrc_invariants.proofs.Sends.{Came, by_itself, comes}
 use Rattle.lrc_local.specs.Needs.{page_next}
 use Rattle.lrc_local.proofs.Managers.{Manages, arrival-manages, clean-manages}
 use Rattle.lrc_local.proofs.Words.{next-in_words, page-in_range}
-use Rattle.lrc_local.proofs.Change.{View, Walk, goes, News, Reply, Sent, view_of, pages_in, kept_in, needs_in, is_settled, is_open, news, reply, manages as manages_change, moves as moves_change, puts as puts_change, closes as closes_change, learns as learns_change, resumes as resumes_change, begins as begins_change, cleans as cleans_change, discards as discards_change, misses as misses_change, mends as mends_change, gets_changes as gets_changes_change, gets_page as gets_page_change}
+use Rattle.lrc_local.proofs.Change.{View, Walk, goes, News, Reply, Sent, view_of, pages_in, kept_in, needs_in, is_settled, is_open, news, reply}
+use Rattle.lrc_local.proofs.Change.{manages as manages_change, moves as moves_change, puts as puts_change, closes as closes_change}
+use Rattle.lrc_local.proofs.Change.{learns as learns_change, resumes as resumes_change, begins as begins_change, cleans as cleans_change}
+use Rattle.lrc_local.proofs.Change.{discards as discards_change, misses as misses_change, mends as mends_change, gets_changes as gets_changes_change}
+use Rattle.lrc_local.proofs.Change.{gets_page as gets_page_change}
 
 -- ---- words
 

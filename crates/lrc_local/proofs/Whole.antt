@@ -20,7 +20,8 @@ use Rattle.lrc_local.proofs.Ranges.{Ranged}
 use Rattle.lrc_local.proofs.Needs.{kept-below}
 use Rattle.lrc_local.proofs.Replies.{bases-copies, clean-readable}
 use Rattle.lrc_local.proofs.Needed.{Needed}
-use Rattle.lrc_local.proofs.Change.{View, pages_in, Change, receives, manages, moves, puts, closes, learns, resumes, begins, cleans, discards, misses, mends, gets_changes, gets_page}
+use Rattle.lrc_local.proofs.Change.{View, pages_in, Change, receives, manages, moves, puts, closes, learns, resumes}
+use Rattle.lrc_local.proofs.Change.{begins, cleans, discards, misses, mends, gets_changes, gets_page}
 
 -- ---- one copy
 

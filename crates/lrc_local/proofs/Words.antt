@@ -7,7 +7,8 @@ use Rattle.lrc_lang.specs.declared.program.Statement.{Statement}
 use Rattle.lrc_lang.specs.declared.program.Statement.TheVariants.{Assign, Read, Write, Acquire, Release, Barrier, Print, If', While'}
 use Rattle.lrc_trace.specs.declared.act.Cause.{Cause}
 use Rattle.lrc_trace.specs.declared.act.Cause.TheVariants.{WordOutOfRange, LockOutOfRange, LockHeld, LockNotHeld}
-use Rattle.lrc_exec.specs.Meaning.{Setting, Thread, Next, reads, writes, acquires, releases, departs, traps, or_trap, value_in, holds, then_holds, act_of, first_act, next_of}
+use Rattle.lrc_exec.specs.Meaning.{Setting, Thread, Next, reads, writes, acquires, releases, departs, traps}
+use Rattle.lrc_exec.specs.Meaning.{or_trap, value_in, holds, then_holds, act_of, first_act, next_of}
 use Rattle.lrc_page.specs.declared.size.Size.{Size}
 use Rattle.lrc_page.specs.declared.size.Size.TheVariants.{Words64, Words256}
 use Rattle.lrc_page.specs.Place.{page_of, pages_of}

@@ -1,5 +1,6 @@
 -- The tokens at one node: how they come, are held, kept and passed on.
-use Rattle.std.specs.Prelude.{◌≡◌, ℕ, ◌<◌, ◌≤◌, ◌==◌, Bool, true, false, List, All, length, map, slice_index_or, slice_set, if◌then◌else◌, Option, Some, None, Result, Ok, Err}
+use Rattle.std.specs.Prelude.{◌≡◌, ℕ, ◌<◌, ◌≤◌, ◌==◌, Bool, true, false, List, All, length, map, slice_index_or}
+use Rattle.std.specs.Prelude.{slice_set, if◌then◌else◌, Option, Some, None, Result, Ok, Err}
 use Rattle.std.specs.List.{range_with_len}
 use Rattle.lrc_time.specs.Time.{zeros}
 use Rattle.lrc_lock.specs.declared.fault.LockFault.{LockFault}

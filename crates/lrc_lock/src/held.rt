@@ -1,7 +1,8 @@
 // The tokens at one node.
 
 ghost use Rattle.std.specs.Prelude.{◌≡◌, ℕ, ◌<◌, ◌≤◌, List, IfOk, IfSome, IsTrue, is_ok, length};
-ghost use Rattle.lrc_lock.specs.Held.{first_held, lock_at, held_after, answer_of, grant_answer, pass_of, is_free, is_held, taken, asked, forwarded, granted, released, SamePlace};
+ghost use Rattle.lrc_lock.specs.Held.{first_held, lock_at, held_after, answer_of, grant_answer, pass_of, is_free};
+ghost use Rattle.lrc_lock.specs.Held.{is_held, taken, asked, forwarded, granted, released, SamePlace};
 ghost use Rattle.lrc_lock.specs.Lock.{IsPass};
 ghost use Rattle.lrc_lock.specs.declared.state.LockState.TheVariants.{Away};
 

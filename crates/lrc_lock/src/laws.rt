@@ -7,7 +7,8 @@ ghost use Rattle.lrc_lock.specs.declared.state.LockState.TheVariants.{Away, Awai
 ghost use Rattle.lrc_lock.specs.declared.state.LockState.{LockState};
 ghost use Rattle.lrc_lock.specs.Lock.{manager_of};
 ghost use Rattle.lrc_lock.specs.Managed.{ManagedRecord, requested, forwards};
-ghost use Rattle.lrc_lock.specs.Held.{HeldRecord, LockStep, stays, passes, pass_to, lock_at, held_after, first_held, has_token, taken, asked, forwarded, granted, released};
+ghost use Rattle.lrc_lock.specs.Held.{HeldRecord, LockStep, stays, passes, pass_to, lock_at, held_after, first_held};
+ghost use Rattle.lrc_lock.specs.Held.{has_token, taken, asked, forwarded, granted, released};
 
 /// At the start the token of each lock is at one node, the lock's manager.
 pub fn one_node_has_the_token_at_first()

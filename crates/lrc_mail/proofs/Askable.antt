@@ -77,7 +77,8 @@ missing-AreAskable store page since found sound missing =
           let a = get_or intervals i none in
           let b = get_or intervals j none in
           let same : a ≡ b =
-          one_place store a b sound ((part.exactly a).0 (Contains-get_or intervals i none i_in)).0 ((part.exactly b).0 (Contains-get_or intervals j none j_in)).0
+          one_place store a b sound ((part.exactly a).0 (Contains-get_or intervals i none i_in)).0
+          ((part.exactly b).0 (Contains-get_or intervals j none j_in)).0
           (ap (λ (key : Key). key.node) (sym (at i d i_in)) ∙ nodes ∙ ap (λ (key : Key). key.node) (at j d j_in))
           (ap (λ (key : Key). key.index) (sym (at i d i_in)) ∙ indices ∙ ap (λ (key : Key). key.index) (at j d j_in)) in
           let before : by_weight a b ≡ true = part.ascending i j none less j_in in

@@ -1,5 +1,6 @@
 -- What is asked of makers: indices are put in order, and makers with none are left out.
-use Rattle.std.proofs.Common.{⊎_elim, inl, inr, ◌≡◌, ◌≢◌, ℕ, zero, suc, ◌+◌, ◌<◌, ◌≤◌, true, List, [], ◌∷◌, ◌++◌, map, length, refl, sym, ap, ◌∙◌, subst, add-one, arith}
+use Rattle.std.proofs.Common.{⊎_elim, inl, inr, ◌≡◌, ◌≢◌, ℕ, zero, suc, ◌+◌, ◌<◌, ◌≤◌, true, List, [], ◌∷◌}
+use Rattle.std.proofs.Common.{◌++◌, map, length, refl, sym, ap, ◌∙◌, subst, add-one, arith}
 use Rattle.std.specs.Prelude.{◌==◌, nat_lt, slice_index_or, option_to_list, Option, Some, None, filter_map}
 use Rattle.std.specs.List.{All, AllPairs, filter, range_with_len, cons_option}
 use Rattle.std.specs.List.Sorted.{IsPermutation, IsSorted}
@@ -43,7 +44,8 @@ comparable keys maker are i j d less within =
     let b = slice_index_or (keys_by keys maker) j e in
     let by_a : a.node ≡ maker = eqb-true a.node maker (filter_passes (λ (key : Key). key.node == maker) keys i e i_in) in
     let by_b : b.node ≡ maker = eqb-true b.node maker (filter_passes (λ (key : Key). key.node == maker) keys j e j_in) in
-    let apart : a.index ≢ b.index = AllPairs-filter (λ (x y : Key). x.node ≡ y.node → x.index ≢ y.index) (λ (key : Key). key.node == maker) keys are.once i j e less j_in (by_a ∙ sym by_b) in
+    let apart : a.index ≢ b.index = AllPairs-filter (λ (x y : Key). x.node ≡ y.node → x.index ≢ y.index)
+    (λ (key : Key). key.node == maker) keys are.once i j e less j_in (by_a ∙ sym by_b) in
     let at_i : slice_index_or (listed keys maker) i d ≡ a.index = get_or-map (λ (key : Key). key.index) (keys_by keys maker) i e d i_in in
     let at_j : slice_index_or (listed keys maker) j d ≡ b.index = get_or-map (λ (key : Key). key.index) (keys_by keys maker) j e d j_in in
     ⊎_elim
@@ -71,7 +73,8 @@ pub sorted-AreIndices : (keys : List Key) (maker : ℕ) (sorted : List ℕ) → 
 sorted-AreIndices keys maker sorted are moved up = record {
   begun =
       All-permutation (λ index. 1 ≤ index) (listed keys maker) sorted moved
-      (All-map (λ index. 1 ≤ index) (λ (key : Key). key.index) (keys_by keys maker) (All-filter (λ key. key.node == maker) (λ key. 1 ≤ key.index) keys are.begun));
+      (All-map (λ index. 1 ≤ index) (λ (key : Key). key.index) (keys_by keys maker)
+      (All-filter (λ key. key.node == maker) (λ key. 1 ≤ key.index) keys are.begun));
   ascending = λ k within.
       ltb-true _ _ ((part keys maker sorted are moved up).ascending k (k + 1) 0 (omega arith) within);
 }
@@ -97,7 +100,8 @@ asked_of-more n keys =
 
 some : (maker : ℕ) (indices : List ℕ) → All (λ (a : Asked). 1 ≤ length a.indices) (option_to_list (some_asked maker indices))
 some maker [] = λ k d lt. absurd (omega (arith, lt))
-some maker (index ∷ indices) = All-cons (λ (a : Asked). 1 ≤ length a.indices) (record { maker = maker; indices = index ∷ indices }) [] (omega arith) (λ k d lt. absurd (omega (arith, lt)))
+some maker (index ∷ indices) = All-cons (λ (a : Asked). 1 ≤ length a.indices)
+    (record { maker = maker; indices = index ∷ indices }) [] (omega arith) (λ k d lt. absurd (omega (arith, lt)))
 
 pub asks-some : (maker : ℕ) (indices : List ℕ) (all : List Asked) → All (λ (a : Asked). 1 ≤ length a.indices) all
     → All (λ (a : Asked). 1 ≤ length a.indices) (all ++ option_to_list (some_asked maker indices))

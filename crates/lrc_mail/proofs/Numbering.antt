@@ -41,10 +41,13 @@ goes_on : (me first : ℕ) (sent : List ℕ) (out : List EnvelopeRecord) (letter
     ≡ behind (out ++ envelope_of me number letter ∷ []) (numbered me first (slice_set sent letter.to (slice_index sent letter.to + 1)) rest)
 goes_on me first sent out letter rest number false e = cc
 goes_on me first sent out letter rest number true e =
-    behind-more out (envelope_of me (first + slice_index sent letter.to) letter) (numbered me first (slice_set sent letter.to (slice_index sent letter.to + 1)) rest)
-    ∙ ap (λ n. behind (out ++ envelope_of me n letter ∷ []) (numbered me first (slice_set sent letter.to (slice_index sent letter.to + 1)) rest)) (same_Some _ _ e)
+    behind-more out (envelope_of me (first + slice_index sent letter.to) letter)
+    (numbered me first (slice_set sent letter.to (slice_index sent letter.to + 1)) rest)
+    ∙ ap (λ n. behind (out ++ envelope_of me n letter ∷ [])
+    (numbered me first (slice_set sent letter.to (slice_index sent letter.to + 1)) rest)) (same_Some _ _ e)
 
-pub continues : (me first : ℕ) (start : List ℕ) (all : List Letter) (sent after : List ℕ) (out : List EnvelopeRecord) (letter : Letter) (rest : List Letter) (number : ℕ)
+pub continues : (me first : ℕ) (start : List ℕ) (all : List Letter) (sent after : List ℕ) (out : List EnvelopeRecord)
+    (letter : Letter) (rest : List Letter) (number : ℕ)
     → Midway me first start all sent out (letter ∷ rest) → number_after first (slice_index sent letter.to) ≡ Some number
     → after ≡ slice_set sent letter.to (slice_index sent letter.to + 1) → AreCounts after
     → Midway me first start all after (out ++ envelope_of me number letter ∷ []) rest

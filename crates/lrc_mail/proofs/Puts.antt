@@ -27,7 +27,8 @@ placed-before n (span ∷ spans) are = by_range (span.last + 1 - span.first) ref
         → placed nat_lt n (range_with_len span.first k ++ numbers_of spans) ≡ n ∷ (range_with_len span.first k ++ numbers_of spans)
     by_range zero e = absurd (omega (arith, e, are.1))
     by_range (suc k) e =
-        ap (λ b. cond b (n ∷ span.first ∷ (range_with_len (span.first + 1) k ++ numbers_of spans)) (span.first ∷ placed nat_lt n (range_with_len (span.first + 1) k ++ numbers_of spans)))
+        ap (λ b. cond b (n ∷ span.first ∷ (range_with_len (span.first + 1) k ++ numbers_of spans))
+        (span.first ∷ placed nat_lt n (range_with_len (span.first + 1) k ++ numbers_of spans)))
         (lt-ltb n span.first (omega (arith, are.0)))
 
 -- ---- spans with one number more
@@ -137,7 +138,8 @@ all_clear n least (span ∷ spans) (suc i) are within before clear zero d from l
     let below : (slice_index_or spans 0 d).last < n = before 1 d (omega arith) (omega arith) in
     omega (arith, next, some, below)
 all_clear n least (span ∷ spans) (suc i) are within before clear (suc k) d from lt =
-    all_clear n (span.last + 2) spans i are.2 (omega (arith, within)) (λ k e from lt. before (suc k) e (omega arith) (omega (arith, lt))) clear k d (omega arith) (omega (arith, lt))
+    all_clear n (span.last + 2) spans i are.2 (omega (arith, within))
+    (λ k e from lt. before (suc k) e (omega arith) (omega (arith, lt))) clear k d (omega arith) (omega (arith, lt))
 
 pub inserted : (n least : ℕ) (spans : List Span) (i : ℕ) → AreSpansFrom least spans → least ≤ n → AllWithin (λ span. span.last + 1 < n) spans 0 i
     → IsClear n spans i → i ≤ length spans → Puts n least spans (insert spans i (record { first = n; last = n }))

@@ -122,4 +122,5 @@ above_place n least (span ∷ spans) zero are from not (suc k) d le lt =
     above_first n least span spans are (from zero span (omega arith) (omega arith)) k d (omega (arith, lt))
 above_place n least (span ∷ spans) (suc i) are from not zero d le lt = absurd (omega (arith, le))
 above_place n least (span ∷ spans) (suc i) are from not (suc k) d le lt =
-    above_place n (span.last + 2) spans i are.2 (λ k e le lt. from (suc k) e (omega (arith, le)) (omega (arith, lt))) not k d (omega (arith, le)) (omega (arith, lt))
+    above_place n (span.last + 2) spans i are.2 (λ k e le lt. from (suc k) e (omega (arith, le)) (omega (arith, lt))) not k d
+    (omega (arith, le)) (omega (arith, lt))

@@ -27,7 +27,8 @@ module _ (kept : Kept) (key : Key) (wanted : notice_at (seen kept).store key ≡
   bare : (o key ≡ None) × (notice_at kept.store key ≡ Some (unread key.page))
   bare = by_notice (notice_at kept.store key) refl (o key) refl (sym (notice_at-over o kept.store key) ∙ wanted)
     where
-      by_notice : (found : Option NoticeRecord) → notice_at kept.store key ≡ found → (other : Option (List Change)) → unmade kept.me kept.named kept.table key ≡ other
+      by_notice : (found : Option NoticeRecord) → notice_at kept.store key ≡ found → (other : Option (List Change))
+          → unmade kept.me kept.named kept.table key ≡ other
           → option_map (notice_seen (unmade kept.me kept.named kept.table) key) (notice_at kept.store key) ≡ Some (unread key.page)
           → (unmade kept.me kept.named kept.table key ≡ None) × (notice_at kept.store key ≡ Some (unread key.page))
       by_notice None none other is shown =
@@ -43,7 +44,8 @@ module _ (kept : Kept) (key : Key) (wanted : notice_at (seen kept).store key ≡
           notice_or None = n
           notice_or (Some m) = m
 
-          by_changes : (n : NoticeRecord) → notice_at kept.store key ≡ Some n → (other : Option (List Change)) → unmade kept.me kept.named kept.table key ≡ other
+          by_changes : (n : NoticeRecord) → notice_at kept.store key ≡ Some n → (other : Option (List Change))
+              → unmade kept.me kept.named kept.table key ≡ other
               → (own : Option (List Change)) → n.changes ≡ own
               → record n { changes = option_or (unmade kept.me kept.named kept.table key) n.changes } ≡ unread key.page
               → (unmade kept.me kept.named kept.table key ≡ None) × (notice_at kept.store key ≡ Some (unread key.page))

@@ -1,5 +1,6 @@
 -- What a close does to what is seen.
-use Rattle.std.proofs.Common.{◌≡◌, ◌∙◌, ℕ, ◌+◌, ◌<◌, ◌≤◌, ⊎_elim, Bool, true, false, not, cond, eqb, eqb-true, ◌&&◌, Option, Some, None, List, [], ◌∷◌, ◌++◌, map, length, get_or, set, refl, ap, sym, subst, arith}
+use Rattle.std.proofs.Common.{◌≡◌, ◌∙◌, ℕ, ◌+◌, ◌<◌, ◌≤◌, ⊎_elim, Bool, true, false, not, cond, eqb, eqb-true, ◌&&◌, Option, Some}
+use Rattle.std.proofs.Common.{None, List, [], ◌∷◌, ◌++◌, map, length, get_or, set, refl, ap, sym, subst, arith}
 use Rattle.std.specs.Prelude.{All, Contains, fold, filter, filter_map, unwrap_or, IsSome, Result, Ok, Err, OnOk, OnErr, is_err}
 use Rattle.std.specs.List.{range_with_len, enumerate_from, cons_option}
 use Rattle.std.specs.Option.{ForSome, option_and_then, option_map, option_or}
@@ -14,7 +15,8 @@ use Rattle.lrc_page.specs.Page.{words_of}
 use Rattle.lrc_page.specs.Changes.{changes_between}
 use Rattle.lrc_store.specs.declared.key.Key.{Key}
 use Rattle.lrc_store.specs.Interval.{IntervalRecord, index_of}
-use Rattle.lrc_store.specs.Store.{NoticeRecord, StoredRecord, StoreRecord, IsStore, interval_of, intervals_of, is_at, notice_at, notice_of, notice_with, stored_with, added, unread, without_changes}
+use Rattle.lrc_store.specs.Store.{NoticeRecord, StoredRecord, StoreRecord, IsStore, interval_of, intervals_of, is_at}
+use Rattle.lrc_store.specs.Store.{notice_at, notice_of, notice_with, stored_with, added, unread, without_changes}
 use Rattle.lrc_store.proofs.Lookups.{notice_at-added, stored_at-added_other}
 use Rattle.lrc_store.proofs.Orders.{Contains-first, Contains-later, cases_Contains, none_Contains}
 use Rattle.lrc_store.proofs.Records.{notice_with-same, notice_with-other}
@@ -28,7 +30,8 @@ use Rattle.lrc_table.proofs.Tables.{contains-written}
 use Rattle.lrc_protocol.specs.Copy as copy
 use Rattle.lrc_protocol.specs.Copy.{Copy, absent}
 use Rattle.lrc_protocol.specs.Memory.{all_changes, closed_interval, with_own, with_interval}
-use Rattle.lrc_memory.specs.View.{Kept, NodeMemory, AreSized, IsKept, seen, node_seen, seen_in, seen_copy, unmade, notice_over, stored_over, store_over, with_memory}
+use Rattle.lrc_memory.specs.View.{Kept, NodeMemory, AreSized, IsKept, seen, node_seen, seen_in, seen_copy}
+use Rattle.lrc_memory.specs.View.{unmade, notice_over, stored_over, store_over, with_memory}
 use Rattle.lrc_memory.proofs.Overlays.{map-alike, map-both, map-append, is_at-over, stored-over_new}
 use Rattle.lrc_memory.proofs.InStep.{all-added}
 use Rattle.lrc_memory.proofs.Discards.{counted}
@@ -99,7 +102,8 @@ module _ (given : ℕ → List Change) where
   turn-stays q [] = refl
   turn-stays q (p ∷ ps) = ap (λ n. fold turn n ps) (by_test (eqb q p) refl) ∙ turn-stays q ps
     where
-      by_test : (b : Bool) → eqb q p ≡ b → notice_with p (given p) (record { page = q; changes = Some (given q) }) ≡ record { page = q; changes = Some (given q) }
+      by_test : (b : Bool) → eqb q p ≡ b → notice_with p (given p) (record { page = q; changes = Some (given q) }) ≡
+          record { page = q; changes = Some (given q) }
       by_test true same =
           notice_with-same p (given p) (record { page = q; changes = Some (given q) }) same
           ∙ ap (λ p. record { page = p; changes = Some (given p) }) (sym (eqb-true _ _ same))
@@ -284,14 +288,16 @@ module _ (kept : Kept) (stamp : List ℕ) where
       let facts = (contains-written kept.table page).0 there in
       let copy = copy_at kept.table page in
       let written : copy.state ≡ Written = is_written-says copy.state facts.1 in
-      ap (λ b. cond (b && eqb (get_or (closed_at kept stamp).named page 0) (entry stamp kept.me)) (pending_changes (copy_at (with_each kept.table closed) page)) None)
+      ap (λ b. cond (b && eqb (get_or (closed_at kept stamp).named page 0) (entry stamp kept.me))
+      (pending_changes (copy_at (with_each kept.table closed) page)) None)
       (eq-eqb kept.me kept.me refl)
       ∙ ap (λ b. cond b (pending_changes (copy_at (with_each kept.table closed) page)) None)
       (eq-eqb _ _ (named-here (entry stamp kept.me) (written_pages kept.table) kept.named page (omega (arith, is.named, facts.0)) there))
       ∙ ap pending_changes (each page)
       ∙ by_twin copy.twin refl written (whole-twin kept.table.size copy (whole page (fresh []) facts.0) written)
     where
-      by_twin : (found : Option (List ℕ)) → (copy_at kept.table page).twin ≡ found → (copy_at kept.table page).state ≡ Written → IsSome (copy_at kept.table page).twin
+      by_twin : (found : Option (List ℕ)) → (copy_at kept.table page).twin ≡ found → (copy_at kept.table page).state ≡ Written
+          → IsSome (copy_at kept.table page).twin
           → pending_changes (closed (copy_at kept.table page)) ≡ Some (made kept.table page)
       by_twin None none written some = let no : IsSome {T = List ℕ} None = subst (λ (t : Option (List ℕ)). IsSome t) none some in absurd (cc)
       by_twin (Some twin) found written some =
@@ -299,7 +305,8 @@ module _ (kept : Kept) (stamp : List ℕ) where
           ∙ ap (λ (t : Option (List ℕ)). Some (changes_between (unwrap_or t []) (copy_at kept.table page).values)) (sym found)
 
   -- entries from before are not of the closed interval
-  old-entries : IsKept kept → entry stamp kept.me ≡ entry kept.store.last kept.me + 1 → All (λ e. is_at kept.me (entry stamp kept.me) e ≡ false) kept.store.entries
+  old-entries : IsKept kept → entry stamp kept.me ≡ entry kept.store.last kept.me + 1
+      → All (λ e. is_at kept.me (entry stamp kept.me) e ≡ false) kept.store.entries
   old-entries is next k d within =
       let there = get_or kept.store.entries k d in
       false_from_ne_true _
@@ -366,7 +373,8 @@ module _ (kept : Kept) (stamp : List ℕ) where
       ∙ sym (fold-own (made kept.table) (added kept.store (interval_at kept stamp)) kept.me index es (without_changes (interval_at kept stamp)) w apart
       (and_from _ _ (eq-eqb kept.me kept.me refl) (eq-eqb index index refl)))
       ∙ ap (fold (with_own kept.me index) (added (seen kept).store (interval_at kept stamp))) (sym changes)
-      ∙ ap (λ ps. fold (with_own kept.me index) (added (seen kept).store (record { node = kept.me; stamp = stamp; pages = ps })) (all_changes (seen kept))) (sym pages)
+      ∙ ap (λ ps. fold (with_own kept.me index) (added (seen kept).store (record { node = kept.me; stamp = stamp; pages = ps }))
+      (all_changes (seen kept))) (sym pages)
     where
       same : (w : List ℕ) → map (λ p. p) w ≡ w
       same [] = refl
@@ -377,7 +385,8 @@ module _ (kept : Kept) (stamp : List ℕ) where
       ap (λ (c : PageCopy). seen_in c.state (get_or kept.since page []) c) (each page) ∙ by_state (copy_at kept.table page).state
     where
       by_state : (state : State)
-          → seen_in (closed (record (copy_at kept.table page) { state = state })).state (get_or kept.since page []) (closed (record (copy_at kept.table page) { state = state }))
+          → seen_in (closed (record (copy_at kept.table page) { state = state })).state (get_or kept.since page [])
+          (closed (record (copy_at kept.table page) { state = state }))
           ≡ copy.closed (seen_in state (get_or kept.since page []) (copy_at kept.table page))
       by_state Valid = refl
       by_state Written = refl
@@ -404,12 +413,14 @@ module _ (kept : Kept) (stamp : List ℕ) where
       ∙ map-alike (seen_copy now kept.since) (λ p. copy.closed (seen_copy kept.table kept.since p)) (range_with_len 0 count) copies-closed
       ∙ sym (map-both (seen_copy kept.table kept.since) copy.closed (range_with_len 0 count)) in
       ap (λ s. with_memory (node_seen kept) (record (seen (closed_at kept stamp)) { store = s })) (store-closed sound whole next)
-      ∙ ap (λ cs. with_memory (node_seen kept) (record (seen (closed_at kept stamp)) { store = (with_interval kept.me stamp (seen kept)).store; copies = cs })) copies
+      ∙ ap (λ cs. with_memory (node_seen kept)
+      (record (seen (closed_at kept stamp)) { store = (with_interval kept.me stamp (seen kept)).store; copies = cs })) copies
       ∙ ap (λ bs. with_memory (node_seen kept) (record (with_interval kept.me stamp (seen kept)) { bases = bs })) bases-closed
       ∙ ap (λ (n : NodeMemory). with_memory n (with_interval n.me stamp n.memory)) is
 
   pub unsized : (ps : List ℕ) → All (λ (n : NoticeRecord). ForSome n.changes (λ cs. All (λ c. c.offset < words_of kept.table.size) cs)) (map unread ps)
-  unsized ps = All-map (λ (n : NoticeRecord). ForSome n.changes (λ cs. All (λ c. c.offset < words_of kept.table.size) cs)) unread ps (λ k d within cs is. absurd (cc))
+  unsized ps = All-map (λ (n : NoticeRecord). ForSome n.changes (λ cs. All (λ c. c.offset < words_of kept.table.size) cs)) unread
+      ps (λ k d within cs is. absurd (cc))
 
   pub no_later : IsKept kept → (page : ℕ) → get_or kept.named page 0 ≤ entry kept.store.last kept.me
   no_later is page =
@@ -460,8 +471,10 @@ module _ (kept : Kept) (stamp : List ℕ) where
         times = All-weaker (λ (t : List ℕ). length t ≡ length kept.store.last) (λ (t : List ℕ). length t ≡ length (set kept.store.last kept.me index))
             (λ t h. h ∙ sym last) kept.since is.times;
         collected = is.collected ∙ sym last;
-        keeping = All-weaker (λ k. k < length kept.store.last) (λ k. k < length (set kept.store.last kept.me index)) (λ k h. omega (arith, last, h)) kept.keepers is.keeping;
-        makers = subst (All (λ (i : IntervalRecord). i.node < length (set kept.store.last kept.me index))) (sym (intervals_of-added kept.store (interval_at kept stamp)))
+        keeping = All-weaker (λ k. k < length kept.store.last) (λ k. k < length (set kept.store.last kept.me index))
+            (λ k h. omega (arith, last, h)) kept.keepers is.keeping;
+        makers = subst (All (λ (i : IntervalRecord). i.node < length (set kept.store.last kept.me index)))
+            (sym (intervals_of-added kept.store (interval_at kept stamp)))
             (All-push (λ (i : IntervalRecord). i.node < length (set kept.store.last kept.me index)) (intervals_of kept.store) (interval_at kept stamp)
             (All-weaker (λ (i : IntervalRecord). i.node < length kept.store.last) (λ (i : IntervalRecord). i.node < length (set kept.store.last kept.me index))
             (λ i h. omega (arith, last, h)) (intervals_of kept.store) is.makers)

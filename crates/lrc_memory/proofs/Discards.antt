@@ -1,12 +1,14 @@
 -- What a collection does to what is seen.
-use Rattle.std.proofs.Common.{◌≡◌, ◌≢◌, ◌∙◌, ℕ, suc, ◌<◌, ◌≤◌, ⊎_elim, Bool, true, false, not, cond, eqb, ◌&&◌, Option, Some, None, List, [], ◌∷◌, map, length, get_or, refl, ap, sym, subst, arith}
+use Rattle.std.proofs.Common.{◌≡◌, ◌≢◌, ◌∙◌, ℕ, suc, ◌<◌, ◌≤◌, ⊎_elim, Bool, true, false, not, cond, eqb, ◌&&◌, Option}
+use Rattle.std.proofs.Common.{Some, None, List, [], ◌∷◌, map, length, get_or, refl, ap, sym, subst, arith}
 use Rattle.std.specs.Prelude.{All, IsTrue, filter, nat_le}
 use Rattle.std.specs.List.{range_with_len, enumerate_from}
 use Rattle.std.specs.Option.{option_or}
 use Rattle.std.proofs.lemmas.Bool.{cases_lt, true≢false, ne_eqb, le-leb}
 use Rattle.std.proofs.lemmas.List.{ext_get_or, length-map, get_or-map, get_or_past}
 use Rattle.std.proofs.lemmas.List.Elements.{All-filter, filter_passes}
-use Rattle.std.proofs.lemmas.List.FromFn.{get_or-map-range_with_len, length-map-range_with_len, get_or-enumerate_from, length-enumerate_from, get_or-range_with_len, length-range_with_len}
+use Rattle.std.proofs.lemmas.List.FromFn.{get_or-map-range_with_len, length-map-range_with_len, get_or-enumerate_from}
+use Rattle.std.proofs.lemmas.List.FromFn.{length-enumerate_from, get_or-range_with_len, length-range_with_len}
 use Rattle.lrc_time.specs.Time.{entry}
 use Rattle.lrc_page.specs.declared.changes.Change.{Change}
 use Rattle.lrc_store.specs.declared.key.Key.{Key}
@@ -19,7 +21,8 @@ use Rattle.lrc_table.specs.PageCopy.{PageCopy, fresh, pending_changes, without_t
 use Rattle.lrc_table.specs.Table.{Table, copy_at, with_each}
 use Rattle.lrc_protocol.specs.Copy as copy
 use Rattle.lrc_protocol.specs.Memory as memory
-use Rattle.lrc_memory.specs.View.{Kept, NodeMemory, AreSized, IsKept, SameMemory, seen, node_seen, seen_in, seen_copy, unmade, notice_over, stored_over, store_over, with_memory}
+use Rattle.lrc_memory.specs.View.{Kept, NodeMemory, AreSized, IsKept, SameMemory, seen, node_seen, seen_in}
+use Rattle.lrc_memory.specs.View.{seen_copy, unmade, notice_over, stored_over, store_over, with_memory}
 use Rattle.lrc_memory.specs.Steps.{kept_base, without_bases}
 use Rattle.lrc_memory.specs.Turns.{IsClosed}
 use Rattle.lrc_memory.proofs.Overlays.{map-both, over-discarded}
@@ -89,7 +92,8 @@ module _ (kept : Kept) where
       → copy_at (swept kept) page ≡ cond (eqb (get_or kept.keepers page 0) kept.me) (clean page) (without_base (clean page))
   swept-at page within =
       let t = with_each (with_each kept.table without_twin) dropped in
-      let long : length t.copies ≡ length kept.table.copies = length-map (with_each kept.table without_twin).copies dropped ∙ length-map kept.table.copies without_twin in
+      let long : length t.copies ≡ length kept.table.copies = length-map (with_each kept.table without_twin).copies dropped
+      ∙ length-map kept.table.copies without_twin in
       get_or-map-range_with_len (kept_base kept.me kept.keepers t) 0 (length t.copies) page page (fresh []) (omega (arith, long, within)) (omega arith)
       ∙ ap (λ c. cond (eqb (get_or kept.keepers page 0) kept.me) c (without_base c)) (cleaned page within)
 
@@ -208,7 +212,8 @@ module _ (kept : Kept) (time : List ℕ) where
       All-filter test (λ (s : StoredRecord). index_of (interval_of s) ≤ entry kept.store.last s.node) kept.store.entries (counted kept sound) k d within in
       let at : entry kept.store.last there.node ≡ entry kept.store.last kept.me = ap (entry kept.store.last) mine in
       let mine_too : entry time there.node ≡ entry time kept.me = ap (entry time) mine in
-      let known : is_covered time (interval_of there) ≡ true = le-test (index_of (interval_of there)) (entry time there.node) (omega (arith, below, at, mine_too, own)) in
+      let known : is_covered time (interval_of there) ≡ true = le-test (index_of (interval_of there)) (entry time there.node)
+      (omega (arith, below, at, mine_too, own)) in
       true≢false (sym passes ∙ ap not known)
     where
       le-test : (a b : ℕ) → a ≤ b → nat_le a b ≡ true
@@ -221,7 +226,8 @@ module _ (kept : Kept) (time : List ℕ) where
       ∙ ap (λ (entries : List StoredRecord). record kept.store { entries = entries })
       (over-nothing (unmade kept.me kept.named kept.table) (discarded kept.store time).entries
       (λ k d within page.
-      ap (λ b. cond (b && eqb (get_or kept.named page 0) (index_of (interval_of (get_or (discarded kept.store time).entries k d)))) (pending_changes (copy_at kept.table page)) None)
+      ap (λ b. cond (b && eqb (get_or kept.named page 0)
+      (index_of (interval_of (get_or (discarded kept.store time).entries k d)))) (pending_changes (copy_at kept.table page)) None)
       (ne_eqb (get_or (discarded kept.store time).entries k d).node kept.me (others sound own k d within))))
 
 -- ---- the whole
@@ -241,7 +247,8 @@ kept-collected kept time now is long last = record {
   collected = long;
   keeping = is.keeping;
   makers = subst (All (λ (i : IntervalRecord). i.node < length kept.store.last)) (sym (intervals_of-discarded kept.store time))
-      (All-filter (λ (i : IntervalRecord). not (is_covered time i)) (λ (i : IntervalRecord). i.node < length kept.store.last) (intervals_of kept.store) is.makers);
+      (All-filter (λ (i : IntervalRecord). not (is_covered time i)) (λ (i : IntervalRecord). i.node < length kept.store.last)
+      (intervals_of kept.store) is.makers);
   passed = is.passed;
   in_step = in_step-collected kept.store kept.collected time kept.since kept.in_step now is.in_step
       (λ now. was-now kept.store time is.store (last now));
@@ -276,7 +283,8 @@ seen-collected kept n time in_step is sound closed own =
     ∙ sym (map-both (seen_copy kept.table kept.since) copy.dropped (range_with_len 0 count)) in
     ap (λ s. with_memory (node_seen kept) (record (seen after) { store = s })) store
     ∙ ap (λ cs. with_memory (node_seen kept) (record (seen after) { store = discarded (seen kept).store time; copies = cs })) copies
-    ∙ ap (λ bs. with_memory (node_seen kept) (record (seen after) { store = discarded (seen kept).store time; copies = map copy.dropped (seen kept).copies; bases = bs }))
+    ∙ ap (λ bs. with_memory (node_seen kept)
+    (record (seen after) { store = discarded (seen kept).store time; copies = map copy.dropped (seen kept).copies; bases = bs }))
     (bases-swept kept)
     ∙ ap (λ (n : NodeMemory). with_memory n (memory.collected_at n.me time n.memory)) is
   where

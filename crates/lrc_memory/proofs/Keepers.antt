@@ -1,5 +1,6 @@
 -- Which pages were named.
-use Rattle.std.proofs.Common.{◌≡◌, ◌∙◌, ℕ, suc, ◌+◌, ◌-◌, ◌<◌, Bool, true, false, cond, eqb, ◌&&◌, ◌||◌, Option, Some, None, List, [], ◌∷◌, ◌++◌, map, length, get_or, refl, ap, sym, arith}
+use Rattle.std.proofs.Common.{◌≡◌, ◌∙◌, ℕ, suc, ◌+◌, ◌-◌, ◌<◌, Bool, true, false, cond, eqb, ◌&&◌, ◌||◌, Option, Some}
+use Rattle.std.proofs.Common.{None, List, [], ◌∷◌, ◌++◌, map, length, get_or, refl, ap, sym, arith}
 use Rattle.std.specs.Prelude.{All, filter, flat_map, is_some}
 use Rattle.std.specs.List.{list_any, range_with_len}
 use Rattle.std.specs.Option.{ForSome, option_or}
@@ -47,7 +48,8 @@ noted-named : (page : ℕ) (intervals : List IntervalRecord)
     → list_any (λ other. eqb other page) (map (λ (key : Key). key.page) (flat_map keys_of intervals)) ≡ is_named intervals page
 noted-named page [] = refl
 noted-named page (i ∷ is) =
-    ap (list_any (λ other. eqb other page)) (map-joined (keys_of i) (flat_map keys_of is) ∙ ap (λ l. l ++ map (λ (key : Key). key.page) (flat_map keys_of is)) (pages-of i i.pages))
+    ap (list_any (λ other. eqb other page))
+    (map-joined (keys_of i) (flat_map keys_of is) ∙ ap (λ l. l ++ map (λ (key : Key). key.page) (flat_map keys_of is)) (pages-of i i.pages))
     ∙ any-append (λ other. eqb other page) i.pages (map (λ (key : Key). key.page) (flat_map keys_of is))
     ∙ ap (λ rest. list_any (λ other. eqb other page) i.pages || rest) (noted-named page is)
 

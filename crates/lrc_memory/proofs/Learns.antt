@@ -1,5 +1,6 @@
 -- What a node learns, interval by interval.
-use Rattle.std.proofs.Common.{◌≡◌, ◌≢◌, ◌∙◌, ℕ, suc, ◌+◌, ◌<◌, ◌≤◌, ⊎_elim, Bool, true, false, not, ◌&&◌, cond, eqb, eqb-true, ◌||◌, Option, Some, None, List, [], ◌∷◌, map, length, get_or, set, drop, refl, ap, sym, subst, arith}
+use Rattle.std.proofs.Common.{◌≡◌, ◌≢◌, ◌∙◌, ℕ, suc, ◌+◌, ◌<◌, ◌≤◌, ⊎_elim, Bool, true, false, not, ◌&&◌, cond, eqb, eqb-true, ◌||◌, Option}
+use Rattle.std.proofs.Common.{Some, None, List, [], ◌∷◌, map, length, get_or, set, drop, refl, ap, sym, subst, arith}
 use Rattle.std.specs.Prelude.{All, IsTrue, fold, filter}
 use Rattle.std.specs.List.{range_with_len, enumerate_from, list_any}
 use Rattle.std.specs.Option.{ForSome, option_and_then}
@@ -26,7 +27,8 @@ use Rattle.lrc_protocol.specs.Copy.{Copy, absent}
 use Rattle.lrc_protocol.specs.Memory.{Memory, learned, is_named}
 use Rattle.lrc_protocol.specs.Memory as memory
 use Rattle.lrc_protocol.specs.Expected.{indices_by}
-use Rattle.lrc_memory.specs.View.{Kept, NodeMemory, AreSized, IsKept, SameMemory, WasLast, seen, node_seen, seen_in, seen_copy, settled_store, unmade, store_over, with_memory}
+use Rattle.lrc_memory.specs.View.{Kept, NodeMemory, AreSized, IsKept, SameMemory, WasLast, seen, node_seen}
+use Rattle.lrc_memory.specs.View.{seen_in, seen_copy, settled_store, unmade, store_over, with_memory}
 use Rattle.lrc_memory.specs.Turns.{CanBeAdded, IsInRange}
 use Rattle.lrc_memory.specs.Steps.{invalidated_on, learned_one}
 use Rattle.lrc_memory.proofs.Overlays.{over-alike, over-added}
@@ -140,7 +142,8 @@ state-settled Written values twin base = refl
 state-settled Invalid values twin base = refl
 state-settled Absent values twin base = refl
 
-module _ (kept : Kept) (page : ℕ) (before : List ℕ) (in_step : Bool) (within : page < length kept.table.copies) (valid : (copy_at kept.table page).state ≡ Valid) where
+module _ (kept : Kept) (page : ℕ) (before : List ℕ) (in_step : Bool) (within : page < length kept.table.copies)
+    (valid : (copy_at kept.table page).state ≡ Valid) where
   invalid-copy : page_copy.invalidated (copy_at kept.table page) ≡ record (copy_at kept.table page) { state = Invalid }
   invalid-copy = ap (λ s. cond (page_copy.is_valid s) (record (copy_at kept.table page) { state = Invalid }) (copy_at kept.table page)) valid
 
@@ -200,7 +203,8 @@ module _ (kept : Kept) (page : ℕ) (before : List ℕ) (in_step : Bool) (within
 module _ (kept : Kept) (page : ℕ) (before copied named : List ℕ) (in_step : Bool) (store : StoreRecord) (mid table : Table)
     (within : page < length kept.table.copies) (valid : (copy_at kept.table page).state ≡ Valid) (named_is : named ≡ kept.named)
     (mid_is : mid ≡ with_copy kept.table page (settled (copy_at kept.table page)))
-    (store_is : store ≡ settled_store kept.store (record { node = kept.me; index = get_or named page 0; page = page }) (pending_changes (copy_at kept.table page)))
+    (store_is : store ≡ settled_store kept.store (record { node = kept.me; index = get_or named page 0; page = page })
+    (pending_changes (copy_at kept.table page)))
     (table_is : table ≡ with_copy mid page (page_copy.invalidated (copy_at mid page))) (copied_is : copied ≡ before) where
   abbrev first : Kept
   first = settled_at kept page
@@ -218,7 +222,13 @@ module _ (kept : Kept) (page : ℕ) (before copied named : List ℕ) (in_step : 
   done-invalid =
       let parts = after-settle kept page named store mid named_is mid_is store_is in
       ap (λ (t : Table). record kept { store = store; table = t; since = set kept.since page copied; in_step = in_step }) table_is
-      ∙ ap (λ (t : List ℕ). record kept { store = store; table = with_copy mid page (page_copy.invalidated (copy_at mid page)); since = set kept.since page t; in_step = in_step }) copied_is
+      ∙ ap (λ (t : List ℕ). record kept {
+        store = store;
+        table = with_copy mid page
+            (page_copy.invalidated (copy_at mid page));
+        since = set kept.since page t;
+        in_step = in_step;
+      }) copied_is
       ∙ ap (λ (k : Kept). invalid_at k page before in_step) parts
 
   pub kept-done : IsKept kept → ForSome (pending_changes (copy_at kept.table page)) (λ changes. All (λ c. c.offset < words_of kept.table.size) changes)
@@ -241,7 +251,8 @@ module _ (kept : Kept) (page : ℕ) (before copied named : List ℕ) (in_step : 
   seen-done is fit n seen_is =
       ap node_seen done-invalid
       ∙ seen-invalid first page before in_step first-within first-valid (kept-settled kept page within is fit) (nothing-settled kept page 0 0 within)
-      ∙ ap (λ (n : NodeMemory). with_memory n (record n.memory { copies = invalidated_on before n.memory.copies page })) (seen-settled kept page within ∙ seen_is)
+      ∙ ap (λ (n : NodeMemory). with_memory n (record n.memory { copies = invalidated_on before n.memory.copies page }))
+      (seen-settled kept page within ∙ seen_is)
 
 -- a copy that is not valid stays
 pub stays-seen : (kept : Kept) (n : NodeMemory) (page : ℕ) (before : List ℕ) → node_seen kept ≡ n → page < length kept.table.copies
@@ -255,7 +266,8 @@ stays-seen kept n page before is within not =
     ∙ ap (λ cs. with_memory n (record n.memory { copies = cs })) (set-get_or n.memory.copies page absent))
   where
     by_state : (state : State) → state ≢ Valid
-        → copy.invalidated before (seen_in state (get_or kept.since page []) (copy_at kept.table page)) ≡ seen_in state (get_or kept.since page []) (copy_at kept.table page)
+        → copy.invalidated before (seen_in state (get_or kept.since page []) (copy_at kept.table page)) ≡ seen_in state
+        (get_or kept.since page []) (copy_at kept.table page)
     by_state Valid not = absurd (not refl)
     by_state Written not = refl
     by_state Invalid not = refl
@@ -304,7 +316,8 @@ module _ (kept : Kept) (interval : IntervalRecord) (is : IsKept kept) (next : in
         named = is.named;
         keepers = is.keepers;
         me = omega (arith, last, is.me);
-        times = All-weaker (λ (t : List ℕ). length t ≡ length kept.store.last) (λ (t : List ℕ). length t ≡ length now) (λ t h. h ∙ sym last) kept.since is.times;
+        times = All-weaker (λ (t : List ℕ). length t ≡ length kept.store.last) (λ (t : List ℕ). length t ≡ length now)
+            (λ t h. h ∙ sym last) kept.since is.times;
         collected = is.collected ∙ sym last;
         keeping = All-weaker (λ k. k < length kept.store.last) (λ k. k < length now) (λ k h. omega (arith, last, h)) kept.keepers is.keeping;
         makers = subst (All (λ (i : IntervalRecord). i.node < length now)) (sym (intervals_of-added kept.store interval))
@@ -323,10 +336,12 @@ module _ (kept : Kept) (interval : IntervalRecord) (is : IsKept kept) (next : in
 
 -- ---- one after another
 
-indices-more : (i : IntervalRecord) (is : List IntervalRecord) (q : ℕ) → indices_by (i ∷ is) q ≡ cond (eqb i.node q) (index_of i ∷ indices_by is q) (indices_by is q)
+indices-more : (i : IntervalRecord) (is : List IntervalRecord) (q : ℕ)
+    → indices_by (i ∷ is) q ≡ cond (eqb i.node q) (index_of i ∷ indices_by is q) (indices_by is q)
 indices-more i is q = either (eqb i.node q)
   where
-    either : (b : Bool) → map index_of (cond b (i ∷ filter (λ (interval : IntervalRecord). eqb interval.node q) is) (filter (λ (interval : IntervalRecord). eqb interval.node q) is))
+    either : (b : Bool) → map index_of (cond b (i ∷ filter (λ (interval : IntervalRecord). eqb interval.node q) is)
+        (filter (λ (interval : IntervalRecord). eqb interval.node q) is))
         ≡ cond b (index_of i ∷ indices_by is q) (indices_by is q)
     either true = refl
     either false = refl
@@ -416,7 +431,8 @@ module _ (kept : Kept) (page : ℕ) (mid : Table) (within : page < length kept.t
       ∙ ap page_copy.is_pending (copy_at-with_copy kept.table page (settled (copy_at kept.table page)) within)
       ∙ quiet-settled (copy_at kept.table page)
 
-pub in_range-seen : (kept : Kept) (n : NodeMemory) (interval : IntervalRecord) → node_seen kept ≡ n → IsInRange n.memory.store interval → IsInRange kept.store interval
+pub in_range-seen : (kept : Kept) (n : NodeMemory) (interval : IntervalRecord) → node_seen kept ≡ n
+    → IsInRange n.memory.store interval → IsInRange kept.store interval
 in_range-seen kept n interval is range = record {
   node = omega (arith, range.node, ap (λ (n : NodeMemory). length n.memory.store.last) is);
   stamp = range.stamp ∙ sym (ap (λ (n : NodeMemory). length n.memory.store.last) is);

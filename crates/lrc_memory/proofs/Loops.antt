@@ -1,5 +1,6 @@
 -- Steps of the loops.
-use Rattle.std.proofs.Common.{◌≡◌, ◌≢◌, ◌∙◌, ℕ, suc, ◌+◌, ◌<◌, ◌≤◌, ◌⊎◌, ⊎_elim, inl, inr, Bool, true, false, cond, eqb, Option, Some, None, List, [], ◌∷◌, map, length, get_or, take, refl, ap, sym, subst, arith}
+use Rattle.std.proofs.Common.{◌≡◌, ◌≢◌, ◌∙◌, ℕ, suc, ◌+◌, ◌<◌, ◌≤◌, ◌⊎◌, ⊎_elim, inl, inr, Bool, true, false, cond, eqb, Option}
+use Rattle.std.proofs.Common.{Some, None, List, [], ◌∷◌, map, length, get_or, take, refl, ap, sym, subst, arith}
 use Rattle.std.specs.Prelude.{All, fold, unwrap_or}
 use Rattle.std.specs.List.{range_with_len, find}
 use Rattle.std.specs.Option.{ForSome, option_and_then}

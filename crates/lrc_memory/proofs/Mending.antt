@@ -1,5 +1,6 @@
 -- What a repair does to what is seen.
-use Rattle.std.proofs.Common.{◌≡◌, ◌∙◌, ℕ, suc, ◌<◌, ◌⊎◌, ⊎_elim, inl, inr, Bool, true, false, cond, eqb, ◌&&◌, Option, Some, None, List, [], ◌∷◌, map, length, get_or, refl, ap, sym, arith}
+use Rattle.std.proofs.Common.{◌≡◌, ◌∙◌, ℕ, suc, ◌<◌, ◌⊎◌, ⊎_elim, inl, inr, Bool, true, false, cond, eqb, ◌&&◌, Option}
+use Rattle.std.proofs.Common.{Some, None, List, [], ◌∷◌, map, length, get_or, refl, ap, sym, arith}
 use Rattle.std.specs.Prelude.{All, fold, unwrap_or}
 use Rattle.std.specs.Option.{option_and_then, option_map, option_or}
 use Rattle.std.proofs.lemmas.List.{set-set}
@@ -98,7 +99,8 @@ module _ (kept : Kept) (page : ℕ) (base : Base) (missing : List Key) where
       by_base : (base : Base) → pending_changes (repaired (patched_with kept.store (begun_with old base) missing) []) ≡ None
       by_base unneeded = ap (option_map (λ twin. changes_between twin (repaired (patched_with kept.store old missing) []).values)) (whole.none (unreadable fit))
       by_base (due k) = ap (option_map (λ twin. changes_between twin (repaired (patched_with kept.store old missing) []).values)) (whole.none (unreadable fit))
-      by_base (come v) = ap (option_map (λ twin. changes_between twin (repaired (patched_with kept.store (installed old v) missing) []).values)) (whole.none (unreadable fit))
+      by_base (come v) = ap (option_map (λ twin.
+          changes_between twin (repaired (patched_with kept.store (installed old v) missing) []).values)) (whole.none (unreadable fit))
 
   base-after : done.base ≡ old.base
   base-after = by_base base

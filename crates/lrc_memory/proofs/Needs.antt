@@ -79,7 +79,8 @@ unknown-lacking kept page within = by_state (copy_at kept.table page).state refl
         → unknown_of kept.store (lacking (seen kept) page) ≡ unknown_of (seen kept).store (lacking (seen kept) page)
     some since none is =
         unknown-seen kept page (lacking (seen kept) page)
-        (subst (All (λ (key : Key). key.page ≡ page)) (sym is) (of-page page (ascending_part by_weight (is_missing page since) (intervals_of (seen kept).store))))
+        (subst (All (λ (key : Key). key.page ≡ page)) (sym is)
+        (of-page page (ascending_part by_weight (is_missing page since) (intervals_of (seen kept).store))))
         none
 
     nothing : lacking (seen kept) page ≡ [] → unknown_of kept.store (lacking (seen kept) page) ≡ unknown_of (seen kept).store (lacking (seen kept) page)
@@ -92,7 +93,8 @@ unknown-lacking kept page within = by_state (copy_at kept.table page).state refl
     by_state Invalid is = some (get_or kept.since page []) (ap (λ s. pending_changes (record (copy_at kept.table page) { state = s })) is) (at Invalid is)
     by_state Absent is = some kept.collected (ap (λ s. pending_changes (record (copy_at kept.table page) { state = s })) is) (at Absent is)
 
-base-in : (kept : Kept) (page keeper : ℕ) (state : State) → base_in state keeper ≡ base_of keeper (seen_in state (get_or kept.since page []) (copy_at kept.table page))
+base-in : (kept : Kept) (page keeper : ℕ) (state : State)
+    → base_in state keeper ≡ base_of keeper (seen_in state (get_or kept.since page []) (copy_at kept.table page))
 base-in kept page keeper Valid = refl
 base-in kept page keeper Written = refl
 base-in kept page keeper Invalid = refl
@@ -114,7 +116,13 @@ need-made kept n page nodes keeper missing unknown base need is within nodes_are
     ∙ ap (λ k. base_of k (memory.copy_at n.memory page)) keeper_is in
     need_is
     ∙ ap (λ (b : Base). record { page = page; base = b; asked = asked_of nodes unknown; missing = missing }) the_base
-    ∙ ap (λ (ks : List Key). record { page = page; base = base_of (keeper_at n.memory page) (memory.copy_at n.memory page); asked = asked_of nodes ks; missing = missing }) all_unknown
+    ∙ ap (λ (ks : List Key). record {
+      page = page;
+      base = base_of (keeper_at n.memory page)
+          (memory.copy_at n.memory page);
+      asked = asked_of nodes ks;
+      missing = missing;
+    }) all_unknown
     ∙ ap (λ k. record {
       page = page;
       base = base_of (keeper_at n.memory page) (memory.copy_at n.memory page);

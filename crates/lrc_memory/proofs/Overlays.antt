@@ -6,7 +6,8 @@ use Rattle.std.proofs.lemmas.Bool.{true≢false, and_parts, and_from, eq-eqb}
 use Rattle.lrc_page.specs.declared.changes.Change.{Change}
 use Rattle.lrc_store.specs.declared.key.Key.{Key}
 use Rattle.lrc_store.specs.Interval.{IntervalRecord, index_of}
-use Rattle.lrc_store.specs.Store.{NoticeRecord, StoredRecord, StoreRecord, interval_of, intervals_of, is_at, stored_at, stored_with, notice_of, notice_at, notice_with, attached, added, discarded, without_changes, unread, is_covered}
+use Rattle.lrc_store.specs.Store.{NoticeRecord, StoredRecord, StoreRecord, interval_of, intervals_of, is_at, stored_at, stored_with, notice_of}
+use Rattle.lrc_store.specs.Store.{notice_at, notice_with, attached, added, discarded, without_changes, unread, is_covered}
 use Rattle.lrc_store.proofs.Lookups.{find-map, passes-find}
 use Rattle.lrc_store.proofs.Records.{interval_of-without_changes, notice_with-other, notice_with-same}
 use Rattle.lrc_store.proofs.Stores.{interval_of-stored_with}
@@ -140,7 +141,8 @@ module _ (o other : Key → Option (List Change)) where
           map-both (notice_with key.page changes) (notice_over other key.node key.index) stored.notices
           ∙ map-alike (λ n. notice_over other key.node key.index (notice_with key.page changes n)) (notice_over o key.node key.index) stored.notices
           (λ n. notice-settled key changes n elsewhere none here) in
-          ap (λ (i : IntervalRecord). record (stored_with key changes stored) { notices = map (notice_over other (stored_with key changes stored).node (index_of i)) (stored_with key changes stored).notices })
+          ap (λ (i : IntervalRecord). record (stored_with key changes stored)
+          { notices = map (notice_over other (stored_with key changes stored).node (index_of i)) (stored_with key changes stored).notices })
           (interval_of-stored_with key changes stored)
           ∙ ap (λ (s : StoredRecord). record s { notices = map (notice_over other s.node index) s.notices }) shown
           ∙ ap (λ (n : ℕ). record stored { notices = map (notice_over other n index) (map (notice_with key.page changes) stored.notices) }) node
@@ -214,7 +216,8 @@ module _ (o : Key → Option (List Change)) where
           (λ n. notice_with key.page changes (notice_over o key.node key.index n)) stored.notices
           (λ n. notice-attached key changes n none)
           ∙ sym (map-both (notice_over o key.node key.index) (notice_with key.page changes) stored.notices) in
-          ap (λ (i : IntervalRecord). record (stored_with key changes stored) { notices = map (notice_over o (stored_with key changes stored).node (index_of i)) (stored_with key changes stored).notices })
+          ap (λ (i : IntervalRecord). record (stored_with key changes stored)
+          { notices = map (notice_over o (stored_with key changes stored).node (index_of i)) (stored_with key changes stored).notices })
           (interval_of-stored_with key changes stored)
           ∙ ap (λ (s : StoredRecord). record s { notices = map (notice_over o s.node index) s.notices }) shown
           ∙ ap (λ (n : ℕ). record stored { notices = map (notice_over o n index) (map (notice_with key.page changes) stored.notices) }) node
@@ -226,7 +229,8 @@ module _ (o : Key → Option (List Change)) where
       by_test false apart =
           let over = stored_over o stored in
           ap (λ b. stored_over o (cond b (record stored { notices = map (notice_with key.page changes) stored.notices }) stored)) apart
-          ∙ sym (ap (λ b. cond b (record over { notices = map (notice_with key.page changes) over.notices }) over) (is_at-over o key.node key.index stored ∙ apart))
+          ∙ sym (ap (λ b. cond b (record over { notices = map (notice_with key.page changes) over.notices }) over)
+          (is_at-over o key.node key.index stored ∙ apart))
 
   -- changes of a key that has none from elsewhere
   pub over-attached : (store : StoreRecord) (key : Key) (changes : List Change) → o key ≡ None
@@ -250,9 +254,15 @@ module _ (o : Key → Option (List Change)) where
   pub stored-over_new : (interval : IntervalRecord) (f : ℕ → Option (List Change))
       → ((page : ℕ) → o (record { node = interval.node; index = index_of interval; page = page }) ≡ f page)
       → stored_over o (without_changes interval)
-      ≡ record { node = interval.node; stamp = interval.stamp; notices = map (λ page. record { page = page; changes = option_or (f page) None }) interval.pages }
+      ≡ record {
+        node = interval.node;
+        stamp = interval.stamp;
+        notices =
+            map (λ page. record { page = page; changes = option_or (f page) None }) interval.pages;
+      }
   stored-over_new interval f is =
-      ap (λ (i : IntervalRecord). record (without_changes interval) { notices = map (notice_over o interval.node (index_of i)) (without_changes interval).notices })
+      ap (λ (i : IntervalRecord). record (without_changes interval)
+      { notices = map (notice_over o interval.node (index_of i)) (without_changes interval).notices })
       (interval_of-without_changes interval)
       ∙ ap (λ (notices : List NoticeRecord). record (without_changes interval) { notices = notices })
       (unread-over interval.node (index_of interval) interval.pages f is)
@@ -269,7 +279,8 @@ module _ (o : Key → Option (List Change)) where
       → filter (λ s. test (interval_of s)) (map (stored_over o) entries) ≡ map (stored_over o) (filter (λ s. test (interval_of s)) entries)
   filter-over test [] = refl
   filter-over test (e ∷ es) =
-      ap (λ (i : IntervalRecord). cond (test i) (stored_over o e ∷ filter (λ s. test (interval_of s)) (map (stored_over o) es)) (filter (λ s. test (interval_of s)) (map (stored_over o) es)))
+      ap (λ (i : IntervalRecord). cond (test i) (stored_over o e ∷ filter (λ s. test (interval_of s)) (map (stored_over o) es))
+      (filter (λ s. test (interval_of s)) (map (stored_over o) es)))
       (interval-over o e)
       ∙ ap (λ rest. cond (test (interval_of e)) (stored_over o e ∷ rest) rest) (filter-over test es)
       ∙ either (test (interval_of e))

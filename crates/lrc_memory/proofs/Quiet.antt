@@ -79,7 +79,8 @@ module _ (kept : Kept) (page : ℕ) (within : page < length kept.table.copies) w
       ∙ ap (λ (c : PageCopy). seen_in c.state (get_or kept.since page []) c) (copy_at-with_copy kept.table page (with_base (copy_at kept.table page)) within)
       ∙ state_only (copy_at kept.table page).state
       ∙ ap (seen_copy kept.table kept.since) (sym same))
-      (λ apart. ap (λ (c : PageCopy). seen_in c.state (get_or kept.since p []) c) (copy_at-with_copy_other kept.table page p (with_base (copy_at kept.table page)) apart))
+      (λ apart. ap (λ (c : PageCopy). seen_in c.state (get_or kept.since p []) c)
+      (copy_at-with_copy_other kept.table page p (with_base (copy_at kept.table page)) apart))
       (cases_eq p page)
     where
       state_only : (state : State) → seen_in state (get_or kept.since page []) (with_base (copy_at kept.table page))

@@ -1,5 +1,6 @@
 -- What a change of one copy does to what is seen.
-use Rattle.std.proofs.Common.{◌≡◌, ◌≢◌, ◌∙◌, ℕ, ◌<◌, Bool, true, false, cond, eqb, eqb-true, ◌&&◌, Option, Some, None, List, [], ◌∷◌, map, length, get_or, set, refl, ap, sym, subst, ⊎_elim, arith}
+use Rattle.std.proofs.Common.{◌≡◌, ◌≢◌, ◌∙◌, ℕ, ◌<◌, Bool, true, false, cond, eqb, eqb-true, ◌&&◌, Option, Some, None, List}
+use Rattle.std.proofs.Common.{[], ◌∷◌, map, length, get_or, set, refl, ap, sym, subst, ⊎_elim, arith}
 use Rattle.std.specs.Prelude.{All}
 use Rattle.std.specs.List.{range_with_len}
 use Rattle.std.specs.Option.{ForSome, option_map}
@@ -131,7 +132,8 @@ seen-changed kept page copy within before after base =
     map-set_same (λ (c : PageCopy). c.base) kept.table.copies page copy _ base in
     ap (λ s. with_memory (node_seen kept) (record (seen (changed kept page copy)) { store = s })) store
     ∙ ap (λ cs. with_memory (node_seen kept) (record (seen kept) { copies = cs; bases = map (λ (c : PageCopy). c.base) now.copies })) copies
-    ∙ ap (λ bs. with_memory (node_seen kept) (record (memory.with_copy (seen kept) page (seen_in copy.state (get_or kept.since page []) copy)) { bases = bs })) bases
+    ∙ ap (λ bs. with_memory (node_seen kept)
+    (record (memory.with_copy (seen kept) page (seen_in copy.state (get_or kept.since page []) copy)) { bases = bs })) bases
 
 -- ---- settling
 
@@ -180,8 +182,10 @@ settled-seen kept page p within =
 pub unmade-here : (kept : Kept) (page : ℕ) (copy : PageCopy) (key : Key) → page < length kept.table.copies → key.page ≡ page
     → pending_changes copy ≡ None → unmade kept.me kept.named (with_copy kept.table page copy) key ≡ None
 unmade-here kept page copy key within same none =
-    ap (λ p. cond (eqb key.node kept.me && eqb (get_or kept.named key.page 0) key.index) (pending_changes (copy_at (with_copy kept.table page copy) p)) None) same
-    ∙ ap (λ c. cond (eqb key.node kept.me && eqb (get_or kept.named key.page 0) key.index) (pending_changes c) None) (copy_at-with_copy kept.table page copy within)
+    ap (λ p. cond (eqb key.node kept.me && eqb (get_or kept.named key.page 0) key.index)
+    (pending_changes (copy_at (with_copy kept.table page copy) p)) None) same
+    ∙ ap (λ c. cond (eqb key.node kept.me && eqb (get_or kept.named key.page 0) key.index) (pending_changes c) None)
+    (copy_at-with_copy kept.table page copy within)
     ∙ ap (λ found. cond (eqb key.node kept.me && eqb (get_or kept.named key.page 0) key.index) found None) none
     ∙ either (eqb key.node kept.me && eqb (get_or kept.named key.page 0) key.index)
   where
@@ -215,7 +219,8 @@ unmade-other kept page key same apart =
 
 pub unmade-on : (kept : Kept) (page : ℕ) → unmade kept.me kept.named kept.table (key_on kept page) ≡ pending_changes (copy_at kept.table page)
 unmade-on kept page =
-    ap (λ b. cond (b && eqb (get_or kept.named page 0) (get_or kept.named page 0)) (pending_changes (copy_at kept.table page)) None) (eq-eqb kept.me kept.me refl)
+    ap (λ b. cond (b && eqb (get_or kept.named page 0) (get_or kept.named page 0))
+    (pending_changes (copy_at kept.table page)) None) (eq-eqb kept.me kept.me refl)
     ∙ ap (λ b. cond b (pending_changes (copy_at kept.table page)) None) (eq-eqb (get_or kept.named page 0) (get_or kept.named page 0) refl)
 
 store-settled : (kept : Kept) (page : ℕ) → page < length kept.table.copies → (found : Option (List Change))
@@ -227,7 +232,8 @@ store-settled kept page within None none =
     (unmade-changed kept page (settled (copy_at kept.table page)) within none (pending-settled (copy_at kept.table page)))
 store-settled kept page within (Some changes) some =
     let old = copy_at kept.table page in
-    over-settled (unmade kept.me kept.named kept.table) (unmade kept.me kept.named (with_copy kept.table page (settled old))) kept.store (key_on kept page) changes
+    over-settled (unmade kept.me kept.named kept.table) (unmade kept.me kept.named (with_copy kept.table page (settled old)))
+    kept.store (key_on kept page) changes
     (λ key apart.
     ⊎_elim
     (λ (same : key.page ≡ page).
@@ -353,7 +359,8 @@ pub after-settle : (kept : Kept) (page : ℕ) (named : List ℕ) (store : StoreR
 after-settle kept page named store table named_is table_is store_is =
     ap (with_parts kept store) table_is
     ∙ ap (λ s. with_parts kept s (with_copy kept.table page (settled (copy_at kept.table page)))) store_is
-    ∙ ap (λ named. with_parts kept (settled_store kept.store (record { node = kept.me; index = get_or named page 0; page = page }) (pending_changes (copy_at kept.table page)))
+    ∙ ap (λ named. with_parts kept (settled_store kept.store (record { node = kept.me; index = get_or named page 0; page = page })
+    (pending_changes (copy_at kept.table page)))
     (with_copy kept.table page (settled (copy_at kept.table page)))) named_is
 
 pub same-parts : (kept : Kept) (store : StoreRecord) (table : Table) → table ≡ kept.table → store ≡ kept.store → with_parts kept store table ≡ kept

@@ -1,5 +1,6 @@
 -- A node's memory at the start.
-use Rattle.std.proofs.Common.{true, ◌≡◌, ◌∙◌, ℕ, suc, zero, ◌<◌, List, [], ◌∷◌, map, length, get_or, replicate, refl, ap, sym, subst, arith, rules, Some, None, inl, inr, ◌≤◌}
+use Rattle.std.proofs.Common.{true, ◌≡◌, ◌∙◌, ℕ, suc, zero, ◌<◌, List, [], ◌∷◌, map, length, get_or, replicate}
+use Rattle.std.proofs.Common.{refl, ap, sym, subst, arith, rules, Some, None, inl, inr, ◌≤◌}
 use Rattle.std.specs.List.{range_with_len}
 use Rattle.std.proofs.lemmas.List.{ext_get_or, get_or_past, get_or-replicate, length-replicate}
 use Rattle.std.proofs.lemmas.List.FromFn.{get_or-map-range_with_len, length-map-range_with_len}
@@ -96,7 +97,8 @@ untwinned words size page changes e = elim (cases_lt page (pages_of words size))
       let is = get_or-replicate (pages_of words size) page (fresh (zero_page size)) (fresh []) within in
       let x : None ≡ Some changes = sym (ap pending_changes is) ∙ e in cc
   | inr past ↦
-      let is = get_or_past (replicate (pages_of words size) (fresh (zero_page size))) page (fresh []) (omega (arith, past, length-replicate (pages_of words size) (fresh (zero_page size)))) in
+      let is = get_or_past (replicate (pages_of words size) (fresh (zero_page size))) page (fresh [])
+      (omega (arith, past, length-replicate (pages_of words size) (fresh (zero_page size)))) in
       let x : None ≡ Some changes = sym (ap pending_changes is) ∙ e in cc
 ]
 
@@ -157,5 +159,6 @@ pub kept-new : (me nodes words pages : ℕ) (size : Size) (since : List (List �
 kept-new me nodes words pages size since named store table keepers collected store_is table_is since_is named_is keepers_are collected_is pages_are here =
     let whole : kept_of me since named store table keepers collected
     ≡ kept_of me (replicate (pages_of words size) (zeros nodes)) (replicate (pages_of words size) 0) (empty_store nodes (pages_of words size))
-    (fresh_table words size) (replicate (pages_of words size) 0) (zeros nodes) = cc (store_is, table_is, since_is, named_is, keepers_are, collected_is, pages_are) in
+    (fresh_table words size) (replicate (pages_of words size) 0) (zeros nodes) =
+    cc (store_is, table_is, since_is, named_is, keepers_are, collected_is, pages_are) in
     subst IsKept (sym whole) (kept-start me nodes words size here)

@@ -103,7 +103,8 @@ when_ok (Err e) is then = tt
 module _ (kept : Kept) (word value page : ℕ) (named : List ℕ) (store : StoreRecord) (mid table : Table)
     (page_is : page ≡ page_of word kept.table.size) (within : page < length kept.table.copies) (named_is : named ≡ kept.named)
     (mid_is : mid ≡ with_copy kept.table page (settled (copy_at kept.table page)))
-    (store_is : store ≡ settled_store kept.store (record { node = kept.me; index = get_or named page 0; page = page }) (pending_changes (copy_at kept.table page))) where
+    (store_is : store ≡ settled_store kept.store (record { node = kept.me; index = get_or named page 0; page = page })
+    (pending_changes (copy_at kept.table page))) where
   abbrev pub call_on : Table → Table
   call_on m = with_copy m (page_of word m.size) (after_write (copy_at m (page_of word m.size)) (offset_of word m.size) value)
 
@@ -113,7 +114,8 @@ module _ (kept : Kept) (word value page : ℕ) (named : List ℕ) (store : Store
   call-is : call_on mid ≡ (written_at kept page (offset_of word kept.table.size) value).table
   call-is =
       ap call_on mid_is
-      ∙ ap (λ p. with_copy (settled_at kept page).table p (after_write (copy_at (settled_at kept page).table p) (offset_of word kept.table.size) value)) (sym page_is)
+      ∙ ap (λ p. with_copy (settled_at kept page).table p
+      (after_write (copy_at (settled_at kept page).table p) (offset_of word kept.table.size) value)) (sym page_is)
 
   pub mid-within : page_of word mid.size < length mid.copies
   mid-within =
@@ -157,7 +159,8 @@ module _ (kept : Kept) (word value page : ℕ) (named : List ℕ) (store : Store
       when_ok r ok (λ done.
       ap node_seen (done-parts done)
       ∙ seen-written kept page (offset_of word kept.table.size) value within
-      ∙ ap (λ p. with_memory (node_seen kept) (memory.with_copy (seen kept) p (copy.after_write (memory.copy_at (seen kept) p) (offset_of word kept.table.size) value))) page_is
+      ∙ ap (λ p. with_memory (node_seen kept)
+      (memory.with_copy (seen kept) p (copy.after_write (memory.copy_at (seen kept) p) (offset_of word kept.table.size) value))) page_is
       ∙ ap (λ (n : NodeMemory). with_memory n (with_word n.size word value n.memory)) is)
 
   pub readable-write : {E : Type 0} (r : Result Bool E) (n : NodeMemory) → node_seen kept ≡ n

@@ -1,6 +1,7 @@
 -- How a node's memory is kept, and how it is seen. The changes of a closed interval are made lazily: a page written in it
 -- keeps its twin until they are needed (Keleher, Cox, Dwarkadas and Zwaenepoel 1994). Seen from outside they are made.
-use Rattle.std.specs.Prelude.{ℕ, ◌≡◌, ◌<◌, ◌≤◌, ◌==◌, ◌&&◌, Bool, IsTrue, Option, None, Some, unwrap_or, List, [], ◌∷◌, length, map, All, slice_index, slice_index_or, if◌then◌else◌}
+use Rattle.std.specs.Prelude.{ℕ, ◌≡◌, ◌<◌, ◌≤◌, ◌==◌, ◌&&◌, Bool, IsTrue, Option, None, Some, unwrap_or, List, []}
+use Rattle.std.specs.Prelude.{◌∷◌, length, map, All, slice_index, slice_index_or, if◌then◌else◌}
 use Rattle.std.specs.List.{range_with_len}
 use Rattle.std.specs.Option.{ForSome, option_or}
 use Rattle.lrc_page.specs.declared.changes.Change.{Change}

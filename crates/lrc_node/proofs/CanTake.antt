@@ -24,7 +24,8 @@ use Rattle.lrc_node.specs.Taking.{CanDiscard, CanTake}
 use Rattle.std.specs.Prelude.{map}
 use Rattle.lrc_wire.specs.Records.{ArriveRecord}
 use Rattle.lrc_wire.specs.declared.message.Message.{Message}
-use Rattle.lrc_wire.specs.declared.message.Message.TheVariants.{LockRequest, LockForward, LockGrant, Arrive, Depart, Clean, Discard, ChangesRequest, ChangesReply, PageRequest, PageReply}
+use Rattle.lrc_wire.specs.declared.message.Message.TheVariants.{LockRequest, LockForward, LockGrant, Arrive, Depart, Clean, Discard}
+use Rattle.lrc_wire.specs.declared.message.Message.TheVariants.{ChangesRequest, ChangesReply, PageRequest, PageReply}
 use Rattle.lrc_barrier.specs.Barrier.{IsArrival}
 use Rattle.lrc_protocol.specs.Fetch.{Need}
 use Rattle.lrc_protocol.specs.Mail.{with_taken, needs_of}
@@ -130,7 +131,8 @@ learnable_added node r time intervals e =
 
 -- ---- the word to discard
 
-closed_at : (node : Node) → (wait : Wait) → awaits_discard wait ≡ true → IsQuiet wait node.memory → IsQuiet (discard (record { time = []; kept = [] })) node.memory
+closed_at : (node : Node) → (wait : Wait) → awaits_discard wait ≡ true → IsQuiet wait node.memory
+    → IsQuiet (discard (record { time = []; kept = [] })) node.memory
 closed_at node nothing e q = cc
 closed_at node (grant lock) e q = cc
 closed_at node departure e q = cc
@@ -170,7 +172,8 @@ arriving node from m e =
 below_copies : (node : Node) → IsReached node → (page : ℕ) → is_page node page ≡ true → page < length node.memory.copies
 below_copies node r page e = subst (λ n. page < n) (sym (ranged_at node r).memory.copies) (ltb-true page _ e)
 
-departs_open : (wait : Wait) → awaits_departure wait ≡ true → (is_open wait ≡ true) × ((memory : Memory) → IsQuiet wait memory ≡ NoneWritten memory) × (is_inside wait ≡ 1)
+departs_open : (wait : Wait) → awaits_departure wait ≡ true → (is_open wait ≡ true)
+    × ((memory : Memory) → IsQuiet wait memory ≡ NoneWritten memory) × (is_inside wait ≡ 1)
 departs_open nothing e = cc
 departs_open (grant lock) e = cc
 departs_open departure e = (refl, λ memory. refl, refl)
@@ -222,7 +225,8 @@ can_take node r from sender number (Discard episode) e =
 can_take node r from sender number (ChangesRequest m) e = below_copies node r m.page (and_parts _ _ e).0
 can_take node r from sender number (ChangesReply m) e = (
   awaited_at node r from m e,
-  whatever_mail (with_parts from m node) (with_taken sender number node.mail) (with_needs (with_changes m.page from) node.mail.wait) (changes_go_on node r from m e),
+  whatever_mail (with_parts from m node) (with_taken sender number node.mail)
+      (with_needs (with_changes m.page from) node.mail.wait) (changes_go_on node r from m e),
 )
 can_take node r from sender number (PageRequest page) e = below_copies node r page (and_parts _ _ (and_parts _ _ e).0).0
 can_take node r from sender number (PageReply m) e =

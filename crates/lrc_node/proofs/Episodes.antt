@@ -8,7 +8,8 @@ use Rattle.lrc_barrier.specs.declared.fault.BarrierFault.TheVariants.{WrongEpiso
 use Rattle.std.proofs.lemmas.List.Elements.{All-nil, All-cons, All-head, All-tail}
 use Rattle.lrc_barrier.specs.declared.arrival.Arrival.{Arrival}
 use Rattle.lrc_barrier.specs.declared.departure.Departure.{Departure}
-use Rattle.lrc_barrier.specs.Barrier.{ManagerRecord, ArriveStep, refuses, waits, departs, accepted, arrived, arrivals_of, with_arrival, departed, departure_to, departures_of, after_arrive, arrive_answer, is_next, has_arrived, first_manager, IsDeparture}
+use Rattle.lrc_barrier.specs.Barrier.{ManagerRecord, ArriveStep, refuses, waits, departs, accepted, arrived, arrivals_of, with_arrival, departed}
+use Rattle.lrc_barrier.specs.Barrier.{departure_to, departures_of, after_arrive, arrive_answer, is_next, has_arrived, first_manager, IsDeparture}
 use Rattle.lrc_node.specs.Barrier.{KeepsEpisodes, AreDepartures}
 
 -- each place of a list, where one is set
@@ -29,7 +30,8 @@ none_begun (suc n) (suc node) = none_begun n node
 pub first_begun : (nodes : ℕ) → KeepsEpisodes (first_manager nodes)
 first_begun nodes = λ node. none_begun nodes node
 
-with_begun : (manager : ManagerRecord) (from : ℕ) (arrival : Arrival) → KeepsEpisodes manager → 1 ≤ arrival.episode → KeepsEpisodes (with_arrival manager from arrival)
+with_begun : (manager : ManagerRecord) (from : ℕ) (arrival : Arrival) → KeepsEpisodes manager → 1 ≤ arrival.episode
+    → KeepsEpisodes (with_arrival manager from arrival)
 with_begun manager from arrival each begun = λ node. set_begun manager.arrivals from node arrival begun each
 
 -- all that are kept
@@ -40,10 +42,12 @@ kept_begun (None ∷ places) each = kept_begun places (λ k. each (suc k))
 kept_begun (Some arrival ∷ places) each =
     All-cons (λ (a : Arrival). 1 ≤ a.episode) arrival (filter_map (λ arrival. arrival) places) (each zero) (kept_begun places (λ k. each (suc k)))
 
-departures_begun : (whole xs : List Arrival) (i : ℕ) → All (λ a. 1 ≤ a.episode) xs → All (λ (d : Departure). 1 ≤ d.episode) (map (departure_to whole) (enumerate_from i xs))
+departures_begun : (whole xs : List Arrival) (i : ℕ) → All (λ a. 1 ≤ a.episode) xs
+    → All (λ (d : Departure). 1 ≤ d.episode) (map (departure_to whole) (enumerate_from i xs))
 departures_begun whole [] i each = All-nil (λ (d : Departure). 1 ≤ d.episode)
 departures_begun whole (x ∷ xs) i each =
-    All-cons (λ (d : Departure). 1 ≤ d.episode) (departure_to whole (i, x)) (map (departure_to whole) (enumerate_from (i + 1) xs)) (All-head (λ (a : Arrival). 1 ≤ a.episode) x xs each)
+    All-cons (λ (d : Departure). 1 ≤ d.episode) (departure_to whole (i, x)) (map (departure_to whole) (enumerate_from (i + 1) xs))
+    (All-head (λ (a : Arrival). 1 ≤ a.episode) x xs each)
     (departures_begun whole xs (i + 1) (All-tail (λ (a : Arrival). 1 ≤ a.episode) x xs each))
 
 -- what an arrival does at a manager keeps it, and its departures are begun
@@ -71,7 +75,8 @@ in_time before manager false twice each = tt
 pub arrived_begun : (manager : ManagerRecord) (from : ℕ) (arrival : Arrival) → KeepsEpisodes manager → 1 ≤ arrival.episode
     → IsBegun manager (arrived manager from arrival)
 arrived_begun manager from arrival each begun =
-    in_time manager (with_arrival manager from arrival) (is_next manager arrival.episode) (has_arrived manager from) (with_begun manager from arrival each begun)
+    in_time manager (with_arrival manager from arrival) (is_next manager arrival.episode) (has_arrived manager from)
+    (with_begun manager from arrival each begun)
 
 -- the manager afterwards
 pub after_begun : (manager : ManagerRecord) (step : ArriveStep) → KeepsEpisodes manager → IsBegun manager step → KeepsEpisodes (after_arrive manager step)

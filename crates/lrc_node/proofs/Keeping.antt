@@ -1,5 +1,6 @@
 -- Pages that a node keeps in a collection: once all has come they can be repaired, and then base copies can be kept.
-use Rattle.std.proofs.Common.{◌≡◌, ◌≢◌, ℕ, ◌<◌, ◌≤◌, Bool, true, false, List, [], ◌∷◌, get_or, take, length, map, fold, refl, sym, ◌∙◌, ap, subst, arith, eq-eqb}
+use Rattle.std.proofs.Common.{◌≡◌, ◌≢◌, ℕ, ◌<◌, ◌≤◌, Bool, true, false, List, [], ◌∷◌, get_or, take}
+use Rattle.std.proofs.Common.{length, map, fold, refl, sym, ◌∙◌, ap, subst, arith, eq-eqb}
 use Rattle.std.specs.Prelude.{All, AllPairs, None, not, filter, flat_map, slice_index_or}
 use Rattle.std.specs.List.{list_all}
 use Rattle.std.proofs.lemmas.Bool.{and_parts}
@@ -46,7 +47,8 @@ before_apart : (needs : List Need) (k : ℕ) (d : Need) → AllPairs (λ (a b : 
     → All (λ (n : Need). n.page ≢ (get_or needs k d).page) (take k needs)
 before_apart needs k d h lt = λ i e within.
     let before : i < k = omega (arith, within, length-take-le k needs (omega (arith, lt))) in
-    subst (λ (n : Need). n.page ≢ (get_or needs k d).page) (sym (get_or-take k needs i e before ∙ get_or_default needs i e d (omega (arith, before, lt)))) (h i k d before lt)
+    subst (λ (n : Need). n.page ≢ (get_or needs k d).page)
+    (sym (get_or-take k needs i e before ∙ get_or_default needs i e d (omega (arith, before, lt)))) (h i k d before lt)
 
 -- each page can be repaired once those before it are
 pub can_mend_next : (size : Size) (memory : Memory) (needs : List Need) (k : ℕ) (d : Need) → AllPairs (λ (a b : Need). a.page ≢ b.page) needs
@@ -55,7 +57,8 @@ can_mend_next size memory needs k d apart can lt =
     let it : CanMend size memory (get_or needs k d) = can k d lt in
     record {
       page = omega (arith, it.page, (mends-same (take k needs) memory).copies);
-      fit = ap (λ copy. is_mendable size copy (get_or needs k d).base) (other_copies (take k needs) memory (get_or needs k d).page (before_apart needs k d apart lt)) ∙ it.fit;
+      fit = ap (λ copy. is_mendable size copy (get_or needs k d).base)
+          (other_copies (take k needs) memory (get_or needs k d).page (before_apart needs k d apart lt)) ∙ it.fit;
       of_page = it.of_page;
     }
 
@@ -95,7 +98,8 @@ can_mend size nodes pages memory need long fits met = record {
   of_page = subst (All (λ (key : Key). key.page ≡ need.page)) (sym fits.missing) (lacking_of_page memory need.page);
 }
 
-pub apart_pairs : (needs : List Need) → AllPairs (λ (a b : ℕ). a < b) (map (λ (need : Need). need.page) needs) → AllPairs (λ (a b : Need). a.page ≢ b.page) needs
+pub apart_pairs : (needs : List Need) → AllPairs (λ (a b : ℕ). a < b) (map (λ (need : Need). need.page) needs)
+    → AllPairs (λ (a b : Need). a.page ≢ b.page) needs
 apart_pairs needs h = λ i j d before within same.
     let pages : List ℕ = map (λ (need : Need). need.page) needs in
     let lt : get_or pages i d.page < get_or pages j d.page = h i j d.page before (rw length-map within) in
@@ -140,7 +144,8 @@ can_clean node pages kept needs arrived long ascends fits below same none met =
 
 -- ---- a collection begins
 
-kept_needs_below : (node : Node) → CanCollect node → All (λ page. page < pages_of node.setting.words node.options.size) (kept_pages node.setting.me (with_keepers node.memory))
+kept_needs_below : (node : Node) → CanCollect node
+    → All (λ page. page < pages_of node.setting.words node.options.size) (kept_pages node.setting.me (with_keepers node.memory))
 kept_needs_below node can =
     let pages : ℕ = pages_of node.setting.words node.options.size in
     let keeping : HasRanges node.setting.nodes pages (with_keepers node.memory) = keeps-ranges node.setting.nodes pages node.memory can.ranges in
@@ -148,7 +153,8 @@ kept_needs_below node can =
 
 -- the pages that a node keeps are the memory's
 pub kept_within : (node : Node) → CanCollect node → All (λ page. page < length node.memory.copies) (kept_pages node.setting.me (with_keepers node.memory))
-kept_within node can = subst (λ n. All (λ page. page < n) (kept_pages node.setting.me (with_keepers node.memory))) (sym can.ranges.copies) (kept_needs_below node can)
+kept_within node can = subst (λ n. All (λ page. page < n) (kept_pages node.setting.me (with_keepers node.memory)))
+    (sym can.ranges.copies) (kept_needs_below node can)
 
 -- where all has come at once, its copies can be cleaned
 pub begins_clean : (node : Node) → CanCollect node
@@ -178,7 +184,8 @@ all_requests nodes memory (page ∷ pages) h =
 
 -- the requests go to nodes
 pub begins_for : (node : Node) → CanCollect node
-    → AreFor node.setting.nodes (flat_map requests_of (needs_to_keep (with_memory node (with_keepers node.memory)) (kept_pages node.setting.me (with_keepers node.memory))))
+    → AreFor node.setting.nodes (flat_map requests_of
+    (needs_to_keep (with_memory node (with_keepers node.memory)) (kept_pages node.setting.me (with_keepers node.memory))))
 begins_for node can =
     let keeping : Memory = with_keepers node.memory in
     let pages : ℕ = pages_of node.setting.words node.options.size in

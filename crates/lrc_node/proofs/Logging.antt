@@ -64,7 +64,8 @@ some_of (Some x) e = (x, refl)
 -- ---- a call, whatever the node answers
 
 -- what the node answered, and what was made of it
-pub logs_settled : (l : Logged) (input : Input) (came : ℕ) (o : Outcome) (mid new : LoggedNode) (r : Result TurnRecord NodeFault) (result : Result (Unit {0}) NodeFault)
+pub logs_settled : (l : Logged) (input : Input) (came : ℕ) (o : Outcome) (mid new : LoggedNode) (r : Result TurnRecord NodeFault)
+    (result : Result (Unit {0}) NodeFault)
     → mid.log ≡ l.log
     → IfOk r (λ turn. (after : Node) × (o ≡ done turn after) × (mid.node ≡ Some after))
     → IfErr r (λ fault. Answers o l.node fault mid.node)
@@ -83,7 +84,8 @@ logs_settled l input came o mid new (Err fault) result same made refuses settled
     (logs_refused l input (next_stamp l.log came) o fault mid.node refuses))
 
 -- a final fault leaves no node
-gone : (mid : LoggedNode) (log : List EntryRecord) (input : Input) (came : ℕ) (turn : TurnRecord) (new : LoggedNode) (result : Result (Unit {0}) NodeFault) → mid.log ≡ log
+gone : (mid : LoggedNode) (log : List EntryRecord) (input : Input) (came : ℕ) (turn : TurnRecord) (new : LoggedNode)
+    (result : Result (Unit {0}) NodeFault) → mid.log ≡ log
     → Enters mid input came turn new result → IfErr result (λ fault. is_final fault ≡ true → new ≡ record { node = None; log = log })
 gone mid log input came turn new (Ok tt) same h = tt
 gone mid log input came turn new (Err Worn) same h = λ e. h.1 ∙ ap (λ (g : List EntryRecord). let m : LoggedNode = record { node = None; log = g } in m) same
@@ -92,7 +94,8 @@ gone mid log input came turn new (Err Failed) same h = absurd h
 gone mid log input came turn new (Err NotReady) same h = absurd h
 gone mid log input came turn new (Err Unexpected) same h = absurd h
 
-pub fails_settled : (node : Node) (log : List EntryRecord) (input : Input) (came : ℕ) (o : Outcome) (mid new : LoggedNode) (r : Result TurnRecord NodeFault) (result : Result (Unit {0}) NodeFault)
+pub fails_settled : (node : Node) (log : List EntryRecord) (input : Input) (came : ℕ) (o : Outcome) (mid new : LoggedNode)
+    (r : Result TurnRecord NodeFault) (result : Result (Unit {0}) NodeFault)
     → mid.log ≡ log → IfErr r (λ fault. Answers o node fault mid.node)
     → MatchResult r (λ turn. Enters mid input came turn new result) (λ fault. (result ≡ Err fault) × (new ≡ mid))
     → IfErr result (λ fault. is_final fault ≡ true → new ≡ record { node = None; log = log })

@@ -84,7 +84,9 @@ goes_on_access node r memory change same keeps nothing waits fits = tt
 goes_on_access node r memory change same keeps (grant lock) waits fits = tt
 goes_on_access node r memory change same keeps departure waits fits = tt
 goes_on_access node r memory change same keeps (access need) waits fits = λ met.
-    repairable node r memory (change need) same (All-head (FitsNeed node.setting.nodes (pages_of node.setting.words node.options.size) (words_of node.options.size) memory) (change need) [] fits) (waits.next ∙ ap Some (sym (keeps need))) met
+    repairable node r memory (change need) same
+    (All-head (FitsNeed node.setting.nodes (pages_of node.setting.words node.options.size)
+    (words_of node.options.size) memory) (change need) [] fits) (waits.next ∙ ap Some (sym (keeps need))) met
 goes_on_access node r memory change same keeps (upkeep collection needs) waits fits = λ met.
     let pages : ℕ = pages_of node.setting.words node.options.size in
     let ranges = (ranged_at node r).memory in
@@ -127,5 +129,6 @@ whatever_mail node mail nothing h = tt
 whatever_mail node mail (grant lock) h = tt
 whatever_mail node mail departure h = tt
 whatever_mail node mail (access need) h = λ met. let can = h met in record { page = can.page; fit = can.fit; of_page = can.of_page; next = can.next }
-whatever_mail node mail (upkeep collection needs) h = λ met. let can = h met in record { arrived = can.arrived; apart = can.apart; mends = can.mends; keeps = can.keeps }
+whatever_mail node mail (upkeep collection needs) h = λ met. let can = h met in
+    record { arrived = can.arrived; apart = can.apart; mends = can.mends; keeps = can.keeps }
 whatever_mail node mail (discard collection) h = tt

@@ -1,5 +1,6 @@
 -- Intervals of which those of each node follow one another.
-use Rattle.std.proofs.Common.{◌≡◌, ◌≢◌, ℕ, zero, suc, ◌+◌, ◌-◌, ◌<◌, ◌≤◌, Bool, true, false, cond, List, [], ◌∷◌, ◌++◌, length, map, filter, max, get_or, set, take, drop, refl, sym, ◌∙◌, ap, subst, arith, ⊎_elim, eq-eqb}
+use Rattle.std.proofs.Common.{◌≡◌, ◌≢◌, ℕ, zero, suc, ◌+◌, ◌-◌, ◌<◌, ◌≤◌, Bool, true, false, cond, List, [], ◌∷◌, ◌++◌, length, map}
+use Rattle.std.proofs.Common.{filter, max, get_or, set, take, drop, refl, sym, ◌∙◌, ap, subst, arith, ⊎_elim, eq-eqb}
 use Rattle.std.specs.Prelude.{◌==◌}
 use Rattle.std.specs.List.{range_with_len, list_all}
 use Rattle.std.specs.Cmp.Lexicographic.{same_text}
@@ -23,11 +24,13 @@ indices-append xs ys q =
     ap (map index_of) (filter-append (λ (i : IntervalRecord). i.node == q) xs ys)
     ∙ map-append index_of (filter (λ (i : IntervalRecord). i.node == q) xs) (filter (λ (i : IntervalRecord). i.node == q) ys)
 
-taken : (x : IntervalRecord) (rest : List IntervalRecord) (b : Bool) → map index_of (cond b (x ∷ rest) rest) ≡ cond b (index_of x ∷ map index_of rest) (map index_of rest)
+taken : (x : IntervalRecord) (rest : List IntervalRecord) (b : Bool)
+    → map index_of (cond b (x ∷ rest) rest) ≡ cond b (index_of x ∷ map index_of rest) (map index_of rest)
 taken x rest true = refl
 taken x rest false = refl
 
-indices-first : (x : IntervalRecord) (rest : List IntervalRecord) (q : ℕ) → indices_by (x ∷ rest) q ≡ cond (x.node == q) (index_of x ∷ indices_by rest q) (indices_by rest q)
+indices-first : (x : IntervalRecord) (rest : List IntervalRecord) (q : ℕ)
+    → indices_by (x ∷ rest) q ≡ cond (x.node == q) (index_of x ∷ indices_by rest q) (indices_by rest q)
 indices-first x rest q = taken x (filter (λ (i : IntervalRecord). i.node == q) rest) (x.node == q)
 
 indices-own : (x : IntervalRecord) (rest : List IntervalRecord) (q : ℕ) → x.node ≡ q → indices_by (x ∷ rest) q ≡ index_of x ∷ indices_by rest q
@@ -115,7 +118,8 @@ between-broken xs x rest q above last upto is own differ =
     decided _ _
     (λ e.
     let h = is.risen in
-    let same = sym (indices-append xs (x ∷ rest) q ∙ ap (λ ys. indices_by xs q ++ ys) (indices-own x rest q own) ∙ ap (λ ys. ys ++ (index_of x ∷ indices_by rest q)) is.run) ∙ e in
+    let same = sym (indices-append xs (x ∷ rest) q ∙ ap (λ ys. indices_by xs q ++ ys) (indices-own x rest q own)
+    ∙ ap (λ ys. ys ++ (index_of x ∷ indices_by rest q)) is.run) ∙ e in
     let value = out_of_turn (above + 1) (last - above) (upto - above) (index_of x) (indices_by rest q) same in
     differ (omega arith))
 
@@ -125,7 +129,11 @@ between-broken xs x rest q above last upto is own differ =
 pub runs-none : (known : List ℕ) → AreRuns known [] known
 runs-none known = record {
   counted = refl;
-  each = λ q. record { risen = omega arith; run = let none : entry known q - entry known q ≡ 0 = omega arith in sym (ap (range_with_len (entry known q + 1)) none) };
+  each = λ q. record {
+    risen = omega arith;
+    run = let none : entry known q - entry known q ≡ 0 = omega arith in
+        sym (ap (range_with_len (entry known q + 1)) none);
+  };
 }
 
 pub runs-more : (known : List ℕ) (xs : List IntervalRecord) (x : IntervalRecord) (reached : List ℕ) → AreRuns known xs reached
@@ -135,7 +143,8 @@ runs-more known xs x reached are within next = record {
   each = λ q. ⊎_elim
       (λ (own : x.node ≡ q).
       let place : x.node < length reached = rw are.counted within in
-      let at : entry (set reached x.node (index_of x)) q ≡ index_of x = subst (λ n. entry (set reached x.node (index_of x)) n ≡ index_of x) own (entry-set_same reached x.node (index_of x) place) in
+      let at : entry (set reached x.node (index_of x)) q ≡ index_of x =
+      subst (λ n. entry (set reached x.node (index_of x)) n ≡ index_of x) own (entry-set_same reached x.node (index_of x) place) in
       let before : index_of x ≡ entry reached q + 1 = subst (λ n. index_of x ≡ entry reached n + 1) own next in
       run-own xs x q (entry known q) (entry reached q) (entry (set reached x.node (index_of x)) q) (are.each q) own (sym at) (at ∙ before))
       (λ (other : x.node ≢ q).

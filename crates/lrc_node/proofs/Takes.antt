@@ -19,12 +19,14 @@ pub unaddressed : (node : Node) (envelope : EnvelopeRecord) → is_addressed nod
 unaddressed node envelope e =
     ap (λ (b : Bool). if b then (if is_repeat node envelope then done empty_turn node else take_anew node envelope) else unexpected) e
 
-pub addressed : (node : Node) (envelope : EnvelopeRecord) → is_addressed node envelope ≡ true → is_repeat node envelope ≡ false → take_turn node envelope ≡ take_anew node envelope
+pub addressed : (node : Node) (envelope : EnvelopeRecord) → is_addressed node envelope ≡ true → is_repeat node envelope ≡ false
+    → take_turn node envelope ≡ take_anew node envelope
 addressed node envelope e new =
     ap (λ (b : Bool). if b then (if is_repeat node envelope then done empty_turn node else take_anew node envelope) else unexpected) e
     ∙ ap (λ (b : Bool). if b then done empty_turn node else take_anew node envelope) new
 
-pub repeated : (node : Node) (envelope : EnvelopeRecord) → is_addressed node envelope ≡ true → is_repeat node envelope ≡ true → take_turn node envelope ≡ done empty_turn node
+pub repeated : (node : Node) (envelope : EnvelopeRecord) → is_addressed node envelope ≡ true → is_repeat node envelope ≡ true
+    → take_turn node envelope ≡ done empty_turn node
 repeated node envelope e old =
     ap (λ (b : Bool). if b then (if is_repeat node envelope then done empty_turn node else take_anew node envelope) else unexpected) e
     ∙ ap (λ (b : Bool). if b then done empty_turn node else take_anew node envelope) old

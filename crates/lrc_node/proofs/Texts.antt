@@ -11,7 +11,8 @@ pick : (allowed : Bool) (n : Next) → option_map ask_of (if allowed then Some n
 pick true n = refl
 pick false n = refl
 
-begins_by : (t : Thread) (n : Next) (left : ℕ) → t.arrived ≡ false → IsFine t n → option_map ask_of (if may_begin left n then Some n else None) ≡ allowed_with left (ask_of n)
+begins_by : (t : Thread) (n : Next) (left : ℕ) → t.arrived ≡ false → IsFine t n
+    → option_map ask_of (if may_begin left n then Some n else None) ≡ allowed_with left (ask_of n)
 begins_by t (quiet after) left past f = pick (nat_le 1 left) (quiet after)
 begins_by t (prints v after) left past f = pick (nat_le 1 left) (prints v after)
 begins_by t (reads w after) left past f = pick (nat_le 1 left) (reads w after)
@@ -24,5 +25,6 @@ begins_by t (traps c) left past f = pick (nat_le 1 left) (traps c)
 begins_by t ends left past f = pick (nat_le 0 left) ends
 
 -- a thread that is not at a barrier begins what it asks for, if it has the steps
-pub begins_next : (t : Thread) (left : ℕ) → t.arrived ≡ false → option_map ask_of (if may_begin left (next_of t) then Some (next_of t) else None) ≡ allowed_with left (ask_of (next_of t))
+pub begins_next : (t : Thread) (left : ℕ) → t.arrived ≡ false
+    → option_map ask_of (if may_begin left (next_of t) then Some (next_of t) else None) ≡ allowed_with left (ask_of (next_of t))
 begins_next t left past = begins_by t (next_of t) left past (next_of-fine t)

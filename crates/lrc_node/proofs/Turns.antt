@@ -11,7 +11,8 @@ use Rattle.lrc_local.specs.Traced.{IsTraced}
 use Rattle.lrc_node.specs.declared.fault.NodeFault.{NodeFault}
 use Rattle.lrc_node.specs.Fault.{is_final}
 use Rattle.lrc_node.specs.Effects.{RefusesRun, unready, too_large, without_memory}
-use Rattle.lrc_node.specs.Node.{TracedNode, seen_node, Answers, unready as answers_unready, too_large as answers_too_large, without_memory as answers_without_memory}
+use Rattle.lrc_node.specs.Node.{TracedNode, seen_node, Answers, unready as answers_unready}
+use Rattle.lrc_node.specs.Node.{too_large as answers_too_large, without_memory as answers_without_memory}
 
 -- a fault that is handed up
 pub fault_up : {T : Type 0} (r : Result T NodeFault) (fault : NodeFault) (P : NodeFault → Type 0) → IsErrAnd r (λ f. f ≡ fault) → P fault → IfErr r P

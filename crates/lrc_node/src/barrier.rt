@@ -92,7 +92,8 @@ impl Barrier {
     /// Whether the manager is here and would accept a node's arrival at this episode.
     pub(crate) fn accepts(&self, from: u8, episode: u32) -> bool
         requires { IfSome self.now.manager (λ manager. from < length manager.last) }
-        ensures { (arrival : ArrivalRecord) → arrival.episode ≡ episode → result ≡ unwrap_or (option_map is_accepted (arrive_step self.now from arrival)) false }
+        ensures { (arrival : ArrivalRecord) → arrival.episode ≡ episode
+            → result ≡ unwrap_or (option_map is_accepted (arrive_step self.now from arrival)) false }
     {
         match &self.manager {
             Some(manager) => manager.accepts(from, episode),
@@ -142,7 +143,8 @@ impl Barrier {
     pub(crate) fn take_clean(&mut self, from: u8, episode: u32) -> Result<Option<u32>, NodeFault>
         requires { IfSome self.old.manager (λ manager. from < length manager.last) }
         ensures taken { IfOk result (λ answer. clean_taken self.old (clean_step self.old from episode) ≡ Some (answer, self.new)) }
-        ensures refused { IfErr result (λ fault. (fault ≡ Unexpected) × (clean_taken self.old (clean_step self.old from episode) ≡ None) × (self.new ≡ self.old)) }
+        ensures refused { IfErr result (λ fault. (fault ≡ Unexpected)
+            × (clean_taken self.old (clean_step self.old from episode) ≡ None) × (self.new ≡ self.old)) }
         ensures same { SameBarrier self.old self.new }
     {
         let Some(manager) = &mut self.manager else {

@@ -187,7 +187,8 @@ impl State<'_> {
     fn leave(&mut self, collect: bool, time: &Time) -> Result<Effect, AllocError>
         requires next { asked_in self.old.course ≡ Some Barrier }
         requires can { CanCollect self.old }
-        ensures effect { IfOk result (λ effect. (if collect then collects time.now self.old else acts [] (waiting nothing self.old)) ≡ seen_effect effect self.new) }
+        ensures effect { IfOk result (λ effect.
+            (if collect then collects time.now self.old else acts [] (waiting nothing self.old)) ≡ seen_effect effect self.new) }
         ensures to { IfOk result (λ effect. AreFor self.new.setting.nodes effect.letters.items) }
     {
         if collect {

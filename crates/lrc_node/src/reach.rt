@@ -44,7 +44,8 @@ impl State<'_> {
         requires fit { is_mendable self.old.options.size (copy_at self.old.memory need.now.page) need.now.base ≡ true }
         requires of_page { All (λ key. key.page ≡ need.now.page) need.now.missing }
         requires next { AccessesPage self.old need.now.page (asked_in self.old.course) }
-        ensures effect { IfOk result (λ effect. acts letters.items (waiting nothing (with_memory self.old (mended self.old.memory need.now))) ≡ seen_effect effect self.new) }
+        ensures effect { IfOk result (λ effect.
+            acts letters.items (waiting nothing (with_memory self.old (mended self.old.memory need.now))) ≡ seen_effect effect self.new) }
         ensures letters { IfOk result (λ effect. effect.letters ≡ letters) }
         ensures setting { self.new.setting ≡ self.old.setting }
     {

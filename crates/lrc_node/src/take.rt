@@ -61,7 +61,8 @@ impl State<'_> {
         requires anew { is_repeat self.old envelope.now ≡ false }
         requires expected { is_expected self.old envelope.now.from envelope.now.message ≡ true }
         ensures done { IfOk result (λ turn. turn_of (take_effect (taking self.old envelope.now) envelope.now.from envelope.now.message) ≡ done turn self.new) }
-        ensures refused { IfErr result (λ fault. ((fault ≡ Worn) × (turn_of (take_effect (taking self.old envelope.now) envelope.now.from envelope.now.message) ≡ worn)) ⊎ (fault ≡ NoMemory)) }
+        ensures refused { IfErr result (λ fault.
+            ((fault ≡ Worn) × (turn_of (take_effect (taking self.old envelope.now) envelope.now.from envelope.now.message) ≡ worn)) ⊎ (fault ≡ NoMemory)) }
     {
         self.mail.note_taken(envelope.from, envelope.number)?;
         let effect = self.take_message(envelope.from, &envelope.message)?;

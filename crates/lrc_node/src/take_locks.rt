@@ -26,7 +26,8 @@ impl State<'_> {
     ) -> Result<Effect, AllocError>
         requires from { from < self.old.setting.nodes }
         requires lock { request.now.lock < self.old.setting.locks }
-        ensures effect { IfOk result (λ effect. request_by self.old from request.now.lock request.now.time (requested self.old.locks.managed request.now.lock from) ≡ seen_effect effect self.new) }
+        ensures effect { IfOk result (λ effect. request_by self.old from request.now.lock request.now.time
+            (requested self.old.locks.managed request.now.lock from) ≡ seen_effect effect self.new) }
         ensures to { IfOk result (λ effect. AreFor self.new.setting.nodes effect.letters.items) }
     {
         let lock = request.lock;
@@ -53,7 +54,8 @@ impl State<'_> {
         requires lock { forward.now.lock < self.old.setting.locks }
         requires asker { forward.now.asker < self.old.setting.nodes }
         requires counted { length forward.now.time ≡ self.old.setting.nodes }
-        ensures effect { IfOk result (λ effect. forward_by self.old forward.now.lock (forwarded self.old.locks.held forward.now.lock forward.now.asker forward.now.time) ≡ seen_effect effect self.new) }
+        ensures effect { IfOk result (λ effect. forward_by self.old forward.now.lock
+            (forwarded self.old.locks.held forward.now.lock forward.now.asker forward.now.time) ≡ seen_effect effect self.new) }
         ensures to { IfOk result (λ effect. AreFor self.new.setting.nodes effect.letters.items) }
     {
         let time = forward.time.copy();

@@ -52,7 +52,8 @@ impl State<'_> {
     ) -> Result<Effect, AllocError>
         requires from { from < self.old.setting.nodes }
         requires page { request.now.page < length self.old.memory.copies }
-        ensures effect { IfOk result (λ effect. sends (changes_reply_to self.old from request.now.page request.now.indices ∷ []) self.old ≡ seen_effect effect self.new) }
+        ensures effect { IfOk result (λ effect. sends (changes_reply_to self.old from request.now.page request.now.indices ∷ [])
+            self.old ≡ seen_effect effect self.new) }
         ensures to { IfOk result (λ effect. AreFor self.new.setting.nodes effect.letters.items) }
     {
         let page = request.page;

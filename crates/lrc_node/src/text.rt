@@ -5,7 +5,8 @@ ghost use Rattle.lrc_exec.specs.Ask.{ask_of};
 ghost use Rattle.lrc_exec.specs.Meaning.{next_of};
 ghost use Rattle.lrc_exec.specs.Plain.{start_of};
 ghost use Rattle.lrc_protocol.specs.Course.{going, course_of, deed_of};
-ghost use Rattle.lrc_node.specs.Text.{asked_in, begun, begun_by, deed_in, end_of, gone_on, course_in, cost_asked, allowed_with, deed_asked, standing_after, stops};
+ghost use Rattle.lrc_node.specs.Text.{asked_in, begun, begun_by, deed_in, end_of, gone_on, course_in};
+ghost use Rattle.lrc_node.specs.Text.{cost_asked, allowed_with, deed_asked, standing_after, stops};
 
 use crate::end::End;
 use lrc_exec::code::Code;

@@ -1,5 +1,6 @@
 -- Lemmas on changes, for the crates above too.
-use Rattle.std.proofs.Common.{ℕ, zero, suc, ◌≡◌, ◌≢◌, ◌+◌, ◌-◌, ◌<◌, ◌≤◌, ◌⊎◌, ◌∙◌, ◌↔◌, Bool, true, false, not, cond, eqb, List, [], ◌∷◌, ◌++◌, length, map, get_or, set, take, Option, None, Some, refl, ap, subst, sym, inl, inr, ⊎_elim, arith}
+use Rattle.std.proofs.Common.{ℕ, zero, suc, ◌≡◌, ◌≢◌, ◌+◌, ◌-◌, ◌<◌, ◌≤◌, ◌⊎◌, ◌∙◌, ◌↔◌, Bool, true, false, not, cond, eqb, List, [], ◌∷◌, ◌++◌}
+use Rattle.std.proofs.Common.{length, map, get_or, set, take, Option, None, Some, refl, ap, subst, sym, inl, inr, ⊎_elim, arith}
 use Rattle.std.specs.Prelude.{filter, unwrap_or, All, Contains, fold}
 use Rattle.std.specs.Option.{option_or, ForSome}
 use Rattle.std.specs.List.{enumerate_from}

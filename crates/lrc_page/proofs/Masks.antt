@@ -1,5 +1,6 @@
 -- Lemmas on masks, for the crates above too.
-use Rattle.std.proofs.Common.{ℕ, zero, suc, false, ◌≡◌, ◌≢◌, ◌*◌, ◌+◌, ◌/◌, ◌%◌, ◌^◌, ◌<◌, ◌≤◌, ◌∙◌, ◌||◌, List, length, get_or, set, eqb, min, refl, ap, sym, ⊎_elim, w64, arith, length-set, get_or-set_same, get_or-set_other}
+use Rattle.std.proofs.Common.{ℕ, zero, suc, false, ◌≡◌, ◌≢◌, ◌*◌, ◌+◌, ◌/◌, ◌%◌, ◌^◌, ◌<◌, ◌≤◌, ◌∙◌, ◌||◌, List, length, get_or, set, eqb}
+use Rattle.std.proofs.Common.{min, refl, ap, sym, ⊎_elim, w64, arith, length-set, get_or-set_same, get_or-set_other}
 use Rattle.std.specs.Prelude.{bit_and, bit_or}
 use Rattle.std.specs.Int.{bit_at, trailing_zeros}
 use Rattle.std.proofs.lemmas.Bool.{cases_eq, cases_lt, eqb-true, eq-eqb, ne_eqb}

@@ -1,5 +1,6 @@
 -- Lemmas on pages and the numbers of pages, for the crates above too.
-use Rattle.std.proofs.Common.{ℕ, zero, suc, ◌≡◌, ◌≢◌, ◌+◌, ◌-◌, ◌⊎◌, ◌↔◌, inl, inr, sym, ◌<◌, ◌≤◌, ◌∷◌, [], ◌++◌, List, length, get_or, take, replicate, refl, ap, ◌∙◌, ⊎_elim, arith}
+use Rattle.std.proofs.Common.{ℕ, zero, suc, ◌≡◌, ◌≢◌, ◌+◌, ◌-◌, ◌⊎◌, ◌↔◌, inl, inr, sym, ◌<◌, ◌≤◌, ◌∷◌, [], ◌++◌}
+use Rattle.std.proofs.Common.{List, length, get_or, take, replicate, refl, ap, ◌∙◌, ⊎_elim, arith}
 use Rattle.std.specs.Prelude.{All, Contains}
 use Rattle.std.specs.List.{insert}
 use Rattle.std.specs.Option.{ForSome}

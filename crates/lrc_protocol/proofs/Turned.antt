@@ -10,7 +10,8 @@ use Rattle.lrc_protocol.specs.Node.{Node, OptionsRecord, Effect, begins}
 use Rattle.lrc_protocol.specs.Run.{run_effect, charged}
 use Rattle.lrc_protocol.specs.Take.{take_effect}
 use Rattle.lrc_protocol.specs.Expected.{is_expected}
-use Rattle.lrc_protocol.specs.Turn.{TurnRecord, Outcome, done, not_ready, unexpected, worn, turn_with, turn_of, turn_if, turn_by, take_anew, take_turn, taking, is_addressed, is_repeat, empty_turn}
+use Rattle.lrc_protocol.specs.Turn.{TurnRecord, Outcome, done, not_ready, unexpected, worn, turn_with, turn_of, turn_if}
+use Rattle.lrc_protocol.specs.Turn.{turn_by, take_anew, take_turn, taking, is_addressed, is_repeat, empty_turn}
 use Rattle.lrc_protocol.specs.Log.{Input, run, taken, outcome_of}
 use Rattle.lrc_protocol.proofs.Keeps.{Moves, stays, Kept, KeptIf, run-keeps, take-keeps}
 use Rattle.lrc_protocol.proofs.Numbers.{AreNumbered, Numbered, are_numbered, nothing_sent}

@@ -1,6 +1,8 @@
 -- A whole run: each node's turns are those of its own inputs, and the acts are the turns' acts.
-use Rattle.std.proofs.Common.{◌≡◌, ℕ, zero, suc, ◌+◌, ◌<◌, List, [], ◌∷◌, ◌++◌, Bool, true, false, length, map, refl, sym, ap, subst, ◌∙◌, inl, inr, arith, append-nil}
-use Rattle.std.specs.Prelude.{Option, Some, None, ◌==◌, All, cond, remove, option_map, filter, filter_map, fold, slice_get, slice_set, slice_index_or, nat_le, if◌then◌else◌}
+use Rattle.std.proofs.Common.{◌≡◌, ℕ, zero, suc, ◌+◌, ◌<◌, List, [], ◌∷◌, ◌++◌, Bool, true, false, length}
+use Rattle.std.proofs.Common.{map, refl, sym, ap, subst, ◌∙◌, inl, inr, arith, append-nil}
+use Rattle.std.specs.Prelude.{Option, Some, None, ◌==◌, All, cond, remove, option_map, filter, filter_map, fold}
+use Rattle.std.specs.Prelude.{slice_get, slice_set, slice_index_or, nat_le, if◌then◌else◌}
 use Rattle.std.specs.Option.{option_to_list}
 use Rattle.std.specs.List.{range_with_len}
 use Rattle.std.proofs.lemmas.Bool.{cases_eq, eq-eqb, ne_eqb}
@@ -20,7 +22,8 @@ use Rattle.lrc_protocol.specs.declared.event.Event.{Event}
 use Rattle.lrc_protocol.specs.declared.event.Event.TheVariants.{Run, Deliver, Repeat}
 use Rattle.lrc_protocol.specs.Node.{Node, OptionsRecord, fresh_node}
 use Rattle.lrc_protocol.specs.Turn.{TurnRecord, Outcome, done, not_ready, unexpected, worn}
-use Rattle.lrc_protocol.specs.Log.{Input, run, taken, EntryRecord, Logged, Logging, logged, refused, too_large, outcome_of, MOST_STAMP, logging, logs, next_stamp, Local, local_after, local_step, local}
+use Rattle.lrc_protocol.specs.Log.{Input, run, taken, EntryRecord, Logged, Logging, logged, refused, too_large, outcome_of}
+use Rattle.lrc_protocol.specs.Log.{MOST_STAMP, logging, logs, next_stamp, Local, local_after, local_step, local}
 use Rattle.lrc_protocol.specs.World.{World, Flying, fresh_world, with_turn, after_input, input_to, delivers, with_mark, event_on, step_of, run_of}
 use Rattle.lrc_protocol.specs.Follows.{inputs_of, turns_of, deeds_in}
 use Rattle.lrc_protocol.proofs.Turned.{Turned, Turns, turns}

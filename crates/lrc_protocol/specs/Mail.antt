@@ -1,5 +1,6 @@
 -- A node's mail: what it waits for, with what has come of it, and the numbers of messages sent and taken.
-use Rattle.std.specs.Prelude.{ℕ, ◌+◌, ◌==◌, Bool, true, false, Option, Some, None, is_some, option_map, List, [], ◌∷◌, nat_lt, nat_le, replicate, slice_index, slice_index_or, slice_set, if◌then◌else◌}
+use Rattle.std.specs.Prelude.{ℕ, ◌+◌, ◌==◌, Bool, true, false, Option, Some, None, is_some, option_map, List, [], ◌∷◌, nat_lt}
+use Rattle.std.specs.Prelude.{nat_le, replicate, slice_index, slice_index_or, slice_set, if◌then◌else◌}
 use Rattle.std.specs.List.{list_any}
 use Rattle.lrc_store.specs.Order.{placed}
 use Rattle.lrc_wire.specs.declared.message.Message.{Message}

@@ -1,6 +1,7 @@
 -- What a node knows of the shared memory: intervals with their notices and changes, its copies of the pages, and who keeps
 -- a base copy of which page (Keleher, Cox, Dwarkadas and Zwaenepoel 1994; Amza et al. 1996).
-use Rattle.std.specs.Prelude.{ℕ, ◌==◌, ◌&&◌, Bool, Option, Some, None, unwrap_or, option_map, List, [], ◌∷◌, length, map, fold, filter, filter_map, min, replicate, slice_index, slice_index_or, slice_set, if◌then◌else◌}
+use Rattle.std.specs.Prelude.{ℕ, ◌==◌, ◌&&◌, Bool, Option, Some, None, unwrap_or, option_map, List, [], ◌∷◌, length, map, fold, filter}
+use Rattle.std.specs.Prelude.{filter_map, min, replicate, slice_index, slice_index_or, slice_set, if◌then◌else◌}
 use Rattle.std.specs.List.{list_any, enumerate_from, range_with_len}
 use Rattle.lrc_time.specs.Time.{entry, zeros}
 use Rattle.lrc_page.specs.declared.changes.Change.{Change}

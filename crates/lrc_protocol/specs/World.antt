@@ -1,5 +1,6 @@
 -- The run of all nodes: what each event does, and the run of a list of events.
-use Rattle.std.specs.Prelude.{ℕ, ◌==◌, unwrap_or, Bool, true, false, not, Option, Some, None, option_map, List, [], ◌++◌, fold, filter, map, remove, slice_get, slice_set, if◌then◌else◌}
+use Rattle.std.specs.Prelude.{ℕ, ◌==◌, unwrap_or, Bool, true, false, not, Option, Some, None, option_map, List, []}
+use Rattle.std.specs.Prelude.{◌++◌, fold, filter, map, remove, slice_get, slice_set, if◌then◌else◌}
 use Rattle.std.specs.Option.{option_to_list}
 use Rattle.std.specs.List.{enumerate_from, range_with_len}
 use Rattle.lrc_lang.specs.declared.program.Program.{Program}

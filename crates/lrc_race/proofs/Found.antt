@@ -1,5 +1,6 @@
 -- The races found are those of the traces.
-use Rattle.std.proofs.Common.{◌≡◌, ℕ, ◌+◌, ◌<◌, ◌≤◌, ◌++◌, ◌∷◌, [], ◌∙◌, ◌≢◌, inr, Bool, true, false, Some, refl, List, length, get_or, take, ap, sym, subst, ⊎_elim, arith}
+use Rattle.std.proofs.Common.{◌≡◌, ℕ, ◌+◌, ◌<◌, ◌≤◌, ◌++◌, ◌∷◌, [], ◌∙◌, ◌≢◌, inr, Bool, true, false, Some}
+use Rattle.std.proofs.Common.{refl, List, length, get_or, take, ap, sym, subst, ⊎_elim, arith}
 use Rattle.std.specs.Prelude.{◌↔◌, Contains, IsTrue, slice_get}
 use Rattle.std.proofs.lemmas.Bool.{cases_lt, cases_order, lt-ltb, le-ltb, or_cases, or_right, false≢true}
 use Rattle.std.proofs.lemmas.Option.{slice_get_within}
@@ -228,7 +229,15 @@ same_race : (race : Race) (node_a node_b interval_a interval_b : ℕ) → race.n
     → race.interval_a ≡ interval_a → race.interval_b ≡ interval_b
     → race ≡ record { word = race.word; node_a = node_a; node_b = node_b; interval_a = interval_a; interval_b = interval_b }
 same_race race node_a node_b interval_a interval_b first second third fourth =
-    let same : ◌≡◌ {A = Race} (record { word = race.word; node_a = race.node_a; node_b = race.node_b; interval_a = race.interval_a; interval_b = race.interval_b }) (record { word = race.word; node_a = node_a; node_b = node_b; interval_a = interval_a; interval_b = interval_b }) = cc in same
+    let same : ◌≡◌ {A = Race} (record {
+      word = race.word;
+      node_a = race.node_a;
+      node_b = race.node_b;
+      interval_a =
+          race.interval_a;
+      interval_b = race.interval_b;
+    })
+    (record { word = race.word; node_a = node_a; node_b = node_b; interval_a = interval_a; interval_b = interval_b }) = cc in same
 
 -- a race of the traces is one of two of them
 race_to : (traces : List TraceRecord) (race : Race) → IsRaceOf traces race

@@ -1,9 +1,11 @@
 -- Lemmas on lists that run through an arena.
-use Rattle.std.proofs.Common.{◌≡◌, ◌≢◌, ℕ, zero, suc, ◌+◌, ◌<◌, ◌≤◌, ◌∙◌, Bool, true, false, cond, eqb, Option, None, Some, List, [], ◌∷◌, ◌++◌, length, get_or, set, map, take, refl, ap, sym, subst, ⊎_elim, arith}
+use Rattle.std.proofs.Common.{◌≡◌, ◌≢◌, ℕ, zero, suc, ◌+◌, ◌<◌, ◌≤◌, ◌∙◌, Bool, true, false, cond, eqb, Option, None, Some, List}
+use Rattle.std.proofs.Common.{[], ◌∷◌, ◌++◌, length, get_or, set, map, take, refl, ap, sym, subst, ⊎_elim, arith}
 use Rattle.std.specs.List.{All, filter}
 use Rattle.std.specs.Option.{option_or}
 use Rattle.std.proofs.lemmas.Bool.{cases_eq, cases_lt, eq-eqb, ne_eqb}
-use Rattle.std.proofs.lemmas.List.{get_or_push, get_or_append_left, get_or-set_same, get_or-set_other, length-map, length-set, length-append, get_or-map, map_push, take_more, take_all, take-append-le, length-take-le, get_or_default, append-nil}
+use Rattle.std.proofs.lemmas.List.{get_or_push, get_or_append_left, get_or-set_same, get_or-set_other, length-map, length-set, length-append}
+use Rattle.std.proofs.lemmas.List.{get_or-map, map_push, take_more, take_all, take-append-le, length-take-le, get_or_default, append-nil}
 use Rattle.std.proofs.lemmas.List.Elements.{All-head, All-tail, All-push, All-weaker, filter-append}
 use Rattle.lrc_store.specs.declared.chains.Entry.{Entry}
 use Rattle.lrc_store.specs.declared.chains.TheConstants.{MOST_ENTRIES}

@@ -1,5 +1,6 @@
 -- Following the links gives the lists.
-use Rattle.std.proofs.Common.{◌≡◌, ℕ, zero, suc, ◌+◌, ◌<◌, ◌≤◌, ◌∙◌, Bool, true, false, cond, eqb, eqb-true, Option, Some, List, [], ◌∷◌, ◌++◌, length, get_or, take, reverse, refl, ap, sym, subst, arith}
+use Rattle.std.proofs.Common.{◌≡◌, ℕ, zero, suc, ◌+◌, ◌<◌, ◌≤◌, ◌∙◌, Bool, true, false, cond, eqb, eqb-true, Option, Some}
+use Rattle.std.proofs.Common.{List, [], ◌∷◌, ◌++◌, length, get_or, take, reverse, refl, ap, sym, subst, arith}
 use Rattle.std.proofs.lemmas.List.{take_more, take_all, length-take-le, reverse-append, append-nil}
 use Rattle.lrc_store.specs.Lists.{Follows, head_of, link_of, list_of, places_from}
 use Rattle.lrc_store.proofs.Chained.{last_at-push_here, last_at-push_other, reach, reach-taken}

@@ -113,5 +113,6 @@ pub known-discarded : (store : StoreRecord) (time : List ℕ) (page : ℕ) (sinc
     → KnowsTheFirst (discarded store time) page since
 known-discarded store time page since before =
     let same : filter (stays time) (notices_of store) ≡ notices_of (discarded store time) =
-    filter-flat_map keys_of (λ i. not (is_covered time i)) (stays time) (keys_stay time) (intervals_of store) ∙ ap (flat_map keys_of) (sym (intervals_of-discarded store time)) in
+    filter-flat_map keys_of (λ i. not (is_covered time i)) (stays time) (keys_stay time) (intervals_of store)
+    ∙ ap (flat_map keys_of) (sym (intervals_of-discarded store time)) in
     subst (AllPairs (Ordered page since)) same (AllPairs-filter (Ordered page since) (stays time) (notices_of store) before)

@@ -1,5 +1,6 @@
 -- What changes leave true of the links of a store.
-use Rattle.std.proofs.Common.{◌≡◌, ℕ, zero, suc, ◌+◌, ◌<◌, ◌∙◌, Bool, true, false, not, ◌&&◌, ◌||◌, cond, eqb, eqb-true, List, [], ◌∷◌, ◌++◌, length, get_or, set, map, refl, ap, sym, subst, arith, ◌≤◌}
+use Rattle.std.proofs.Common.{◌≡◌, ℕ, zero, suc, ◌+◌, ◌<◌, ◌∙◌, Bool, true, false, not, ◌&&◌, ◌||◌, cond, eqb, eqb-true, List}
+use Rattle.std.proofs.Common.{[], ◌∷◌, ◌++◌, length, get_or, set, map, refl, ap, sym, subst, arith, ◌≤◌}
 use Rattle.std.specs.List.{All, AllPairs, filter, flat_map, list_any}
 use Rattle.std.proofs.lemmas.Bool.{ne_eqb}
 use Rattle.std.proofs.lemmas.Grind.{flat_map-append}
@@ -68,7 +69,8 @@ pages_of_ranked interval (page ∷ pages) = ap (λ (l : List ℕ). page ∷ l) (
 
 pub IsLinkedUp-added : (store : StoreRecord) (by_node by_node' : NodesRecord) (by_page by_page' : ChainsRecord)
     (notices notices' : List (ℕ × Key)) (interval : IntervalRecord) (start : ℕ)
-    → IsLinkedUp store by_node by_page notices → IsInterval interval → length interval.stamp ≡ length store.last → All (λ page. page < store.pages) interval.pages
+    → IsLinkedUp store by_node by_page notices → IsInterval interval → length interval.stamp ≡ length store.last
+    → All (λ page. page < store.pages) interval.pages
     → index_of interval ≡ entry store.last interval.node + 1
     → by_node'.keys ≡ by_node.keys ++ interval.node ∷ [] → by_node'.lists ≡ by_node.lists
     → by_node'.starts ≡ by_node.starts ++ start ∷ [] → start ≡ length by_page.keys
@@ -304,7 +306,8 @@ known_first store by_node by_page notices page since linked first = λ i j d les
     let inside : j < length keys = omega (arith, within, length-map notices (λ (notice : ℕ × Key). notice.1)) in
     let a : get_or keys i d.1 ≡ (get_or notices i d).1 = get_or-map (λ (notice : ℕ × Key). notice.1) notices i d d.1 (omega (arith, less, within)) in
     let b : get_or keys j d.1 ≡ (get_or notices j d).1 = get_or-map (λ (notice : ℕ × Key). notice.1) notices j d d.1 within in
-    let kept = subst (AllPairs (λ earlier later. earlier.page ≡ page → later.page ≡ page → knows_notice since later ≡ true → knows_notice since earlier ≡ true)) (sym same) first in
+    let kept = subst (AllPairs (λ earlier later. earlier.page ≡ page → later.page ≡ page → knows_notice since later ≡ true
+    → knows_notice since earlier ≡ true)) (sym same) first in
     λ earlier_on later_on known.
     ap (knows_notice since) (sym a)
     ∙ kept i j d.1 less inside (ap (λ (k : Key). k.page) a ∙ earlier_on) (ap (λ (k : Key). k.page) b ∙ later_on) (ap (knows_notice since) b ∙ known)

@@ -1,5 +1,6 @@
 -- A list has exactly the places of its key.
-use Rattle.std.proofs.Common.{◌≡◌, ℕ, zero, suc, ◌+◌, ◌<◌, ◌≤◌, ◌∙◌, ◌↔◌, Bool, true, false, cond, eqb, eqb-true, List, ◌∷◌, length, get_or, take, refl, ap, sym, subst, ⊎_elim, arith}
+use Rattle.std.proofs.Common.{◌≡◌, ℕ, zero, suc, ◌+◌, ◌<◌, ◌≤◌, ◌∙◌, ◌↔◌, Bool, true, false, cond, eqb, eqb-true}
+use Rattle.std.proofs.Common.{List, ◌∷◌, length, get_or, take, refl, ap, sym, subst, ⊎_elim, arith}
 use Rattle.std.specs.List.{AllPairs, Contains}
 use Rattle.std.proofs.lemmas.Bool.{true≢false, cases_lt, eq-eqb}
 use Rattle.std.proofs.lemmas.List.{get_or_default, take_more, take_all, length-take-le}

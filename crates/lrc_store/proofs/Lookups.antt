@@ -1,5 +1,6 @@
 -- What is found in a store after `add` and `attach`.
-use Rattle.std.proofs.Common.{◌≡◌, ◌≢◌, ℕ, suc, ◌+◌, ◌≤◌, ◌∙◌, Bool, true, false, cond, eqb, eqb-true, ◌&&◌, Option, Some, None, List, [], ◌∷◌, ◌++◌, get_or, map, refl, ap, sym, ⊎_elim, arith}
+use Rattle.std.proofs.Common.{◌≡◌, ◌≢◌, ℕ, suc, ◌+◌, ◌≤◌, ◌∙◌, Bool, true, false, cond, eqb, eqb-true, ◌&&◌, Option, Some}
+use Rattle.std.proofs.Common.{None, List, [], ◌∷◌, ◌++◌, get_or, map, refl, ap, sym, ⊎_elim, arith}
 use Rattle.std.specs.List.{All, Contains, find}
 use Rattle.std.specs.Option.{option_and_then, option_map}
 use Rattle.std.proofs.lemmas.Bool.{true≢false, and_parts, and_from, false_from_ne_true, eq-eqb, ne_eqb}
@@ -8,7 +9,8 @@ use Rattle.lrc_time.specs.Time.{entry}
 use Rattle.lrc_page.specs.declared.changes.Change.{Change}
 use Rattle.lrc_store.specs.declared.key.Key.{Key}
 use Rattle.lrc_store.specs.Interval.{IntervalRecord, index_of}
-use Rattle.lrc_store.specs.Store.{NoticeRecord, StoredRecord, StoreRecord, IsStore, interval_of, intervals_of, without_changes, added, attached, stored_with, notice_with, is_at, stored_at, key_of, notice_of, notice_at, unread}
+use Rattle.lrc_store.specs.Store.{NoticeRecord, StoredRecord, StoreRecord, IsStore, interval_of, intervals_of, without_changes, added}
+use Rattle.lrc_store.specs.Store.{attached, stored_with, notice_with, is_at, stored_at, key_of, notice_of, notice_at, unread}
 use Rattle.lrc_store.proofs.Orders.{cases_Contains, none_Contains}
 use Rattle.lrc_store.proofs.Records.{notice_with-same, notice_with-other}
 use Rattle.lrc_store.proofs.Stores.{interval_of-stored_with, kept_page, stored_with-other}

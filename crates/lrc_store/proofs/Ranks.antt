@@ -1,5 +1,6 @@
 -- The orders of intervals are orders, by which the intervals of a store can be compared.
-use Rattle.std.proofs.Common.{◌≡◌, ◌≢◌, ℕ, ◌+◌, ◌<◌, ◌≤◌, ◌⊎◌, ◌∙◌, Bool, true, false, cond, nat_lt, eqb, ◌&&◌, ◌||◌, List, length, get_or, map, refl, ap, sym, subst, inl, inr, ⊎_elim, arith, Ordering, Less, Equal, Greater}
+use Rattle.std.proofs.Common.{◌≡◌, ◌≢◌, ℕ, ◌+◌, ◌<◌, ◌≤◌, ◌⊎◌, ◌∙◌, Bool, true, false, cond, nat_lt, eqb, ◌&&◌, ◌||◌, List, length}
+use Rattle.std.proofs.Common.{get_or, map, refl, ap, sym, subst, inl, inr, ⊎_elim, arith, Ordering, Less, Equal, Greater}
 use Rattle.std.specs.Cmp.{IsStrictWeakOrder}
 use Rattle.std.specs.List.{AllPairs, filter}
 use Rattle.std.specs.List.Sorted.{IsPermutation, IsSortedBy}
@@ -14,7 +15,8 @@ use Rattle.lrc_store.specs.Interval.{IntervalRecord, index_of, by_node, by_weigh
 use Rattle.lrc_store.specs.Store.{StoreRecord, IsStore, IsMissing, IsNewer, intervals_of, is_missing, is_newer, key_of, missing_of, newer_of}
 use Rattle.lrc_store.specs.Links.{ranked}
 use Rattle.lrc_store.specs.Order.{ascending_part}
-use Rattle.lrc_store.proofs.Orders.{Comparable, IsAscendingPart-ascending_part, IsAscendingPart-only, IsAscendingPart-from_sort, IsPermutation-from_map, map-map}
+use Rattle.lrc_store.proofs.Orders.{Comparable, IsAscendingPart-ascending_part, IsAscendingPart-only}
+use Rattle.lrc_store.proofs.Orders.{IsAscendingPart-from_sort, IsPermutation-from_map, map-map}
 
 -- by a number first, and then by another order
 module _ {X : Type 0} (rank : X → ℕ) (next : X → X → Bool) where

@@ -1,5 +1,6 @@
 -- Lemmas on interval records and what is stored of them.
-use Rattle.std.proofs.Common.{◌≡◌, ◌≢◌, ℕ, ◌<◌, ◌∙◌, true, false, cond, eqb, eqb-true, Some, None, List, [], ◌∷◌, length, get_or, set, map, refl, ap, sym, ⊎_elim, arith}
+use Rattle.std.proofs.Common.{◌≡◌, ◌≢◌, ℕ, ◌<◌, ◌∙◌, true, false, cond, eqb, eqb-true, Some, None, List, []}
+use Rattle.std.proofs.Common.{◌∷◌, length, get_or, set, map, refl, ap, sym, ⊎_elim, arith}
 use Rattle.std.specs.List.{position, AllPairs}
 use Rattle.lrc_page.specs.Pages.{IsRising}
 use Rattle.std.proofs.lemmas.Bool.{cases_lt, ne_eqb}

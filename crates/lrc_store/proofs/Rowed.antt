@@ -1,8 +1,10 @@
 -- The rows of places by which an interval is found.
-use Rattle.std.proofs.Common.{◌≡◌, ◌≢◌, ℕ, zero, suc, ◌+◌, ◌<◌, ◌≤◌, ◌∙◌, Bool, true, false, not, cond, eqb, Some, List, [], ◌∷◌, ◌++◌, length, get_or, set, map, take, drop, reverse, refl, ap, sym, subst, ⊎_elim, arith}
+use Rattle.std.proofs.Common.{◌≡◌, ◌≢◌, ℕ, zero, suc, ◌+◌, ◌<◌, ◌≤◌, ◌∙◌, Bool, true, false, not, cond, eqb, Some, List, [], ◌∷◌, ◌++◌}
+use Rattle.std.proofs.Common.{length, get_or, set, map, take, drop, reverse, refl, ap, sym, subst, ⊎_elim, arith}
 use Rattle.std.specs.List.{All, AllPairs, filter, slice_get}
 use Rattle.std.proofs.lemmas.Bool.{true≢false, cases_eq, eq-eqb, eqb-true, ne_eqb, leb-true, le-leb}
-use Rattle.std.proofs.lemmas.List.{append_assoc, append-nil, drop_more, get_or_at, get_or-set_same, get_or-set_other, length-append, length-map, length-reverse, length-set, length-take-le, map-append, reverse-append, take-append-drop}
+use Rattle.std.proofs.lemmas.List.{append_assoc, append-nil, drop_more, get_or_at, get_or-set_same, get_or-set_other, length-append, length-map}
+use Rattle.std.proofs.lemmas.List.{length-reverse, length-set, length-take-le, map-append, reverse-append, take-append-drop}
 use Rattle.std.proofs.lemmas.List.Elements.{All-head, All-tail, filter-append}
 use Rattle.std.proofs.lemmas.Option.{slice_get-get_or}
 use Rattle.lrc_time.specs.Time.{entry}
@@ -94,7 +96,8 @@ found_from_last intervals at d within =
     let front = map (λ (j : IntervalRecord). j.node) (take at intervals) in
     let back = map (λ (j : IntervalRecord). j.node) (drop (at + 1) intervals) in
     let split : map (λ j. j.node) intervals ≡ front ++ (node ∷ back) =
-    ap (map (λ (j : IntervalRecord). j.node)) (sym (take-append-drop at intervals) ∙ ap (λ (l : List IntervalRecord). take at intervals ++ l) (drop_more intervals at d within))
+    ap (map (λ (j : IntervalRecord). j.node))
+    (sym (take-append-drop at intervals) ∙ ap (λ (l : List IntervalRecord). take at intervals ++ l) (drop_more intervals at d within))
     ∙ map-append (λ (j : IntervalRecord). j.node) (take at intervals) (i ∷ drop (at + 1) intervals) in
     let count : length front ≡ at = length-map (take at intervals) (λ (j : IntervalRecord). j.node) ∙ length-take-le at intervals (omega (arith, within)) in
     let a = places_from node 0 front in
@@ -165,7 +168,8 @@ count-filter time i (j ∷ js) above stays =
         ∙ ap (λ d. length (cond d (j ∷ filter test js) (filter test js))) (sym same)
       where
         by_node : (d : Bool) → count_of_node i.node (filter (λ k. not (is_covered time k)) js) ≡ count_of_node i.node js
-            → length (cond d (j ∷ filter (λ k. eqb k.node i.node) (filter (λ k. not (is_covered time k)) js)) (filter (λ k. eqb k.node i.node) (filter (λ k. not (is_covered time k)) js)))
+            → length (cond d (j ∷ filter (λ k. eqb k.node i.node) (filter (λ k. not (is_covered time k)) js))
+            (filter (λ k. eqb k.node i.node) (filter (λ k. not (is_covered time k)) js)))
             ≡ length (cond d (j ∷ filter (λ k. eqb k.node i.node) js) (filter (λ k. eqb k.node i.node) js))
         by_node true same = ap suc same
         by_node false same = same
@@ -243,6 +247,7 @@ places_from-filter node kept intervals =
             by_both false true is_b rest = omega (arith, rest)
             by_both false false is_b rest = rest
             by_both true b is_b rest =
-                let mine : count_of_node node (i ∷ filter kept is) ≡ length (cond b (i ∷ filter (λ j. eqb j.node node) (filter kept is)) (filter (λ j. eqb j.node node) (filter kept is))) =
+                let mine : count_of_node node (i ∷ filter kept is) ≡ length
+                (cond b (i ∷ filter (λ j. eqb j.node node) (filter kept is)) (filter (λ j. eqb j.node node) (filter kept is))) =
                 ap (λ c. length (cond c (i ∷ filter (λ j. eqb j.node node) (filter kept is)) (filter (λ j. eqb j.node node) (filter kept is)))) is_b in
                 subst (λ n. n ≤ length (cond b (i ∷ filter (λ j. eqb j.node node) is) (filter (λ j. eqb j.node node) is))) (sym mine) (last_step b rest)

@@ -1,5 +1,6 @@
 -- The interval of a node and an index is where its node's list has it.
-use Rattle.std.proofs.Common.{◌≡◌, ℕ, ◌+◌, ◌-◌, ◌<◌, ◌≤◌, ◌∙◌, true, eqb, eqb-true, Option, None, Some, List, length, get_or, map, drop, refl, ap, sym, subst, arith}
+use Rattle.std.proofs.Common.{◌≡◌, ℕ, ◌+◌, ◌-◌, ◌<◌, ◌≤◌, ◌∙◌, true, eqb, eqb-true, Option, None, Some}
+use Rattle.std.proofs.Common.{List, length, get_or, map, drop, refl, ap, sym, subst, arith}
 use Rattle.std.specs.List.{AllPairs, Contains, position, slice_get}
 use Rattle.std.proofs.lemmas.Bool.{and_parts, true≢false}
 use Rattle.std.proofs.lemmas.List.{get_or-map, length-map}

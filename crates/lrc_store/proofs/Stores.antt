@@ -1,5 +1,6 @@
 -- What `add` and `attach` leave true of a store.
-use Rattle.std.proofs.Common.{◌≡◌, ℕ, ◌+◌, ◌<◌, ◌≤◌, ◌∙◌, Bool, true, false, not, cond, eqb, eqb-true, Some, List, [], ◌∷◌, ◌++◌, length, get_or, set, map, refl, ap, sym, subst, ⊎_elim, arith}
+use Rattle.std.proofs.Common.{◌≡◌, ℕ, ◌+◌, ◌<◌, ◌≤◌, ◌∙◌, Bool, true, false, not, cond, eqb, eqb-true, Some, List, []}
+use Rattle.std.proofs.Common.{◌∷◌, ◌++◌, length, get_or, set, map, refl, ap, sym, subst, ⊎_elim, arith}
 use Rattle.std.specs.List.{All, AllPairs, filter, position}
 use Rattle.std.proofs.lemmas.Bool.{cases_lt, and_parts, false_from_ne_true}
 use Rattle.std.proofs.lemmas.List.{get_or-map, get_or_default, length-map, length-set, map_push}
@@ -11,7 +12,8 @@ use Rattle.lrc_time.proofs.Times.{covers-raised, entry-set_same}
 use Rattle.lrc_page.specs.declared.changes.Change.{Change}
 use Rattle.lrc_store.specs.declared.key.Key.{Key}
 use Rattle.lrc_store.specs.Interval.{IntervalRecord, IsInterval, index_of}
-use Rattle.lrc_store.specs.Store.{NoticeRecord, StoredRecord, StoreRecord, IsStore, interval_of, intervals_of, without_changes, added, attached, discarded, is_covered, stored_with, notice_with, is_at}
+use Rattle.lrc_store.specs.Store.{NoticeRecord, StoredRecord, StoreRecord, IsStore, interval_of, intervals_of, without_changes}
+use Rattle.lrc_store.specs.Store.{added, attached, discarded, is_covered, stored_with, notice_with, is_at}
 use Rattle.lrc_store.proofs.Places.{map_one}
 use Rattle.lrc_store.proofs.Records.{interval_of-without_changes}
 

@@ -1,10 +1,12 @@
 -- The notices of one interval stand one behind another.
-use Rattle.std.proofs.Common.{◌≡◌, ℕ, zero, suc, ◌+◌, ◌<◌, ◌∙◌, Bool, true, false, ◌&&◌, cond, eqb, eqb-true, Option, None, Some, List, [], ◌∷◌, ◌++◌, length, get_or, map, take, drop, refl, ap, sym, subst, arith}
+use Rattle.std.proofs.Common.{◌≡◌, ℕ, zero, suc, ◌+◌, ◌<◌, ◌∙◌, Bool, true, false, ◌&&◌, cond, eqb, eqb-true, Option, None, Some}
+use Rattle.std.proofs.Common.{List, [], ◌∷◌, ◌++◌, length, get_or, map, take, drop, refl, ap, sym, subst, arith}
 use Rattle.std.specs.List.{All, AllPairs, flat_map, slice_get}
 use Rattle.std.specs.Option.{option_and_then}
 use Rattle.std.proofs.lemmas.Bool.{eq-eqb, ne_eqb}
 use Rattle.std.proofs.lemmas.Grind.{flat_map-append}
-use Rattle.std.proofs.lemmas.List.{append_assoc, drop_more, get_or-drop, get_or-map, get_or_default, length-append, length-drop, length-map, take-append-drop, take-map}
+use Rattle.std.proofs.lemmas.List.{append_assoc, drop_more, get_or-drop, get_or-map, get_or_default}
+use Rattle.std.proofs.lemmas.List.{length-append, length-drop, length-map, take-append-drop, take-map}
 use Rattle.std.proofs.lemmas.List.Concat.{flat_map-cons}
 use Rattle.std.proofs.lemmas.List.Elements.{All-append, All-head, All-tail}
 use Rattle.std.proofs.lemmas.Option.{get_or_from_slice_get, slice_get-get_or, slice_get_within}
@@ -86,10 +88,14 @@ module _ (i : IntervalRecord) where
       let count : length longer ≡ length pre + 1 = omega (arith, length-append pre (key_of page i ∷ [])) in
       let again = follows_on longer pages rest others in
       let by_keys : Follows (next_by keys) (slice_get (counted_from (length longer) (length pages)) 0) (counted_from (length longer) (length pages)) =
-      subst (λ (l : List Key). Follows (next_by l) (slice_get (counted_from (length longer) (length pages)) 0) (counted_from (length longer) (length pages))) same again in
+      subst (λ (l : List Key). Follows (next_by l) (slice_get (counted_from (length longer) (length pages)) 0)
+      (counted_from (length longer) (length pages))) same again in
       let by_count : Follows (next_by keys) (slice_get (counted_from (length pre + 1) (length pages)) 0) (counted_from (length pre + 1) (length pages)) =
-      subst (λ n. Follows (next_by keys) (slice_get (counted_from n (length pages)) 0) (counted_from n (length pages))) count by_keys in
-      (refl, subst (λ (f : Option ℕ). Follows (next_by keys) f (counted_from (length pre + 1) (length pages))) (sym (next_here pre page pages rest others)) by_count)
+      subst (λ n. Follows (next_by keys) (slice_get (counted_from n (length pages)) 0) (counted_from n (length pages))) count by_keys in (
+        refl,
+        subst (λ (f : Option ℕ). Follows (next_by keys) f (counted_from (length pre + 1) (length pages)))
+            (sym (next_here pre page pages rest others)) by_count,
+      )
 
 -- what stands at places in a row
 map_counted : (pre mid rest : List Key) → map (slice_get (pre ++ (mid ++ rest))) (counted_from (length pre) (length mid)) ≡ map Some mid
@@ -157,7 +163,8 @@ module _ (store : StoreRecord) (at : ℕ) where
       ap (λ (j : IntervalRecord). j.node) here ∙ same ∙ ap (λ (j : IntervalRecord). j.node) there in
       let less = sound.ascending at (at + 1 + k) d (omega arith) far nodes in
       omega (arith, less, ap index_of here, ap index_of there)) in
-      subst (λ (keys : List Key). Follows (next_by keys) (slice_get (counted_from (length pre) (length i.pages)) 0) (counted_from (length pre) (length i.pages)))
+      subst (λ (keys : List Key). Follows (next_by keys) (slice_get (counted_from (length pre) (length i.pages)) 0)
+      (counted_from (length pre) (length i.pages)))
       (sym (split_at all at i within is)) (follows_on i pre i.pages rest others)
 
   follows_found : (found : Option IntervalRecord) → slice_get (intervals_of store) at ≡ found → IsStore store

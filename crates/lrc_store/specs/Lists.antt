@@ -1,5 +1,6 @@
 -- The lists that run through a store. A link is a place in the order of adding, and each list is followed from the newest.
-use Rattle.std.specs.Prelude.{◌≡◌, ℕ, zero, suc, ◌+◌, ◌==◌, ◌&&◌, Bool, Option, None, Some, option_and_then, option_map, List, [], ◌∷◌, length, map, flat_map, take, reverse, slice_get, slice_index, AllPairs, IsTrue, if◌then◌else◌}
+use Rattle.std.specs.Prelude.{◌≡◌, ℕ, zero, suc, ◌+◌, ◌==◌, ◌&&◌, Bool, Option, None, Some, option_and_then, option_map, List, [], ◌∷◌}
+use Rattle.std.specs.Prelude.{length, map, flat_map, take, reverse, slice_get, slice_index, AllPairs, IsTrue, if◌then◌else◌}
 use Rattle.lrc_time.specs.Time.{knows}
 use Rattle.lrc_store.specs.declared.key.Key.{Key}
 use Rattle.lrc_store.specs.Chains.{last_at}

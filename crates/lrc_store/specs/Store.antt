@@ -1,5 +1,6 @@
 -- The intervals that a node knows, with their write notices and the changes that came for them (Amza et al. 1996).
-use Rattle.std.specs.Prelude.{◌≡◌, ℕ, ◌<◌, ◌≤◌, ◌==◌, ◌&&◌, Bool, not, Option, Some, None, option_and_then, List, [], ◌∷◌, ◌++◌, length, map, filter, find, slice_set, All, AllPairs, if◌then◌else◌}
+use Rattle.std.specs.Prelude.{◌≡◌, ℕ, ◌<◌, ◌≤◌, ◌==◌, ◌&&◌, Bool, not, Option, Some, None, option_and_then, List, [], ◌∷◌}
+use Rattle.std.specs.Prelude.{◌++◌, length, map, filter, find, slice_set, All, AllPairs, if◌then◌else◌}
 use Rattle.std.specs.List.{list_any}
 use Rattle.lrc_time.specs.Time.{entry, zeros, knows}
 use Rattle.lrc_page.specs.declared.changes.Change.{Change}

@@ -1,12 +1,15 @@
 // What always holds of stores. Each function is a law: its clauses are the statement, and there is nothing to do.
 
-ghost use Rattle.std.specs.Prelude.{◌≡◌, ◌≢◌, ◌+◌, ◌++◌, ◌∷◌, ◌<◌, ◌↔◌, ℕ, All, AllPairs, Contains, IsTrue, List, None, Some, filter, length, map, not, slice_get, slice_index, []};
+ghost use Rattle.std.specs.Prelude.{◌≡◌, ◌≢◌, ◌+◌, ◌++◌, ◌∷◌, ◌<◌, ◌↔◌, ℕ, All, AllPairs, Contains, IsTrue, List, None};
+ghost use Rattle.std.specs.Prelude.{Some, filter, length, map, not, slice_get, slice_index, []};
 ghost use Rattle.lrc_time.specs.Time.{Covers, entry};
 ghost use Rattle.lrc_page.specs.declared.changes.Change.{Change};
 ghost use Rattle.lrc_store.specs.declared.key.Key.{Key};
 ghost use Rattle.lrc_store.specs.Interval.{IntervalRecord, by_weight, index_of};
-ghost use Rattle.lrc_store.specs.Lists.{Follows, KnowsTheFirst, before_of, first_notice_of, first_on_page_of, key_at, keys_of, knows_notice, list_of, newest_of, next_in_interval_of, next_on_page_of, nodes_of, notices_in, notices_of, pages_noted};
-ghost use Rattle.lrc_store.specs.Store.{StoreRecord, IsMissing, IsNewer, IsStore, added, attached, discarded, is_covered, intervals_of, key_of, missing_of, newer_of, notice_at, stored_at, unread, without_changes};
+ghost use Rattle.lrc_store.specs.Lists.{Follows, KnowsTheFirst, before_of, first_notice_of, first_on_page_of, key_at, keys_of, knows_notice, list_of};
+ghost use Rattle.lrc_store.specs.Lists.{newest_of, next_in_interval_of, next_on_page_of, nodes_of, notices_in, notices_of, pages_noted};
+ghost use Rattle.lrc_store.specs.Store.{StoreRecord, IsMissing, IsNewer, IsStore, added, attached, discarded, is_covered, intervals_of};
+ghost use Rattle.lrc_store.specs.Store.{key_of, missing_of, newer_of, notice_at, stored_at, unread, without_changes};
 
 /// An interval that follows the last one of its node gets an entry of its own, with notices without changes. All others
 /// stay.

@@ -3,7 +3,8 @@
 ghost use Rattle.std.specs.Prelude.{◌≡◌, ◌<◌, length, slice_get, None, Some, option_and_then};
 ghost use Rattle.std.specs.Option.{ForSome, option_copied};
 ghost use Rattle.lrc_page.specs.Pages.{IsRising};
-ghost use Rattle.lrc_store.specs.Lists.{interval_at, key_at, newest_of, before_of, first_notice_of, next_in_interval_of, first_on_page_of, next_on_page_of, notices_of};
+ghost use Rattle.lrc_store.specs.Lists.{interval_at, key_at, newest_of, before_of, first_notice_of};
+ghost use Rattle.lrc_store.specs.Lists.{next_in_interval_of, first_on_page_of, next_on_page_of, notices_of};
 ghost use Rattle.lrc_store.specs.Store.{attached, changes_at, intervals_of, notice_at};
 
 use crate::key::Key;

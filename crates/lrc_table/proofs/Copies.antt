@@ -5,7 +5,8 @@ use Rattle.lrc_page.specs.Changes.{changes_between}
 use Rattle.lrc_page.specs.declared.size.Size.{Size}
 use Rattle.lrc_table.specs.declared.slot.State.{State}
 use Rattle.lrc_table.specs.declared.slot.State.TheVariants.{Valid, Written, Invalid, Absent}
-use Rattle.lrc_table.specs.PageCopy.{PageCopy, IsWhole, is_written, is_readable, is_pending, pending_changes, read_at, written_in, after_write, closed, settled, without_twin, dropped}
+use Rattle.lrc_table.specs.PageCopy.{PageCopy, IsWhole, is_written, is_readable, is_pending, pending_changes, read_at}
+use Rattle.lrc_table.specs.PageCopy.{written_in, after_write, closed, settled, without_twin, dropped}
 
 -- a copy taken apart
 abbrev pub copy_of : State → List ℕ → Option (List ℕ) → Option (List ℕ) → PageCopy

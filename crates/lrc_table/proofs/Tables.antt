@@ -1,9 +1,11 @@
 -- Lemmas on page tables, for the crates above too.
-use Rattle.std.proofs.Common.{ℕ, replicate, take, drop, ◌++◌, zero, suc, zero-add, cond, ◌≡◌, ◌≢◌, ◌<◌, ◌+◌, ◌≤◌, ◌∙◌, ◌⊎◌, ◌↔◌, Bool, true, false, List, [], ◌∷◌, length, map, get_or, set, refl, ap, subst, sym, inl, inr, ⊎_elim, arith}
+use Rattle.std.proofs.Common.{ℕ, replicate, take, drop, ◌++◌, zero, suc, zero-add, cond, ◌≡◌, ◌≢◌, ◌<◌, ◌+◌, ◌≤◌, ◌∙◌, ◌⊎◌, ◌↔◌, Bool, true}
+use Rattle.std.proofs.Common.{false, List, [], ◌∷◌, length, map, get_or, set, refl, ap, subst, sym, inl, inr, ⊎_elim, arith}
 use Rattle.std.specs.Prelude.{filter, All, Contains, Result, Ok, Err, OnOk, OnErr}
 use Rattle.std.specs.List.{range_with_len}
 use Rattle.std.proofs.lemmas.Bool.{and_parts, cases_eq, cases_lt, cases_Bool}
-use Rattle.std.proofs.lemmas.List.{length-map, length-set, get_or-map, get_or-set_same, get_or-set_other, get_or_past, same_lists, get_or_default, get_or-replicate, length-replicate, set-set, take_all, append-nil, drop_all}
+use Rattle.std.proofs.lemmas.List.{length-map, length-set, get_or-map, get_or-set_same, get_or-set_other, get_or_past, same_lists}
+use Rattle.std.proofs.lemmas.List.{get_or_default, get_or-replicate, length-replicate, set-set, take_all, append-nil, drop_all}
 use Rattle.std.proofs.lemmas.List.Elements.{filter_agree, filter_passes, All-filter, All-contains, All-set, All-map, All-replicate}
 use Rattle.std.proofs.lemmas.Option.{same_Some}
 use Rattle.std.proofs.lemmas.Grind.{get_or_default_zero}
@@ -13,7 +15,8 @@ use Rattle.lrc_page.specs.declared.TheConstants.{MOST_PAGES}
 use Rattle.lrc_page.specs.declared.size.Size.{Size}
 use Rattle.lrc_page.specs.Pages.{IsRising}
 use Rattle.lrc_page.proofs.PageLists.{rising_same, length-zero_page}
-use Rattle.lrc_table.specs.PageCopy.{PageCopy, IsWhole, fresh, is_valid, is_written, is_readable, is_pending, closed, opened, with_value, after_write, written_in, patched, repaired, without_twin, settled, absent_if_invalid, dropped}
+use Rattle.lrc_table.specs.PageCopy.{PageCopy, IsWhole, fresh, is_valid, is_written, is_readable, is_pending, closed, opened, with_value}
+use Rattle.lrc_table.specs.PageCopy.{after_write, written_in, patched, repaired, without_twin, settled, absent_if_invalid, dropped}
 use Rattle.lrc_table.specs.declared.slot.State.{State}
 use Rattle.lrc_table.specs.declared.slot.State.TheVariants.{Valid, Written, Invalid, Absent}
 use Rattle.lrc_page.specs.declared.changes.Change.{Change}

@@ -4,7 +4,8 @@ ghost use Rattle.std.specs.Prelude.{◌≡◌, ◌≢◌, ◌<◌, ◌↔◌, �
 ghost use Rattle.lrc_page.specs.declared.size.Size.{Size};
 ghost use Rattle.lrc_page.specs.Changes.{changes_between};
 ghost use Rattle.lrc_page.specs.Pages.{IsRising};
-ghost use Rattle.lrc_table.specs.PageCopy.{PageCopy, IsWhole, is_readable, is_pending, pending_changes, read_at, after_write, closed, settled, without_twin, invalidated, repaired, installed, dropped, with_base, without_base};
+ghost use Rattle.lrc_table.specs.PageCopy.{PageCopy, IsWhole, is_readable, is_pending, pending_changes, read_at, after_write, closed, settled};
+ghost use Rattle.lrc_table.specs.PageCopy.{without_twin, invalidated, repaired, installed, dropped, with_base, without_base};
 ghost use Rattle.lrc_table.specs.Table.{Table, copy_at, with_copy, with_each, written_pages};
 
 use crate::slot::State;

@@ -1,7 +1,8 @@
 ghost use Rattle.std.specs.Prelude.{◌≡◌, ◌≢◌, ◌<◌, ◌≤◌, All, IfOk, OnOk, OnErr, MatchOption, Some, None, length};
 ghost use Rattle.std.specs.Option.{ForSome};
 ghost use Rattle.lrc_page.specs.Page.{words_of};
-ghost use Rattle.lrc_table.specs.PageCopy.{is_pending, pending_changes, read_at, opened, with_value, closed, settled, without_twin, invalidated, patched, repaired, installed, dropped, with_base, without_base};
+ghost use Rattle.lrc_table.specs.PageCopy.{is_pending, pending_changes, read_at, opened, with_value, closed, settled, without_twin};
+ghost use Rattle.lrc_table.specs.PageCopy.{invalidated, patched, repaired, installed, dropped, with_base, without_base};
 
 use lrc_page::{Changes, MOST_PAGE_WORDS, Page, Size};
 use std::alloc::{AllocError, Global};

@@ -1,7 +1,8 @@
 ghost use Rattle.std.specs.Prelude.{◌≡◌, ◌≢◌, ◌<◌, ◌≤◌, ℕ, All, IfOk, OnOk, OnErr, MatchOption, IsTrue, Some, None, false, length};
 ghost use Rattle.lrc_page.specs.Page.{words_of};
 ghost use Rattle.lrc_page.specs.Place.{page_of, offset_of};
-ghost use Rattle.lrc_table.specs.PageCopy.{IsWhole, is_readable, is_pending, pending_changes, read_at, opened, after_write, with_value, closed, settled, without_twin, invalidated, patched, repaired, installed, dropped, with_base, without_base};
+ghost use Rattle.lrc_table.specs.PageCopy.{IsWhole, is_readable, is_pending, pending_changes, read_at, opened, after_write, with_value, closed, settled};
+ghost use Rattle.lrc_table.specs.PageCopy.{without_twin, invalidated, patched, repaired, installed, dropped, with_base, without_base};
 ghost use Rattle.lrc_table.specs.Table.{fresh_table, copy_at, with_copy, with_each, written_pages};
 
 use crate::slot::{Slot, State};

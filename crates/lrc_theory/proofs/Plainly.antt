@@ -1,5 +1,6 @@
 -- Runs of the plain machine, taken apart: what they follow, and that they are well synchronized.
-use Rattle.std.proofs.Common.{◌≡◌, ℕ, ◌+◌, ◌-◌, ◌<◌, ◌≤◌, List, [], ◌∷◌, ◌++◌, Bool, true, false, inl, inr, length, drop, sym, subst, ◌∙◌, ap, refl, arith, add-one}
+use Rattle.std.proofs.Common.{◌≡◌, ℕ, ◌+◌, ◌-◌, ◌<◌, ◌≤◌, List, [], ◌∷◌, ◌++◌, Bool, true, false, inl, inr}
+use Rattle.std.proofs.Common.{length, drop, sym, subst, ◌∙◌, ap, refl, arith, add-one}
 use Rattle.std.specs.Prelude.{Option, Some, None, slice_index, slice_index_or, slice_set, if◌then◌else◌, option_map, option_and_then}
 use Rattle.std.proofs.lemmas.Bool.{cases_eq}
 use Rattle.std.proofs.lemmas.List.{length-set, length-drop, length-replicate}
@@ -14,7 +15,8 @@ use Rattle.lrc_trace.proofs.Positions.{Does-one_node, Does-one_deed, Does-within
 use Rattle.lrc_trace.proofs.Intervals.{act_at}
 use Rattle.lrc_exec.specs.Meaning.{Thread, Next, quiet, prints, reads, writes, acquires, releases, arrives, departs, traps, ends, next_of}
 use Rattle.lrc_exec.specs.Plain.{Plain, is_free, all_arrived, deed_of, thread_in, plain_step, plain_from, plain, plain_start}
-use Rattle.lrc_theory.specs.Follows.{Goes, quietly, printing, reading, writing, acquiring, releasing, arriving, departing, trapping, ending, Makes, nothing_more, and_then, deeds_of, FollowsText}
+use Rattle.lrc_theory.specs.Follows.{Goes, quietly, printing, reading, writing, acquiring, releasing, arriving, departing}
+use Rattle.lrc_theory.specs.Follows.{trapping, ending, Makes, nothing_more, and_then, deeds_of, FollowsText}
 use Rattle.lrc_theory.specs.InOrder.{ReadsInOrder}
 use Rattle.lrc_theory.proofs.Ahead.{does_ahead, drop_ahead}
 use Rattle.lrc_theory.proofs.Threads.{fine}

@@ -1,9 +1,11 @@
 -- A whole run, step by step, on the plain machine.
-use Rattle.std.proofs.Common.{◌≡◌, ℕ, suc, ◌+◌, ◌<◌, List, [], ◌∷◌, ◌++◌, true, false, inl, inr, length, drop, map, sym, subst, ◌∙◌, ap, refl, arith, add-one, add-zero, zero-add, replicate}
+use Rattle.std.proofs.Common.{◌≡◌, ℕ, suc, ◌+◌, ◌<◌, List, [], ◌∷◌, ◌++◌, true, false, inl, inr, length, drop, map, sym}
+use Rattle.std.proofs.Common.{subst, ◌∙◌, ap, refl, arith, add-one, add-zero, zero-add, replicate}
 use Rattle.std.specs.Prelude.{Option, Some, None, is_none, nat_le, slice_index, slice_index_or, slice_set, if◌then◌else◌, option_map, option_and_then}
 use Rattle.std.specs.List.{range_with_len}
 use Rattle.std.proofs.lemmas.Bool.{cases_eq, cases_lt, eq-eqb, ne_eqb, le-leb, leb-true}
-use Rattle.std.proofs.lemmas.List.{get_or-set_same, get_or-set_other, length-set, get_or_past, get_or_default, length-replicate, get_or-replicate, length-map, get_or-map}
+use Rattle.std.proofs.lemmas.List.{get_or-set_same, get_or-set_other, length-set, get_or_past, get_or_default}
+use Rattle.std.proofs.lemmas.List.{length-replicate, get_or-replicate, length-map, get_or-map}
 use Rattle.std.proofs.lemmas.List.FromFn.{length-range_with_len, get_or-range_with_len}
 use Rattle.std.proofs.lemmas.List.Sums.{AllPass-from_list_all, list_all-from_AllPass}
 use Rattle.std.proofs.lemmas.Option.{same_Some}
@@ -15,7 +17,8 @@ use Rattle.lrc_trace.specs.Run.{Does, arrives_before, departs_before}
 use Rattle.lrc_trace.specs.Synchronization.{Holds}
 use Rattle.lrc_exec.specs.Meaning.{Thread, Next, next_of}
 use Rattle.lrc_exec.specs.Plain.{Plain, is_free, all_arrived, deed_of, thread_in, plain_step, plain_from, plain_start, start_of, with_thread}
-use Rattle.lrc_theory.specs.Follows.{Goes, quietly, printing, reading, writing, acquiring, releasing, arriving, departing, trapping, ending, Makes, and_then, deeds_of, nodes_of, FollowsText}
+use Rattle.lrc_theory.specs.Follows.{Goes, quietly, printing, reading, writing, acquiring, releasing, arriving, departing}
+use Rattle.lrc_theory.specs.Follows.{trapping, ending, Makes, and_then, deeds_of, nodes_of, FollowsText}
 use Rattle.lrc_theory.specs.InOrder.{last_value}
 use Rattle.lrc_theory.proofs.Ahead.{does_ahead, drop_ahead}
 use Rattle.lrc_theory.proofs.Threads.{IsFine, fine}

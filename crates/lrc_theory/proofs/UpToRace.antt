@@ -14,7 +14,8 @@ use Rattle.lrc_trace.specs.Synchronization.{IsWellSynchronized}
 use Rattle.lrc_trace.proofs.Positions.{Does-within}
 use Rattle.lrc_exec.specs.Meaning.{Thread, Next, next_of}
 use Rattle.lrc_exec.specs.Plain.{Plain, deed_of, thread_in, plain_step, plain_from, plain, plain_start}
-use Rattle.lrc_theory.specs.Follows.{Goes, quietly, printing, reading, writing, acquiring, releasing, arriving, departing, trapping, ending, Makes, nodes_of, FollowsText}
+use Rattle.lrc_theory.specs.Follows.{Goes, quietly, printing, reading, writing, acquiring, releasing, arriving}
+use Rattle.lrc_theory.specs.Follows.{departing, trapping, ending, Makes, nodes_of, FollowsText}
 use Rattle.lrc_theory.specs.Kinds.{SameKind, same, reads, PlainUpTo}
 use Rattle.lrc_theory.proofs.Ahead.{take_ahead}
 use Rattle.lrc_theory.proofs.Threads.{IsFine, fine}

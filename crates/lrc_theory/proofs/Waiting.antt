@@ -13,7 +13,8 @@ use Rattle.lrc_trace.proofs.Positions.{Does-within}
 use Rattle.lrc_trace.proofs.Outlines.{count_of-cons}
 use Rattle.lrc_exec.specs.Meaning.{Thread, Next, departs, first_act, next_of}
 use Rattle.lrc_exec.specs.Plain.{start_of}
-use Rattle.lrc_theory.specs.Follows.{Goes, quietly, printing, reading, writing, acquiring, releasing, arriving, departing, trapping, ending, Makes, deeds_of, FollowsText}
+use Rattle.lrc_theory.specs.Follows.{Goes, quietly, printing, reading, writing, acquiring, releasing, arriving}
+use Rattle.lrc_theory.specs.Follows.{departing, trapping, ending, Makes, deeds_of, FollowsText}
 use Rattle.lrc_theory.proofs.Threads.{IsFine, fine}
 use Rattle.lrc_theory.proofs.Matching.{IsPaired}
 use Rattle.lrc_theory.proofs.Runs.{makes_first, deeds_of-own, deeds_of-other}

@@ -1,5 +1,6 @@
 -- Intervals never fall, and rise exactly at an acquire, a release or an arrive.
-use Rattle.std.proofs.Common.{◌≡◌, ℕ, zero, suc, ◌+◌, ◌<◌, ◌≤◌, List, Bool, true, false, ◌&&◌, inl, inr, length, get_or, take, sym, subst, ◌∙◌, ap, refl, arith, eq-eqb, add-zero, ◌∷◌, [], ◌-◌, cond}
+use Rattle.std.proofs.Common.{◌≡◌, ℕ, zero, suc, ◌+◌, ◌<◌, ◌≤◌, List, Bool, true, false, ◌&&◌, inl, inr, length, get_or}
+use Rattle.std.proofs.Common.{take, sym, subst, ◌∙◌, ap, refl, arith, eq-eqb, add-zero, ◌∷◌, [], ◌-◌, cond}
 use Rattle.std.specs.Prelude.{IsTrue, ◌==◌, ◌↔◌}
 use Rattle.std.proofs.lemmas.Bool.{cases_Bool, cases_eq, cases_lt, both_ways, false≢true, and_parts, and_from, eqb-true}
 use Rattle.std.proofs.lemmas.List.{take-take}

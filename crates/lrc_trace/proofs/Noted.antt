@@ -1,5 +1,6 @@
 -- What a trace has once an access is noted.
-use Rattle.std.proofs.Common.{ℕ, ◌≡◌, ◌≢◌, ◌<◌, ◌-◌, ◌++◌, ◌∷◌, [], ◌∙◌, ◌⊎◌, ◌↔◌, ◌||◌, ◌&&◌, inl, inr, Bool, true, false, List, length, get_or, set, eqb, eqb-true, ap, sym, refl, subst, ⊎_elim, arith, length-set}
+use Rattle.std.proofs.Common.{ℕ, ◌≡◌, ◌≢◌, ◌<◌, ◌-◌, ◌++◌, ◌∷◌, [], ◌∙◌, ◌⊎◌, ◌↔◌, ◌||◌, ◌&&◌, inl, inr, Bool, true, false, List}
+use Rattle.std.proofs.Common.{length, get_or, set, eqb, eqb-true, ap, sym, refl, subst, ⊎_elim, arith, length-set}
 use Rattle.std.specs.Prelude.{IsTrue, Contains}
 use Rattle.std.proofs.lemmas.Bool.{false≢true, cases_eq, eq-eqb, and_parts, and_from}
 use Rattle.std.proofs.lemmas.List.{get_or_default, get_or-set_same, get_or-set_other}
@@ -230,7 +231,8 @@ module _ (trace : TraceRecord) (epoch interval : ℕ) (time : List ℕ) (word : 
         get_or-set_other trace.segments last k put n.segment apart ∙ is in
         from_in after access n.segment (rw segments_are (k, omega (arith, length-set {A = Segment}), stays)) (to_in trace access n))
         (cases_eq k last))
-        (λ same. subst (λ (x : NotedAccess). IsNoted after x) (sym (same ∙ this_is)) (from_in after (this_access s.epoch s.interval s.time word is_write) put put_there (in_this trace.size word is_write s is_segment)))
+        (λ same. subst (λ (x : NotedAccess). IsNoted after x) (sym (same ∙ this_is))
+        (from_in after (this_access s.epoch s.interval s.time word is_write) put put_there (in_this trace.size word is_write s is_segment)))
         either
 
   -- in one more

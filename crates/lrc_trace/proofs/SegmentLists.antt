@@ -1,5 +1,6 @@
 -- Lemmas on segments, for the crates above too.
-use Rattle.std.proofs.Common.{ℕ, ◌≢◌, inl, inr, ◌≡◌, ◌<◌, ◌+◌, ◌-◌, ◌++◌, ◌∷◌, [], ◌∙◌, Bool, true, false, List, Some, length, get_or, set, ap, sym, refl, subst, arith, length-set, ⊎_elim}
+use Rattle.std.proofs.Common.{ℕ, ◌≢◌, inl, inr, ◌≡◌, ◌<◌, ◌+◌, ◌-◌, ◌++◌, ◌∷◌, [], ◌∙◌, Bool, true, false, List, Some}
+use Rattle.std.proofs.Common.{length, get_or, set, ap, sym, refl, subst, arith, length-set, ⊎_elim}
 use Rattle.std.specs.Prelude.{slice_get}
 use Rattle.std.specs.Option.{ForSome}
 use Rattle.std.proofs.lemmas.Bool.{cases_eq, eq-eqb, ne_eqb}
@@ -57,10 +58,12 @@ below_next (t ∷ ts) s later last is =
     omega (arith, later t (omega arith), at, number)
 
 -- and one of a later interval behind the last
-pub segments-push : (segments : List Segment) (s : Segment) → ((d : Segment) → 0 < length segments → (get_or segments (length segments - 1) d).interval < s.interval)
+pub segments-push : (segments : List Segment) (s : Segment)
+    → ((d : Segment) → 0 < length segments → (get_or segments (length segments - 1) d).interval < s.interval)
     → IsSegment s → AreSegments segments → AreSegments (segments ++ s ∷ [])
 segments-push segments s later is are = record {
-  rising = rw (map-append (λ (t : Segment). t.interval) segments (s ∷ [])) (rising-push (intervals_of segments) s.interval are.rising (below_next segments s later));
+  rising = rw (map-append (λ (t : Segment). t.interval) segments (s ∷ []))
+      (rising-push (intervals_of segments) s.interval are.rising (below_next segments s later));
   each = All-push IsSegment segments s are.each is;
 }
 

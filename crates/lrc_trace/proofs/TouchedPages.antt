@@ -1,5 +1,6 @@
 -- Lemmas on words by their pages, for the crates above too.
-use Rattle.std.proofs.Common.{ℕ, zero, suc, ◌≡◌, ◌≢◌, ◌+◌, ◌<◌, ◌≤◌, ◌∙◌, ◌||◌, ◌&&◌, Bool, true, false, List, [], ◌∷◌, length, get_or, set, eqb, refl, ap, sym, ⊎_elim, arith, lt-ltb, le-ltb}
+use Rattle.std.proofs.Common.{ℕ, zero, suc, ◌≡◌, ◌≢◌, ◌+◌, ◌<◌, ◌≤◌, ◌∙◌, ◌||◌, ◌&&◌, Bool, true, false, List, [], ◌∷◌}
+use Rattle.std.proofs.Common.{length, get_or, set, eqb, refl, ap, sym, ⊎_elim, arith, lt-ltb, le-ltb}
 use Rattle.std.specs.Prelude.{All}
 use Rattle.std.specs.List.{insert}
 use Rattle.std.proofs.lemmas.Bool.{cases_eq, cases_lt, eq-eqb, ne_eqb}

@@ -1,5 +1,6 @@
 -- The first element that passes a test, and what stands behind it.
-use Rattle.std.proofs.Common.{◌≡◌, ℕ, zero, suc, ◌+◌, ◌-◌, ◌<◌, ◌↔◌, Bool, true, false, cond, not, IsTrue, List, [], ◌∷◌, length, map, filter, take, drop, refl, sym, ap, ◌∙◌, arith}
+use Rattle.std.proofs.Common.{◌≡◌, ℕ, zero, suc, ◌+◌, ◌-◌, ◌<◌, ◌↔◌, Bool, true, false, cond, not, IsTrue, List, []}
+use Rattle.std.proofs.Common.{◌∷◌, length, map, filter, take, drop, refl, sym, ap, ◌∙◌, arith}
 use Rattle.std.specs.Prelude.{Option, Some, None, is_some, filter_map, position, nat_lt, slice_index_or}
 use Rattle.std.specs.List.{position_or_len, cons_option}
 use Rattle.std.proofs.lemmas.Bool.{ltb-false, le-ltb}

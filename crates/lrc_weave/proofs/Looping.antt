@@ -12,7 +12,8 @@ use Rattle.lrc_weave.specs.Logs.{sent_to}
 use Rattle.lrc_weave.specs.Matched.{puts_by, takes_in, Takes, IsMatched, AreMatched}
 use Rattle.lrc_weave.specs.Compared.{sends_to, ArePuts, AreNext, taken_in, IsLeft}
 use Rattle.lrc_weave.proofs.Members.{in_map}
-use Rattle.lrc_weave.proofs.Comparing.{next_more, next_no_more, sends_apart, sent_apart, turn_is, put_not, TakenSo, so_step, so_not, UpTo, up_to_more, up_to_all}
+use Rattle.lrc_weave.proofs.Comparing.{next_more, next_no_more, sends_apart, sent_apart, turn_is, put_not}
+use Rattle.lrc_weave.proofs.Comparing.{TakenSo, so_step, so_not, UpTo, up_to_more, up_to_all}
 
 read : {X : Type 0} (xs : List X) (k : ℕ) (x : X) → k < length xs → x ≡ slice_index_or xs k x → slice_get xs k ≡ Some x
 read xs k x within is = slice_get_read xs (length xs) k x refl within is

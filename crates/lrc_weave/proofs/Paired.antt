@@ -10,7 +10,8 @@ use Rattle.lrc_post.specs.Mailbox.{MailboxRecord}
 use Rattle.lrc_protocol.specs.Log.{Input, run, taken, EntryRecord, next_stamp}
 use Rattle.lrc_protocol.specs.World.{Flying, sent_by}
 use Rattle.lrc_weave.specs.Logs.{all_sent, sent_to}
-use Rattle.lrc_weave.specs.Matched.{message_of, is_put_by, puts_by, place_taken, message_if, message_at, Takes, takes_none, takes_not, takes_one, IsMatched, AreMatched}
+use Rattle.lrc_weave.specs.Matched.{message_of, is_put_by, puts_by, place_taken, message_if, message_at, Takes}
+use Rattle.lrc_weave.specs.Matched.{takes_none, takes_not, takes_one, IsMatched, AreMatched}
 use Rattle.lrc_weave.specs.Woven.{log_of}
 use Rattle.lrc_weave.proofs.Places.{within_outer}
 use Rattle.lrc_weave.proofs.Members.{IsIn, in_filter, of_filter, in_map, of_map, of_flat}

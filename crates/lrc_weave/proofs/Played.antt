@@ -1,5 +1,6 @@
 -- Woven events play: the run has just the turns of the logs that have come.
-use Rattle.std.proofs.Common.{◌≡◌, ℕ, zero, suc, ◌+◌, ◌<◌, List, [], ◌∷◌, ◌++◌, Bool, true, false, length, map, replicate, take, drop, refl, sym, ap, subst, ◌∙◌, inl, inr, arith}
+use Rattle.std.proofs.Common.{◌≡◌, ℕ, zero, suc, ◌+◌, ◌<◌, List, [], ◌∷◌, ◌++◌, Bool, true, false, length, map}
+use Rattle.std.proofs.Common.{replicate, take, drop, refl, sym, ap, subst, ◌∙◌, inl, inr, arith}
 use Rattle.std.specs.Prelude.{Some, cond, remove, nat_le, slice_get, slice_set}
 use Rattle.std.specs.List.{range_with_len}
 use Rattle.std.proofs.lemmas.Bool.{cases_eq}
@@ -12,7 +13,8 @@ use Rattle.lrc_protocol.specs.declared.event.Event.{Event}
 use Rattle.lrc_protocol.specs.Node.{Node, OptionsRecord, fresh_node}
 use Rattle.lrc_protocol.specs.Turn.{TurnRecord, Outcome, done, not_ready, unexpected, worn}
 use Rattle.lrc_protocol.specs.Log.{Input, run, taken, EntryRecord, Logged, logged, too_large, logs as logs', logging, next_stamp, outcome_of, MOST_STAMP}
-use Rattle.lrc_protocol.specs.World.{World, Flying, fresh_world, with_turn, with_mark, sent_by, inputs, input_to, after_input, delivers, event_on, step_of, run_of}
+use Rattle.lrc_protocol.specs.World.{World, Flying, fresh_world, with_turn, with_mark, sent_by, inputs}
+use Rattle.lrc_protocol.specs.World.{input_to, after_input, delivers, event_on, step_of, run_of}
 use Rattle.lrc_protocol.proofs.Worlds.{get_set_same, get_set_other}
 use Rattle.lrc_weave.specs.Logs.{GoesOn, MayCome, AreLogs}
 use Rattle.lrc_weave.specs.Woven.{log_of, come_of, next_entry, IsTakenAt, Makes, runs, takes_last, takes_again, Woven, nothing_yet, then_one, AreWoven}
@@ -108,7 +110,8 @@ module _ (logs : List (List EntryRecord)) where
 
   -- what is taken from flight makes the turn
   by_message : (world : World) (left flight : List Flying) (n place came : ℕ) (entry : EntryRecord) (flying : Flying)
-      → (l after : Logged) (before : List EntryRecord) → world.flight ≡ flight → slice_get world.nodes n ≡ Some l → l.log ≡ before → IsTakenAt n before entry flight place flying
+      → (l after : Logged) (before : List EntryRecord) → world.flight ≡ flight → slice_get world.nodes n ≡ Some l → l.log ≡ before
+      → IsTakenAt n before entry flight place flying
       → logs' l entry.input came ≡ logged entry after
       → delivers world left (slice_get world.flight place) ≡ Some (with_turn world left n entry after)
   by_message world left flight n place came entry flying l after before flown there log_is t turned =

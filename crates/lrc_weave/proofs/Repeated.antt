@@ -1,5 +1,6 @@
 -- Which turns take a message that a later turn takes again.
-use Rattle.std.proofs.Common.{◌≡◌, ℕ, zero, suc, ◌+◌, ◌<◌, ◌≤◌, ◌⊎◌, inl, inr, Bool, true, false, cond, List, [], ◌∷◌, ◌++◌, length, map, take, drop, refl, sym, ap, subst, ◌∙◌, arith}
+use Rattle.std.proofs.Common.{◌≡◌, ℕ, zero, suc, ◌+◌, ◌<◌, ◌≤◌, ◌⊎◌, inl, inr, Bool, true, false, cond, List, []}
+use Rattle.std.proofs.Common.{◌∷◌, ◌++◌, length, map, take, drop, refl, sym, ap, subst, ◌∙◌, arith}
 use Rattle.std.specs.Prelude.{Some, ◌||◌, ◌==◌, ◌&&◌, slice_get, slice_set, slice_index_or}
 use Rattle.std.proofs.lemmas.Bool.{cases_eq}
 use Rattle.std.proofs.lemmas.List.{length-map, length-set, length-append, get_or-set_same, get_or-set_other, map-append}
@@ -50,7 +51,8 @@ so_begun log place keys again all none counted = record {
 pub so_done : (log : List EntryRecord) (keys : List (ℕ × ℕ)) (again : List Bool) → AreSo log 0 keys again → AreAgain log again
 so_done log keys again so = record { count = so.count; each = λ place entry at. so.bits place entry (omega arith) at }
 
-noted_is : (log : List EntryRecord) (keys : List (ℕ × ℕ)) (later : List EntryRecord) → ((message : EnvelopeRecord) → has_key keys message ≡ is_taken_in message later)
+noted_is : (log : List EntryRecord) (keys : List (ℕ × ℕ)) (later : List EntryRecord)
+    → ((message : EnvelopeRecord) → has_key keys message ≡ is_taken_in message later)
     → (input : Input) → is_noted keys input ≡ is_again input later
 noted_is log keys later noted run = refl
 noted_is log keys later noted (taken message) = noted message
@@ -165,4 +167,5 @@ module _ {V W : Type 0} (f : V → List EntryRecord) (g : W → List Bool) where
   all_step logs k v bits w lt v_is before here =
       let more : take (k + 1) logs ≡ take k logs ++ v ∷ [] = taken_more logs k v (slice_get_read logs (length logs) k v refl lt v_is) in
       subst (λ ls. AreAllAgain ls (map g (bits ++ w ∷ []))) (sym (ap (map f) more ∙ map-append f (take k logs) (v ∷ [])))
-      (subst (AreAllAgain (map f (take k logs) ++ f v ∷ [])) (sym (map-append g bits (w ∷ []))) (all_more (map f (take k logs)) (map g bits) (f v) (g w) before here))
+      (subst (AreAllAgain (map f (take k logs) ++ f v ∷ [])) (sym (map-append g bits (w ∷ [])))
+      (all_more (map f (take k logs)) (map g bits) (f v) (g w) before here))

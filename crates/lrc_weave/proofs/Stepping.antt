@@ -1,5 +1,6 @@
 -- A turn that the code makes is the next turn of the weave.
-use Rattle.std.proofs.Common.{◌≡◌, ℕ, zero, suc, ◌+◌, ◌<◌, ◌≤◌, Bool, true, false, cond, List, [], ◌∷◌, ◌++◌, length, map, filter, replicate, take, drop, refl, sym, ap, subst, ◌∙◌, arith}
+use Rattle.std.proofs.Common.{◌≡◌, ℕ, zero, suc, ◌+◌, ◌<◌, ◌≤◌, Bool, true, false, cond, List, [], ◌∷◌, ◌++◌, length}
+use Rattle.std.proofs.Common.{map, filter, replicate, take, drop, refl, sym, ap, subst, ◌∙◌, arith}
 use Rattle.std.specs.Prelude.{Some, None, ◌==◌, ◌&&◌, remove, slice_get, slice_set, slice_index_or}
 use Rattle.std.specs.List.{enumerate_from}
 use Rattle.std.proofs.lemmas.Bool.{and_parts, eqb-true, eq-eqb, ltb-true}
@@ -215,7 +216,8 @@ module _ (logs : List (List EntryRecord)) (come : List ℕ) (events : List Event
       × Holds logs (slice_set come node (come_of come node + 1)) rest × (map key_at rest ≡ new)
   one_step keys new event same t =
       let entry_is : t.0 ≡ entry = same_Some t.0 entry (sym t.2 ∙ next.next) in
-      let made = made_by keys t.1 event entry.input same refl (subst (λ (e : EntryRecord). IsMadeBy node (is_again e.input later) keys e.input t.1 (Some event)) entry_is t.3) in (
+      let made = made_by keys t.1 event entry.input same refl
+      (subst (λ (e : EntryRecord). IsMadeBy node (is_again e.input later) keys e.input t.1 (Some event)) entry_is t.3) in (
         made.0 ++ sent_by entry,
         then_one woven next made.1,
         holds_more logs come flight made.0 event node entry counted next.next made.1 holds,

@@ -12,7 +12,8 @@ use Rattle.lrc_protocol.specs.Log.{Input, run, taken, EntryRecord}
 use Rattle.lrc_protocol.specs.World.{Flying, sent_by, with_mark}
 use Rattle.lrc_weave.specs.Logs.{AreLogs}
 use Rattle.lrc_weave.specs.Matched.{AreMatched}
-use Rattle.lrc_weave.specs.Woven.{log_of, come_of, next_entry, IsNext, is_taken_in, IsTakenAt, Makes, runs, takes_last, takes_again, Woven, nothing_yet, then_one, AreWoven}
+use Rattle.lrc_weave.specs.Woven.{log_of, come_of, next_entry, IsNext, is_taken_in, IsTakenAt, Makes, runs}
+use Rattle.lrc_weave.specs.Woven.{takes_last, takes_again, Woven, nothing_yet, then_one, AreWoven}
 use Rattle.lrc_weave.specs.Next.{IsNextOf}
 use Rattle.lrc_weave.proofs.Heads.{next_or_none}
 use Rattle.lrc_weave.proofs.Holding.{Holds, holds_start, holds_more, can_take}

@@ -1,5 +1,6 @@
 -- Logs and mailboxes that tell of the same messages.
-use Rattle.std.specs.Prelude.{◌≡◌, ℕ, ◌<◌, ◌==◌, Bool, false, Option, Some, None, Result, Ok, Err, List, [], ◌∷◌, ◌++◌, length, map, filter, filter_map, slice_get}
+use Rattle.std.specs.Prelude.{◌≡◌, ℕ, ◌<◌, ◌==◌, Bool, false, Option, Some, None, Result, Ok, Err, List}
+use Rattle.std.specs.Prelude.{[], ◌∷◌, ◌++◌, length, map, filter, filter_map, slice_get}
 use Rattle.lrc_wire.specs.declared.fault.WireFault.{WireFault}
 use Rattle.lrc_wire.specs.Envelope.{EnvelopeRecord}
 use Rattle.lrc_wire.specs.Reading.{envelope_of}

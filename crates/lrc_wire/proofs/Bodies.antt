@@ -9,13 +9,17 @@ use Rattle.lrc_wire.specs.declared.version.Version.{Version}
 use Rattle.lrc_wire.specs.declared.kind.Kind.{Kind}
 use Rattle.lrc_wire.specs.declared.kind.Kind.TheVariants as kinds
 use Rattle.lrc_wire.specs.declared.message.Message.{Message}
-use Rattle.lrc_wire.specs.declared.message.Message.TheVariants.{LockRequest, LockForward, LockGrant, Arrive, Depart, Clean, Discard, ChangesRequest, ChangesReply, PageRequest, PageReply}
+use Rattle.lrc_wire.specs.declared.message.Message.TheVariants.{LockRequest, LockForward, LockGrant, Arrive, Depart, Clean, Discard}
+use Rattle.lrc_wire.specs.declared.message.Message.TheVariants.{ChangesRequest, ChangesReply, PageRequest, PageReply}
 use Rattle.lrc_wire.specs.Versions.{pages_in}
-use Rattle.lrc_wire.specs.Records.{NewsRecord, LockRequestRecord, LockForwardRecord, LockGrantRecord, ArriveRecord, DepartRecord, ChangesRequestRecord, ChangesReplyRecord, PageReplyRecord}
+use Rattle.lrc_wire.specs.Records.{NewsRecord, LockRequestRecord, LockForwardRecord, LockGrantRecord, ArriveRecord}
+use Rattle.lrc_wire.specs.Records.{DepartRecord, ChangesRequestRecord, ChangesReplyRecord, PageReplyRecord}
 use Rattle.lrc_wire.specs.Ranges.{HasBits, IsTime, NamesPages, FitNews, IsEpisode, FitIndices, FitParts, FitValues, IsMessage}
 use Rattle.lrc_wire.specs.Runs.{runs_of}
 use Rattle.lrc_wire.specs.Spelling.{byte, number, flag, time, intervals, news, indices, parts, page_values, kind, body}
-use Rattle.lrc_wire.specs.Reading.{◌>>=◌, Field, as_message, lock_at, node_at, episode_at, page_at, flag_at, time_at, intervals_at, news_at, indices_at, parts_at, page_values_at, lock_request_at, lock_forward_at, lock_grant_at, arrive_at, depart_at, changes_request_at, changes_reply_at, page_reply_at, kind_of, body_at}
+use Rattle.lrc_wire.specs.Reading.{◌>>=◌, Field, as_message, lock_at, node_at, episode_at, page_at, flag_at, time_at, intervals_at}
+use Rattle.lrc_wire.specs.Reading.{news_at, indices_at, parts_at, page_values_at, lock_request_at, lock_forward_at, lock_grant_at}
+use Rattle.lrc_wire.specs.Reading.{arrive_at, depart_at, changes_request_at, changes_reply_at, page_reply_at, kind_of, body_at}
 use Rattle.lrc_wire.proofs.Bytes.{IsBytes, Takes, Takes-then}
 use Rattle.lrc_wire.proofs.Steps.{ok_is}
 use Rattle.lrc_wire.proofs.Agrees.{Agrees, step}

@@ -1,5 +1,6 @@
 -- The readers of parts and of the values of a page agree with how these are spelled.
-use Rattle.std.proofs.Common.{◌≡◌, ℕ, ◌<◌, ◌≤◌, ◌||◌, true, eqb, ltb, List, ◌++◌, length, Option, Some, None, Ok, refl, sym, subst, append_assoc, arith, inl, inr}
+use Rattle.std.proofs.Common.{◌≡◌, ℕ, ◌<◌, ◌≤◌, ◌||◌, true, eqb, ltb, List, ◌++◌, length, Option, Some}
+use Rattle.std.proofs.Common.{None, Ok, refl, sym, subst, append_assoc, arith, inl, inr}
 use Rattle.std.specs.Prelude.{All}
 use Rattle.std.specs.Int.{w16, w32, w64}
 use Rattle.std.specs.List.{flat_map}
@@ -16,7 +17,8 @@ use Rattle.lrc_wire.specs.Records.{IndexedChangesRecord, AreParts}
 use Rattle.lrc_wire.specs.Ranges.{HasBits, FitPart, FitParts, IsSize, FitValues}
 use Rattle.lrc_wire.specs.Runs.{runs_of}
 use Rattle.lrc_wire.specs.Spelling.{number, numbers, changes, part, parts, page_values}
-use Rattle.lrc_wire.specs.Reading.{◌>>=◌, number_at, tested, is_after, elements_at, count_at, next_index_at, changes_at, next_part_at, parts_at, values_at, size_at, page_values_at}
+use Rattle.lrc_wire.specs.Reading.{◌>>=◌, number_at, tested, is_after, elements_at, count_at, next_index_at}
+use Rattle.lrc_wire.specs.Reading.{changes_at, next_part_at, parts_at, values_at, size_at, page_values_at}
 use Rattle.lrc_wire.proofs.Bytes.{IsBytes, Takes, Takes-then}
 use Rattle.lrc_wire.proofs.Steps.{ok_is}
 use Rattle.lrc_wire.proofs.Along.{Ascends, Follow, All-from_follow, AllPairs-from_follow, follow_from_pairs, lt-trans}

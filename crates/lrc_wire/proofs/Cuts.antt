@@ -1,5 +1,6 @@
 -- The reader of changes in runs agrees with how the runs of changes are spelled.
-use Rattle.std.proofs.Common.{◌≡◌, ◌∙◌, ℕ, ◌+◌, ◌-◌, ◌<◌, ◌≤◌, true, ltb, leb, List, [], ◌∷◌, ◌++◌, length, Option, Some, None, Ok, refl, sym, ap, subst, append_assoc, arith}
+use Rattle.std.proofs.Common.{◌≡◌, ◌∙◌, ℕ, ◌+◌, ◌-◌, ◌<◌, ◌≤◌, true, ltb, leb, List, [], ◌∷◌, ◌++◌, length}
+use Rattle.std.proofs.Common.{Option, Some, None, Ok, refl, sym, ap, subst, append_assoc, arith}
 use Rattle.std.specs.Prelude.{All, IsSomeAnd}
 use Rattle.std.specs.Int.{w16, w64}
 use Rattle.std.specs.List.{flat_map}
@@ -16,7 +17,8 @@ use Rattle.lrc_wire.proofs.Bytes.{IsBytes, Takes, Takes-then}
 use Rattle.lrc_wire.proofs.Steps.{bind_ok, ok_is}
 use Rattle.lrc_wire.proofs.Along.{Along, elements_along, All-from_along, along_from_all}
 use Rattle.lrc_wire.proofs.Agrees.{Agrees, Agrees-as, Agrees-tested, step, byte_agrees, number16_agrees, number64_agrees, elements_agree}
-use Rattle.lrc_wire.proofs.Runs.{Runs, IsRun, IsSome, AreChanging, runs_of-whole, runs_of-apart, runs_of-only, few_runs, runs_changes, runs_weaker, are_changing, changing_from}
+use Rattle.lrc_wire.proofs.Runs.{Runs, IsRun, IsSome, AreChanging, runs_of-whole, runs_of-apart, runs_of-only}
+use Rattle.lrc_wire.proofs.Runs.{few_runs, runs_changes, runs_weaker, are_changing, changing_from}
 
 -- ---- values
 

@@ -1,5 +1,6 @@
 -- Reading all of the bytes agrees with how envelopes are spelled.
-use Rattle.std.proofs.Common.{◌≡◌, ◌∙◌, ℕ, ◌+◌, ◌-◌, ◌<◌, ◌≤◌, ◌⊎◌, Bool, true, false, cond, eqb, ltb, leb, List, [], ◌∷◌, ◌++◌, length, take, Option, Some, None, Ok, Err, refl, sym, ap, subst, append_assoc, arith, inl, inr}
+use Rattle.std.proofs.Common.{◌≡◌, ◌∙◌, ℕ, ◌+◌, ◌-◌, ◌<◌, ◌≤◌, ◌⊎◌, Bool, true, false, cond, eqb, ltb, leb, List, [], ◌∷◌, ◌++◌, length}
+use Rattle.std.proofs.Common.{take, Option, Some, None, Ok, Err, refl, sym, ap, subst, append_assoc, arith, inl, inr}
 use Rattle.std.specs.Prelude.{ok_or, All}
 use Rattle.std.specs.Int.{w16, w32}
 use Rattle.std.specs.List.{flat_map}
@@ -16,14 +17,16 @@ use Rattle.lrc_wire.specs.declared.kind.Kind.{Kind}
 use Rattle.lrc_wire.specs.declared.kind.Kind.TheVariants as kinds
 use Rattle.lrc_wire.specs.declared.fault.WireFault.TheVariants.{Short, Long, BadVersion, BadKind, BadCount}
 use Rattle.lrc_wire.specs.declared.message.Message.{Message}
-use Rattle.lrc_wire.specs.declared.message.Message.TheVariants.{LockRequest, LockForward, LockGrant, Arrive, Depart, Clean, Discard, ChangesRequest, ChangesReply, PageRequest, PageReply}
+use Rattle.lrc_wire.specs.declared.message.Message.TheVariants.{LockRequest, LockForward, LockGrant, Arrive, Depart, Clean, Discard}
+use Rattle.lrc_wire.specs.declared.message.Message.TheVariants.{ChangesRequest, ChangesReply, PageRequest, PageReply}
 use Rattle.lrc_wire.specs.Versions.{version_number, version_of}
 use Rattle.lrc_wire.specs.Records.{IndexedChangesRecord}
 use Rattle.lrc_wire.specs.Envelope.{EnvelopeRecord}
 use Rattle.lrc_wire.specs.Ranges.{HasBits, FitPart, IsMessage, IsFit}
 use Rattle.lrc_wire.specs.Runs.{runs_of}
 use Rattle.lrc_wire.specs.Spelling.{byte, number, kind, part, parts, body, header, Cut, IsCut, Spells}
-use Rattle.lrc_wire.specs.Reading.{◌>>=◌, Field, HeaderRecord, byte_at, number_at, tested, node_at, version_at, kind_of, kind_at, header_at, body_at, whole_body_of, envelope_of}
+use Rattle.lrc_wire.specs.Reading.{◌>>=◌, Field, HeaderRecord, byte_at, number_at, tested, node_at, version_at}
+use Rattle.lrc_wire.specs.Reading.{kind_of, kind_at, header_at, body_at, whole_body_of, envelope_of}
 use Rattle.lrc_wire.proofs.Bytes.{IsBytes, Takes, Takes-then}
 use Rattle.lrc_wire.proofs.Steps.{bind_ok, guard_ok, unless_ok, ok_is}
 use Rattle.lrc_wire.proofs.Agrees.{Agrees, Agrees-as, Agrees-tested, step, byte_agrees, number32_agrees}

@@ -1,5 +1,6 @@
 -- The readers of the parts of several kinds agree with how the parts are spelled.
-use Rattle.std.proofs.Common.{◌≡◌, ◌∙◌, ℕ, zero, suc, ◌+◌, ◌<◌, ◌≤◌, Bool, true, false, not, ◌&&◌, ◌||◌, eqb, ltb, leb, List, ◌++◌, length, get_or, Option, Some, None, Ok, refl, sym, subst, append_assoc, arith}
+use Rattle.std.proofs.Common.{◌≡◌, ◌∙◌, ℕ, zero, suc, ◌+◌, ◌<◌, ◌≤◌, Bool, true, false, not, ◌&&◌, ◌||◌, eqb, ltb, leb, List, ◌++◌}
+use Rattle.std.proofs.Common.{length, get_or, Option, Some, None, Ok, refl, sym, subst, append_assoc, arith}
 use Rattle.std.specs.Prelude.{All}
 use Rattle.std.specs.Int.{w16, w32}
 use Rattle.std.specs.List.{flat_map}
@@ -17,10 +18,12 @@ use Rattle.lrc_wire.specs.declared.version.Version.TheVariants.{One, Two}
 use Rattle.lrc_wire.specs.Versions.{pages_in}
 use Rattle.lrc_wire.specs.Ranges.{HasBits, IsTime, IsEpisode}
 use Rattle.lrc_wire.specs.Spelling.{byte, number, numbers, flag, time, pages}
-use Rattle.lrc_wire.specs.Reading.{byte_at, number_at, tested, is_after, elements_at, lock_at, node_at, episode_at, page_at, flag_at, entry_at, entries_at, time_at, stamp_at, next_page_at, pages_at}
+use Rattle.lrc_wire.specs.Reading.{byte_at, number_at, tested, is_after, elements_at, lock_at, node_at, episode_at, page_at}
+use Rattle.lrc_wire.specs.Reading.{flag_at, entry_at, entries_at, time_at, stamp_at, next_page_at, pages_at}
 use Rattle.lrc_wire.proofs.Bytes.{IsBytes, Takes, Takes-then}
 use Rattle.lrc_wire.proofs.Steps.{ok_is, tested_again}
-use Rattle.lrc_wire.proofs.Along.{Along, Ascends, Follow, along_at, along_from, All-from_along, along_from_all, All-from_follow, AllPairs-from_follow, follow_from_pairs, lt-trans, few_below}
+use Rattle.lrc_wire.proofs.Along.{Along, Ascends, Follow, along_at, along_from, All-from_along, along_from_all}
+use Rattle.lrc_wire.proofs.Along.{All-from_follow, AllPairs-from_follow, follow_from_pairs, lt-trans, few_below}
 use Rattle.lrc_wire.proofs.Agrees.{Agrees, Agrees-as, Agrees-tested, step, byte_agrees, number16_agrees, number32_agrees, elements_agree}
 
 -- ---- fields of one number

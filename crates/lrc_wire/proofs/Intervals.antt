@@ -14,7 +14,8 @@ use Rattle.lrc_wire.specs.declared.limits.TheConstants.{MOST_NODES}
 use Rattle.lrc_wire.specs.declared.fault.WireFault.TheVariants.{BadNode, NotAscending}
 use Rattle.lrc_wire.specs.Ranges.{HasBits, NamesPages}
 use Rattle.lrc_wire.specs.Spelling.{byte, number, time, pages, interval, intervals}
-use Rattle.lrc_wire.specs.Reading.{◌>>=◌, byte_at, number_at, tested, is_after, elements_at, stamp_at, pages_at, is_below, known_by, next_interval_at, intervals_at}
+use Rattle.lrc_wire.specs.Reading.{◌>>=◌, byte_at, number_at, tested, is_after, elements_at, stamp_at}
+use Rattle.lrc_wire.specs.Reading.{pages_at, is_below, known_by, next_interval_at, intervals_at}
 use Rattle.lrc_wire.proofs.Bytes.{IsBytes, Takes, Takes-then}
 use Rattle.lrc_wire.proofs.Steps.{ok_is, tested_again}
 use Rattle.lrc_wire.proofs.Along.{Ascends, Follow, All-from_follow, AllPairs-from_follow, follow_from_pairs}

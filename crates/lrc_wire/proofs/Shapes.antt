@@ -1,5 +1,6 @@
 -- What lists that were read are like, whatever the bytes.
-use Rattle.std.proofs.Common.{◌≡◌, ◌∙◌, ℕ, ◌+◌, ◌<◌, ◌≤◌, ◌⊎◌, true, not, ◌&&◌, ◌||◌, eqb, ltb, leb, List, length, get_or, Option, Some, None, Result, Ok, Err, subst, arith, inl, inr}
+use Rattle.std.proofs.Common.{◌≡◌, ◌∙◌, ℕ, ◌+◌, ◌<◌, ◌≤◌, ◌⊎◌, true, not, ◌&&◌, ◌||◌, eqb, ltb, leb, List, length}
+use Rattle.std.proofs.Common.{get_or, Option, Some, None, Result, Ok, Err, subst, arith, inl, inr}
 use Rattle.std.specs.Prelude.{All, AllPairs, IfOk}
 use Rattle.std.specs.List.Sorted.{IsStrictlyIncreasing}
 use Rattle.std.proofs.lemmas.Bool.{ltb-true, leb-true, lt-ltb, eqb-true, eq-eqb, or_cases, or_left, or_right, and_parts, and_from}
@@ -11,7 +12,8 @@ use Rattle.lrc_wire.specs.declared.fault.WireFault.{WireFault}
 use Rattle.lrc_wire.specs.declared.fault.WireFault.TheVariants.{BadNode, BadCount, NotAscending}
 use Rattle.lrc_wire.specs.declared.version.Version.{Version}
 use Rattle.lrc_wire.specs.Records.{GoWith, IndexedChangesRecord}
-use Rattle.lrc_wire.specs.Reading.{◌>>=◌, Gives, elements_at, is_after, tested, byte_at, number_at, is_below, known_by, stamp_at, entries_at, entry_at, pages_at, next_interval_at, next_index_at, changes_at, next_part_at}
+use Rattle.lrc_wire.specs.Reading.{◌>>=◌, Gives, elements_at, is_after, tested, byte_at, number_at, is_below, known_by, stamp_at}
+use Rattle.lrc_wire.specs.Reading.{entries_at, entry_at, pages_at, next_interval_at, next_index_at, changes_at, next_part_at}
 use Rattle.lrc_wire.proofs.Steps.{bind_ok, ok_is, tested_ok}
 use Rattle.lrc_wire.proofs.Along.{Along, elements_along, along_at, Ascends, Follow, All-from_follow, AllPairs-from_follow, increasing_from_follow, lt-trans}
 

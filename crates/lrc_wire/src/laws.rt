@@ -47,11 +47,15 @@ pub fn what_is_written_is_read_again()
 
 /// A spelling that is cut is `Short`, and one with more bytes behind it is `Long`.
 pub fn a_part_is_short_and_more_is_long()
-    ensures short { (version : Version) (envelope : EnvelopeRecord) (bytes : List ℕ) (n : ℕ) → Spells version envelope bytes → n < length bytes → envelope_of (take n bytes) ≡ Err WireFault.Short }
-    ensures long { (version : Version) (envelope : EnvelopeRecord) (bytes : List ℕ) (more : List ℕ) → Spells version envelope bytes → 1 ≤ length more → envelope_of (bytes ++ more) ≡ Err WireFault.Long }
+    ensures short { (version : Version) (envelope : EnvelopeRecord) (bytes : List ℕ) (n : ℕ) → Spells version envelope bytes
+        → n < length bytes → envelope_of (take n bytes) ≡ Err WireFault.Short }
+    ensures long { (version : Version) (envelope : EnvelopeRecord) (bytes : List ℕ) (more : List ℕ)
+        → Spells version envelope bytes → 1 ≤ length more → envelope_of (bytes ++ more) ≡ Err WireFault.Long }
 {}
 
 /// Every envelope has a spelling in each version whose ranges it keeps, but for the length of its body.
 pub fn every_envelope_is_spelled()
-    ensures { (version : Version) (envelope : EnvelopeRecord) (cut : Cut) → IsFit version envelope → IsCut cut → length (body version cut envelope.message) ≤ MOST_BODY_BYTES → Spells version envelope (header version cut envelope · body version cut envelope.message) }
+    ensures { (version : Version) (envelope : EnvelopeRecord) (cut : Cut) → IsFit version envelope → IsCut cut
+        → length (body version cut envelope.message) ≤ MOST_BODY_BYTES
+        → Spells version envelope (header version cut envelope · body version cut envelope.message) }
 {}

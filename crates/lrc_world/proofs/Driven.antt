@@ -1,5 +1,6 @@
 -- A run that is driven in rounds.
-use Rattle.std.proofs.Common.{◌≡◌, ◌∙◌, ℕ, zero, suc, ◌+◌, ◌<◌, ◌≤◌, arith, List, [], ◌∷◌, ◌++◌, Bool, false, ◌||◌, Option, Some, Result, Ok, Err, IsErrAnd, OnOk, refl, sym, ap, subst, length, below_more}
+use Rattle.std.proofs.Common.{◌≡◌, ◌∙◌, ℕ, zero, suc, ◌+◌, ◌<◌, ◌≤◌, arith, List, [], ◌∷◌, ◌++◌, Bool, false, ◌||◌, Option}
+use Rattle.std.proofs.Common.{Some, Result, Ok, Err, IsErrAnd, OnOk, refl, sym, ap, subst, length, below_more}
 use Rattle.std.specs.Prelude.{slice_get}
 use Rattle.std.specs.List.{list_any}
 use Rattle.std.specs.Option.{option_map_or}
@@ -42,7 +43,8 @@ goes-after a b c (Err BadNodes) g h = λ starts start d. h starts start (g.drive
 goes-after a b c (Err BadSteps) g h = λ starts start d. h starts start (g.drives starts start d)
 
 -- a fault that is handed on is one met before
-pub fails-after : (a b c : Driver) (fault : SimFault) (result : Result (Unit {0}) SimFault) → IsErrAnd result (λ f. f ≡ fault) → Goes a b → GoesTo b c (Err fault)
+pub fails-after : (a b c : Driver) (fault : SimFault) (result : Result (Unit {0}) SimFault) → IsErrAnd result (λ f. f ≡ fault)
+    → Goes a b → GoesTo b c (Err fault)
     → GoesTo a c result
 fails-after a b c fault (Ok u) is g h = absurd is
 fails-after a b c fault (Err f) is g h = goes-after a b c (Err f) g (subst (λ x. GoesTo b c (Err x)) (sym is) h)

@@ -1,5 +1,6 @@
 -- A turn of one node, in the whole world.
-use Rattle.std.proofs.Common.{◌≡◌, ◌∙◌, ℕ, List, ◌++◌, Bool, true, false, option_map, Option, Some, None, Result, Ok, Err, refl, sym, ap, subst, map, length, ◌<◌, arith, inl, inr, IsErrAnd}
+use Rattle.std.proofs.Common.{◌≡◌, ◌∙◌, ℕ, List, ◌++◌, Bool, true, false, option_map, Option, Some, None, Result, Ok}
+use Rattle.std.proofs.Common.{Err, refl, sym, ap, subst, map, length, ◌<◌, arith, inl, inr, IsErrAnd}
 use Rattle.std.specs.Prelude.{slice_get, slice_set, slice_index_or}
 use Rattle.std.specs.List.{enumerate_from, list_any}
 use Rattle.std.specs.Option.{option_to_list}
@@ -20,7 +21,8 @@ use Rattle.std.proofs.lemmas.Option.{get_or_from_slice_get, same_Some, slice_get
 use Rattle.lrc_world.specs.declared.world.World.{World}
 use Rattle.lrc_world.specs.declared.report.SimFault.{SimFault}
 use Rattle.lrc_world.specs.declared.report.SimFault.TheVariants.{BadNodes, BadSteps, Worn, NoMemory}
-use Rattle.lrc_world.specs.World.{Starts, kept_of, after_turn, Shows, PlaysTo, Adds, AddsTo, LogsLast, IsTurn, TurnsBy, TurnsTo, IsTaken, ReceivesTo, made_of, Seen, seen, shown, shown_new, entry_is_long, log_is_long, sends_long}
+use Rattle.lrc_world.specs.World.{Starts, kept_of, after_turn, Shows, PlaysTo, Adds, AddsTo, LogsLast, IsTurn, TurnsBy, TurnsTo, IsTaken}
+use Rattle.lrc_world.specs.World.{ReceivesTo, made_of, Seen, seen, shown, shown_new, entry_is_long, log_is_long, sends_long}
 use Rattle.lrc_world.proofs.Lists.{map-map, map-both, map-get, none_of, none-set, some-set, none-end, some-end, same_length}
 
 -- a turn that is added to a world
@@ -60,7 +62,8 @@ module _ (starts : Starts) (old mid new : World) (run : Run) (flight : List Sent
         ∙ kept_set starts run.nodes n l after input entry there entered shows.replayed;
     replayed = replayed_after starts run.nodes n l after input entry there entered shows.replayed;
     flight = a.flight ∙ ap (λ xs. xs ++ map (shown_new entry.stamp) entry.turn.out) flown
-        ∙ ap (λ xs. map shown flight ++ xs) (sym (map-map shown (λ envelope. record { envelope = envelope; stamp = entry.stamp; delivered = false }) entry.turn.out))
+        ∙ ap (λ xs. map shown flight ++ xs)
+        (sym (map-map shown (λ envelope. record { envelope = envelope; stamp = entry.stamp; delivered = false }) entry.turn.out))
         ∙ sym (map-both shown flight (sent_by entry));
     acts = a.acts ∙ ap (λ xs. xs ++ option_to_list entry.turn.act) (acts ∙ shows.acts);
     short = none-set log_is_long run.nodes n after shows.short
@@ -112,7 +115,8 @@ pub goes : (starts : Starts) (old mid new : World) (run : Run) (n : ℕ) (input 
     → PlaysTo starts new (inputs run run.flight n input came) result
 goes starts old mid new run n input came outcome result shows turns made flight acts follows =
     let ok = made_turn outcome made in
-    let by = subst (TurnsBy old.nodes.items mid.nodes.items n input came (slice_get run.nodes n)) ok.1 (turns run.nodes (all_logged starts old.nodes.items run.nodes shows.nodes)) in
+    let by = subst (TurnsBy old.nodes.items mid.nodes.items n input came (slice_get run.nodes n)) ok.1
+    (turns run.nodes (all_logged starts old.nodes.items run.nodes shows.nodes)) in
     let t = turn_of_ok old.nodes.items mid.nodes.items n input came (slice_get run.nodes n) ok.0 by in
     comes starts old mid new run run.flight n input came t.0 t.2.entry t.2.after t.2.before shows t.1 t.2.turn t.2.stood t.2.nodes
     (ap (λ q. map seen q.items) flight ∙ shows.flight) (ap (λ v. v.items) acts) result follows
@@ -200,7 +204,8 @@ received to (Ok true) = Ok (Some to)
 received to (Ok false) = Ok None
 received to (Err fault) = Err fault
 
-module _ (starts : Starts) (old mid : World) (run : Run) (place : ℕ) (sent : Sent) (shows : Shows starts old run) (there : slice_get run.flight place ≡ Some sent)
+module _ (starts : Starts) (old mid : World) (run : Run) (place : ℕ) (sent : Sent) (shows : Shows starts old run)
+    (there : slice_get run.flight place ≡ Some sent)
     (flight : mid.flight ≡ old.flight) (acts : mid.acts ≡ old.acts) where
   unchanged : mid.nodes.items ≡ old.nodes.items → Shows starts mid run
   unchanged = unmoved starts old mid run shows flight acts
@@ -245,7 +250,8 @@ module _ (starts : Starts) (old mid : World) (run : Run) (place : ℕ) (sent : S
 
 -- a message that was taken is out of flight, or marked, and its node's turn is added
 pub delivered : (starts : Starts) (old taking mid new : World) (run : Run) (place to : ℕ) (others : List Sent) (result : Result (Unit {0}) SimFault)
-    → Shows starts old run → (t : IsTaken old taking run place to) → mid.nodes ≡ taking.nodes → mid.acts ≡ taking.acts → map seen mid.flight.items ≡ map shown others
+    → Shows starts old run → (t : IsTaken old taking run place to) → mid.nodes ≡ taking.nodes → mid.acts ≡ taking.acts
+    → map seen mid.flight.items ≡ map shown others
     → ((e : EntryRecord) → LogsLast mid to e → AddsTo mid new e result) → PlaysTo starts new (delivers run others (slice_get run.flight place)) result
 delivered starts old taking mid new run place to others result shows t nodes acts flown follows =
     let whole = comes starts old mid new run others t.sent.envelope.to (taken t.sent.envelope) t.sent.stamp t.node t.entry t.after t.before shows

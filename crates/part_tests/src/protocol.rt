@@ -5,7 +5,9 @@ ghost use Rattle.lrc_trace.specs.declared.act.Deed.TheVariants.{Quiet, Print, Re
 ghost use Rattle.lrc_wire.specs.declared.message.Message.TheVariants as message;
 ghost use Rattle.lrc_protocol.specs.Copy.{is_readable};
 ghost use Rattle.lrc_protocol.specs.Memory.{copy_at, lacking};
-ghost use Rattle.part_tests.specs.Protocol.{deeds, deeds_by, sent, messages, of_nodes, interval, key, part, change, barrier_run, late_grant_run, repeated_run, third_node_run, silent_run, repair_run, unread_run, collecting_run, collected_run, counted_run, uncollected_run, late_repeat_run, worn_run};
+ghost use Rattle.part_tests.specs.Protocol.{deeds, deeds_by, sent, messages, of_nodes, interval, key, part, change, barrier_run, late_grant_run};
+ghost use Rattle.part_tests.specs.Protocol.{repeated_run, third_node_run, silent_run, repair_run, unread_run, collecting_run, collected_run, counted_run};
+ghost use Rattle.part_tests.specs.Protocol.{uncollected_run, late_repeat_run, worn_run};
 
 /// After a barrier each node reads what was written before it. The departure brings a node what its arrival lacked.
 fn a_barrier_brings_what_was_written()

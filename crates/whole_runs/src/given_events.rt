@@ -106,8 +106,9 @@ const IN_LINE_PRINTS: &[u8] =
     b"node 0 ended\nnode 1 prints 0\nnode 1 ended\nnode 2 prints 1\nnode 2 ended\n";
 
 // What node 0 wrote reaches node 2 by a lock that node 0 never had.
-const HANDED_ON: &[u8] =
-    b"words 1; locks 2; if me == 0 { acquire 0; [0] = 3; release 0; } if me == 1 { acquire 0; release 0; acquire 1; release 1; } if me == 2 { acquire 1; x = [0]; release 1; print x; }";
+const HANDED_ON: &[u8] = b"words 1; locks 2; if me == 0 { acquire 0; [0] = 3; release 0; } \
+      if me == 1 { acquire 0; release 0; acquire 1; release 1; } \
+      if me == 2 { acquire 1; x = [0]; release 1; print x; }";
 
 const HANDED_ON_EVENTS: Events = &[
     (b"run 0\n", 7),

@@ -30,7 +30,9 @@ fn programs_without_a_race_print_what_they_always_do(rt: HostRuntime) {
         ),
         (
             Nodes { count: 3 },
-            b"words 1; locks 1; if me == 0 { acquire 0; [0] = 5; release 0; } barrier; if me == 1 { acquire 0; [0] = 5; release 0; } barrier; if me == 2 { acquire 0; x = [0]; release 0; print x; }",
+            b"words 1; locks 1; if me == 0 { acquire 0; [0] = 5; release 0; } barrier; \
+              if me == 1 { acquire 0; [0] = 5; release 0; } barrier; if me == 2 { acquire 0; \
+              x = [0]; release 0; print x; }",
             b"node 0 ended\nnode 1 ended\nnode 2 prints 5\nnode 2 ended\n",
         ),
         (
@@ -45,8 +47,12 @@ fn programs_without_a_race_print_what_they_always_do(rt: HostRuntime) {
         ),
         (
             Nodes { count: 3 },
-            b"words 3; locks 2; if me == 1 { acquire 1; release 1; [0] = 4; } if me == 2 { [2] = 8; } barrier; if me == 0 { [1] = 6; } barrier; x = [0]; y = [1]; z = [2]; print x; print y; print z;",
-            b"node 0 prints 4\nnode 0 prints 6\nnode 0 prints 8\nnode 0 ended\nnode 1 prints 4\nnode 1 prints 6\nnode 1 prints 8\nnode 1 ended\nnode 2 prints 4\nnode 2 prints 6\nnode 2 prints 8\nnode 2 ended\n",
+            b"words 3; locks 2; if me == 1 { acquire 1; release 1; [0] = 4; } if me == 2 { [2] = 8; \
+              } barrier; if me == 0 { [1] = 6; } barrier; x = [0]; y = [1]; z = [2]; print x; \
+              print y; print z;",
+            b"node 0 prints 4\nnode 0 prints 6\nnode 0 prints 8\nnode 0 ended\nnode 1 prints 4\n\
+              node 1 prints 6\nnode 1 prints 8\nnode 1 ended\nnode 2 prints 4\nnode 2 prints 6\n\
+              node 2 prints 8\nnode 2 ended\n",
         ),
         (
             Nodes { count: 4 },

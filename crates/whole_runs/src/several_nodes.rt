@@ -104,13 +104,17 @@ const ORDERED: [Case; 16] = [
     (
         Nodes { count: 3 },
         Collect { count: 0 },
-        b"words 1; locks 1; if me == 0 { acquire 0; [0] = 5; release 0; } barrier; if me == 1 { acquire 0; [0] = 5; release 0; } barrier; if me == 2 { acquire 0; x = [0]; release 0; print x; }",
+        b"words 1; locks 1; if me == 0 { acquire 0; [0] = 5; release 0; } barrier; \
+          if me == 1 { acquire 0; [0] = 5; release 0; } barrier; if me == 2 { acquire 0; x = [0]; \
+          release 0; print x; }",
         b"node 0 ended\nnode 1 ended\nnode 2 prints 5\nnode 2 ended\n",
     ),
     (
         Nodes { count: 3 },
         Collect { count: 1 },
-        b"words 1; locks 1; if me == 0 { acquire 0; [0] = 5; release 0; } barrier; if me == 1 { acquire 0; [0] = 5; release 0; } barrier; if me == 2 { acquire 0; x = [0]; release 0; print x; }",
+        b"words 1; locks 1; if me == 0 { acquire 0; [0] = 5; release 0; } barrier; \
+          if me == 1 { acquire 0; [0] = 5; release 0; } barrier; if me == 2 { acquire 0; x = [0]; \
+          release 0; print x; }",
         b"node 0 ended\nnode 1 ended\nnode 2 prints 5\nnode 2 ended\n",
     ),
     (
@@ -134,20 +138,32 @@ const ORDERED: [Case; 16] = [
     (
         Nodes { count: 3 },
         Collect { count: 0 },
-        b"words 3; locks 2; if me == 1 { acquire 1; release 1; [0] = 4; } if me == 2 { [2] = 8; } barrier; if me == 0 { [1] = 6; } barrier; x = [0]; y = [1]; z = [2]; print x; print y; print z;",
-        b"node 0 prints 4\nnode 0 prints 6\nnode 0 prints 8\nnode 0 ended\nnode 1 prints 4\nnode 1 prints 6\nnode 1 prints 8\nnode 1 ended\nnode 2 prints 4\nnode 2 prints 6\nnode 2 prints 8\nnode 2 ended\n",
+        b"words 3; locks 2; if me == 1 { acquire 1; release 1; [0] = 4; } if me == 2 { [2] = 8; \
+          } barrier; if me == 0 { [1] = 6; } barrier; x = [0]; y = [1]; z = [2]; print x; print y; \
+          print z;",
+        b"node 0 prints 4\nnode 0 prints 6\nnode 0 prints 8\nnode 0 ended\nnode 1 prints 4\n\
+          node 1 prints 6\nnode 1 prints 8\nnode 1 ended\nnode 2 prints 4\nnode 2 prints 6\n\
+          node 2 prints 8\nnode 2 ended\n",
     ),
     (
         Nodes { count: 3 },
         Collect { count: 1 },
-        b"words 3; locks 2; if me == 1 { acquire 1; release 1; [0] = 4; } if me == 2 { [2] = 8; } barrier; if me == 0 { [1] = 6; } barrier; x = [0]; y = [1]; z = [2]; print x; print y; print z;",
-        b"node 0 prints 4\nnode 0 prints 6\nnode 0 prints 8\nnode 0 ended\nnode 1 prints 4\nnode 1 prints 6\nnode 1 prints 8\nnode 1 ended\nnode 2 prints 4\nnode 2 prints 6\nnode 2 prints 8\nnode 2 ended\n",
+        b"words 3; locks 2; if me == 1 { acquire 1; release 1; [0] = 4; } if me == 2 { [2] = 8; \
+          } barrier; if me == 0 { [1] = 6; } barrier; x = [0]; y = [1]; z = [2]; print x; print y; \
+          print z;",
+        b"node 0 prints 4\nnode 0 prints 6\nnode 0 prints 8\nnode 0 ended\nnode 1 prints 4\n\
+          node 1 prints 6\nnode 1 prints 8\nnode 1 ended\nnode 2 prints 4\nnode 2 prints 6\n\
+          node 2 prints 8\nnode 2 ended\n",
     ),
     (
         Nodes { count: 3 },
         Collect { count: 3 },
-        b"words 3; locks 2; if me == 1 { acquire 1; release 1; [0] = 4; } if me == 2 { [2] = 8; } barrier; if me == 0 { [1] = 6; } barrier; x = [0]; y = [1]; z = [2]; print x; print y; print z;",
-        b"node 0 prints 4\nnode 0 prints 6\nnode 0 prints 8\nnode 0 ended\nnode 1 prints 4\nnode 1 prints 6\nnode 1 prints 8\nnode 1 ended\nnode 2 prints 4\nnode 2 prints 6\nnode 2 prints 8\nnode 2 ended\n",
+        b"words 3; locks 2; if me == 1 { acquire 1; release 1; [0] = 4; } if me == 2 { [2] = 8; \
+          } barrier; if me == 0 { [1] = 6; } barrier; x = [0]; y = [1]; z = [2]; print x; print y; \
+          print z;",
+        b"node 0 prints 4\nnode 0 prints 6\nnode 0 prints 8\nnode 0 ended\nnode 1 prints 4\n\
+          node 1 prints 6\nnode 1 prints 8\nnode 1 ended\nnode 2 prints 4\nnode 2 prints 6\n\
+          node 2 prints 8\nnode 2 ended\n",
     ),
     (
         Nodes { count: 2 },
@@ -199,7 +215,10 @@ const RACING: [Case; 2] = [
         Nodes { count: 3 },
         Collect { count: 0 },
         b"words 1; locks 0; [0] = me; [0] = me;",
-        b"node 0 ended\nnode 1 ended\nnode 2 ended\nrace word 0: node 0 interval 1, node 1 interval 1\nrace word 0: node 0 interval 1, node 2 interval 1\nrace word 0: node 1 interval 1, node 2 interval 1\nfirst race at act 1\n",
+        b"node 0 ended\nnode 1 ended\nnode 2 ended\n\
+          race word 0: node 0 interval 1, node 1 interval 1\n\
+          race word 0: node 0 interval 1, node 2 interval 1\n\
+          race word 0: node 1 interval 1, node 2 interval 1\nfirst race at act 1\n",
     ),
 ];
 

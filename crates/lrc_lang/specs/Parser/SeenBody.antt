@@ -15,7 +15,10 @@ use Rattle.lrc_lang.specs.Symbol.{Symbol, sign}
 use Rattle.lrc_lang.specs.Tree.{Block, expression_of, statement_of, block_of}
 use Rattle.lrc_lang.specs.Parser.Partial.{Partial}
 use Rattle.lrc_lang.specs.Parser.Seen.{partial_seen, GivesNew}
-use Rattle.lrc_lang.specs.Parser.Body.{Purpose, assigned, word_read, word_written, written, acquired, released, printed, if_condition, while_condition, Place, at_statement, after_name, after_equals, in_expression, after_word, before_end, after_then, after_else, Owner, then_of, else_of, inside_of, Around, Body}
+use Rattle.lrc_lang.specs.Parser.Body.{Purpose, assigned, word_read, word_written, written, acquired, released, printed}
+use Rattle.lrc_lang.specs.Parser.Body.{if_condition, while_condition, Place, at_statement, after_name, after_equals, in_expression}
+use Rattle.lrc_lang.specs.Parser.Body.{after_word, before_end, after_then, after_else, Owner, then_of, else_of, inside_of, Around}
+use Rattle.lrc_lang.specs.Parser.Body.{Body}
 
 abbrev pub purpose_seen : code_purpose.Purpose → Purpose
 purpose_seen (code_purposes.Assigned k) = assigned k

@@ -1,7 +1,8 @@
 //! What each kind has after the header.
 
 ghost use Rattle.std.specs.Prelude.{◌≡◌};
-ghost use Rattle.lrc_wire.specs.Reading.{Gives, lock_request_at, lock_forward_at, lock_grant_at, arrive_at, depart_at, clean_at, discard_at, changes_request_at, changes_reply_at, page_request_at, page_reply_at, body_at};
+ghost use Rattle.lrc_wire.specs.Reading.{Gives, lock_request_at, lock_forward_at, lock_grant_at, arrive_at, depart_at, clean_at, discard_at};
+ghost use Rattle.lrc_wire.specs.Reading.{changes_request_at, changes_reply_at, page_request_at, page_reply_at, body_at};
 
 use super::fields::{read_episode, read_flag, read_lock, read_node, read_page};
 use super::indices::read_indices;

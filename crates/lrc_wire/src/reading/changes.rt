@@ -3,7 +3,8 @@
 ghost use Rattle.std.specs.Prelude.{◌≡◌, ◌+◌, ◌≤◌, ◌<◌, IfOk, OnOk, IfSome, IsSomeAnd, Option, Some, None};
 ghost use Rattle.std.specs.Option.{ForSome};
 ghost use Rattle.lrc_page.specs.Changes.{last_change};
-ghost use Rattle.lrc_wire.specs.Reading.{Gives, PutsRun, PutsValues, is_after, is_apart, elements_at, next_offset_at, next_change_at, singly_at, values_at, next_run_at, last_of, whole_runs, runs_at, changes_at};
+ghost use Rattle.lrc_wire.specs.Reading.{Gives, PutsRun, PutsValues, is_after, is_apart, elements_at, next_offset_at, next_change_at};
+ghost use Rattle.lrc_wire.specs.Reading.{singly_at, values_at, next_run_at, last_of, whole_runs, runs_at, changes_at};
 
 use super::numbers::{read_u8, read_u16, read_u64};
 use crate::fault::WireFault;

@@ -103,7 +103,8 @@ fn read_intervals_of(
 ) -> Result<Vec<Interval>, WireFault>
     requires some { 1 ≤ nodes }
     requires few { nodes ≤ MOST_NODES }
-    ensures { Gives (λ v. (v.items, bytes.new.now)) result (elements_at (next_interval_at version nodes) (λ _ interval. Some (known_by interval)) count None bytes.old.now) }
+    ensures { Gives (λ v. (v.items, bytes.new.now)) result
+        (elements_at (next_interval_at version nodes) (λ _ interval. Some (known_by interval)) count None bytes.old.now) }
 {
     let mut intervals = Vec::with_capacity(alloc, room(count, bytes, 8))?;
     let mut before = None;

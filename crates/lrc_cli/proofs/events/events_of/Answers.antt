@@ -1,4 +1,5 @@
-use Rattle.std.proofs.Common.{◌≡◌, ◌∙◌, ◌<◌, ◌+◌, ◌==◌, ◌≢◌, ℕ, false, List, [], ◌∷◌, ◌++◌, length, take, drop, get_or, inr, refl, sym, ap, subst, arith, rules, tests}
+use Rattle.std.proofs.Common.{◌≡◌, ◌∙◌, ◌<◌, ◌+◌, ◌==◌, ◌≢◌, ℕ, false, List, [], ◌∷◌, ◌++◌, length, take}
+use Rattle.std.proofs.Common.{drop, get_or, inr, refl, sym, ap, subst, arith, rules, tests}
 use Rattle.std.proofs.lemmas.List.{append_assoc, length-take-le, length_push, take_all, take_more, take-append-drop}
 use Rattle.std.proofs.lemmas.Iterator.Consumers.{YieldsList-turn, YieldsList-end}
 use Rattle.std.proofs.lemmas.Iterator.Splits.{YieldsList-from_slice_split}

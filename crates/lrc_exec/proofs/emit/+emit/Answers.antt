@@ -1,5 +1,6 @@
 -- Each statement's instructions are sound, and lead on to those behind them.
-use Rattle.std.proofs.Common.{◌≡◌, ◌-◌, ◌<◌, [], ◌∷◌, ◌++◌, List, length, drop, get_or, refl, sym, ap, ◌∙◌, subst, suc, set, ℕ, arith, append_assoc, length-append}
+use Rattle.std.proofs.Common.{◌≡◌, ◌-◌, ◌<◌, [], ◌∷◌, ◌++◌, List, length, drop, get_or, refl, sym, ap, ◌∙◌}
+use Rattle.std.proofs.Common.{subst, suc, set, ℕ, arith, append_assoc, length-append}
 use Rattle.std.specs.Prelude.{IfOk, Result, Ok, Err}
 use Rattle.std.proofs.Math.Seq.{drop-cons, drop-length, get_or-append_seam}
 use Rattle.lrc_lang.specs.declared.program.Statement.{Statement}

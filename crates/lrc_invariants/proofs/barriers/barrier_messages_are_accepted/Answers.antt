@@ -6,11 +6,13 @@ returns-clause-clean c = λ program nodes options events world first l e k run a
     clean_expected program nodes options events world run first l e k at_first there says at
 
 pub returns-clause-discard : goal.returns-clause-discard
-returns-clause-discard c = λ program nodes options events world l e k run there says at. discard_expected program nodes options events world run l e k there says at
+returns-clause-discard c = λ program nodes options events world l e k run there says at.
+    discard_expected program nodes options events world run l e k there says at
 
 pub returns-clause-arrive : goal.returns-clause-arrive
 returns-clause-arrive c = λ program nodes options events world first l e m run at_first there says at.
     arrival_accepted program nodes options events world run first l e m at_first there says at
 
 pub returns-clause-depart : goal.returns-clause-depart
-returns-clause-depart c = λ program nodes options events world l e m run there says at. depart_accepted program nodes options events world run l e m there says at
+returns-clause-depart c = λ program nodes options events world l e m run there says at.
+    depart_accepted program nodes options events world run l e m there says at

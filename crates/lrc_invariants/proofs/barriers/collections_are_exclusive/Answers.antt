@@ -24,7 +24,8 @@ pub returns-clause-one : goal.returns-clause-one
 returns-clause-one c = λ program nodes options events world first manager cleans n l run at_first its one at.
     let h : Exclusive program nodes options world = all_exclusive program nodes options events world run in
     let same : manager ≡ h.timely.stand.manager = same_Some manager h.timely.stand.manager (sym its ∙ h.timely.stand.here first at_first) in
-    subst (λ (x : ManagerRecord). (is_inside l.node.mail.wait ≡ 1) × (count_by (arrive_from n) (pending world) + kept_of x n ≡ 0) × (count_by (discard_to n) (pending world) ≡ 0)) (sym same)
+    subst (λ (x : ManagerRecord). (is_inside l.node.mail.wait ≡ 1) × (count_by (arrive_from n) (pending world) + kept_of x n ≡ 0)
+    × (count_by (discard_to n) (pending world) ≡ 0)) (sym same)
     (h.busy cleans (sym (ap (λ (x : ManagerRecord). x.cleans) same) ∙ one) n l at)
 
 pub returns-clause-one_told : goal.returns-clause-one_told

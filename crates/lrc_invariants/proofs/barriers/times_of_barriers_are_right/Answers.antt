@@ -8,7 +8,8 @@ use Rattle.lrc_invariants.proofs.AllTimely.{all_timely}
 use Rattle.lrc_invariants.proofs.barriers.times_of_barriers_are_right.Goals as goal
 
 pub returns-clause-arrives : goal.returns-clause-arrives
-returns-clause-arrives c = λ program nodes options events world e m l run there says at. (all_timely program nodes options events world run).sent e m l there says at
+returns-clause-arrives c = λ program nodes options events world e m l run there says at.
+    (all_timely program nodes options events world run).sent e m l there says at
 
 pub returns-clause-kept : goal.returns-clause-kept
 returns-clause-kept c = λ program nodes options events world first manager n a l run at_first its there at.
@@ -29,4 +30,5 @@ returns-clause-collects c = λ program nodes options events world first manager 
     subst (λ (x : ManagerRecord). IsNewestTime nodes world.acts world.times x.done time) (sym same) (h.learned n l time at in_it)
 
 pub returns-clause-had : goal.returns-clause-had
-returns-clause-had c = λ program nodes options events world n l k run at waits does count. (all_timely program nodes options events world run).had n l at waits k does count
+returns-clause-had c = λ program nodes options events world n l k run at waits does count.
+    (all_timely program nodes options events world run).had n l at waits k does count

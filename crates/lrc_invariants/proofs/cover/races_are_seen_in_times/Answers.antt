@@ -11,5 +11,6 @@ returns-clause-unordered c = λ program nodes options events world i p j q v w e
 pub returns-clause-named : goal.returns-clause-named
 returns-clause-named c = λ program nodes options events world race e. (
   named_of_segments (keeps program nodes options events world e) (synchronized program nodes options events world e) race,
-  segments_named (keeps program nodes options events world e) (synchronized program nodes options events world e) (waits program nodes options events world e) race,
+  segments_named (keeps program nodes options events world e) (synchronized program nodes options events world e)
+      (waits program nodes options events world e) race,
 )

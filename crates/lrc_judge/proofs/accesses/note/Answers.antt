@@ -28,8 +28,11 @@ returns-in_ok-insert-in-Read c =
     let value = c.in-Read.field-1 in
     let does = Does-deed c.in-Read.is (here b) in
     let lt = node_within b in
-    let now = IsTouched-read run n node word value c.touched_at.result c.with_read-touched.result does (omega (arith, c.touched_at.result.all_accessed)) c.with_read-touched.ensures.accessed c.with_read-touched.ensures.written (c.touched_at.ensures run n c.requires.touched) in
-    AreTouched-next run n word c.args.words.now c.insert.new.self c.with_read-touched.result c.in_ok-insert-in-Read.ensures.updates now (λ p w h. (read_is run n node word value does p w h).1) c.requires.touched
+    let now = IsTouched-read run n node word value c.touched_at.result c.with_read-touched.result does
+    (omega (arith, c.touched_at.result.all_accessed)) c.with_read-touched.ensures.accessed c.with_read-touched.ensures.written
+    (c.touched_at.ensures run n c.requires.touched) in
+    AreTouched-next run n word c.args.words.now c.insert.new.self c.with_read-touched.result
+    c.in_ok-insert-in-Read.ensures.updates now (λ p w h. (read_is run n node word value does p w h).1) c.requires.touched
 
 pub returns-in_ok-insert-in-Write : goal.returns-in_ok-insert-in-Write
 returns-in_ok-insert-in-Write c =
@@ -42,10 +45,14 @@ returns-in_ok-insert-in-Write c =
     let does = Does-deed c.in-Write.is (here b) in
     let lt = node_within b in
     let touched = c.touched_at-in-Write.result in
-    let now = IsTouched-write run n node word value touched c.with_write-touched.result does (omega (arith, touched.all_accessed)) (omega (arith, touched.all_written)) c.with_write-touched.ensures.accessed c.with_write-touched.ensures.written (c.touched_at-in-Write.ensures run n c.requires.touched) in
-    AreTouched-next run n word c.args.words.now c.insert-in-Write.new.self c.with_write-touched.result c.in_ok-insert-in-Write.ensures.updates now (λ p w h. (write_is run n node word value does p w h).1) c.requires.touched
+    let now = IsTouched-write run n node word value touched c.with_write-touched.result does (omega (arith, touched.all_accessed))
+    (omega (arith, touched.all_written)) c.with_write-touched.ensures.accessed c.with_write-touched.ensures.written
+    (c.touched_at-in-Write.ensures run n c.requires.touched) in
+    AreTouched-next run n word c.args.words.now c.insert-in-Write.new.self c.with_write-touched.result
+    c.in_ok-insert-in-Write.ensures.updates now (λ p w h. (write_is run n node word value does p w h).1) c.requires.touched
 
 pub returns-in_default : goal.returns-in_default
 returns-in_default c =
     let b = (goal.at.returns-in_default c).After-from-node in
-    AreTouched-same c.args.acts.now c.args.position c.args.words.now (no_access c.args.acts.now c.args.position c.from-node.result (act_at b).deed (here b) c.in_default.not-Read c.in_default.not-Write) c.requires.touched
+    AreTouched-same c.args.acts.now c.args.position c.args.words.now
+    (no_access c.args.acts.now c.args.position c.from-node.result (act_at b).deed (here b) c.in_default.not-Read c.in_default.not-Write) c.requires.touched

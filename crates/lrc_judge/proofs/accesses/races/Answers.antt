@@ -19,13 +19,16 @@ here c = Does-node (sym c.from-node.ensures) (Does-read c.args.acts.now c.args.p
 pub returns-in-Read : goal.returns-in-Read
 returns-in-Read c =
     let b = (goal.at.returns-in-Read c).After-from-node in
-    let r = read_races c.args.acts.now c.args.position c.from-node.result c.in-Read.word c.in-Read.field-1 c.args.reach.now c.requires.reach c.touched_at.result (c.touched_at.ensures c.args.acts.now c.args.position c.requires.touched) (Does-deed c.in-Read.is (here b)) in
+    let r = read_races c.args.acts.now c.args.position c.from-node.result c.in-Read.word c.in-Read.field-1 c.args.reach.now
+    c.requires.reach c.touched_at.result (c.touched_at.ensures c.args.acts.now c.args.position c.requires.touched) (Does-deed c.in-Read.is (here b)) in
     (λ h. r.0 (c.is_some_unreached.ensures.0 h), λ h. c.is_some_unreached.ensures.1 (r.1 h))
 
 pub returns-in-Write : goal.returns-in-Write
 returns-in-Write c =
     let b = (goal.at.returns-in-Write c).After-from-node in
-    let r = write_races c.args.acts.now c.args.position c.from-node.result c.in-Write.word c.in-Write.field-1 c.args.reach.now c.requires.reach c.touched_at-in-Write.result (c.touched_at-in-Write.ensures c.args.acts.now c.args.position c.requires.touched) (Does-deed c.in-Write.is (here b)) in
+    let r = write_races c.args.acts.now c.args.position c.from-node.result c.in-Write.word c.in-Write.field-1 c.args.reach.now
+    c.requires.reach c.touched_at-in-Write.result
+    (c.touched_at-in-Write.ensures c.args.acts.now c.args.position c.requires.touched) (Does-deed c.in-Write.is (here b)) in
     (λ h. r.0 (c.is_some_unreached-in-Write.ensures.0 h), λ h. c.is_some_unreached-in-Write.ensures.1 (r.1 h))
 
 pub returns-in_default : goal.returns-in_default

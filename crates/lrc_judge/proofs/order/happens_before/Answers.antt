@@ -19,10 +19,11 @@ loop-position-preserved c =
     let here = Does-read c.args.acts.now c.loop-position.position quiet c.loop-position-test.true in
     record {
       past = c.in_ok-note.ensures;
-      rows = rw c.in_ok-push.ensures.items (AreRows-push c.args.acts.now c.loop-position.position c.loop-position.rows.items _ c.loop-position.invariant.rows (record {
-        node = λ p d h. Does-one_node here h;
-        reach = c.reach_of-reach.ensures;
-      }));
+      rows = rw c.in_ok-push.ensures.items
+          (AreRows-push c.args.acts.now c.loop-position.position c.loop-position.rows.items _ c.loop-position.invariant.rows (record {
+            node = λ p d h. Does-one_node here h;
+            reach = c.reach_of-reach.ensures;
+          }));
     }
 
 pub returns : goal.returns

@@ -14,7 +14,8 @@ returns-in_ok-push-in-Some c =
     let read = sym c.index_mut.ensures.value in
     let there : (get_or items i old).place ≡ c.args.place = rw (← c.deref.ensures.value) (c.in-Some.ensures.1 old) in
     let at : old.place ≡ c.args.place = ap (λ (s : Segment). s.place) c.index_mut.ensures.value ∙ there in
-    IsKept-set items i old new c.args.access c.args.place within read at at (Contains-pushed old.accesses.items c.push.new.self.items c.args.access c.in_ok-push-in-Some.ensures.items)
+    IsKept-set items i old new c.args.access c.args.place within read at at
+    (Contains-pushed old.accesses.items c.push.new.self.items c.args.access c.in_ok-push-in-Some.ensures.items)
 
 pub returns-in_ok-push-in-None-2 : goal.returns-in_ok-push-in-None-2
 returns-in_ok-push-in-None-2 c =

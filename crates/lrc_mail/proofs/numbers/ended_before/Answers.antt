@@ -19,7 +19,8 @@ returns-then-place-gt0-clause-no c far =
     let within : i - 1 < length xs = omega (arith, c.if-place-gt0.true, bound) in
     let clear : (d : Span) → (slice_index_or xs (i - 1) d).last + 1 < n = λ d.
     let below : (slice_index_or xs (i - 1) d).last < n = c.requires.before (i - 1) d (omega arith) (omega (arith, c.if-place-gt0.true)) in
-    let same : (slice_index_or xs (i - 1) none).last ≡ (slice_index_or xs (i - 1) d).last = ap (λ (s : Span). s.last) (get_or_default xs (i - 1) none d within) in
+    let same : (slice_index_or xs (i - 1) none).last ≡ (slice_index_or xs (i - 1) d).last =
+    ap (λ (s : Span). s.last) (get_or_default xs (i - 1) none d within) in
     omega (arith, below, same, apart) in
     subst (λ j. AllWithin (λ (span : Span). span.last + 1 < n) xs 0 j) more
     (all_clear n 0 xs (i - 1) c.requires.are within (subst (λ j. AllWithin (λ (span : Span). span.last < n) xs 0 j) (sym more) c.requires.before) clear)

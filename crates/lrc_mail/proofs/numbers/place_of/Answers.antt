@@ -11,7 +11,8 @@ use Rattle.lrc_mail.proofs.numbers.place_of.Goals.{After-partition_point}
 abbrev ends_below : ℕ → Span → Bool
 ends_below n span = nat_lt span.last n
 
-point : (c : After-partition_point) → IsPartitionPoint (λ span. ends_below c.args.number span ≡ true) (λ span. ends_below c.args.number span ≡ false) c.args.spans.now c.partition_point.result
+point : (c : After-partition_point) → IsPartitionPoint (λ span. ends_below c.args.number span ≡ true)
+    (λ span. ends_below c.args.number span ≡ false) c.args.spans.now c.partition_point.result
 point c =
     IsPartitionPoint-from_clause (ends_below c.args.number) c.args.spans.now c.partition_point.result c.partition_point.ensures.partitioned
     (IsPartitionedBy-ltb (λ (span : Span). span.last) c.args.spans.now c.args.number (ends_rise 0 c.args.spans.now c.requires))

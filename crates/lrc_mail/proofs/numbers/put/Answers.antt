@@ -7,7 +7,8 @@ use Rattle.lrc_mail.proofs.Puts.{inserted, begun_lower}
 use Rattle.lrc_mail.proofs.numbers.put.Goals as goal
 use Rattle.lrc_mail.proofs.numbers.put.Goals.{After-spans-1, In_ok-insert}
 
-lower : (c : After-spans-1) → Puts c.args.number 0 c.args.spans.now.items (slice_set c.args.spans.now.items c.args.place (record { first = c.args.number; last = c.index.result.now.last }))
+lower : (c : After-spans-1) → Puts c.args.number 0 c.args.spans.now.items
+    (slice_set c.args.spans.now.items c.args.place (record { first = c.args.number; last = c.index.result.now.last }))
 lower c =
     let n = c.args.number in
     let xs = c.args.spans.now.items in

@@ -14,6 +14,7 @@ mend-requires-clause-fit c =
     let need = c.need-item.result in
     let before = fold mended n.memory (take k c.args.needs.now) in
     let can : CanMend n.size before need =
-    subst (CanMend n.size before) (sym c.need-item.is) (can_mend_next n.size n.memory c.args.needs.now k need c.requires.apart c.requires.can c.loop-need-test.true) in
+    subst (CanMend n.size before) (sym c.need-item.is)
+    (can_mend_next n.size n.memory c.args.needs.now k need c.requires.apart c.requires.can c.loop-need-test.true) in
     subst (λ size. is_mendable size (copy_at c.loop-need.memory.memory need.page) need.base ≡ true) (sym c.loop-need.invariant.same.size)
     (subst (λ (m : NodeMemory). is_mendable n.size (copy_at m.memory need.page) need.base ≡ true) (sym c.loop-need.invariant.so_far) can.fit)

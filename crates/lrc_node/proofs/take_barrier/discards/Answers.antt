@@ -14,5 +14,6 @@ loop-to-preserved c = record {
       ∙ sym (map-range_with_len_more (λ to. letter to (Discard c.args.episode)) 0 c.loop-to.to c.loop-to.to (omega arith));
   are_for =
       rw c.in_ok-push.ensures.items
-      (All-push (λ (l : Letter). l.to < c.args.nodes) c.loop-to.letters.items (letter c.loop-to.to (Discard c.args.episode)) c.loop-to.invariant.are_for c.loop-to-test.true);
+      (All-push (λ (l : Letter). l.to < c.args.nodes) c.loop-to.letters.items
+      (letter c.loop-to.to (Discard c.args.episode)) c.loop-to.invariant.are_for c.loop-to-test.true);
 }

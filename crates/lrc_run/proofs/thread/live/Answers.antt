@@ -9,7 +9,8 @@ pub returns-in-Ok : goal.returns-in-Ok
 returns-in-Ok g c =
     let start : Node = fresh_node c.args.code.now c.args.nodes c.args.options.now c.args.me in
     let done : c.work.result ≡ Ok tt = search rules in
-    let its_log : IsLogOf start c.work.new.node.logged.log = whole_log _ _ _ _ start _ tt c.work.result done (c.work.ensures (unmade start) c.in_ok-node.ensures) in
+    let its_log : IsLogOf start c.work.new.node.logged.log = whole_log _ _ _ _ start _ tt c.work.result done
+    (c.work.ensures (unmade start) c.in_ok-node.ensures) in
     subst (IsLogOf start) (sym c.into_parts.ensures.log) its_log
 
 pub returns-in-Err-Closed : goal.returns-in-Err-Closed

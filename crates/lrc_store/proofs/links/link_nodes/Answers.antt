@@ -93,7 +93,8 @@ push-requires-clause-row c = λ d.
     ∙ map-append (λ (s : StoredRecord). s.node) (take (n + 1) entries) (drop (n + 1) entries)
     ∙ ap (λ (l : List ℕ). l ++ map (λ (s : StoredRecord). s.node) (drop (n + 1) entries)) more in
     let longer = places_from-front node (front ++ node ∷ []) (map (λ (s : StoredRecord). s.node) (drop (n + 1) entries)) in
-    let one = ap length (places_from-push node 0 front node ∙ ap (λ b. places_from node 0 front ++ cond b ((0 + length front) ∷ []) []) (eq-eqb node node refl)) in
+    let one = ap length (places_from-push node 0 front node
+    ∙ ap (λ b. places_from node 0 front ++ cond b ((0 + length front) ∷ []) []) (eq-eqb node node refl)) in
     let count = length-append (places_from node 0 front) ((0 + length front) ∷ []) in
     let whole = ap (λ (l : List ℕ). length (places_from node 0 l)) split in
     let keys = ap (λ (l : List ℕ). length (places_from node 0 l)) c.loop-at.invariant.0 in

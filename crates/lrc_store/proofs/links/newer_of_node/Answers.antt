@@ -21,12 +21,14 @@ loop-next-init c =
 here : (c : In-Some)
     → IsWalked c.args.node c.args.since.now c.args.upto.now (map interval_of c.args.arena.now.entries) no_interval (Some c.in-Some.at) c.loop-next.found.items
 here c =
-    subst (λ (next : Option ℕ). IsWalked c.args.node c.args.since.now c.args.upto.now (map interval_of c.args.arena.now.entries) no_interval next c.loop-next.found.items)
+    subst (λ (next : Option ℕ). IsWalked c.args.node c.args.since.now c.args.upto.now
+    (map interval_of c.args.arena.now.entries) no_interval next c.loop-next.found.items)
     c.in-Some.is c.loop-next.invariant
 
 within : (c : In-Some) → c.in-Some.at < length (map interval_of c.args.arena.now.entries)
 within c =
-    walk_within c.args.node c.args.since.now c.args.upto.now (map interval_of c.args.arena.now.entries) no_interval c.in-Some.at c.loop-next.found.items (here c)
+    walk_within c.args.node c.args.since.now c.args.upto.now (map interval_of c.args.arena.now.entries) no_interval c.in-Some.at
+    c.loop-next.found.items (here c)
 
 abbrev no_stored : StoredRecord
 no_stored = record { node = 0; stamp = []; notices = [] }

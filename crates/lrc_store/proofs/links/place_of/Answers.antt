@@ -83,4 +83,5 @@ returns-else-is_at c =
     (λ at inside is.
     let there = sought_there c.args.node c.args.index entries c.args.last.now c.args.by_node.now.keys at item c.requires.linked c.requires.gapless inside is in
     let same : at ≡ place = same_Some at place (sym there.1 ∙ sym (listed (goal.at.returns-else-is_at c).After-from_newest) ∙ c.in_ok-place.was) in
-    true≢false (sym is ∙ ap (λ k. test (get_or entries k item)) same ∙ ap (is_interval_at c.args.node c.args.index) (sym (c.interval.ensures none)) ∙ sym c.is_at.ensures ∙ c.if-is_at.false)))
+    true≢false (sym is ∙ ap (λ k. test (get_or entries k item)) same ∙
+    ap (is_interval_at c.args.node c.args.index) (sym (c.interval.ensures none)) ∙ sym c.is_at.ensures ∙ c.if-is_at.false)))

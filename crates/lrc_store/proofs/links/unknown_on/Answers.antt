@@ -65,5 +65,6 @@ loop-next-smaller c =
 pub returns : goal.returns
 returns c =
     let ended = walk_ends c.args.page c.args.since.now c.args.arena.now.notices c.loop-next.found.items
-    (subst (λ (next : Option ℕ). IsWalked c.args.page c.args.since.now c.args.arena.now.notices next c.loop-next.found.items) c.in_default.is c.loop-next.invariant) in
+    (subst (λ (next : Option ℕ). IsWalked c.args.page c.args.since.now c.args.arena.now.notices next c.loop-next.found.items)
+    c.in_default.is c.loop-next.invariant) in
     c.reverse.ensures.items ∙ sym ended

@@ -9,5 +9,6 @@ returns-in_default c = none_put c.args.sender c.args.history.now.now (sent_as c.
 pub returns : goal.returns
 returns c =
     put_next c.args.sender c.args.history.now.now
-    (take (length c.args.history.now.now - (c.in-Some.place + 1)) (drop (c.in-Some.place + 1) c.args.history.now.now)) (sent_as c.args.stamp c.args.envelope.now) c.in-Some.place c.index-history-place.result
+    (take (length c.args.history.now.now - (c.in-Some.place + 1)) (drop (c.in-Some.place + 1) c.args.history.now.now))
+    (sent_as c.args.stamp c.args.envelope.now) c.in-Some.place c.index-history-place.result
     c.in_ok-is.is' (search rules) (whole_rest c.args.history.now.now (c.in-Some.place + 1)) (search rules)

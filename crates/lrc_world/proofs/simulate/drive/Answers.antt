@@ -37,7 +37,8 @@ pub returns-in_err-drive-clause-bad_nodes : goal.returns-in_err-drive-clause-bad
 returns-in_err-drive-clause-bad_nodes c =
     let d = first c.args.program.now c.in_ok-code.code c.args.nodes c.in_ok-count.count c.args.options.now c.new-driver.result c.in_ok-world.world
     c.in_ok-code.ensures c.in_ok-count.ensures.0 c.in_ok-world.ensures c.new-driver.ensures.world c.new-driver.ensures.events in
-    let ranged = in_range c.new-driver.result c.drive.new.self (fresh_node c.args.program.now c.args.nodes c.args.options.now) (fresh_world c.args.program.now c.args.nodes c.args.options.now) c.in_err-drive.field-0.0 d
+    let ranged = in_range c.new-driver.result c.drive.new.self (fresh_node c.args.program.now c.args.nodes c.args.options.now)
+    (fresh_world c.args.program.now c.args.nodes c.args.options.now) c.in_err-drive.field-0.0 d
     c.in_err-drive.ensures.goes in (
       λ e good. ranged.0 (handed_on c.from_residual-in_err-drive.result c.in_err-drive.field-0.0 BadNodes c.from_residual-in_err-drive.ensures.1 e),
       λ bad. absurd (bad c.in_ok-count.ensures.1),
@@ -47,7 +48,8 @@ pub returns-in_err-drive-clause-bad_steps : goal.returns-in_err-drive-clause-bad
 returns-in_err-drive-clause-bad_steps c =
     let d = first c.args.program.now c.in_ok-code.code c.args.nodes c.in_ok-count.count c.args.options.now c.new-driver.result c.in_ok-world.world
     c.in_ok-code.ensures c.in_ok-count.ensures.0 c.in_ok-world.ensures c.new-driver.ensures.world c.new-driver.ensures.events in
-    let ranged = in_range c.new-driver.result c.drive.new.self (fresh_node c.args.program.now c.args.nodes c.args.options.now) (fresh_world c.args.program.now c.args.nodes c.args.options.now) c.in_err-drive.field-0.0 d
+    let ranged = in_range c.new-driver.result c.drive.new.self (fresh_node c.args.program.now c.args.nodes c.args.options.now)
+    (fresh_world c.args.program.now c.args.nodes c.args.options.now) c.in_err-drive.field-0.0 d
     c.in_err-drive.ensures.goes in (
       λ e. absurd (ranged.1 (handed_on c.from_residual-in_err-drive.result c.in_err-drive.field-0.0 BadSteps c.from_residual-in_err-drive.ensures.1 e)),
       λ bad. absurd (bad.1 c.in_ok-count.ensures.2),
@@ -58,8 +60,12 @@ returns-clause-report c =
     let start = fresh_world c.args.program.now c.args.nodes c.args.options.now in
     let d = first c.args.program.now c.in_ok-code.code c.args.nodes c.in_ok-count.count c.args.options.now c.new-driver.result c.in_ok-world.world
     c.in_ok-code.ensures c.in_ok-count.ensures.0 c.in_ok-world.ensures c.new-driver.ensures.world c.new-driver.ensures.events in
-    let r = c.in_ok-drive.ensures.goes.drives (fresh_node c.args.program.now c.args.nodes c.args.options.now) start d in
-    (r.0, ap (λ v. played start v.items) c.in_ok-report.ensures.events ∙ r.1, c.in_ok-report.ensures.report (fresh_node c.args.program.now c.args.nodes c.args.options.now) r.0 r.2)
+    let r = c.in_ok-drive.ensures.goes.drives (fresh_node c.args.program.now c.args.nodes c.args.options.now) start d in (
+      r.0,
+      ap (λ v. played start v.items) c.in_ok-report.ensures.events
+          ∙ r.1,
+      c.in_ok-report.ensures.report (fresh_node c.args.program.now c.args.nodes c.args.options.now) r.0 r.2,
+    )
 
 pub returns-clause-over : goal.returns-clause-over
 returns-clause-over c = λ few.
@@ -68,7 +74,8 @@ returns-clause-over c = λ few.
     c.in_ok-code.ensures c.in_ok-count.ensures.0 c.in_ok-world.ensures c.new-driver.ensures.world c.new-driver.ensures.events in
     let r = c.in_ok-drive.ensures.goes.drives (fresh_node c.args.program.now c.args.nodes c.args.options.now) start d in
     let still = c.in_ok-drive.ensures.over (subst (λ v. length v.items < 100000000) c.in_ok-report.ensures.events few) in
-    over c.args.program.now c.args.nodes c.args.options.now c.in_ok-report.field-0.0.items (fresh_node c.args.program.now c.args.nodes c.args.options.now) r.0 c.drive.new.self.world
+    over c.args.program.now c.args.nodes c.args.options.now c.in_ok-report.field-0.0.items
+    (fresh_node c.args.program.now c.args.nodes c.args.options.now) r.0 c.drive.new.self.world
     (ap (λ v. played start v.items) c.in_ok-report.ensures.events ∙ r.1) r.2
     (subst (λ n. NoneReady n c.drive.new.self.world) c.in_ok-count.ensures.0 still.0) still.1
 
@@ -124,7 +131,9 @@ pub returns-clause-accepted : goal.returns-clause-accepted
 returns-clause-accepted c = refuses_none c.args.program.now c.args.nodes c.args.options.now c.in_ok-report.field-0.0.items
 
 pub returns-clause-tokens : goal.returns-clause-tokens
-returns-clause-tokens c = each_token c.args.program.now c.args.nodes c.args.options.now c.in_ok-report.field-0.0.items (omega (arith, c.in_ok-count.ensures.1.0))
+returns-clause-tokens c = each_token c.args.program.now c.args.nodes c.args.options.now c.in_ok-report.field-0.0.items
+    (omega (arith, c.in_ok-count.ensures.1.0))
 
 pub returns-clause-covered : goal.returns-clause-covered
-returns-clause-covered c = covered c.args.program.now c.args.nodes c.args.options.now c.in_ok-report.field-0.0.items c.in_ok-report.field-0.1 (returns-clause-report c)
+returns-clause-covered c = covered c.args.program.now c.args.nodes c.args.options.now c.in_ok-report.field-0.0.items
+    c.in_ok-report.field-0.1 (returns-clause-report c)

@@ -11,20 +11,27 @@ use Rattle.lrc_world.proofs.simulate.replay.Goals as goal
 
 pub loop-event-preserved : goal.loop-event-preserved
 loop-event-preserved c =
-    goes_on c.args.program.now c.args.nodes c.args.options.now c.args.events.now c.loop-event.event-index _ (get_at c.args.events.now c.loop-event.event-index _ (omega (arith, c.loop-event-test.true)))
+    goes_on c.args.program.now c.args.nodes c.args.options.now c.args.events.now c.loop-event.event-index _
+    (get_at c.args.events.now c.loop-event.event-index _ (omega (arith, c.loop-event-test.true)))
     c.loop-event.world c.play.new.self c.play.result c.in_ok-play.field-0 c.loop-event.invariant c.play.ensures (search rules)
 
 pub returns-in_err-play-clause-worn : goal.returns-in_err-play-clause-worn
 returns-in_err-play-clause-worn c = λ e.
     let same = handed_on c.from_residual-in_err-play.result c.in_err-play.field-0.0 Worn c.from_residual-in_err-play.ensures.1 e in
-    wears_out c.args.program.now c.args.nodes c.args.options.now c.args.events.now c.loop-event.event-index _ (get_at c.args.events.now c.loop-event.event-index _ (omega (arith, c.loop-event-test.true)))
+    wears_out c.args.program.now c.args.nodes c.args.options.now c.args.events.now c.loop-event.event-index _
+    (get_at c.args.events.now c.loop-event.event-index _ (omega (arith, c.loop-event-test.true)))
     c.loop-event.world c.play.new.self c.play.result c.loop-event.invariant c.play.ensures (search rules)
 
 pub returns-clause-report : goal.returns-clause-report
 returns-clause-report c =
     let runs = c.loop-event.invariant in
-    let all : take c.loop-event.event-index c.args.events.now ≡ c.args.events.now = take_whole c.args.events.now c.loop-event.event-index (omega (arith, c.loop-event-test.false)) in
-    (runs.0, ap (run_of c.args.program.now c.args.nodes c.args.options.now) (sym all) ∙ runs.1, c.in_ok-report.ensures.report (fresh_node c.args.program.now c.args.nodes c.args.options.now) runs.0 runs.2)
+    let all : take c.loop-event.event-index c.args.events.now ≡ c.args.events.now =
+    take_whole c.args.events.now c.loop-event.event-index (omega (arith, c.loop-event-test.false)) in (
+      runs.0,
+      ap (run_of c.args.program.now c.args.nodes c.args.options.now) (sym all)
+          ∙ runs.1,
+      c.in_ok-report.ensures.report (fresh_node c.args.program.now c.args.nodes c.args.options.now) runs.0 runs.2,
+    )
 
 pub returns-clause-races : goal.returns-clause-races
 returns-clause-races c =

@@ -13,4 +13,5 @@ returns-then-ready c = λ all e.
 pub loop-node-preserved : goal.loop-node-preserved
 loop-node-preserved c = λ all e.
     let s = stands_at c.args.nodes.now all c.loop-node.node-index c.node-item.result e (omega (arith, c.loop-node-test.true)) c.node-item.is in
-    none_more (λ (l : Logged). is_ready l.node) all c.loop-node.node-index s.0 s.1 (c.loop-node.invariant all e) (sym (c.ready.ensures s.0 s.2) ∙ c.if-ready.false)
+    none_more (λ (l : Logged). is_ready l.node) all c.loop-node.node-index s.0 s.1 (c.loop-node.invariant all e)
+    (sym (c.ready.ensures s.0 s.2) ∙ c.if-ready.false)

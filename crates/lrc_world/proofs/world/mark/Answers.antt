@@ -10,7 +10,8 @@ use Rattle.lrc_world.proofs.world.mark.Goals as goal
 
 pub returns-then-place-len : goal.returns-then-place-len
 returns-then-place-len c = λ sent e.
-    let s = sent_at c.args.flight.now.items sent c.args.place c.index_mut.result.now e (omega (arith, c.if-place-len.true, c.len.ensures)) c.index_mut.ensures.value in
+    let s = sent_at c.args.flight.now.items sent c.args.place c.index_mut.result.now e
+    (omega (arith, c.if-place-len.true, c.len.ensures)) c.index_mut.ensures.value in
     map-set seen c.args.flight.now.items c.args.place _
     ∙ ap (λ xs. slice_set xs c.args.place (envelope_of c.index_mut.result.now.bytes, (c.index_mut.result.now.stamp, true))) e
     ∙ ap (slice_set (map shown sent) c.args.place) (ap (λ (x : Seen). (x.0, (x.1.0, true))) s.2)

@@ -1,7 +1,8 @@
 use Rattle.std.proofs.Common.{◌≡◌, ◌∙◌, Some, Ok, List, ap, arith, length, subst, sym}
 use Rattle.lrc_barrier.specs.declared.arrival.Arrival.{Arrival}
 use Rattle.lrc_barrier.specs.declared.departure.Departure.{Departure}
-use Rattle.lrc_barrier.specs.Barrier.{ManagerRecord, after_arrive, arrive_answer, arrived, departed, departures_of, departs, has_arrived, is_next, with_arrival, IsManager}
+use Rattle.lrc_barrier.specs.Barrier.{ManagerRecord, after_arrive, arrive_answer, arrived, departed, departures_of}
+use Rattle.lrc_barrier.specs.Barrier.{departs, has_arrived, is_next, with_arrival, IsManager}
 use Rattle.lrc_barrier.specs.Filled.{all_with}
 use Rattle.lrc_barrier.proofs.Filled.{length_all_with}
 use Rattle.lrc_barrier.proofs.Steps.{all_depart, all_departed, are_all, are_departures, expected}

@@ -1,5 +1,6 @@
 -- A node's turn is the next turn of the round.
-use Rattle.std.proofs.Common.{Vec, Global, ◌≡◌, ℕ, ◌+◌, ◌∙◌, Some, None, List, [], ◌∷◌, ◌++◌, length, sym, ap, subst, arith, append_assoc, length-append, length-set}
+use Rattle.std.proofs.Common.{Vec, Global, ◌≡◌, ℕ, ◌+◌, ◌∙◌, Some, None, List, [], ◌∷◌, ◌++◌, length, sym}
+use Rattle.std.proofs.Common.{ap, subst, arith, append_assoc, length-append, length-set}
 use Rattle.std.specs.List.{range_with_len}
 use Rattle.lrc_trace.specs.declared.act.Act.{Act}
 use Rattle.lrc_trace.specs.declared.act.Deed.{Deed}

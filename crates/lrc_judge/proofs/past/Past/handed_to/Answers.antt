@@ -20,7 +20,8 @@ node_within : (c : After-index-self-node) → c.from-node.result < 16
 node_within c = let below = c.requires.nodes c.args.position (record { node = 0; deed = Quiet }) c.requires.within in omega (arith, below, c.from-node.ensures)
 
 -- what the node's own acts are reached by
-own : (c : After-index-self-node) → Gathers c.args.acts.now (Acted c.args.acts.now c.args.position c.from-node.result) (get_or c.args.self.now.acted c.from-node.result c.index-self-node.result)
+own : (c : After-index-self-node) → Gathers c.args.acts.now (Acted c.args.acts.now c.args.position c.from-node.result)
+    (get_or c.args.self.now.acted c.from-node.result c.index-self-node.result)
 own c = let within = node_within c in c.requires.past.acted c.from-node.result c.index-self-node.result (omega (arith, c.args.self.now.all_acted))
 
 departs : (c : After-index-self-node) → get_or c.args.self.now.departs c.from-node.result 0 ≡ departs_before c.args.acts.now c.from-node.result c.args.position
@@ -31,8 +32,10 @@ returns-in-Acquire c =
     let b = (goal.at.returns-in-Acquire c).After-index-self-node in
     let within : c.from.result < length c.args.self.now.released.items = omega (arith, c.args.self.now.all_released) in
     let found = c.requires.past.released c.from.result c.index.result.now within in
-    let released = subst (λ l. Gathers c.args.acts.now (Released c.args.acts.now c.args.position l) c.index.result.now) c.from.ensures (rw (← c.index.ensures) at found) in
-    handed_to_acquire c.args.acts.now c.args.position c.from-node.result _ (here b) _ (own b) c.in-Acquire.lock c.index.result.now c.joined.result c.in-Acquire.is released c.joined.ensures
+    let released = subst (λ l. Gathers c.args.acts.now (Released c.args.acts.now c.args.position l) c.index.result.now)
+    c.from.ensures (rw (← c.index.ensures) at found) in
+    handed_to_acquire c.args.acts.now c.args.position c.from-node.result _ (here b) _
+    (own b) c.in-Acquire.lock c.index.result.now c.joined.result c.in-Acquire.is released c.joined.ensures
 
 pub returns-in-Some : goal.returns-in-Some
 returns-in-Some c =
@@ -43,7 +46,8 @@ returns-in-Some c =
     let within : number < length c.args.self.now.arrived.items = rw (← c.deref.ensures.value) lookup.3.0 in
     let found = c.requires.past.arrived number c.in-Some.arrived.now within in
     let arrived = subst (λ e. Gathers c.args.acts.now (Arrived c.args.acts.now c.args.position e) c.in-Some.arrived.now) (departs b) (rw (← read) at found) in
-    handed_to_depart c.args.acts.now c.args.position c.from-node.result _ (here b) _ (own b) c.in-Some.arrived.now c.joined-in-Some.result c.in-Depart.is arrived c.joined-in-Some.ensures
+    handed_to_depart c.args.acts.now c.args.position c.from-node.result _ (here b) _
+    (own b) c.in-Some.arrived.now c.joined-in-Some.result c.in-Depart.is arrived c.joined-in-Some.ensures
 
 pub returns-in-None : goal.returns-in-None
 returns-in-None c =
@@ -51,7 +55,8 @@ returns-in-None c =
     let past = c.in-None.ensures.lookup.3 in
     let long = c.deref.ensures.len in
     let number = departs b in
-    handed_to_lone_depart c.args.acts.now c.args.position c.from-node.result _ (here b) _ (own b) c.in-Depart.is (λ p. let kept = c.requires.past.all_kept p in omega arith)
+    handed_to_lone_depart c.args.acts.now c.args.position c.from-node.result _ (here b) _ (own b) c.in-Depart.is
+    (λ p. let kept = c.requires.past.all_kept p in omega arith)
 
 pub returns-in_default : goal.returns-in_default
 returns-in_default c =

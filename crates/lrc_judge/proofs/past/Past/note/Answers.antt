@@ -23,35 +23,55 @@ here c = Does-node (sym c.from-node.ensures) (Does-read c.args.acts.now c.args.p
 node_within : (c : After-from-node) → c.from-node.result < 16
 node_within c = let below = c.requires.nodes c.args.position (record { node = 0; deed = Quiet }) c.requires.within in omega (arith, below, c.from-node.ensures)
 
-acted : (c : After-from-node) → EachGathers c.args.acts.now (Acted c.args.acts.now (c.args.position + 1)) (set c.args.self.now.acted c.from-node.result c.args.reach)
-acted c = acted_next c.args.acts.now c.args.position c.from-node.result (act_at c).deed (here c) c.args.self.now.acted c.args.reach c.requires.past.acted c.requires.reach
+acted : (c : After-from-node) → EachGathers c.args.acts.now (Acted c.args.acts.now (c.args.position + 1))
+    (set c.args.self.now.acted c.from-node.result c.args.reach)
+acted c = acted_next c.args.acts.now c.args.position c.from-node.result (act_at c).deed
+    (here c) c.args.self.now.acted c.args.reach c.requires.past.acted c.requires.reach
 
 -- the tables and counts that an act of another kind leaves as they are
-released_as_before : (c : After-from-node) → ((l : ℕ) → (act_at c).deed ≡ Release l → ⊥) → EachGathers c.args.acts.now (Released c.args.acts.now (c.args.position + 1)) c.args.self.now.released.items
-released_as_before c other = released_same c.args.acts.now c.args.position c.from-node.result (act_at c).deed (here c) c.args.self.now.released.items other c.requires.past.released
+released_as_before : (c : After-from-node) → ((l : ℕ) → (act_at c).deed ≡ Release l → ⊥)
+    → EachGathers c.args.acts.now (Released c.args.acts.now (c.args.position + 1)) c.args.self.now.released.items
+released_as_before c other = released_same c.args.acts.now c.args.position c.from-node.result (act_at c).deed
+    (here c) c.args.self.now.released.items other c.requires.past.released
 
-arrived_as_before : (c : After-from-node) → ((act_at c).deed ≡ Arrive → ⊥) → EachGathers c.args.acts.now (Arrived c.args.acts.now (c.args.position + 1)) c.args.self.now.arrived.items
-arrived_as_before c other = arrived_same c.args.acts.now c.args.position c.from-node.result (act_at c).deed (here c) c.args.self.now.arrived.items other c.requires.past.arrived
+arrived_as_before : (c : After-from-node) → ((act_at c).deed ≡ Arrive → ⊥)
+    → EachGathers c.args.acts.now (Arrived c.args.acts.now (c.args.position + 1)) c.args.self.now.arrived.items
+arrived_as_before c other = arrived_same c.args.acts.now c.args.position c.from-node.result (act_at c).deed
+    (here c) c.args.self.now.arrived.items other c.requires.past.arrived
 
-kept_as_before : (c : After-from-node) → is_arrive (act_at c).deed ≡ false → (q : ℕ) → arrives_before c.args.acts.now q (c.args.position + 1) ≤ length c.args.self.now.arrived.items
-kept_as_before c fails = bound_same c.args.acts.now c.args.position c.from-node.result (act_at c).deed (here c) is_arrive (length c.args.self.now.arrived.items) fails c.requires.past.all_kept
+kept_as_before : (c : After-from-node) → is_arrive (act_at c).deed ≡ false → (q : ℕ)
+    → arrives_before c.args.acts.now q (c.args.position + 1) ≤ length c.args.self.now.arrived.items
+kept_as_before c fails = bound_same c.args.acts.now c.args.position c.from-node.result (act_at c).deed (here c) is_arrive
+    (length c.args.self.now.arrived.items) fails c.requires.past.all_kept
 
-arrives_as_before : (c : After-from-node) → is_arrive (act_at c).deed ≡ false → (q : ℕ) → q < length c.args.self.now.arrives → get_or c.args.self.now.arrives q 0 ≡ arrives_before c.args.acts.now q (c.args.position + 1)
-arrives_as_before c fails = counts_same c.args.acts.now c.args.position c.from-node.result (act_at c).deed (here c) is_arrive c.args.self.now.arrives fails c.requires.past.arrives
+arrives_as_before : (c : After-from-node) → is_arrive (act_at c).deed ≡ false → (q : ℕ) → q < length c.args.self.now.arrives
+    → get_or c.args.self.now.arrives q 0 ≡ arrives_before c.args.acts.now q (c.args.position + 1)
+arrives_as_before c fails = counts_same c.args.acts.now c.args.position c.from-node.result (act_at c).deed
+    (here c) is_arrive c.args.self.now.arrives fails c.requires.past.arrives
 
-departs_as_before : (c : After-from-node) → is_depart (act_at c).deed ≡ false → (q : ℕ) → q < length c.args.self.now.departs → get_or c.args.self.now.departs q 0 ≡ departs_before c.args.acts.now q (c.args.position + 1)
-departs_as_before c fails = counts_same c.args.acts.now c.args.position c.from-node.result (act_at c).deed (here c) is_depart c.args.self.now.departs fails c.requires.past.departs
+departs_as_before : (c : After-from-node) → is_depart (act_at c).deed ≡ false → (q : ℕ) → q < length c.args.self.now.departs
+    → get_or c.args.self.now.departs q 0 ≡ departs_before c.args.acts.now q (c.args.position + 1)
+departs_as_before c fails = counts_same c.args.acts.now c.args.position c.from-node.result (act_at c).deed
+    (here c) is_depart c.args.self.now.departs fails c.requires.past.departs
 
 -- the count of the node that arrives or departs goes up
-arrives_more : (c : After-from-node) → is_arrive (act_at c).deed ≡ true → (q : ℕ) → q < length (set c.args.self.now.arrives c.from-node.result (get_or c.args.self.now.arrives c.from-node.result 0 + 1)) → get_or (set c.args.self.now.arrives c.from-node.result (get_or c.args.self.now.arrives c.from-node.result 0 + 1)) q 0 ≡ arrives_before c.args.acts.now q (c.args.position + 1)
+arrives_more : (c : After-from-node) → is_arrive (act_at c).deed ≡ true → (q : ℕ)
+    → q < length (set c.args.self.now.arrives c.from-node.result (get_or c.args.self.now.arrives c.from-node.result 0 + 1))
+    → get_or (set c.args.self.now.arrives c.from-node.result (get_or c.args.self.now.arrives c.from-node.result 0 + 1)) q 0 ≡
+    arrives_before c.args.acts.now q (c.args.position + 1)
 arrives_more c passes =
     let within = node_within c in
-    counts_next c.args.acts.now c.args.position c.from-node.result (act_at c).deed (here c) is_arrive c.args.self.now.arrives passes (omega (arith, c.args.self.now.all_arrives)) c.requires.past.arrives
+    counts_next c.args.acts.now c.args.position c.from-node.result (act_at c).deed
+    (here c) is_arrive c.args.self.now.arrives passes (omega (arith, c.args.self.now.all_arrives)) c.requires.past.arrives
 
-departs_more : (c : After-from-node) → is_depart (act_at c).deed ≡ true → (q : ℕ) → q < length (set c.args.self.now.departs c.from-node.result (get_or c.args.self.now.departs c.from-node.result 0 + 1)) → get_or (set c.args.self.now.departs c.from-node.result (get_or c.args.self.now.departs c.from-node.result 0 + 1)) q 0 ≡ departs_before c.args.acts.now q (c.args.position + 1)
+departs_more : (c : After-from-node) → is_depart (act_at c).deed ≡ true → (q : ℕ)
+    → q < length (set c.args.self.now.departs c.from-node.result (get_or c.args.self.now.departs c.from-node.result 0 + 1))
+    → get_or (set c.args.self.now.departs c.from-node.result (get_or c.args.self.now.departs c.from-node.result 0 + 1)) q 0 ≡
+    departs_before c.args.acts.now q (c.args.position + 1)
 departs_more c passes =
     let within = node_within c in
-    counts_next c.args.acts.now c.args.position c.from-node.result (act_at c).deed (here c) is_depart c.args.self.now.departs passes (omega (arith, c.args.self.now.all_departs)) c.requires.past.departs
+    counts_next c.args.acts.now c.args.position c.from-node.result (act_at c).deed
+    (here c) is_depart c.args.self.now.departs passes (omega (arith, c.args.self.now.all_departs)) c.requires.past.departs
 
 -- the number of an arrive
 number_is : (c : After-from-node) → get_or c.args.self.now.arrives c.from-node.result 0 ≡ arrives_before c.args.acts.now c.from-node.result c.args.position
@@ -84,8 +104,11 @@ returns-in-Depart c =
     }
 
 -- what is joined, read from the table
-joined_from_table : (table : List Reach) (i : ℕ) (found reach joined : Reach) → found ≡ get_or table i found → i < length table → ((p : ℕ) → get_or joined.latest p 0 ≡ max (get_or found.latest p 0) (get_or reach.latest p 0)) → (p : ℕ) → get_or joined.latest p 0 ≡ max (get_or (get_or table i joined).latest p 0) (get_or reach.latest p 0)
-joined_from_table table i found reach joined is within e p = e p ∙ ap (λ (r : Reach). max (get_or r.latest p 0) (get_or reach.latest p 0)) (is ∙ get_or_default table i found joined within)
+joined_from_table : (table : List Reach) (i : ℕ) (found reach joined : Reach) → found ≡ get_or table i found → i < length table
+    → ((p : ℕ) → get_or joined.latest p 0 ≡ max (get_or found.latest p 0) (get_or reach.latest p 0)) → (p : ℕ)
+    → get_or joined.latest p 0 ≡ max (get_or (get_or table i joined).latest p 0) (get_or reach.latest p 0)
+joined_from_table table i found reach joined is within e p = e p
+    ∙ ap (λ (r : Reach). max (get_or r.latest p 0) (get_or reach.latest p 0)) (is ∙ get_or_default table i found joined within)
 
 pub returns-in-Release : goal.returns-in-Release
 returns-in-Release c =
@@ -98,7 +121,8 @@ returns-in-Release c =
     let joined = joined_from_table table c.from-lock.result c.index.result.now c.args.reach c.joined.result c.index.ensures within c.joined.ensures in
     record {
       acted = acted b;
-      released = released_next run c.args.position c.from-node.result (act_at b).deed (here b) table c.from-lock.result c.args.reach c.joined.result is within c.requires.past.released c.requires.reach joined;
+      released = released_next run c.args.position c.from-node.result (act_at b).deed
+          (here b) table c.from-lock.result c.args.reach c.joined.result is within c.requires.past.released c.requires.reach joined;
       arrived = arrived_as_before b (λ a. (cc));
       all_kept = kept_as_before b (ap is_arrive e);
       arrives = arrives_as_before b (ap is_arrive e);
@@ -113,13 +137,16 @@ returns-then-number-len c =
     let number = get_or c.args.self.now.arrives c.from-node.result 0 in
     let at = number_is b in
     let within : number < length table = omega (arith, c.len.ensures, c.if-number-len.true) in
-    let joined = joined_from_table table number c.index-then-number-len.result.now c.args.reach c.joined-then-number-len.result c.index-then-number-len.ensures within c.joined-then-number-len.ensures in
+    let joined = joined_from_table table number c.index-then-number-len.result.now c.args.reach c.joined-then-number-len.result
+    c.index-then-number-len.ensures within c.joined-then-number-len.ensures in
     let long = length-set table number c.joined-then-number-len.result in
     record {
       acted = acted b;
       released = released_as_before b (λ l r. (cc));
-      arrived = arrived_next c.args.acts.now c.args.position c.from-node.result (act_at b).deed (here b) table number e at c.requires.past.arrived c.args.reach c.requires.reach c.joined-then-number-len.result within joined;
-      all_kept = bound_next c.args.acts.now c.args.position c.from-node.result (act_at b).deed (here b) is_arrive (length table) _ (ap is_arrive e) (omega arith) (omega arith) c.requires.past.all_kept;
+      arrived = arrived_next c.args.acts.now c.args.position c.from-node.result (act_at b).deed
+          (here b) table number e at c.requires.past.arrived c.args.reach c.requires.reach c.joined-then-number-len.result within joined;
+      all_kept = bound_next c.args.acts.now c.args.position c.from-node.result (act_at b).deed (here b) is_arrive (length table) _
+          (ap is_arrive e) (omega arith) (omega arith) c.requires.past.all_kept;
       arrives = arrives_more b (ap is_arrive e);
       departs = departs_as_before b (ap is_depart e);
     }
@@ -138,8 +165,10 @@ returns-in_ok-push-in-Arrive c =
     record {
       acted = acted b;
       released = released_as_before b (λ l r. (cc));
-      arrived = rw pushed (arrived_push c.args.acts.now c.args.position c.from-node.result (act_at b).deed (here b) table number e at c.requires.past.arrived c.args.reach c.requires.reach last c.requires.past.all_kept);
-      all_kept = rw pushed (bound_next c.args.acts.now c.args.position c.from-node.result (act_at b).deed (here b) is_arrive (length table) _ (ap is_arrive e) (omega arith) (omega arith) c.requires.past.all_kept);
+      arrived = rw pushed (arrived_push c.args.acts.now c.args.position c.from-node.result (act_at b).deed
+          (here b) table number e at c.requires.past.arrived c.args.reach c.requires.reach last c.requires.past.all_kept);
+      all_kept = rw pushed (bound_next c.args.acts.now c.args.position c.from-node.result (act_at b).deed (here b) is_arrive
+          (length table) _ (ap is_arrive e) (omega arith) (omega arith) c.requires.past.all_kept);
       arrives = arrives_more b (ap is_arrive e);
       departs = departs_as_before b (ap is_depart e);
     }

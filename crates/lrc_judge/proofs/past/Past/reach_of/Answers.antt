@@ -11,4 +11,5 @@ returns c =
     let quiet : Act = record { node = 0; deed = Quiet } in
     let here = Does-node (sym c.from.ensures) (Does-read c.args.acts.now c.args.position quiet c.requires.within) in
     let below = c.requires.nodes c.args.position quiet c.requires.within in
-    Gathers-here c.args.acts.now c.args.position c.from.result _ c.handed_to-reach.result _ here (omega (arith, c.handed_to-reach.result.full)) c.handed_to-reach.ensures refl
+    Gathers-here c.args.acts.now c.args.position c.from.result _ c.handed_to-reach.result _ here
+    (omega (arith, c.handed_to-reach.result.full)) c.handed_to-reach.ensures refl

@@ -14,7 +14,9 @@ returns-in-Acquire c =
     let quiet : Act = record { node = 0; deed = Quiet } in
     let act = get_or run c.args.position quiet in
     let is : act.deed ≡ Acquire c.from.result = c.in-Acquire.is ∙ ap (λ l. Acquire l) (sym c.from.ensures) in
-    decides_acquire c.args.nodes run c.args.position act.node act.deed (Does-read run c.args.position quiet c.requires.within) c.args.self.now.holder c.requires.standing.holder c.from.result is (omega (arith, c.args.self.now.all_locks)) _ refl c.is_none.result c.is_none.ensures
+    decides_acquire c.args.nodes run c.args.position act.node act.deed
+    (Does-read run c.args.position quiet c.requires.within) c.args.self.now.holder c.requires.standing.holder c.from.result is
+    (omega (arith, c.args.self.now.all_locks)) _ refl c.is_none.result c.is_none.ensures
 
 pub returns-in-Release : goal.returns-in-Release
 returns-in-Release c =
@@ -22,7 +24,9 @@ returns-in-Release c =
     let quiet : Act = record { node = 0; deed = Quiet } in
     let act = get_or run c.args.position quiet in
     let is : act.deed ≡ Release c.from-in-Release.result = c.in-Release.is ∙ ap (λ l. Release l) (sym c.from-in-Release.ensures) in
-    decides_release c.args.nodes run c.args.position act.node act.deed (Does-read run c.args.position quiet c.requires.within) c.args.self.now.holder c.requires.standing.holder c.from-in-Release.result is (omega (arith, c.args.self.now.all_locks)) _ refl c.eq.result c.eq.ensures
+    decides_release c.args.nodes run c.args.position act.node act.deed
+    (Does-read run c.args.position quiet c.requires.within) c.args.self.now.holder c.requires.standing.holder
+    c.from-in-Release.result is (omega (arith, c.args.self.now.all_locks)) _ refl c.eq.result c.eq.ensures
 
 pub returns-in-Depart : goal.returns-in-Depart
 returns-in-Depart c =
@@ -35,11 +39,14 @@ returns-in-Depart c =
     let below = c.requires.acts c.args.position quiet c.requires.within in
     let within : c.from-in-Depart.result < length c.args.self.now.departs = omega (arith, c.from-in-Depart.ensures, c.args.self.now.all_departs) in
     let departs = c.requires.standing.departs c.from-in-Depart.result within ∙ ap (λ q. departs_before run q c.args.position) c.from-in-Depart.ensures in
-    decides_depart c.args.nodes run c.args.position act.node act.deed (Does-read run c.args.position quiet c.requires.within) c.in-Depart.is (take nodes arrives) _ (length-take-le nodes arrives few ∙ c.from-in-Depart-2.ensures) (λ q lt. get_or-take nodes arrives q 0 (omega arith) ∙ c.requires.standing.arrives q (omega arith)) departs c.are_above.result c.are_above.ensures
+    decides_depart c.args.nodes run c.args.position act.node act.deed (Does-read run c.args.position quiet c.requires.within)
+    c.in-Depart.is (take nodes arrives) _ (length-take-le nodes arrives few ∙ c.from-in-Depart-2.ensures)
+    (λ q lt. get_or-take nodes arrives q 0 (omega arith) ∙ c.requires.standing.arrives q (omega arith)) departs c.are_above.result c.are_above.ensures
 
 pub returns-in_default : goal.returns-in_default
 returns-in_default c =
     let run = c.args.acts.now in
     let quiet : Act = record { node = 0; deed = Quiet } in
     let act = get_or run c.args.position quiet in
-    others_go_on c.args.nodes run c.args.position act.node act.deed (Does-read run c.args.position quiet c.requires.within) c.in_default.not-Acquire c.in_default.not-Release c.in_default.not-Depart
+    others_go_on c.args.nodes run c.args.position act.node act.deed (Does-read run c.args.position quiet c.requires.within)
+    c.in_default.not-Acquire c.in_default.not-Release c.in_default.not-Depart

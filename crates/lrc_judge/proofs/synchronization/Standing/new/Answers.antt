@@ -14,7 +14,8 @@ get_or-zeros zero p = refl
 get_or-zeros (suc n) zero = refl
 get_or-zeros (suc n) (suc p) = get_or-zeros n p
 
-starts : (run : List Act) (standing : Standing) → standing.holder ≡ replicate 256 None → standing.arrives ≡ replicate 16 0 → standing.departs ≡ replicate 16 0 → IsStanding run 0 standing
+starts : (run : List Act) (standing : Standing) → standing.holder ≡ replicate 256 None → standing.arrives ≡ replicate 16 0
+    → standing.departs ≡ replicate 16 0 → IsStanding run 0 standing
 starts run standing holder arrives departs = record {
   holder = λ l q h.
       let none : Option ℕ = None in

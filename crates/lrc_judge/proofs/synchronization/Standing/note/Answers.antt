@@ -23,14 +23,20 @@ node_within : (c : After-from-node) → c.from-node.result < 16
 node_within c = let below = c.requires.acts c.args.position (record { node = 0; deed = Quiet }) c.requires.within in omega (arith, below, c.from-node.ensures)
 
 -- what an act of another kind leaves as it is
-holder_as_before : (c : After-from-node) → ((l : ℕ) → (act_at c).deed ≡ Acquire l → ⊥) → ((l : ℕ) → (act_at c).deed ≡ Release l → ⊥) → AreHolders c.args.acts.now (c.args.position + 1) c.args.self.now.holder
-holder_as_before c not_acquire not_release = holders_same c.args.acts.now c.args.position c.args.self.now.holder c.requires.standing.holder c.from-node.result (act_at c).deed (here c) not_acquire not_release
+holder_as_before : (c : After-from-node) → ((l : ℕ) → (act_at c).deed ≡ Acquire l → ⊥)
+    → ((l : ℕ) → (act_at c).deed ≡ Release l → ⊥) → AreHolders c.args.acts.now (c.args.position + 1) c.args.self.now.holder
+holder_as_before c not_acquire not_release = holders_same c.args.acts.now c.args.position c.args.self.now.holder
+    c.requires.standing.holder c.from-node.result (act_at c).deed (here c) not_acquire not_release
 
-arrives_as_before : (c : After-from-node) → is_arrive (act_at c).deed ≡ false → (q : ℕ) → q < length c.args.self.now.arrives → get_or c.args.self.now.arrives q 0 ≡ arrives_before c.args.acts.now q (c.args.position + 1)
-arrives_as_before c fails = counts_same c.args.acts.now c.args.position c.from-node.result (act_at c).deed (here c) is_arrive c.args.self.now.arrives fails c.requires.standing.arrives
+arrives_as_before : (c : After-from-node) → is_arrive (act_at c).deed ≡ false → (q : ℕ) → q < length c.args.self.now.arrives
+    → get_or c.args.self.now.arrives q 0 ≡ arrives_before c.args.acts.now q (c.args.position + 1)
+arrives_as_before c fails = counts_same c.args.acts.now c.args.position c.from-node.result (act_at c).deed
+    (here c) is_arrive c.args.self.now.arrives fails c.requires.standing.arrives
 
-departs_as_before : (c : After-from-node) → is_depart (act_at c).deed ≡ false → (q : ℕ) → q < length c.args.self.now.departs → get_or c.args.self.now.departs q 0 ≡ departs_before c.args.acts.now q (c.args.position + 1)
-departs_as_before c fails = counts_same c.args.acts.now c.args.position c.from-node.result (act_at c).deed (here c) is_depart c.args.self.now.departs fails c.requires.standing.departs
+departs_as_before : (c : After-from-node) → is_depart (act_at c).deed ≡ false → (q : ℕ) → q < length c.args.self.now.departs
+    → get_or c.args.self.now.departs q 0 ≡ departs_before c.args.acts.now q (c.args.position + 1)
+departs_as_before c fails = counts_same c.args.acts.now c.args.position c.from-node.result (act_at c).deed
+    (here c) is_depart c.args.self.now.departs fails c.requires.standing.departs
 
 pub returns-in-Acquire : goal.returns-in-Acquire
 returns-in-Acquire c =
@@ -38,7 +44,9 @@ returns-in-Acquire c =
     let e = c.in-Acquire.is in
     let is : (act_at b).deed ≡ Acquire c.from.result = e ∙ ap (λ l. Acquire l) (sym c.from.ensures) in
     record {
-      holder = rw (← c.from-node.ensures) (holders_acquire c.args.acts.now c.args.position c.args.self.now.holder c.requires.standing.holder c.from-node.result (act_at b).deed (here b) c.from.result is (λ q h. c.requires.allowed (acquire (Does-deed is (here b)) h)));
+      holder = rw (← c.from-node.ensures)
+          (holders_acquire c.args.acts.now c.args.position c.args.self.now.holder c.requires.standing.holder c.from-node.result
+          (act_at b).deed (here b) c.from.result is (λ q h. c.requires.allowed (acquire (Does-deed is (here b)) h)));
       arrives = arrives_as_before b (ap is_arrive e);
       departs = departs_as_before b (ap is_depart e);
     }
@@ -49,12 +57,15 @@ returns-in-Release c =
     let e = c.in-Release.is in
     let lock = c.from-in-Release.result in
     let is : (act_at b).deed ≡ Release lock = e ∙ ap (λ l. Release l) (sym c.from-in-Release.ensures) in
-    let mine : Holds c.args.acts.now c.args.position c.from-node.result lock = elim (held c.args.acts.now c.args.position c.args.self.now.holder c.requires.standing.holder c.from-node.result lock (omega (arith, c.args.self.now.all_locks))) [
+    let mine : Holds c.args.acts.now c.args.position c.from-node.result lock =
+    elim (held c.args.acts.now c.args.position c.args.self.now.holder c.requires.standing.holder c.from-node.result lock
+    (omega (arith, c.args.self.now.all_locks))) [
       | inl h ↦ h
       | inr other ↦ absurd (c.requires.allowed (release (Does-deed is (here b)) other))
     ] in
     record {
-      holder = holders_release c.args.acts.now c.args.position c.args.self.now.holder c.requires.standing.holder c.from-node.result (act_at b).deed (here b) lock is mine;
+      holder = holders_release c.args.acts.now c.args.position c.args.self.now.holder c.requires.standing.holder
+          c.from-node.result (act_at b).deed (here b) lock is mine;
       arrives = arrives_as_before b (ap is_arrive e);
       departs = departs_as_before b (ap is_depart e);
     }
@@ -66,7 +77,8 @@ returns-in-Arrive c =
     let within = node_within b in
     record {
       holder = holder_as_before b (λ l a. (cc)) (λ l r. (cc));
-      arrives = counts_next c.args.acts.now c.args.position c.from-node.result (act_at b).deed (here b) is_arrive c.args.self.now.arrives (ap is_arrive e) (omega (arith, c.args.self.now.all_arrives)) c.requires.standing.arrives;
+      arrives = counts_next c.args.acts.now c.args.position c.from-node.result (act_at b).deed
+          (here b) is_arrive c.args.self.now.arrives (ap is_arrive e) (omega (arith, c.args.self.now.all_arrives)) c.requires.standing.arrives;
       departs = departs_as_before b (ap is_depart e);
     }
 
@@ -78,7 +90,8 @@ returns-in-Depart c =
     record {
       holder = holder_as_before b (λ l a. (cc)) (λ l r. (cc));
       arrives = arrives_as_before b (ap is_arrive e);
-      departs = counts_next c.args.acts.now c.args.position c.from-node.result (act_at b).deed (here b) is_depart c.args.self.now.departs (ap is_depart e) (omega (arith, c.args.self.now.all_departs)) c.requires.standing.departs;
+      departs = counts_next c.args.acts.now c.args.position c.from-node.result (act_at b).deed
+          (here b) is_depart c.args.self.now.departs (ap is_depart e) (omega (arith, c.args.self.now.all_departs)) c.requires.standing.departs;
     }
 
 pub returns-in_default : goal.returns-in_default

@@ -10,7 +10,8 @@ use Rattle.lrc_mail.proofs.numbers.Numbers.contains.Goals.{After-get}
 
 found : (c : After-get) → begins_by c.args.number c.as_slice-spans.result.now c.place_of.result ≡ list_any (λ n. n == c.args.number) c.args.self.now
 found c =
-    found_at c.args.number 0 c.as_slice-spans.result.now c.place_of.result (subst AreSpans (sym c.as_slice-spans.ensures.value) c.self.invariant) c.place_of.ensures.before c.place_of.ensures.from
+    found_at c.args.number 0 c.as_slice-spans.result.now c.place_of.result
+    (subst AreSpans (sym c.as_slice-spans.ensures.value) c.self.invariant) c.place_of.ensures.before c.place_of.ensures.from
     ∙ ap (λ l. list_any (λ n. n == c.args.number) (numbers_of l)) c.as_slice-spans.ensures.value
     ∙ ap (λ l. list_any (λ n. n == c.args.number) l) c.self.view_is
 

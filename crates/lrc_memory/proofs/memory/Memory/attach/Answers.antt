@@ -29,7 +29,8 @@ keep-requires c =
     (c.requires.awaited k item (omega (arith, ap length all, c.loop-part-test.true))) in record {
       awaited = ap (λ (m : NodeMemory). notice_at m.memory.store (part_key maker page c.part.inside.index)) c.loop-part.invariant.so_far
           ∙ ap (λ i. notice_at (fold (with_part maker page) n.memory.store (take k items)) (part_key maker page i)) index
-          ∙ still-awaited maker page items n.memory.store k item (subst AreParts (sym all) c.as_slice-part-items.ensures.are) c.loop-part-test.true c.part-item.is given.0;
+          ∙ still-awaited maker page items n.memory.store k item (subst AreParts (sym all) c.as_slice-part-items.ensures.are)
+          c.loop-part-test.true c.part-item.is given.0;
       sized = rw (changes, c.loop-part.invariant.same.size) given.1;
     }
 
@@ -48,7 +49,8 @@ loop-part-preserved c =
     let changes : c.in_ok-duplicate.field-0 ≡ item.changes = c.in_ok-duplicate.ensures ∙ ap (λ (p : IndexedChangesRecord). p.changes) c.part.view_is in
     let before = fold (with_part maker page) n.memory.store (take k items) in record {
       so_far = c.keep.ensures.kept
-          ∙ ap (λ (m : NodeMemory). with_memory m (record m.memory { store = attached m.memory.store (part_key maker page c.part.inside.index) c.in_ok-duplicate.field-0 }))
+          ∙ ap (λ (m : NodeMemory). with_memory m
+          (record m.memory { store = attached m.memory.store (part_key maker page c.part.inside.index) c.in_ok-duplicate.field-0 }))
           c.loop-part.invariant.so_far
           ∙ ap (λ i. with_memory n (record n.memory { store = attached before (part_key maker page i) c.in_ok-duplicate.field-0 })) index
           ∙ ap (λ (cs : List Change). with_memory n (record n.memory { store = attached before (part_key maker page item.index) cs })) changes

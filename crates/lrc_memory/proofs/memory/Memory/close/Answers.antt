@@ -60,7 +60,8 @@ next c =
 pub invariant_of-self-2 : goal.invariant_of-self-2
 invariant_of-self-2 c =
     let k = kept c.self.inside in
-    let interval = interval-is k c.args.stamp.now c.copy.result c.in_ok-pages.pages c.new-interval.result c.new-interval.ensures c.copy.ensures c.in_ok-pages.ensures.pages in
+    let interval = interval-is k c.args.stamp.now c.copy.result c.in_ok-pages.pages c.new-interval.result c.new-interval.ensures
+    c.copy.ensures c.in_ok-pages.ensures.pages in
     let store = told_ok c.add.result c.add.ensures.ok (sym c.is_err.ensures.value ∙ c.if-is_err.false) in
     subst IsKept (sym (done c))
     (kept-closed k c.args.stamp.now c.self.invariant c.size-whole.ensures.whole

@@ -25,10 +25,17 @@ drop_bases-requires c =
     ∙ ap (λ (t : Table). length t.copies) c.drop_twins.ensures ∙ length-map c.self.inside.table.copies without_twin)
 
 done : (c : goal.After-self-2-1)
-    → record (kept c.self.inside) { store = c.discard.new.self; table = c.drop_bases.new.table; collected = c.copy-self-inside.result; in_step = c.self.inside.in_step && c.is_last-in_step.result }
+    → record (kept c.self.inside) {
+      store = c.discard.new.self;
+      table = c.drop_bases.new.table;
+      collected =
+          c.copy-self-inside.result;
+      in_step = c.self.inside.in_step && c.is_last-in_step.result;
+    }
     ≡ collected (kept c.self.inside) c.args.time.now (c.self.inside.in_step && c.is_last-in_step.result)
 done c =
-    collected-is (kept c.self.inside) c.args.time.now c.copy-self-inside.result c.deref.result.now (c.self.inside.in_step && c.is_last-in_step.result) c.discard.new.self c.drop_twins.new.self
+    collected-is (kept c.self.inside) c.args.time.now c.copy-self-inside.result c.deref.result.now
+    (c.self.inside.in_step && c.is_last-in_step.result) c.discard.new.self c.drop_twins.new.self
     c.drop_invalid.new.self c.drop_bases.new.table c.discard.ensures c.drop_twins.ensures c.drop_invalid.ensures c.deref.ensures.value
     c.drop_bases.ensures c.copy-self-inside.ensures
 
@@ -41,10 +48,12 @@ invariant_of-self c =
 pub returns-clause-collected : goal.returns-clause-collected
 returns-clause-collected c =
     ap node_seen (done c)
-    ∙ seen-collected (kept c.self.inside) _ c.args.time.now (c.self.inside.in_step && c.is_last-in_step.result) c.self.view_is c.self.invariant c.requires.closed c.requires.own
+    ∙ seen-collected (kept c.self.inside) _ c.args.time.now (c.self.inside.in_step && c.is_last-in_step.result) c.self.view_is
+    c.self.invariant c.requires.closed c.requires.own
 
 pub returns-clause-same : goal.returns-clause-same
 returns-clause-same c =
     subst (λ (k : Kept). SameMemory c.args.self.now (node_seen k)) (sym (done c))
-    (same-seen (kept c.self.inside) (collected (kept c.self.inside) c.args.time.now (c.self.inside.in_step && c.is_last-in_step.result)) _ c.self.view_is refl refl
+    (same-seen (kept c.self.inside) (collected (kept c.self.inside) c.args.time.now
+    (c.self.inside.in_step && c.is_last-in_step.result)) _ c.self.view_is refl refl
     (length-swept (kept c.self.inside)) refl)

@@ -38,8 +38,15 @@ index_mut-requires c =
 pub invariant_of-self-in-Valid : goal.invariant_of-self-in-Valid
 invariant_of-self-in-Valid c =
     let k = kept c.self.inside in
-    subst (λ p. IsKept (record k { store = c.settle_page.new.store; table = c.invalidate.new.self; since = set k.since p c.copy.result; in_step = c.self.inside.in_step && c.args.in_step })) (sym c.from.ensures)
-    (kept-done k c.args.page c.args.before.now c.copy.result c.deref.result.now (c.self.inside.in_step && c.args.in_step) c.settle_page.new.store c.settle_page.new.table c.invalidate.new.self
+    subst (λ p. IsKept (record k {
+      store = c.settle_page.new.store;
+      table = c.invalidate.new.self;
+      since =
+          set k.since p c.copy.result;
+      in_step = c.self.inside.in_step && c.args.in_step;
+    })) (sym c.from.ensures)
+    (kept-done k c.args.page c.args.before.now c.copy.result c.deref.result.now
+    (c.self.inside.in_step && c.args.in_step) c.settle_page.new.store c.settle_page.new.table c.invalidate.new.self
     (within-seen k _ _ c.self.view_is c.requires.in_range) (sym c.state.ensures ∙ c.in-Valid.is) c.deref.ensures.value
     c.in_ok-settle_page.ensures.table c.in_ok-settle_page.ensures.store c.invalidate.ensures c.copy.ensures
     c.self.invariant c.settle_page.ensures.sized
@@ -49,8 +56,15 @@ invariant_of-self-in-Valid c =
 pub returns-in_ok-settle_page-clause-ok : goal.returns-in_ok-settle_page-clause-ok
 returns-in_ok-settle_page-clause-ok c =
     let k = kept c.self.inside in
-    ap (λ p. node_seen (record k { store = c.settle_page.new.store; table = c.invalidate.new.self; since = set k.since p c.copy.result; in_step = c.self.inside.in_step && c.args.in_step })) c.from.ensures
-    ∙ seen-done k c.args.page c.args.before.now c.copy.result c.deref.result.now (c.self.inside.in_step && c.args.in_step) c.settle_page.new.store c.settle_page.new.table c.invalidate.new.self
+    ap (λ p. node_seen (record k {
+      store = c.settle_page.new.store;
+      table = c.invalidate.new.self;
+      since =
+          set k.since p c.copy.result;
+      in_step = c.self.inside.in_step && c.args.in_step;
+    })) c.from.ensures
+    ∙ seen-done k c.args.page c.args.before.now c.copy.result c.deref.result.now
+    (c.self.inside.in_step && c.args.in_step) c.settle_page.new.store c.settle_page.new.table c.invalidate.new.self
     (within-seen k _ _ c.self.view_is c.requires.in_range) (sym c.state.ensures ∙ c.in-Valid.is) c.deref.ensures.value
     c.in_ok-settle_page.ensures.table c.in_ok-settle_page.ensures.store c.invalidate.ensures c.copy.ensures
     c.self.invariant c.settle_page.ensures.sized _ c.self.view_is

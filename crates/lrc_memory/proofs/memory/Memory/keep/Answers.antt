@@ -24,4 +24,5 @@ pub returns-clause-kept : goal.returns-clause-kept
 returns-clause-kept c =
     let k = kept c.self.inside in
     ap (λ (s : StoreRecord). node_seen (record k { store = s })) c.attach.ensures
-    ∙ seen-attached k c.args.key (ap (λ (n : NodeMemory). notice_at n.memory.store c.args.key) c.self.view_is ∙ c.requires.awaited) c.args.changes _ c.self.view_is
+    ∙ seen-attached k c.args.key (ap (λ (n : NodeMemory). notice_at n.memory.store c.args.key) c.self.view_is
+    ∙ c.requires.awaited) c.args.changes _ c.self.view_is

@@ -29,7 +29,8 @@ loop-page-init c =
     let store : c.add.new.self ≡ added k.store c.args.interval.now = c.in_ok-add.ensures.ok in record {
       so_far = ap (λ (s : StoreRecord). node_seen (record k { store = s })) store
           ∙ seen-added k c.args.interval.now c.self.invariant
-          (subst (λ (n : NodeMemory). index_of c.args.interval.now ≡ entry n.memory.store.last c.args.interval.now.node + 1) (sym c.self.view_is) c.requires.next)
+          (subst (λ (n : NodeMemory). index_of c.args.interval.now ≡ entry n.memory.store.last c.args.interval.now.node + 1)
+          (sym c.self.view_is) c.requires.next)
           ∙ ap (λ (n : NodeMemory). with_memory n (record n.memory { store = added n.memory.store c.args.interval.now })) c.self.view_is;
       same = same-seen k (record k { store = c.add.new.self }) _ c.self.view_is refl refl refl
           (ap (λ (s : StoreRecord). length s.last) store ∙ length-set k.store.last c.args.interval.now.node (index_of c.args.interval.now));

@@ -68,6 +68,8 @@ returns-clause-mended c =
     ∙ ap (λ p. with_memory c.args.self.now (memory.with_copy c.args.self.now.memory p
     (copy.valid (memory.repaired c.args.self.now.memory.store (first_values (memory.copy_at c.args.self.now.memory p) base) missing)))) page
     ∙ ap (λ b. with_memory c.args.self.now (memory.with_copy c.args.self.now.memory c.args.need.now.page
-    (copy.valid (memory.repaired c.args.self.now.memory.store (first_values (memory.copy_at c.args.self.now.memory c.args.need.now.page) b) missing)))) c.base.ensures
+    (copy.valid (memory.repaired c.args.self.now.memory.store
+    (first_values (memory.copy_at c.args.self.now.memory c.args.need.now.page) b) missing)))) c.base.ensures
     ∙ ap (λ (keys : List Key). with_memory c.args.self.now (memory.with_copy c.args.self.now.memory c.args.need.now.page
-    (copy.valid (memory.repaired c.args.self.now.memory.store (first_values (memory.copy_at c.args.self.now.memory c.args.need.now.page) c.args.need.now.base) keys)))) c.missing.ensures
+    (copy.valid (memory.repaired c.args.self.now.memory.store
+    (first_values (memory.copy_at c.args.self.now.memory c.args.need.now.page) c.args.need.now.base) keys)))) c.missing.ensures

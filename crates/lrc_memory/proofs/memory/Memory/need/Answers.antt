@@ -49,7 +49,8 @@ returns-clause-need c =
     c.deref-2.ensures.value ∙ c.in_ok-unknown.ensures ∙ ap (unknown_of c.self.inside.store) c.deref.ensures.value in
     ok_then c.new.result c.new.ensures
     (λ need is.
-    need-made k n c.args.page c.nodes.result c.index-keeper.result.now c.in_ok-missing.missing.items c.deref-2.result.now (seen_base c.base_due-base.result) need
+    need-made k n c.args.page c.nodes.result c.index-keeper.result.now c.in_ok-missing.missing.items c.deref-2.result.now
+    (seen_base c.base_due-base.result) need
     c.self.view_is within nodes keeper c.in_ok-missing.ensures.keys unknown
     (c.base_due-base.ensures ∙ ap (λ s. base_in s c.index-keeper.result.now) c.state.ensures) is)
 

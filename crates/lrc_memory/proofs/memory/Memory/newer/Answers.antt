@@ -30,5 +30,6 @@ returns-clause-stamps c =
     let nodes : length k.store.last ≡ length c.args.self.now.memory.store.last = ap (λ (n : NodeMemory). length n.memory.store.last) c.self.view_is in
     IfOk-weaker c.newer_than.result (IsNewer k.store c.args.since.now c.args.upto.now)
     (All (λ (i : IntervalRecord). length i.stamp ≡ length c.args.self.now.memory.store.last))
-    (λ found n. subst (λ m. All (λ (i : IntervalRecord). length i.stamp ≡ m) found) nodes (stamps_of k.store c.args.since.now c.args.upto.now found c.self.invariant.store n))
+    (λ found n. subst (λ m. All (λ (i : IntervalRecord). length i.stamp ≡ m) found) nodes
+    (stamps_of k.store c.args.since.now c.args.upto.now found c.self.invariant.store n))
     c.newer_than.ensures.newer

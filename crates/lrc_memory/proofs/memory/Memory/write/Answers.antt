@@ -9,7 +9,12 @@ use Rattle.lrc_memory.proofs.memory.Memory.write.Goals as goal
 
 pub settle_page-requires-clause-page : goal.settle_page-requires-clause-page
 settle_page-requires-clause-page c =
-    omega (arith, c.page_of-page.ensures.page, ap (page_of c.args.word) c.size.ensures.size, word-seen (kept c.self.inside) _ _ c.self.view_is c.requires.on_a_page)
+    omega (
+      arith,
+      c.page_of-page.ensures.page,
+      ap (page_of c.args.word) c.size.ensures.size,
+      word-seen (kept c.self.inside) _ _ c.self.view_is c.requires.on_a_page,
+    )
 
 pub settle_page-requires-clause-named : goal.settle_page-requires-clause-named
 settle_page-requires-clause-named c =

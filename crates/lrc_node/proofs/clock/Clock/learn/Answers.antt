@@ -6,7 +6,8 @@ use Rattle.lrc_node.specs.Clock.{IsClock, SameClock}
 use Rattle.lrc_node.proofs.clock.Clock.learn.Goals as goal
 
 -- a time of as many entries changes nothing of it
-as_long : (me : ℕ) (before after : Locks) → after.held ≡ before.held → after.managed ≡ before.managed → length after.time ≡ length before.time → IsClock me before → IsClock me after
+as_long : (me : ℕ) (before after : Locks) → after.held ≡ before.held → after.managed ≡ before.managed
+    → length after.time ≡ length before.time → IsClock me before → IsClock me after
 as_long me before after held managed same is = record {
   here = rw same is.here;
   few = rw same is.few;

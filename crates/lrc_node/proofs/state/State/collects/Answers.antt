@@ -31,7 +31,8 @@ keep_up-requires-clause-can c =
 pub keep_up-requires-clause-to : goal.keep_up-requires-clause-to
 keep_up-requires-clause-to c =
     let now : Node = c.take_keepers.new.self in
-    let sent : c.in_ok-letters.letters.items ≡ flat_map requests_of c.in_ok-needs.needs.items = c.in_ok-letters.ensures ∙ ap (flat_map requests_of) c.deref.ensures.value in
+    let sent : c.in_ok-letters.letters.items ≡ flat_map requests_of c.in_ok-needs.needs.items = c.in_ok-letters.ensures
+    ∙ ap (flat_map requests_of) c.deref.ensures.value in
     subst (AreFor now.setting.nodes) (sym sent)
     (subst (λ (needs : List Need). AreFor now.setting.nodes (flat_map requests_of needs)) (sym c.in_ok-needs.ensures)
     (subst (λ (kept : List ℕ). AreFor now.setting.nodes (flat_map requests_of (needs_to_keep now kept))) (sym c.in_ok-kept.ensures)
@@ -42,13 +43,19 @@ pub returns-clause-effect : goal.returns-clause-effect
 returns-clause-effect c =
     let now : Node = c.take_keepers.new.self in
     let time : List ℕ = c.args.time.now in
-    let sent : c.in_ok-letters.letters.items ≡ flat_map requests_of c.in_ok-needs.needs.items = c.in_ok-letters.ensures ∙ ap (flat_map requests_of) c.deref.ensures.value in
+    let sent : c.in_ok-letters.letters.items ≡ flat_map requests_of c.in_ok-needs.needs.items = c.in_ok-letters.ensures
+    ∙ ap (flat_map requests_of) c.deref.ensures.value in
     let node = ap (λ (n : Node). let kept = kept_pages n.setting.me n.memory in
-    waits_or_goes_on (flat_map requests_of (needs_to_keep n kept)) n (upkeep (record { time = time; kept = kept }) (needs_to_keep n kept))) (sym c.in_ok-take_keepers.ensures) in
-    let kept = ap (λ (kept : List ℕ). waits_or_goes_on (flat_map requests_of (needs_to_keep now kept)) now (upkeep (record { time = time; kept = kept }) (needs_to_keep now kept)))
+    waits_or_goes_on (flat_map requests_of (needs_to_keep n kept)) n
+    (upkeep (record { time = time; kept = kept }) (needs_to_keep n kept))) (sym c.in_ok-take_keepers.ensures) in
+    let kept = ap (λ (kept : List ℕ). waits_or_goes_on (flat_map requests_of (needs_to_keep now kept)) now
+    (upkeep (record { time = time; kept = kept }) (needs_to_keep now kept)))
     (sym c.in_ok-kept.ensures) in
-    let needs = ap (λ (needs : List Need). waits_or_goes_on (flat_map requests_of needs) now (upkeep (record { time = time; kept = c.in_ok-kept.kept }) needs)) (sym c.in_ok-needs.ensures) in
-    let letters = ap (λ (letters : List Letter). waits_or_goes_on letters now (upkeep (record { time = time; kept = c.in_ok-kept.kept }) c.in_ok-needs.needs.items)) (sym sent) in
-    let until = ap (λ (t : List ℕ). waits_or_goes_on c.in_ok-letters.letters.items now (upkeep (record { time = t; kept = c.in_ok-kept.kept }) c.in_ok-needs.needs.items))
+    let needs = ap (λ (needs : List Need). waits_or_goes_on (flat_map requests_of needs) now
+    (upkeep (record { time = time; kept = c.in_ok-kept.kept }) needs)) (sym c.in_ok-needs.ensures) in
+    let letters = ap (λ (letters : List Letter). waits_or_goes_on letters now
+    (upkeep (record { time = time; kept = c.in_ok-kept.kept }) c.in_ok-needs.needs.items)) (sym sent) in
+    let until = ap (λ (t : List ℕ). waits_or_goes_on c.in_ok-letters.letters.items now
+    (upkeep (record { time = t; kept = c.in_ok-kept.kept }) c.in_ok-needs.needs.items))
     (sym c.copy-time.ensures) in
     rw (node ∙ kept ∙ needs ∙ letters ∙ until) c.keep_up.ensures.effect

@@ -27,7 +27,8 @@ returns-then-is_met-clause-effect c =
     c.in_ok-need.ensures.need ∙ ap (λ n. need_of n node.memory c.args.page) c.self.invariant.last in
     let e = reaches_missing node c.args.page need (sym c.is_readable.ensures ∙ c.if-is_readable.false) is
     ∙ access_met (requests_of need) node need (sym c.is_met.ensures ∙ c.if-is_met.true) in
-    let here = subst (λ (n : Node). reaches n c.args.page ≡ acts (requests_of need) (waiting nothing (with_memory n (mended n.memory need)))) c.self.view_is e in
+    let here = subst (λ (n : Node). reaches n c.args.page ≡ acts (requests_of need)
+    (waiting nothing (with_memory n (mended n.memory need)))) c.self.view_is e in
     let now : Node = c.args.self.now in
     let sent = ap (λ letters. acts letters (waiting nothing (with_memory now (mended now.memory need)))) (sym c.in_ok-letters.ensures) in
     rw (here ∙ sent) c.repair.ensures.effect

@@ -8,7 +8,14 @@ pub invariant_of-self : goal.invariant_of-self
 invariant_of-self c =
     let rows = c.self.inside.rows.items in
     let node = c.args.node in (
-      omega (arith, ap length c.in-Ok.ensures.items, length-append c.self.inside.starts.items (c.args.start ∷ []), ap length c.push.ensures.keys, length-append c.self.inside.chains.keys (node ∷ []), c.self.invariant.0),
+      omega (
+        arith,
+        ap length c.in-Ok.ensures.items,
+        length-append c.self.inside.starts.items (c.args.start ∷ []),
+        ap length c.push.ensures.keys,
+        length-append c.self.inside.chains.keys (node ∷ []),
+        c.self.invariant.0,
+      ),
       subst (λ (keys : List ℕ). AreRows (set rows c.from.result c.push-3.new.self) c.push.new.self.lists keys) (sym c.push.ensures.keys)
           (subst (λ n. AreRows (set rows c.from.result c.push-3.new.self) n (c.self.inside.chains.keys ++ node ∷ [])) (sym c.push.ensures.lists)
           (subst (λ n. AreRows (set rows n c.push-3.new.self) c.self.inside.chains.lists (c.self.inside.chains.keys ++ node ∷ [])) (sym c.from.ensures)

@@ -33,7 +33,8 @@ invariant_of-self c =
     let b = (goal.at.invariant_of-self c).After-discard in
     let store = before a in
     let time = a.args.time.now in
-    subst (λ (entries : List StoredRecord). IsLinkedUp (record store { entries = entries }) c.link_nodes.new.by_node c.link_pages.new.by_page c.discard.new.self.notices)
+    subst (λ (entries : List StoredRecord). IsLinkedUp (record store { entries = entries }) c.link_nodes.new.by_node
+    c.link_pages.new.by_page c.discard.new.self.notices)
     (sym (entries_after a))
     (IsLinkedUp-discarded store a.self.inside.by_node c.link_nodes.new.by_node a.self.inside.by_page c.link_pages.new.by_page
     a.self.inside.arena.notices c.discard.new.self.notices time a.self.invariant

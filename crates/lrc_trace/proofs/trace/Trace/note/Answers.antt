@@ -4,7 +4,8 @@ use Rattle.lrc_page.specs.declared.size.Size.{Size}
 use Rattle.lrc_trace.specs.Trace.{TraceRecord, MayNote, noted_in}
 use Rattle.lrc_trace.specs.declared.trace.Segment.{Segment}
 use Rattle.lrc_trace.specs.Segments.{opened, with_access, IsSegment}
-use Rattle.lrc_trace.proofs.SegmentLists.{interval-with_access, note-later, noted-fresh, noted-open, segment-opened, segment-with_access, segments-push, segments-set}
+use Rattle.lrc_trace.proofs.SegmentLists.{interval-with_access, note-later, noted-fresh, noted-open}
+use Rattle.lrc_trace.proofs.SegmentLists.{segment-opened, segment-with_access, segments-push, segments-set}
 use Rattle.lrc_trace.proofs.trace.Trace.note.Goals as goal
 use Rattle.lrc_trace.proofs.trace.Trace.note.Goals.{else-count-gt0-via-then-count-gt0+else-index-interval, else-count-gt0-via-else-count-gt0}
 
@@ -84,7 +85,8 @@ invariant_of-self-2 c =
     let offset = c.offset_of-offset.result in
     let fresh = opened c.args.epoch c.args.interval c.args.time.now in
     let s = with_access page offset c.args.is_write fresh in
-    let may : MayNote segments c.args.epoch c.args.interval c.args.time.now = subst (λ (t : TraceRecord). MayNote t.segments c.args.epoch c.args.interval c.args.time.now) (sym c.self.view_is) c.requires.later in
+    let may : MayNote segments c.args.epoch c.args.interval c.args.time.now =
+    subst (λ (t : TraceRecord). MayNote t.segments c.args.epoch c.args.interval c.args.time.now) (sym c.self.view_is) c.requires.later in
     rw (c.in_ok-push.ensures.items, pushed c)
     (segments-push segments s
     (λ d some. rw (interval-with_access page offset c.args.is_write fresh)

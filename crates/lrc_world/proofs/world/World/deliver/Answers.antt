@@ -11,8 +11,10 @@ returns-in-Some c = λ starts run shows.
     let t : IsTaken c.args.self.now c.receive.new.self run c.args.place c.in-Some.to =
     subst (ReceivesTo starts c.args.self.now c.receive.new.self run c.args.place) some (c.receive.ensures starts run shows) in
     let flown = ap (λ q. map seen q.items) t.flight ∙ shows.flight in
-    let within : c.args.place < length c.receive.new.self.flight.items = taken_within starts c.args.self.now c.receive.new.self run c.args.place c.in-Some.to shows t in
-    delivered starts c.args.self.now c.receive.new.self _ c.follow.new.self run c.args.place c.in-Some.to (remove run.flight c.args.place) c.follow.result shows t
+    let within : c.args.place < length c.receive.new.self.flight.items =
+    taken_within starts c.args.self.now c.receive.new.self run c.args.place c.in-Some.to shows t in
+    delivered starts c.args.self.now c.receive.new.self _ c.follow.new.self run c.args.place c.in-Some.to
+    (remove run.flight c.args.place) c.follow.result shows t
     refl refl
     (ap (map seen) (c.forget.ensures within) ∙ map-remove seen c.receive.new.self.flight.items c.args.place
     ∙ ap (λ xs. remove xs c.args.place) flown ∙ sym (map-remove shown run.flight c.args.place))

@@ -4,7 +4,8 @@ use Rattle.lrc_world.proofs.Played.{goes, rests, fails}
 use Rattle.lrc_world.proofs.world.World.go_on.Goals as goal
 
 pub returns-then-branch : goal.returns-then-branch
-returns-then-branch c = λ starts run shows. goes starts c.args.self.now _ c.follow.new.self run c.args.node log.run 0 c.run_at-outcome.result c.follow.result shows
+returns-then-branch c = λ starts run shows. goes starts c.args.self.now _ c.follow.new.self run c.args.node log.run 0
+    c.run_at-outcome.result c.follow.result shows
     c.run_at-outcome.ensures (search rules) refl refl c.follow.ensures
 
 pub returns-in_err-is_made : goal.returns-in_err-is_made

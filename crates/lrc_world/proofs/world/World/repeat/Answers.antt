@@ -10,5 +10,6 @@ returns-in-Some c = λ starts run shows.
     let t : IsTaken c.args.self.now c.receive.new.self run c.args.place c.in-Some.to =
     subst (ReceivesTo starts c.args.self.now c.receive.new.self run c.args.place) some (c.receive.ensures starts run shows) in
     let flown = ap (λ q. map seen q.items) t.flight ∙ shows.flight in
-    delivered starts c.args.self.now c.receive.new.self _ c.follow.new.self run c.args.place c.in-Some.to (with_mark run.flight c.args.place) c.follow.result shows t
+    delivered starts c.args.self.now c.receive.new.self _ c.follow.new.self run c.args.place c.in-Some.to
+    (with_mark run.flight c.args.place) c.follow.result shows t
     refl refl (c.mark.ensures run.flight flown) c.follow.ensures

@@ -22,9 +22,11 @@ pub joined-requires : goal.joined-requires
 joined-requires g c = record {
   none = c.in_ok-logs.ensures.items;
   owed = elim c.loop-me-test.branch [
-    | else-loop-me-test w ↦ subst (λ threads. AreOwedFrom c.captures.program.now c.captures.nodes c.captures.options.now 0 (map (λ handle. handle.promise) threads.items))
+    | else-loop-me-test w ↦ subst (λ threads. AreOwedFrom c.captures.program.now c.captures.nodes c.captures.options.now 0
+        (map (λ handle. handle.promise) threads.items))
         (sym w.threads-is) c.loop-me.invariant.1
-    | then-loop-me-test+in_default w ↦ subst (λ threads. AreOwedFrom c.captures.program.now c.captures.nodes c.captures.options.now 0 (map (λ handle. handle.promise) threads.items))
+    | then-loop-me-test+in_default w ↦ subst
+        (λ threads. AreOwedFrom c.captures.program.now c.captures.nodes c.captures.options.now 0 (map (λ handle. handle.promise) threads.items))
         (sym w.threads-is) c.loop-me.invariant.1
     | then-loop-me-test+in-Ok+then-is_err w ↦
         let items : c.loop-me-test.threads.items ≡ c.loop-me.threads.items = search rules in
