@@ -23,7 +23,7 @@ use crate::token::{Lexeme, Token};
 use std::alloc::Global;
 
 /// How many bytes a text may have.
-const MOST_BYTES: usize = 65_536;
+pub const MOST_BYTES: usize = 65_536;
 
 /// Parses a text of at most 65,536 bytes, in one pass from the left. The parser keeps the trees so far, at most 32
 /// names, and what is open around the token that it has come to. However deep a text nests, no call nests with it.
