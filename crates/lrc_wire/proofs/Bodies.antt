@@ -23,6 +23,7 @@ use Rattle.lrc_wire.specs.Reading.{arrive_at, depart_at, changes_request_at, cha
 use Rattle.lrc_wire.proofs.Bytes.{IsBytes, Takes, Takes-then}
 use Rattle.lrc_wire.proofs.Steps.{ok_is}
 use Rattle.lrc_wire.proofs.Agrees.{Agrees, step}
+use Rattle.lrc_wire.proofs.Sequences.{whole, then_fields, last_field}
 use Rattle.lrc_wire.proofs.Fields.{lock_agrees, node_agrees, episode_agrees, page_agrees, flag_agrees, time_agrees}
 use Rattle.lrc_wire.proofs.Intervals.{IsBeside, AreBeside, intervals_agree}
 use Rattle.lrc_wire.proofs.Listed.{indices_agree}
@@ -97,30 +98,11 @@ spelled_lock_request m = byte m.lock ++ (time m.time)
 abbrev Is_lock_request : LockRequestRecord → Type 0
 Is_lock_request m = (m.lock < MOST_LOCKS) × IsTime m.time
 
-lock_request_takes : (bytes : List ℕ) (m : LockRequestRecord) (rest : List ℕ) → IsBytes bytes → lock_request_at bytes ≡ Ok (m, rest)
-    → Takes bytes (spelled_lock_request m) rest × Is_lock_request m
-unfolding lock_request_at
-lock_request_takes bytes m rest fits e =
-    let a = step lock_at byte (λ n. n < MOST_LOCKS) lock_agrees bytes (λ x0. time_at x0.1 >>= λ x1. Ok (record { lock = x0.0; time = x1.0 }, x1.1)) (
-      m,
-      rest,
-    ) fits e in
-    let b = step time_at time IsTime time_agrees a.rest (λ x1. Ok (record { lock = a.value; time = x1.0 }, x1.1)) (m, rest) a.took.rest_fits a.then in
-    let ta = Takes-then bytes (byte a.value) a.rest (time b.value) b.rest a.took b.took in
-    let made : LockRequestRecord × List ℕ = (record { lock = a.value; time = b.value }, b.rest) in
-    subst (λ (y : LockRequestRecord × List ℕ). Takes bytes (spelled_lock_request y.0) y.1
-    × Is_lock_request y.0) (ok_is made (m, rest) b.then) (ta, (a.fits, b.fits))
-
-lock_request_again : (m : LockRequestRecord) (rest : List ℕ) → Is_lock_request m → lock_request_at (spelled_lock_request m ++ rest) ≡ Ok (m, rest)
-unfolding lock_request_at
-lock_request_again m rest h =
-    let regrouped : spelled_lock_request m ++ rest ≡ byte m.lock ++ (time m.time ++ (rest)) = append_assoc (byte m.lock) (time m.time) rest in
-    let a = (lock_agrees).again m.lock (time m.time ++ (rest)) h.0 in
-    let b = (time_agrees).again m.time (rest) h.1 in
-    rw (regrouped, a, b) refl
-
 lock_request_agrees : Agrees lock_request_at spelled_lock_request Is_lock_request
-lock_request_agrees = record { takes = lock_request_takes; again = lock_request_again }
+unfolding lock_request_at
+lock_request_agrees =
+    whole (λ (m : LockRequestRecord). (m.lock, m.time)) (λ r. refl) (λ m. refl)
+    (then_fields lock_agrees (λ lock _. last_field (λ time. record { lock = lock; time = time }) time_agrees))
 
 abbrev spelled_lock_forward : LockForwardRecord → List ℕ
 spelled_lock_forward m = byte m.lock ++ (byte m.asker ++ (time m.time))
