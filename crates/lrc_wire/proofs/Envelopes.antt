@@ -25,11 +25,12 @@ use Rattle.lrc_wire.specs.Envelope.{EnvelopeRecord}
 use Rattle.lrc_wire.specs.Ranges.{HasBits, FitPart, IsMessage, IsFit}
 use Rattle.lrc_wire.specs.Runs.{runs_of}
 use Rattle.lrc_wire.specs.Spelling.{byte, number, kind, part, parts, body, header, Cut, IsCut, Spells}
-use Rattle.lrc_wire.specs.Reading.{◌>>=◌, Field, HeaderRecord, byte_at, number_at, tested, node_at, version_at}
+use Rattle.lrc_wire.specs.Reading.{◌>>=◌, HeaderRecord, byte_at, number_at, tested, version_at}
 use Rattle.lrc_wire.specs.Reading.{kind_of, kind_at, header_at, body_at, whole_body_of, envelope_of}
-use Rattle.lrc_wire.proofs.Bytes.{IsBytes, Takes, Takes-then}
+use Rattle.lrc_wire.proofs.Bytes.{IsBytes, Takes}
 use Rattle.lrc_wire.proofs.Steps.{bind_ok, guard_ok, unless_ok, ok_is}
 use Rattle.lrc_wire.proofs.Agrees.{Agrees, Agrees-as, Agrees-tested, step, byte_agrees, number32_agrees}
+use Rattle.lrc_wire.proofs.Sequences.{whole, then_fields, last_field}
 use Rattle.lrc_wire.proofs.Fields.{node_agrees}
 use Rattle.lrc_wire.proofs.Bodies.{kind_named, body_agrees}
 use Rattle.lrc_wire.proofs.Runs.{runs_of-are, runs_are}
@@ -205,122 +206,22 @@ pub record IsHeader (h : HeaderRecord) : Type 0 where
   pub number : HasBits 32 h.number
   pub body_len : h.body_len ≤ MOST_BODY_BYTES
 
--- a header, from its last field to its first
+abbrev header_fields : HeaderRecord → Version × (Kind × (ℕ × (ℕ × (ℕ × ℕ))))
+header_fields h = (h.version, (h.kind, (h.from, (h.to, (h.number, h.body_len)))))
 
-after_number : Version → Kind → ℕ → ℕ → ℕ → List ℕ → Field HeaderRecord
-after_number v k f t n bytes = do
-  len ← tested (λ n. leb n MOST_BODY_BYTES) BadCount (number_at w32 bytes)
-  Ok (record { version = v; kind = k; from = f; to = t; number = n; body_len = len.0 }, len.1)
+abbrev FitFields : HeaderRecord → Type 0
+FitFields h = Unit {0} × (Unit {0} × ((h.from < MOST_NODES) × ((h.to < MOST_NODES) × (HasBits 32 h.number × (h.body_len ≤ MOST_BODY_BYTES)))))
 
-after_to : Version → Kind → ℕ → ℕ → List ℕ → Field HeaderRecord
-after_to v k f t bytes = do
-  n ← number_at w32 bytes
-  after_number v k f t n.0 n.1
-
-after_from : Version → Kind → ℕ → List ℕ → Field HeaderRecord
-after_from v k f bytes = do
-  t ← node_at bytes
-  after_to v k f t.0 t.1
-
-after_kind : Version → Kind → List ℕ → Field HeaderRecord
-after_kind v k bytes = do
-  f ← node_at bytes
-  after_from v k f.0 f.1
-
-after_version : Version → List ℕ → Field HeaderRecord
-after_version v bytes = do
-  k ← kind_at bytes
-  after_kind v k.0 k.1
-
-header_steps : (bytes : List ℕ) → header_at bytes ≡ (version_at bytes >>= λ version. after_version version.0 version.1)
-unfolding header_at after_version after_kind after_from after_to after_number
-header_steps bytes = refl
-
-after_number_takes : (v : Version) (k : Kind) (f t n : ℕ) (bytes : List ℕ) (h : HeaderRecord) (rest : List ℕ) → IsBytes bytes
-    → after_number v k f t n bytes ≡ Ok (h, rest)
-    → Takes bytes (number w32 h.body_len) rest × (h.body_len ≤ MOST_BODY_BYTES) × (k ≡ h.kind) × (f ≡ h.from) × (t ≡ h.to) × (n ≡ h.number) × (v ≡ h.version)
-unfolding after_number
-after_number_takes v k f t n bytes h rest fits e =
-    let a = step (λ bytes. tested (λ n. leb n MOST_BODY_BYTES) BadCount (number_at w32 bytes)) (number w32) (λ n. n ≤ MOST_BODY_BYTES) body_len_agrees bytes
-    (λ len. Ok (record { version = v; kind = k; from = f; to = t; number = n; body_len = len.0 }, len.1)) (h, rest) fits e in
-    let made : HeaderRecord × List ℕ = (record { version = v; kind = k; from = f; to = t; number = n; body_len = a.value }, a.rest) in
-    subst (λ (y : HeaderRecord × List ℕ). Takes bytes (number w32 y.0.body_len) y.1 × (y.0.body_len ≤ MOST_BODY_BYTES) × (k ≡ y.0.kind) × (f ≡ y.0.from)
-    × (t ≡ y.0.to) × (n ≡ y.0.number) × (v ≡ y.0.version))
-    (ok_is made (h, rest) a.then) (a.took, a.fits, refl, refl, refl, refl, refl)
-
-after_to_takes : (v : Version) (k : Kind) (f t : ℕ) (bytes : List ℕ) (h : HeaderRecord) (rest : List ℕ) → IsBytes bytes → after_to v k f t bytes ≡ Ok (h, rest)
-    → Takes bytes (number w32 h.number ++ number w32 h.body_len) rest × (HasBits 32 h.number × (h.body_len ≤ MOST_BODY_BYTES)) × (k ≡ h.kind) × (f ≡ h.from)
-    × (t ≡ h.to) × (v ≡ h.version)
-unfolding after_to
-after_to_takes v k f t bytes h rest fits e =
-    let a = step (number_at w32) (number w32) (HasBits 32) number32_agrees bytes (λ n. after_number v k f t n.0 n.1) (h, rest) fits e in
-    let b = after_number_takes v k f t a.value a.rest h rest a.took.rest_fits a.then in
-    let both = Takes-then bytes (number w32 a.value) a.rest (number w32 h.body_len) rest a.took b.0 in
-    (subst (λ (n : ℕ). Takes bytes (number w32 n ++ number w32 h.body_len) rest) b.5 both, (subst (HasBits 32) b.5 a.fits, b.1), b.2, b.3, b.4, b.6)
-
-abbrev after_to_text : HeaderRecord → List ℕ
-after_to_text h = number w32 h.number ++ number w32 h.body_len
-
-after_from_takes : (v : Version) (k : Kind) (f : ℕ) (bytes : List ℕ) (h : HeaderRecord) (rest : List ℕ) → IsBytes bytes → after_from v k f bytes ≡ Ok (h, rest)
-    → Takes bytes (byte h.to ++ after_to_text h) rest × ((h.to < MOST_NODES) × HasBits 32 h.number × (h.body_len ≤ MOST_BODY_BYTES)) × (k ≡ h.kind)
-    × (f ≡ h.from) × (v ≡ h.version)
-unfolding after_from
-after_from_takes v k f bytes h rest fits e =
-    let a = step node_at byte (λ n. n < MOST_NODES) node_agrees bytes (λ t. after_to v k f t.0 t.1) (h, rest) fits e in
-    let b = after_to_takes v k f a.value a.rest h rest a.took.rest_fits a.then in
-    let both = Takes-then bytes (byte a.value) a.rest (after_to_text h) rest a.took b.0 in
-    (subst (λ (n : ℕ). Takes bytes (byte n ++ after_to_text h) rest) b.4 both, (subst (λ (n : ℕ). n < MOST_NODES) b.4 a.fits, b.1.0, b.1.1), b.2, b.3, b.5)
-
-after_kind_takes : (v : Version) (k : Kind) (bytes : List ℕ) (h : HeaderRecord) (rest : List ℕ) → IsBytes bytes → after_kind v k bytes ≡ Ok (h, rest)
-    → Takes bytes (byte h.from ++ (byte h.to ++ after_to_text h)) rest × IsHeader h × (k ≡ h.kind) × (v ≡ h.version)
-unfolding after_kind
-after_kind_takes v k bytes h rest fits e =
-    let a = step node_at byte (λ n. n < MOST_NODES) node_agrees bytes (λ f. after_from v k f.0 f.1) (h, rest) fits e in
-    let b = after_from_takes v k a.value a.rest h rest a.took.rest_fits a.then in
-    let both = Takes-then bytes (byte a.value) a.rest (byte h.to ++ after_to_text h) rest a.took b.0 in (
-      subst (λ (n : ℕ). Takes bytes (byte n ++ (byte h.to ++ after_to_text h)) rest) b.3 both,
-      record { from = subst (λ (n : ℕ). n < MOST_NODES) b.3 a.fits; to = b.1.0; number = b.1.1; body_len = b.1.2 },
-      b.2,
-      b.4,
-    )
-
-after_version_takes : (v : Version) (bytes : List ℕ) (h : HeaderRecord) (rest : List ℕ) → IsBytes bytes → after_version v bytes ≡ Ok (h, rest)
-    → Takes bytes (byte (numbered h.kind) ++ (byte h.from ++ (byte h.to ++ after_to_text h))) rest × IsHeader h × (v ≡ h.version)
-unfolding after_version
-after_version_takes v bytes h rest fits e =
-    let a = step kind_at (λ k. byte (numbered k)) (λ k. Unit {0}) kind_agrees bytes (λ k. after_kind v k.0 k.1) (h, rest) fits e in
-    let b = after_kind_takes v a.value a.rest h rest a.took.rest_fits a.then in
-    let both = Takes-then bytes (byte (numbered a.value)) a.rest (byte h.from ++ (byte h.to ++ after_to_text h)) rest a.took b.0 in
-    (subst (λ (k : Kind). Takes bytes (byte (numbered k) ++ (byte h.from ++ (byte h.to ++ after_to_text h))) rest) b.2 both, b.1, b.3)
-
-header_takes : (bytes : List ℕ) (h : HeaderRecord) (rest : List ℕ) → IsBytes bytes → header_at bytes ≡ Ok (h, rest) → Takes bytes (spelled_header h) rest
-    × IsHeader h
-header_takes bytes h rest fits e =
-    let a = step version_at (λ v. byte (version_number v)) (λ v. Unit {0}) version_agrees bytes (λ version. after_version version.0 version.1) (
-      h,
-      rest,
-    ) fits (sym (header_steps bytes) ∙ e) in
-    let b = after_version_takes a.value a.rest h rest a.took.rest_fits a.then in
-    let both = Takes-then bytes (byte (version_number a.value)) a.rest (byte (numbered h.kind)
-    ++ (byte h.from ++ (byte h.to ++ after_to_text h))) rest a.took b.0 in (
-      subst (λ (v : Version). Takes bytes (byte (version_number v)
-          ++ (byte (numbered h.kind) ++ (byte h.from ++ (byte h.to ++ after_to_text h)))) rest) b.2 both,
-      b.1,
-    )
-
-header_again : (h : HeaderRecord) (rest : List ℕ) → IsHeader h → header_at (spelled_header h ++ rest) ≡ Ok (h, rest)
+header_agrees : Agrees header_at spelled_header IsHeader
 unfolding header_at
-header_again h rest is =
-    let regrouped : spelled_header h ++ rest ≡ byte (version_number h.version)
-    ++ (byte (numbered h.kind) ++ (byte h.from ++ (byte h.to ++ (number w32 h.number ++ (number w32 h.body_len ++ (rest)))))) = simp append_assoc in
-    let a = version_agrees.again h.version (byte (numbered h.kind)
-    ++ (byte h.from ++ (byte h.to ++ (number w32 h.number ++ (number w32 h.body_len ++ (rest)))))) tt in
-    let b = kind_agrees.again h.kind (byte h.from ++ (byte h.to ++ (number w32 h.number ++ (number w32 h.body_len ++ (rest))))) tt in
-    let c = node_agrees.again h.from (byte h.to ++ (number w32 h.number ++ (number w32 h.body_len ++ (rest)))) is.from in
-    let d = node_agrees.again h.to (number w32 h.number ++ (number w32 h.body_len ++ (rest))) is.to in
-    let n = number32_agrees.again h.number (number w32 h.body_len ++ (rest)) is.number in
-    let l = body_len_agrees.again h.body_len rest is.body_len in
-    rw (regrouped, a, b, c, d, n, l) refl
+header_agrees =
+    Agrees-as header_at spelled_header FitFields IsHeader
+    (λ h f. record { from = f.1.1.0; to = f.1.1.1.0; number = f.1.1.1.1.0; body_len = f.1.1.1.1.1 })
+    (λ h is. (tt, (tt, (is.from, (is.to, (is.number, is.body_len))))))
+    (whole header_fields (λ r. refl) (λ h. refl)
+    (then_fields version_agrees (λ v _. then_fields kind_agrees (λ k _. then_fields node_agrees (λ f _. then_fields node_agrees (λ t _.
+    then_fields number32_agrees (λ n _.
+    last_field (λ len. record { version = v; kind = k; from = f; to = t; number = n; body_len = len }) body_len_agrees)))))))
 
 header_long : (v : Version) (e : EnvelopeRecord) → length (header v runs_of e) ≡ HEADER_BYTES
 unfolding header byte number
@@ -450,7 +351,7 @@ envelope_takes bytes e fits h =
           b.0.0.number;
       message = message;
     })) e b.2 in
-    let t = header_takes bytes b.0.0 b.0.1 fits b.1 in
+    let t = header_agrees.takes bytes b.0.0 b.0.1 fits b.1 in
     let v : Version = b.0.0.version in
     let w = whole_body_takes v b.0.0.kind b.0.0.body_len b.0.1 c.0 t.0.rest_fits c.1 in
     let made : EnvelopeRecord = record { from = b.0.0.from; to = b.0.0.to; number = b.0.0.number; message = c.0 } in
@@ -475,7 +376,7 @@ plain_again v bytes e h =
     le-ltb (length bytes) HEADER_BYTES
     (omega (arith, ap length h.spelled, length-append (header v runs_of e) (body v runs_of e.message), header_long v e)) in
     let first : header_at bytes ≡ Ok (header_of v e, body v runs_of e.message) = ap header_at all
-    ∙ header_again (header_of v e) (body v runs_of e.message) (is_header v e h.fits h.short) in
+    ∙ header_agrees.again (header_of v e) (body v runs_of e.message) (is_header v e h.fits h.short) in
     let second = whole_body_again v e.message h.fits.message in
     rw (long, first, second) refl
 
@@ -489,7 +390,7 @@ front_of v a x m h =
     let all : a ++ x ≡ spelled_header (header_of v m) ++ (body v runs_of m.message ++ x) =
     ap (λ (t : List ℕ). t ++ x) (h.spelled ∙ ap (λ (t : List ℕ). t ++ body v runs_of m.message) (header_is v m))
     ∙ append_assoc (spelled_header (header_of v m)) (body v runs_of m.message) x in
-    ap header_at all ∙ header_again (header_of v m) (body v runs_of m.message ++ x) (is_header v m h.fits h.short)
+    ap header_at all ∙ header_agrees.again (header_of v m) (body v runs_of m.message ++ x) (is_header v m h.fits h.short)
 
 pub one_spelling : (v w : Version) (m n : EnvelopeRecord) (a b x y : List ℕ) → Spells v m a → Spells w n b → a ++ x ≡ b ++ y → (v ≡ w) × (a ≡ b) × (m ≡ n)
 one_spelling v w m n a b x y hm hn e =
@@ -540,7 +441,7 @@ module _ (v : Version) (e : EnvelopeRecord) where
             let rest : List ℕ = take (n - HEADER_BYTES) text in
             let late' : ltb (length (take n bytes)) HEADER_BYTES ≡ false = le-ltb (length (take n bytes)) HEADER_BYTES (omega (arith, len)) in
             let read : header_at (take n bytes) ≡ Ok (header_of v e, rest) = ap header_at (cut_after_header bytes n h late)
-            ∙ header_again (header_of v e) rest (is_header v e h.fits h.short) in
+            ∙ header_agrees.again (header_of v e) rest (is_header v e h.fits h.short) in
             let few : ltb (length rest) (length text) ≡ true = lt-ltb (length rest) (length text) (omega (arith, length-take (n - HEADER_BYTES) text)) in
             rw (late', read, few) refl
       ]
