@@ -16,6 +16,7 @@ use Rattle.lrc_wire.specs.Reading.{◌>>=◌, byte_at, number_at, tested, is_aft
 use Rattle.lrc_wire.proofs.Bytes.{IsBytes, Takes, Takes-then}
 use Rattle.lrc_wire.proofs.Steps.{bind_ok, ok_is}
 use Rattle.lrc_wire.proofs.Along.{Along, elements_along, All-from_along, along_from_all}
+use Rattle.lrc_wire.proofs.Sequences.{Agrees-counted}
 use Rattle.lrc_wire.proofs.Agrees.{Agrees, Agrees-as, Agrees-tested, step, byte_agrees, number16_agrees, number64_agrees, elements_agree}
 use Rattle.lrc_wire.proofs.Runs.{Runs, IsRun, IsSome, AreChanging, runs_of-whole, runs_of-apart, runs_of-only}
 use Rattle.lrc_wire.proofs.Runs.{few_runs, runs_changes, runs_weaker, are_changing, changing_from}
@@ -137,32 +138,17 @@ elements_of_runs count =
 run_count_agrees : Agrees (λ bytes. tested (λ n. leb n MOST_RUNS) BadCount (number_at w16 bytes)) (number w16) (λ n. HasBits 16 n × (leb n MOST_RUNS ≡ true))
 run_count_agrees = Agrees-tested (number_at w16) (number w16) (HasBits 16) (λ n. leb n MOST_RUNS) BadCount number16_agrees
 
-runs_take : (bytes : List ℕ) (rs : List Run) (rest : List ℕ) → IsBytes bytes → runs_at bytes ≡ Ok (rs, rest) → Takes bytes (in_runs rs) rest × Runs IsRun 0 rs
-unfolding runs_at in_runs
-runs_take bytes rs rest fits e =
-    let a = step (λ bytes. tested (λ n. leb n MOST_RUNS) BadCount (number_at w16 bytes)) (number w16) (λ n. HasBits 16 n
-    × (leb n MOST_RUNS ≡ true)) run_count_agrees bytes (λ count. elements_at next_run_at (λ _ r. Some (last_of r)) count.0 None count.1) (
-      rs,
-      rest,
-    ) fits e in
-    let b = (elements_of_runs a.value).takes a.rest rs rest a.took.rest_fits a.then in (
-      subst (λ (n : ℕ). Takes bytes (number w16 n
-          ++ flat_map run rs) rest) (sym b.1.0) (Takes-then bytes (number w16 a.value) a.rest (flat_map run rs) rest a.took b.0),
-      b.1.1,
-    )
-
 at_most_128 : (rs : List Run) → Runs IsRun 0 rs → length rs ≤ MOST_RUNS
 at_most_128 [] h = omega arith
 at_most_128 (r ∷ rs) h = omega (arith, few_runs 0 (r ∷ rs) h (omega arith))
 
-runs_again : (rs : List Run) (rest : List ℕ) → Runs IsRun 0 rs → runs_at (in_runs rs ++ rest) ≡ Ok (rs, rest)
+runs_agree : Agrees runs_at in_runs (Runs IsRun 0)
 unfolding runs_at in_runs
-runs_again rs rest h =
-    let few = at_most_128 rs h in
-    let regrouped : (number w16 (length rs) ++ flat_map run rs) ++ rest ≡ number w16 (length rs) ++ (flat_map run rs ++ rest) =
-    append_assoc (number w16 (length rs)) (flat_map run rs) rest in
-    let first = run_count_agrees.again (length rs) (flat_map run rs ++ rest) (omega (arith, few), le-leb (length rs) MOST_RUNS few) in
-    rw (regrouped, first) ((elements_of_runs (length rs)).again rs rest (refl, h))
+runs_agree =
+    Agrees-as _ _ (λ rs. (HasBits 16 (length rs) × (leb (length rs) MOST_RUNS ≡ true)) × Runs IsRun 0 rs) (Runs IsRun 0)
+    (λ rs h. h.1)
+    (λ rs h. let few = at_most_128 rs h in ((omega (arith, few), le-leb (length rs) MOST_RUNS few), h))
+    (Agrees-counted run_count_agrees (λ count _. elements_of_runs count))
 
 -- ---- changes in runs
 
@@ -173,7 +159,7 @@ in_runs_take : (bytes : List ℕ) (cs : List Change) (rest : List ℕ) → IsByt
     → Takes bytes (in_runs (runs_of cs)) rest × AreChanging cs
 in_runs_take bytes cs rest fits e =
     let a = bind_ok (runs_at bytes) (λ runs. Ok (flat_map changes_of runs.0, runs.1)) (cs, rest) e in
-    let t = runs_take bytes a.0.0 a.0.1 fits a.1 in
+    let t = runs_agree.takes bytes a.0.0 a.0.1 fits a.1 in
     let only = runs_of-only 0 a.0.0 (runs_weaker IsRun IsSome some_of_run 0 a.0.0 t.1) in
     let here : Takes bytes (in_runs (runs_of (flat_map changes_of a.0.0))) a.0.1 = subst (λ (rs : List Run). Takes bytes (in_runs rs) a.0.1) (sym only) t.0 in
     let made : List Change × List ℕ = (flat_map changes_of a.0.0, a.0.1) in
@@ -183,7 +169,7 @@ in_runs_take bytes cs rest fits e =
 in_runs_again : (cs : List Change) (rest : List ℕ) → AreChanging cs → whole_runs (runs_at (in_runs (runs_of cs) ++ rest)) ≡ Ok (cs, rest)
 in_runs_again cs rest h =
     let apart = runs_of-apart 0 cs (changing_from 0 cs h.0 h.1 (λ k d within. omega arith)) in
-    let read = runs_again (runs_of cs) rest apart in
+    let read = runs_agree.again (runs_of cs) rest apart in
     rw (read, runs_of-whole cs) refl
 
 pub in_runs_agree : Agrees (λ bytes. whole_runs (runs_at bytes)) (λ cs. in_runs (runs_of cs)) AreChanging
