@@ -68,7 +68,7 @@ news_agrees v =
     Agrees-as (news_at v) news_text (λ n. (h : IsTime n.time) × (HasBits 32 (length n.intervals) × AreBeside v (length n.time) h.few n.intervals)) (FitNewsRecord v)
     (λ n h. news_is v n.time n.intervals h.0 h.1)
     (λ n h. (h.begins, news_from v n.time n.intervals h))
-    (whole (λ (n : NewsRecord). (n.time, n.intervals)) (λ r. refl) (λ n. refl)
+    (whole (λ (n : NewsRecord). (n.time, n.intervals)) (λ r _. refl) (λ n. refl)
     (then_fields time_agrees (λ entries h. last_field (λ xs. record { time = entries; intervals = xs }) (intervals_agree v (length entries) h.few))))
 
 -- ---- each kind
@@ -82,7 +82,7 @@ Is_lock_request m = (m.lock < MOST_LOCKS) × IsTime m.time
 lock_request_agrees : Agrees lock_request_at spelled_lock_request Is_lock_request
 unfolding lock_request_at
 lock_request_agrees =
-    whole (λ (m : LockRequestRecord). (m.lock, m.time)) (λ r. refl) (λ m. refl)
+    whole (λ (m : LockRequestRecord). (m.lock, m.time)) (λ r _. refl) (λ m. refl)
     (then_fields lock_agrees (λ lock _. last_field (λ time. record { lock = lock; time = time }) time_agrees))
 
 abbrev spelled_lock_forward : LockForwardRecord → List ℕ
@@ -94,7 +94,7 @@ Is_lock_forward m = (m.lock < MOST_LOCKS) × ((m.asker < MOST_NODES) × IsTime m
 lock_forward_agrees : Agrees lock_forward_at spelled_lock_forward Is_lock_forward
 unfolding lock_forward_at
 lock_forward_agrees =
-    whole (λ (m : LockForwardRecord). (m.lock, (m.asker, m.time))) (λ r. refl) (λ m. refl)
+    whole (λ (m : LockForwardRecord). (m.lock, (m.asker, m.time))) (λ r _. refl) (λ m. refl)
     (then_fields lock_agrees (λ lock _. then_fields node_agrees (λ asker _.
     last_field (λ time. record { lock = lock; asker = asker; time = time }) time_agrees)))
 
@@ -107,7 +107,7 @@ Is_lock_grant v m = (m.lock < MOST_LOCKS) × FitNews v m.time m.intervals
 lock_grant_agrees : (v : Version) → Agrees (lock_grant_at v) spelled_lock_grant (Is_lock_grant v)
 unfolding lock_grant_at
 lock_grant_agrees v =
-    whole (λ (m : LockGrantRecord). (m.lock, news_with m.time m.intervals)) (λ r. refl) (λ m. refl)
+    whole (λ (m : LockGrantRecord). (m.lock, news_with m.time m.intervals)) (λ r _. refl) (λ m. refl)
     (then_fields lock_agrees (λ lock _. last_field (λ n. record { lock = lock; time = n.time; intervals = n.intervals }) (news_agrees v)))
 
 abbrev spelled_arrive : ArriveRecord → List ℕ
@@ -119,7 +119,7 @@ Is_arrive v m = IsEpisode m.episode × (Unit {0} × FitNews v m.time m.intervals
 arrive_agrees : (v : Version) → Agrees (arrive_at v) spelled_arrive (Is_arrive v)
 unfolding arrive_at
 arrive_agrees v =
-    whole (λ (m : ArriveRecord). (m.episode, (m.ask, news_with m.time m.intervals))) (λ r. refl) (λ m. refl)
+    whole (λ (m : ArriveRecord). (m.episode, (m.ask, news_with m.time m.intervals))) (λ r _. refl) (λ m. refl)
     (then_fields episode_agrees (λ episode _. then_fields flag_agrees (λ ask _.
     last_field (λ n. record { episode = episode; ask = ask; time = n.time; intervals = n.intervals }) (news_agrees v))))
 
@@ -132,7 +132,7 @@ Is_depart v m = IsEpisode m.episode × (Unit {0} × FitNews v m.time m.intervals
 depart_agrees : (v : Version) → Agrees (depart_at v) spelled_depart (Is_depart v)
 unfolding depart_at
 depart_agrees v =
-    whole (λ (m : DepartRecord). (m.episode, (m.collect, news_with m.time m.intervals))) (λ r. refl) (λ m. refl)
+    whole (λ (m : DepartRecord). (m.episode, (m.collect, news_with m.time m.intervals))) (λ r _. refl) (λ m. refl)
     (then_fields episode_agrees (λ episode _. then_fields flag_agrees (λ collect _.
     last_field (λ n. record { episode = episode; collect = collect; time = n.time; intervals = n.intervals }) (news_agrees v))))
 
@@ -145,7 +145,7 @@ Is_changes_request v m = (m.page < pages_in v) × FitIndices m.indices
 changes_request_agrees : (v : Version) → Agrees (changes_request_at v) spelled_changes_request (Is_changes_request v)
 unfolding changes_request_at
 changes_request_agrees v =
-    whole (λ (m : ChangesRequestRecord). (m.page, m.indices)) (λ r. refl) (λ m. refl)
+    whole (λ (m : ChangesRequestRecord). (m.page, m.indices)) (λ r _. refl) (λ m. refl)
     (then_fields (page_agrees v) (λ page _. last_field (λ ns. record { page = page; indices = ns }) indices_agree))
 
 abbrev spelled_changes_reply : Version → ChangesReplyRecord → List ℕ
@@ -157,7 +157,7 @@ Is_changes_reply v m = (m.page < pages_in v) × FitParts v m.parts
 changes_reply_agrees : (v : Version) → Agrees (changes_reply_at v) (spelled_changes_reply v) (Is_changes_reply v)
 unfolding changes_reply_at
 changes_reply_agrees v =
-    whole (λ (m : ChangesReplyRecord). (m.page, m.parts)) (λ r. refl) (λ m. refl)
+    whole (λ (m : ChangesReplyRecord). (m.page, m.parts)) (λ r _. refl) (λ m. refl)
     (then_fields (page_agrees v) (λ page _. last_field (λ ps. record { page = page; parts = ps }) (parts_agree v)))
 
 abbrev spelled_page_reply : Version → PageReplyRecord → List ℕ
@@ -169,7 +169,7 @@ Is_page_reply v m = (m.page < pages_in v) × FitValues v m.values
 page_reply_agrees : (v : Version) → Agrees (page_reply_at v) (spelled_page_reply v) (Is_page_reply v)
 unfolding page_reply_at
 page_reply_agrees v =
-    whole (λ (m : PageReplyRecord). (m.page, m.values)) (λ r. refl) (λ m. refl)
+    whole (λ (m : PageReplyRecord). (m.page, m.values)) (λ r _. refl) (λ m. refl)
     (then_fields (page_agrees v) (λ page _. last_field (λ vs. record { page = page; values = vs }) (page_values_agree v)))
 
 -- ---- bodies

@@ -69,7 +69,7 @@ module _ (v : Version) where
   next_part_agrees before =
       Agrees-as _ _ (λ p. (IsIndex p.index × (is_after ltb before p.index ≡ true)) × FitChanges v p.changes) (Ascends ltb (λ p. p.index) (IsPart v) before)
       (λ p h. ((h.0.0, h.1), h.0.1)) (λ p h. ((h.0.0, h.1), h.0.1))
-      (whole (λ (p : IndexedChangesRecord). (p.index, p.changes)) (λ r. refl) (λ p. refl)
+      (whole (λ (p : IndexedChangesRecord). (p.index, p.changes)) (λ r _. refl) (λ p. refl)
       (then_fields (next_index_agrees before) (λ index _. last_field (λ cs. record { index = index; changes = cs }) (changes_agree v))))
 
   elements_of_parts : (count : ℕ)

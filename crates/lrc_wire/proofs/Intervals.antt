@@ -61,7 +61,7 @@ module _ (v : Version) (nodes : ℕ) (few : nodes ≤ MOST_NODES) where
         omega (arith, h.0.is_interval.counted, h.0.long),
         (((h.0.long, h.0.bits, h.0.is_interval.begun), h.1), (h.0.pages, h.0.is_interval.ascending)),
       ))
-      (whole (λ (x : IntervalRecord). (x.node, (x.stamp, x.pages))) (λ r. refl) (λ x. refl)
+      (whole (λ (x : IntervalRecord). (x.node, (x.stamp, x.pages))) (λ r _. refl) (λ x. refl)
       (then_fields interval_node_agrees (λ node within.
       then_fields (Agrees-tested (stamp_at nodes node) time (IsStamp nodes node) (λ stamp. is_after is_below before (node, entry stamp node)) NotAscending
       (stamp_agrees nodes node few within)) (λ stamp _.

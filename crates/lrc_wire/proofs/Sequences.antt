@@ -44,12 +44,12 @@ then_fields {make = make} {reads = reads} {others = others} {spelled = spelled} 
 
 -- the record, which is what its fields are
 pub whole : {R M : Type 0} {make : R → M} {reads : List ℕ → Field M} {spelled : R → List ℕ} {P : R → Type 0} (fields : M → R)
-    → ((r : R) → fields (make r) ≡ r) → ((m : M) → make (fields m) ≡ m) → AgreesBy make reads spelled P
+    → ((r : R) → P r → fields (make r) ≡ r) → ((m : M) → make (fields m) ≡ m) → AgreesBy make reads spelled P
     → Agrees reads (λ m. spelled (fields m)) (λ m. P (fields m))
 whole {spelled = spelled} {P = P} fields unmade made by = record {
   takes = λ bytes m rest fits e.
       let t = by.takes bytes m rest fits e in
-      let same = sym (unmade t.0) ∙ ap fields t.1 in
+      let same = sym (unmade t.0 t.3) ∙ ap fields t.1 in
       (subst (λ r. Takes bytes (spelled r) rest) same t.2, subst P same t.3);
   again = λ m rest h. by.again (fields m) rest h ∙ ap (λ x. Ok (x, rest)) (made m);
 }

@@ -41,7 +41,7 @@ unfolding next_change_at change
 next_change_agrees before =
     Agrees-as _ _ (λ c. (InPage c.offset × (is_after ltb before c.offset ≡ true)) × HasBits 64 c.value) (Ascends ltb (λ c. c.offset) IsChange before)
     (λ c h. ((h.0.0, h.1), h.0.1)) (λ c h. ((h.0.0, h.1), h.0.1))
-    (whole (λ (c : Change). (c.offset, c.value)) (λ r. refl) (λ c. refl)
+    (whole (λ (c : Change). (c.offset, c.value)) (λ r _. refl) (λ c. refl)
     (then_fields (next_offset_agrees before) (λ offset _. last_field (λ value. record { offset = offset; value = value }) number64_agrees)))
 
 -- changes of a page, in order
