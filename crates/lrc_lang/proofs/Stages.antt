@@ -32,43 +32,13 @@ IsBehindSymbol _ stage = IsOther stage
 stage_same : {s t : State} (P : Stage → Type 0) → Some s ≡ Some t → P s.stage → P t.stage
 stage_same P q h = subst (λ s. P s.stage) (some_same q) h
 
-behind_words : (s : State) (symbol : Symbol) {t : State} → state.at_words s symbol ≡ Some t → IsBehindSymbol symbol t.stage
-behind_words s (keyword Words) q = stage_same (IsBehindSymbol (keyword Words)) q refl
-behind_words s _ q = absurd (none_some q)
-
-behind_words_number : (s : State) (symbol : Symbol) {t : State} → state.at_words_number s symbol ≡ Some t → IsBehindSymbol symbol t.stage
-behind_words_number s (number n) q = stage_same IsOther q tt
-behind_words_number s _ q = absurd (none_some q)
-
-behind_words_end : (s : State) (symbol : Symbol) {t : State} → state.at_words_end s symbol ≡ Some t → IsBehindSymbol symbol t.stage
-behind_words_end s (sign signs.Semicolon) q = stage_same IsOther q tt
-behind_words_end s _ q = absurd (none_some q)
-
-behind_locks : (s : State) (symbol : Symbol) {t : State} → state.at_locks s symbol ≡ Some t → IsBehindSymbol symbol t.stage
-behind_locks s (keyword Locks) q = stage_same (IsBehindSymbol (keyword Locks)) q refl
-behind_locks s _ q = absurd (none_some q)
-
-behind_locks_number : (s : State) (symbol : Symbol) {t : State} → state.at_locks_number s symbol ≡ Some t → IsBehindSymbol symbol t.stage
-behind_locks_number s (number n) q = stage_same IsOther q tt
-behind_locks_number s _ q = absurd (none_some q)
-
-behind_locks_end : (s : State) (symbol : Symbol) {t : State} → state.at_locks_end s symbol ≡ Some t → IsBehindSymbol symbol t.stage
-behind_locks_end s (sign signs.Semicolon) q = stage_same IsOther q tt
-behind_locks_end s _ q = absurd (none_some q)
-
 finished_stage : (s : State) (found : Option Block) {t : State} → if_some found (λ whole. Some (state.finished s whole)) ≡ Some t → t.stage ≡ nothing
 finished_stage s None q = absurd (none_some q)
 finished_stage s (Some whole) q = stage_same (λ stage. stage ≡ nothing) q refl
 
 end_at : (s : State) (stage : Stage) {t : State} → state.moved stage s finish ≡ Some t → t.stage ≡ nothing
-end_at s words q = absurd (none_some q)
-end_at s words_number q = absurd (none_some q)
-end_at s words_end q = absurd (none_some q)
-end_at s locks q = absurd (none_some q)
-end_at s locks_number q = absurd (none_some q)
-end_at s locks_end q = absurd (none_some q)
 end_at s statements q = finished_stage s (whole_of s.body) q
-end_at s nothing q = absurd (none_some q)
+end_at s _ q = absurd (none_some q)
 
 -- behind the end of the text nothing comes
 pub end_of_state : (s : State) {t : State} → state_with s finish ≡ Some t → t.stage ≡ nothing
@@ -93,14 +63,14 @@ behind_statements s (keyword Locks) e q = absurd (no_body s (body_with s.body (k
 behind_statements s symbol e q = other_stage s (body_with s.body symbol) e q
 
 behind_at : (s : State) (stage : Stage) (symbol : Symbol) {t : State} → s.stage ≡ stage → state.moved stage s symbol ≡ Some t → IsBehindSymbol symbol t.stage
-behind_at s words symbol e q = behind_words s symbol q
-behind_at s words_number symbol e q = behind_words_number s symbol q
-behind_at s words_end symbol e q = behind_words_end s symbol q
-behind_at s locks symbol e q = behind_locks s symbol q
-behind_at s locks_number symbol e q = behind_locks_number s symbol q
-behind_at s locks_end symbol e q = behind_locks_end s symbol q
+behind_at s words (keyword Words) e q = stage_same (IsBehindSymbol (keyword Words)) q refl
+behind_at s words_number (number n) e q = stage_same IsOther q tt
+behind_at s words_end (sign signs.Semicolon) e q = stage_same IsOther q tt
+behind_at s locks (keyword Locks) e q = stage_same (IsBehindSymbol (keyword Locks)) q refl
+behind_at s locks_number (number n) e q = stage_same IsOther q tt
+behind_at s locks_end (sign signs.Semicolon) e q = stage_same IsOther q tt
 behind_at s statements symbol e q = behind_statements s symbol e q
-behind_at s nothing symbol e q = absurd (none_some q)
+behind_at s _ _ e q = absurd (none_some q)
 
 behind_symbol : (s : State) (symbol : Symbol) {t : State} → state_with s symbol ≡ Some t → IsBehindSymbol symbol t.stage
 behind_symbol s symbol q = behind_at s s.stage symbol refl q
@@ -120,14 +90,9 @@ Says locks_number last = last ≡ Some (Token.keyword Locks)
 Says _ last = IsPlain last
 
 says_plain : (stage : Stage) (last : Option Token) → IsPlain last → IsOther stage → Says stage last
-says_plain words last h o = h
 says_plain words_number last h o = absurd o
-says_plain words_end last h o = h
-says_plain locks last h o = h
 says_plain locks_number last h o = absurd o
-says_plain locks_end last h o = h
-says_plain statements last h o = h
-says_plain nothing last h o = h
+says_plain _ last h o = h
 
 says_words : (stage : Stage) → stage ≡ words_number → Says stage (Some (Token.keyword Words))
 says_words stage e = subst (λ s. Says s (Some (Token.keyword Words))) (sym e) refl
@@ -157,24 +122,14 @@ next_says names s t {next} q = says_token names t next.stage (behind_symbol s (s
 -- ---- so a number passes its limit just where it is said to
 
 number_over : (stage : Stage) (n : ℕ) → Says stage (Some (Token.keyword Words)) → (n < 1) ⊎ (MOST_WORDS < n) → IsOverNumber stage (number n)
-number_over words n h o = absurd h
 number_over words_number n h o = o
-number_over words_end n h o = absurd h
-number_over locks n h o = absurd h
 number_over locks_number n h o = cc
-number_over locks_end n h o = absurd h
-number_over statements n h o = absurd h
-number_over nothing n h o = absurd h
+number_over _ n h o = absurd h
 
 locks_over : (stage : Stage) (n : ℕ) → Says stage (Some (Token.keyword Locks)) → 64 < n → IsOverNumber stage (number n)
-locks_over words n h o = absurd h
 locks_over words_number n h o = cc
-locks_over words_end n h o = absurd h
-locks_over locks n h o = absurd h
 locks_over locks_number n h o = o
-locks_over locks_end n h o = absurd h
-locks_over statements n h o = absurd h
-locks_over nothing n h o = absurd h
+locks_over _ n h o = absurd h
 
 pub over_number : (names : Names) (stage : Stage) (last : Option Token) (t : Token) → Says stage last → IsNumberTooLarge last t
     → IsOverNumber stage (symbol_of names t)

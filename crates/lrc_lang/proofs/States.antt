@@ -106,46 +106,16 @@ statements_back : (s : State) (symbol : Symbol) (p : ProgramTree) (all : List Sy
 statements_back s finish p all e q k = finish_back s (whole_of s.body) p all refl q k
 statements_back s symbol p all e q k = body_back s symbol (body_with s.body symbol) p all refl q e k
 
-words_back : (s : State) (symbol : Symbol) (p : ProgramTree) (all : List Symbol) {t : State} →
-    state.at_words s symbol ≡ Some t → CompletesState t p all → FromStage s.body words s.words s.locks p (symbol ∷ all)
-words_back s (keyword Words) p all q k = at_words (at_same p all q k)
-words_back s _ p all q k = absurd (none_some q)
-
-words_number_back : (s : State) (symbol : Symbol) (p : ProgramTree) (all : List Symbol) {t : State} →
-    state.at_words_number s symbol ≡ Some t → CompletesState t p all → FromStage s.body words_number s.words s.locks p (symbol ∷ all)
-words_number_back s (number n) p all q k = at_words_number (at_same p all q k)
-words_number_back s _ p all q k = absurd (none_some q)
-
-words_end_back : (s : State) (symbol : Symbol) (p : ProgramTree) (all : List Symbol) {t : State} →
-    state.at_words_end s symbol ≡ Some t → CompletesState t p all → FromStage s.body words_end s.words s.locks p (symbol ∷ all)
-words_end_back s (sign Semicolon) p all q k = at_words_end (at_same p all q k)
-words_end_back s _ p all q k = absurd (none_some q)
-
-locks_back : (s : State) (symbol : Symbol) (p : ProgramTree) (all : List Symbol) {t : State} →
-    state.at_locks s symbol ≡ Some t → CompletesState t p all → FromStage s.body locks s.words s.locks p (symbol ∷ all)
-locks_back s (keyword Locks) p all q k = at_locks (at_same p all q k)
-locks_back s _ p all q k = absurd (none_some q)
-
-locks_number_back : (s : State) (symbol : Symbol) (p : ProgramTree) (all : List Symbol) {t : State} →
-    state.at_locks_number s symbol ≡ Some t → CompletesState t p all → FromStage s.body locks_number s.words s.locks p (symbol ∷ all)
-locks_number_back s (number n) p all q k = at_locks_number (at_same p all q k)
-locks_number_back s _ p all q k = absurd (none_some q)
-
-locks_end_back : (s : State) (symbol : Symbol) (p : ProgramTree) (all : List Symbol) {t : State} →
-    state.at_locks_end s symbol ≡ Some t → CompletesState t p all → FromStage s.body locks_end s.words s.locks p (symbol ∷ all)
-locks_end_back s (sign Semicolon) p all q k = at_locks_end (at_same p all q k)
-locks_end_back s _ p all q k = absurd (none_some q)
-
 stage_back : (s : State) (stage : Stage) (symbol : Symbol) (p : ProgramTree) (all : List Symbol) {t : State} →
     s.stage ≡ stage → state.moved stage s symbol ≡ Some t → CompletesState t p all → FromStage s.body stage s.words s.locks p (symbol ∷ all)
-stage_back s words symbol p all e q k = words_back s symbol p all q k
-stage_back s words_number symbol p all e q k = words_number_back s symbol p all q k
-stage_back s words_end symbol p all e q k = words_end_back s symbol p all q k
-stage_back s locks symbol p all e q k = locks_back s symbol p all q k
-stage_back s locks_number symbol p all e q k = locks_number_back s symbol p all q k
-stage_back s locks_end symbol p all e q k = locks_end_back s symbol p all q k
+stage_back s words (keyword Words) p all e q k = at_words (at_same p all q k)
+stage_back s words_number (number n) p all e q k = at_words_number (at_same p all q k)
+stage_back s words_end (sign Semicolon) p all e q k = at_words_end (at_same p all q k)
+stage_back s locks (keyword Locks) p all e q k = at_locks (at_same p all q k)
+stage_back s locks_number (number n) p all e q k = at_locks_number (at_same p all q k)
+stage_back s locks_end (sign Semicolon) p all e q k = at_locks_end (at_same p all q k)
 stage_back s statements symbol p all e q k = statements_back s symbol p all e q k
-stage_back s nothing symbol p all e q k = absurd (none_some q)
+stage_back s _ _ p all e q k = absurd (none_some q)
 
 -- where a symbol can stand, it and what completes the text behind it complete the text in front of it
 pub back_state : (s : State) (symbol : Symbol) (p : ProgramTree) (all : List Symbol) {t : State} →
