@@ -11,7 +11,7 @@ ghost use Rattle.lrc_exec.specs.Ask.{ask_of, answered, ask_or_trap, TakesAnswer}
 use crate::code::{Code, Instruction};
 use crate::value::evaluate;
 use lrc_lang::program::{Expression, Statement};
-use lrc_trace::act::Cause;
+use lrc_trace::act::{Cause, Deed};
 use std::marker::Model;
 
 /// What a thread asks for next.
@@ -35,6 +35,37 @@ pub enum Ask {
     Trap(Cause),
     /// Nothing more: it is at the end of the text.
     End,
+}
+
+impl Ask {
+    ghost use Rattle.lrc_exec.specs.Ask.{cost_asked, deed_asked};
+
+    /// The deed of a thread that asks for this, a read with this value.
+    pub fn deed(self, value: u64) -> Deed
+        ensures { result ≡ deed_asked value self }
+    {
+        match self {
+            Ask::Quiet => Deed::Quiet,
+            Ask::Print(printed) => Deed::Print(printed),
+            Ask::Read(word) => Deed::Read(word, value),
+            Ask::Write(word, written) => Deed::Write(word, written),
+            Ask::Acquire(lock) => Deed::Acquire(lock),
+            Ask::Release(lock) => Deed::Release(lock),
+            Ask::Barrier => Deed::Arrive,
+            Ask::Trap(cause) => Deed::Trap(cause),
+            Ask::End => Deed::End,
+        }
+    }
+
+    /// How many steps it costs to begin this.
+    pub fn cost(self) -> u32
+        ensures { result ≡ cost_asked self }
+    {
+        match self {
+            Ask::End => 0,
+            _ => 1,
+        }
+    }
 }
 
 /// A thread that runs the code of a program on one node. In a contract it is the thread of the meaning, which has not

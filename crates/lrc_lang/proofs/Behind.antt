@@ -3,7 +3,7 @@ use Rattle.std.proofs.Common.{◌≡◌, ◌<◌, ◌≤◌, ◌⊎◌, List, []
 use Rattle.lrc_lang.specs.declared.fault.FaultKind.{FaultKind}
 use Rattle.lrc_lang.specs.declared.fault.FaultKind.TheVariants.{BadByte, BadNumber, Unexpected, TooDeep, TooManyNames, OverLimit, NoMemory}
 use Rattle.lrc_lang.specs.declared.limits.Limits as code_limits
-use Rattle.lrc_lang.specs.declared.state.State as code_state
+use Rattle.lrc_lang.specs.declared.state.ParserState as code_state
 use Rattle.lrc_lang.specs.declared.token.Keyword.TheVariants as keywords
 use Rattle.lrc_lang.specs.declared.token.Sign.{Sign}
 use Rattle.lrc_lang.specs.declared.token.Sign.TheVariants as signs
@@ -11,24 +11,24 @@ use Rattle.lrc_lang.specs.Token.{Token, Lexeme, token, bad_byte, bad_number}
 use Rattle.lrc_lang.specs.Symbol.{Names, names_with, symbol_of, symbol_of_sign}
 use Rattle.lrc_lang.specs.Counts.{names_of, open_with, open_of, operators_with, operators_of, last_of, IsOpening}
 use Rattle.lrc_lang.specs.Counts.{IsTooDeep, IsNameTooMany, IsOperator, IsOperatorTooMany}
-use Rattle.lrc_lang.specs.Faults.{IsUnexpected, IsNumberTooLarge, IsOverLimit, HasFault, rank, IsFaultOf, IsFaultless}
+use Rattle.lrc_lang.specs.Faults.{IsUnexpected, IsNumberOutOfRange, IsOverLimit, HasFault, rank, IsFaultOf, IsFaultless}
 use Rattle.lrc_lang.specs.Parser.State as state
-use Rattle.lrc_lang.specs.Parser.State.{State, state_with}
+use Rattle.lrc_lang.specs.Parser.State.{ParserState, state_with}
 use Rattle.lrc_lang.specs.Parser.SeenState.{state_seen, TakesSymbol}
 use Rattle.lrc_lang.specs.Parser.SeenLimits.{names_seen, TakesToken}
 use Rattle.lrc_lang.specs.Parser.SeenParser.{TakesLexeme}
 use Rattle.lrc_lang.proofs.Reaching.{Reaches, Reaches-start, Reaches-push, refused-IsUnexpected, taken-IsUnexpected, fold-append}
-use Rattle.lrc_lang.proofs.Stages.{Says, next_says, over_number, number_too_large, over_taken}
+use Rattle.lrc_lang.proofs.Stages.{Says, next_says, symbol_out_of_range, number_out_of_range, over_taken}
 
 -- Behind these tokens the parser is in this state and has counted so much.
-pub record IsBehind (before : List Token) (s : code_state.State) (l : code_limits.Limits) : Type 0 where
+pub record IsBehind (before : List Token) (s : code_state.ParserState) (l : code_limits.Limits) : Type 0 where
   pub reaches : Reaches before (state_seen s)
   pub says : Says (state_seen s).stage (last_of before)
   pub names : names_seen l ≡ names_of before
   pub nested : l.nested ≡ open_of before
   pub operators : l.operators ≡ operators_of before
 
-pub IsBehind-start : (s : code_state.State) (l : code_limits.Limits) →
+pub IsBehind-start : (s : code_state.ParserState) (l : code_limits.Limits) →
     state_seen s ≡ state.start → names_seen l ≡ [] → l.nested ≡ 0 → l.operators ≡ 0 → IsBehind [] s l
 IsBehind-start s l is names nested operators = record {
   reaches = subst (λ t. Reaches [] t) (sym is) Reaches-start;
@@ -40,7 +40,7 @@ IsBehind-start s l is names nested operators = record {
 
 -- ---- a token that is taken
 
-module _ (before : List Token) (s s' : code_state.State) (l l' : code_limits.Limits) (t : Token) (b : IsBehind before s l)
+module _ (before : List Token) (s s' : code_state.ParserState) (l l' : code_limits.Limits) (t : Token) (b : IsBehind before s l)
     (taken : TakesLexeme (Ok tt) s l (token t) s' l') where
   step : state_with (state_seen s) (symbol_of (names_of before) t) ≡ Some (state_seen s')
   step = subst (λ names. state_with (state_seen s) (symbol_of names t) ≡ Some (state_seen s')) b.names taken.0.0
@@ -59,7 +59,7 @@ module _ (before : List Token) (s s' : code_state.State) (l l' : code_limits.Lim
   no_limit : IsOverLimit before t → ⊥
   no_limit =
       ⊎_elim
-      (λ large. taken.0.1 (over_number (names_seen l) (state_seen s).stage (last_of before) t b.says large))
+      (λ large. taken.0.1 (symbol_out_of_range (names_seen l) (state_seen s).stage (last_of before) t b.says large))
       (λ many. taken.1.5 (subst (λ n. IsOperatorTooMany n t) (sym b.operators) many))
 
   pub IsFaultless-taken : IsFaultless before (token t)
@@ -76,11 +76,11 @@ abbrev IsNumber : Token → Type 0
 IsNumber (Token.number n) = Unit {0}
 IsNumber _ = ⊥
 
-large_is_number : (last : Option Token) (t : Token) → IsNumberTooLarge last t → IsNumber t
-large_is_number last (Token.number n) large = tt
-large_is_number (Some (Token.keyword keywords.Words)) _ large = large
-large_is_number (Some (Token.keyword keywords.Locks)) _ large = large
-large_is_number _ _ large = absurd large
+out_of_range_is_number : (last : Option Token) (t : Token) → IsNumberOutOfRange last t → IsNumber t
+out_of_range_is_number last (Token.number n) large = tt
+out_of_range_is_number (Some (Token.keyword keywords.Words)) _ large = large
+out_of_range_is_number (Some (Token.keyword keywords.Locks)) _ large = large
+out_of_range_is_number _ _ large = absurd large
 
 number_not_opening : (t : Token) → IsNumber t → IsOpening t → ⊥
 number_not_opening (Token.number n) is opening = opening
@@ -151,8 +151,8 @@ over_fault before t expected shut few has = record {
   first = none_before before t OverLimit (omega arith) (λ r h. expected h) (λ r h. shut h.0) (λ r h. few h);
 }
 
-module _ (before : List Token) (s s' : code_state.State) (l l' : code_limits.Limits) (b : IsBehind before s l) where
-  expected : (t : Token) {next : State} → state_with (state_seen s) (symbol_of (names_seen l) t) ≡ Some next → ¬ IsUnexpected before t
+module _ (before : List Token) (s s' : code_state.ParserState) (l l' : code_limits.Limits) (b : IsBehind before s l) where
+  expected : (t : Token) {next : ParserState} → state_with (state_seen s) (symbol_of (names_seen l) t) ≡ Some next → ¬ IsUnexpected before t
   expected t {next} q =
       taken-IsUnexpected before (state_seen s) t b.reaches (subst (λ names. state_with (state_seen s) (symbol_of names t) ≡ Some next) b.names q)
 
@@ -162,14 +162,14 @@ module _ (before : List Token) (s s' : code_state.State) (l l' : code_limits.Lim
       inr (unexpected_fault before t
       (refused-IsUnexpected before (state_seen s) t b.reaches (subst (λ names. state_with (state_seen s) (symbol_of names t) ≡ None) b.names q)))
   symbol_fault t OverLimit over =
-      let large : IsNumberTooLarge (last_of before) t = number_too_large (names_seen l) (state_seen s).stage (last_of before) t b.says over in
-      let is : IsNumber t = large_is_number (last_of before) t large in
+      let large : IsNumberOutOfRange (last_of before) t = number_out_of_range (names_seen l) (state_seen s).stage (last_of before) t b.says over in
+      let is : IsNumber t = out_of_range_is_number (last_of before) t large in
       inr (over_fault before t (expected t (over_taken (names_seen l) (state_seen s) t over).1) (number_not_opening t is)
       (number_no_name (names_of before) t is) (inl large))
   symbol_fault t NoMemory q = inl refl
   symbol_fault t _ q = absurd q
 
-  token_fault : (t : Token) (kind : FaultKind) {next : State} → state_with (state_seen s) (symbol_of (names_seen l) t) ≡ Some next
+  token_fault : (t : Token) (kind : FaultKind) {next : ParserState} → state_with (state_seen s) (symbol_of (names_seen l) t) ≡ Some next
       → TakesToken (Err kind) l t l' → (kind ≡ NoMemory) ⊎ IsFaultOf before (token t) kind
   token_fault t TooDeep q deep = inr (deep_fault before t (expected t q) (subst (λ n. IsTooDeep n t) b.nested deep))
   token_fault t TooManyNames q many = inr (names_fault before t (expected t q) (subst (λ names. IsNameTooMany names t) b.names many))
