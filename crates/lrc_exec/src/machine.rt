@@ -1,6 +1,6 @@
 // What a thread asks for, and the machine that runs its code.
 
-ghost use Rattle.std.specs.Prelude.{◌≡◌, ◌<◌, ◌≤◌, false, List, if◌then◌else◌, nat_lt, ok_or, slice_set, unwrap_or};
+ghost use Rattle.std.specs.Prelude.{◌≡◌, ◌<◌, ◌≤◌, false, List, if◌then◌else◌, nat_lt, ok_or, slice_set, IsSome, Some};
 ghost use Rattle.lrc_lang.specs.declared.program.Statement.{Statement};
 ghost use Rattle.lrc_lang.specs.Sizes.{names_in_expression, names_in_statement};
 ghost use Rattle.lrc_lang.specs.Statements.{expression_of, statement_of};
@@ -229,10 +229,11 @@ impl<'c> Machine<'c> {
 
     // The value of an expression that has one.
     fn number(&self, expression: &Expression) -> u64
-        requires { names_in_expression (expression_of expression.now) ≤ 32 }
-        ensures { result ≡ unwrap_or (value_in self.now expression.now) 0 }
+        requires names { names_in_expression (expression_of expression.now) ≤ 32 }
+        requires value { IsSome (value_in self.now expression.now) }
+        ensures { value_in self.now expression.now ≡ Some result }
     {
-        self.value(expression).unwrap_or(0)
+        self.value(expression).unwrap()
     }
 
     // A word's number, where there is such a word.
@@ -268,9 +269,8 @@ fn set_name(privates: &mut [u64; 32], name: u8, value: u64)
 
 // Holds a lock from now on, or no longer.
 fn set_held(locks: &mut [bool; 64], lock: u64, held: bool)
+    requires { lock < 64 }
     ensures { locks.new ≡ slice_set locks.old lock held }
 {
-    if lock < 64 {
-        locks[lock as usize] = held;
-    }
+    locks[lock as usize] = held;
 }
