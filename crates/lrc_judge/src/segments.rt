@@ -91,30 +91,16 @@ impl Log {
     {
         let node = acts[position].node;
         let interval = self.intervals[usize::from(node)];
-        match acts[position].deed {
-            Deed::Read(word, _) => {
+        let deed = acts[position].deed;
+        match deed {
+            Deed::Read(word, _) | Deed::Write(word, _) => {
                 let place = AccessPlace {
                     word,
                     node,
                     interval,
                 };
-                let access = Access {
-                    position,
-                    is_write: false,
-                };
-                add(alloc, &mut self.segments, place, access)?;
-                Ok(())
-            }
-            Deed::Write(word, _) => {
-                let place = AccessPlace {
-                    word,
-                    node,
-                    interval,
-                };
-                let access = Access {
-                    position,
-                    is_write: true,
-                };
+                let is_write = matches!(deed, Deed::Write(_, _));
+                let access = Access { position, is_write };
                 add(alloc, &mut self.segments, place, access)?;
                 Ok(())
             }
