@@ -68,7 +68,7 @@ fn read_into(state: &mut ParserState, alloc: Global, text: &[u8]) -> Result<(), 
     ensures fault { IfErr result (λ e. IsOutOfMemory e ⊎ HasFirstFault text.now e.line e.kind) }
 {
     let mut lexer = Lexer::new(text);
-    let mut limits = Limits::nothing(alloc);
+    let mut limits = Limits::empty(alloc);
     loop {
         let found = lexer.next_lexeme();
         if let Err(kind) = take(state, &mut limits, found.lexeme) {
