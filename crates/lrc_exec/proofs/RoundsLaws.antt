@@ -12,7 +12,8 @@ use Rattle.lrc_trace.specs.declared.act.Deed.{Deed}
 use Rattle.lrc_exec.specs.Meaning.{Thread, Next, quiet, prints, reads, writes, acquires, releases, arrives, departs, traps, ends, next_of}
 use Rattle.lrc_lang.specs.declared.program.Program.{Program}
 use Rattle.lrc_exec.specs.Plain.{Plain, plain_start, is_free, all_arrived, deed_of, thread_in, plain_step, plain_from, plain}
-use Rattle.lrc_exec.specs.Rounds.{Paced, steps_of, turn, turns, round, rounds, paced_start, AreActsOfRounds}
+use Rattle.lrc_exec.specs.Ask.{steps_of}
+use Rattle.lrc_exec.specs.Rounds.{Paced, turn, turns, round, rounds, paced_start, AreActsOfRounds}
 use Rattle.lrc_exec.specs.RoundsCode.{MakesRound}
 use Rattle.lrc_exec.proofs.PlainLaws.{no_arrivals, then_from, plain_from-append, plain_from-length, plain_from-arrivals}
 use Rattle.lrc_exec.proofs.NextLaws.{IsFine, next_of-fine}

@@ -32,10 +32,16 @@ deed_asked value Barrier = deeds.Arrive
 deed_asked value (Trap cause) = deeds.Trap cause
 deed_asked value End = deeds.End
 
--- how many steps it costs to begin what is asked for: the end of the text counts none
+-- how many steps a deed takes: one for each condition evaluated and each other statement begun. A depart ends what the
+-- arrive began, and the end of the text is no statement
+abbrev pub steps_of : Deed → ℕ
+steps_of deeds.Depart = 0
+steps_of deeds.End = 0
+steps_of _ = 1
+
+-- how many steps it costs to begin what is asked for
 abbrev pub cost_asked : Ask → ℕ
-cost_asked End = 0
-cost_asked _ = 1
+cost_asked ask = steps_of (deed_asked 0 ask)
 
 -- an answer is due to all but a trap and the end
 abbrev pub TakesAnswer : Ask → Type 0

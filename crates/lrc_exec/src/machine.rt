@@ -6,7 +6,7 @@ ghost use Rattle.lrc_lang.specs.Sizes.{names_in_expression, names_in_statement};
 ghost use Rattle.lrc_lang.specs.Statements.{expression_of, statement_of};
 ghost use Rattle.lrc_exec.specs.Meaning.{act_of, next_of, value_in};
 ghost use Rattle.lrc_exec.specs.Plain.{start_of};
-ghost use Rattle.lrc_exec.specs.Ask.{ask_of, answered, ask_or_trap, TakesAnswer};
+ghost use Rattle.lrc_exec.specs.Ask.{ask_of, answered, ask_or_trap, TakesAnswer, steps_of as steps_taken};
 
 use crate::code::{Code, Instruction};
 use crate::value::evaluate;
@@ -61,10 +61,17 @@ impl Ask {
     pub fn cost(self) -> u32
         ensures { result ≡ cost_asked self }
     {
-        match self {
-            Ask::End => 0,
-            _ => 1,
-        }
+        steps_of(self.deed(0))
+    }
+}
+
+// How many steps a deed takes.
+pub(crate) fn steps_of(deed: Deed) -> u32
+    ensures { result ≡ steps_taken deed }
+{
+    match deed {
+        Deed::Depart | Deed::End => 0,
+        _ => 1,
     }
 }
 

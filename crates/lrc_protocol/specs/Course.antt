@@ -3,7 +3,7 @@ use Rattle.std.specs.Prelude.{ℕ, Option, Some, None}
 use Rattle.lrc_trace.specs.declared.act.Cause.{Cause}
 use Rattle.lrc_trace.specs.declared.act.Deed.{Deed}
 use Rattle.lrc_trace.specs.declared.act.Deed.TheVariants.{Depart}
-use Rattle.lrc_exec.specs.Ask.{ask_of, deed_asked, cost_asked}
+use Rattle.lrc_exec.specs.Ask.{ask_of, deed_asked, steps_of}
 use Rattle.lrc_exec.specs.Meaning.{Thread, Next, quiet, prints, reads, writes, acquires, releases, arrives, departs, traps, ends}
 
 -- a thread that goes on; a trap and its cause; or the end of the text
@@ -36,7 +36,6 @@ course_of value (departs after) = going after
 course_of value (traps cause) = trapped cause
 course_of value ends = ended
 
--- what it counts of a node's steps to begin this: a departure counts none
+-- what it counts of a node's steps to begin this
 abbrev pub cost_of : Next → ℕ
-cost_of (departs after) = 0
-cost_of next = cost_asked (ask_of next)
+cost_of next = steps_of (deed_of 0 next)
