@@ -1,6 +1,6 @@
 -- Lemmas on arrivals of which one is not kept.
 use Rattle.std.proofs.Common.{ℕ, ◌≡◌, ◌≢◌, ◌+◌, ◌<◌, ◌∙◌, Bool, true, false, Option, Some, None, List, [], ◌∷◌, ◌++◌, length, map, take}
-use Rattle.std.proofs.Common.{append-nil, add-zero, subst, zero-add, set, get_or, is_some, refl, ap, sym, ⊎_elim, arith}
+use Rattle.std.proofs.Common.{append-nil, subst, zero-add, set, get_or, is_some, refl, ap, sym, ⊎_elim, arith}
 use Rattle.std.specs.Option.{unwrap_or}
 use Rattle.std.specs.List.{enumerate_from, filter, filter_map, fold, list_all, list_any}
 use Rattle.std.proofs.lemmas.Bool.{cases_eq, true≢false}
@@ -10,6 +10,7 @@ use Rattle.std.proofs.lemmas.List.Sums.{fold_push, list_all-from_AllPass}
 use Rattle.std.proofs.lemmas.Grind.{flat_map-append}
 use Rattle.std.proofs.lemmas.List.Folds.{list_all_at, list_any_none, list_any-from_Any}
 use Rattle.lrc_time.specs.Time.{joined, zeros}
+use Rattle.lrc_page.proofs.ChangeLists.{enumerate_from-push}
 use Rattle.lrc_store.specs.Interval.{IntervalRecord}
 use Rattle.lrc_barrier.specs.declared.arrival.Arrival.{Arrival}
 use Rattle.lrc_barrier.specs.declared.departure.Departure.{Departure}
@@ -57,13 +58,6 @@ pub intervals_more : (arrivals : List Arrival) (next : Arrival)
 intervals_more arrivals next =
     flat_map-append (λ (a : Arrival). a.intervals) arrivals (next ∷ [])
     ∙ ap (λ rest. intervals_of arrivals ++ rest) (append-nil next.intervals)
-
-pub enumerate_more : {X : Type 0} (n : ℕ) (xs : List X) (x : X)
-    → enumerate_from n (xs ++ x ∷ []) ≡ enumerate_from n xs ++ (n + length xs, x) ∷ []
-enumerate_more n [] x = ap (λ k. (k, x) ∷ []) (sym (add-zero n))
-enumerate_more n (y ∷ xs) x =
-    ap (λ rest. (n, y) ∷ rest) (enumerate_more (n + 1) xs x
-    ∙ ap (λ k. enumerate_from (n + 1) xs ++ (k, x) ∷ []) (omega arith))
 
 -- an arrival that is kept, or the last one
 pub is_at : (last : Arrival) (kept : List (Option Arrival)) (k : ℕ) (place : Option Arrival) (arrival e : Arrival)
@@ -125,7 +119,7 @@ departures_more last kept k place arrival items next departure within place_is a
     ∙ ap (λ a. before ++ a ∷ []) (sym (arrival_is ∙ ap (λ p. unwrap_or p last) place_is)) in
     next_is ∙ ap (λ d. items ++ d ∷ []) departure_is ∙ ap (λ xs. xs ++ told (k, arrival) ∷ []) items_is
     ∙ sym (ap (λ xs. map told (enumerate_from 0 xs)) taken
-    ∙ ap (map told) (enumerate_more 0 before arrival)
+    ∙ ap (map told) (enumerate_from-push 0 before arrival)
     ∙ map-append told (enumerate_from 0 before) ((0 + length before, arrival) ∷ [])
     ∙ ap (λ n. map told (enumerate_from 0 before) ++ told (n, arrival) ∷ []) count)
 

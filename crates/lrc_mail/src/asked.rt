@@ -38,7 +38,7 @@ impl Asked {
     }
 
     /// The indices once more.
-    pub(crate) fn copied(&self, alloc: Global) -> Result<Indices, AllocError>
+    pub(crate) fn duplicate_indices(&self, alloc: Global) -> Result<Indices, AllocError>
         ensures { IfOk result (λ indices. indices ≡ self.now.indices) }
     {
         let list = Vec::from_slice(alloc, self.indices.as_slice())?;

@@ -39,7 +39,7 @@ fn changes_request(alloc: Global, page: u16, asked: &Asked) -> Result<Letter, Al
     requires some { 1 ≤ length asked.now.indices }
     ensures { IfOk result (λ request. request ≡ changes_request_of page asked.now) }
 {
-    let indices = asked.copied(alloc)?;
+    let indices = asked.duplicate_indices(alloc)?;
     Ok(Letter {
         to: asked.maker,
         message: Message::ChangesRequest(ChangesRequest { page, indices }),

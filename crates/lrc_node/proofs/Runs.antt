@@ -1,48 +1,21 @@
 -- Intervals of which those of each node follow one another.
-use Rattle.std.proofs.Common.{◌≡◌, ◌≢◌, ℕ, zero, suc, ◌+◌, ◌-◌, ◌<◌, ◌≤◌, Bool, true, false, cond, List, [], ◌∷◌, ◌++◌, length, map}
-use Rattle.std.proofs.Common.{filter, max, get_or, set, take, drop, refl, sym, ◌∙◌, ap, subst, arith, ⊎_elim, eq-eqb}
+use Rattle.std.proofs.Common.{◌≡◌, ◌≢◌, ℕ, zero, suc, ◌+◌, ◌-◌, ◌<◌, ◌≤◌, Bool, true, false, List, [], ◌∷◌, ◌++◌, length}
+use Rattle.std.proofs.Common.{max, get_or, set, take, drop, refl, sym, ◌∙◌, ap, subst, arith, ⊎_elim}
 use Rattle.std.specs.Prelude.{◌==◌}
 use Rattle.std.specs.List.{range_with_len, list_all}
 use Rattle.std.specs.Cmp.Lexicographic.{same_text}
-use Rattle.std.proofs.lemmas.Bool.{cases_eq, cases_lt, cases_Bool, and_parts, and_from, eqb-true, false≢true}
+use Rattle.std.proofs.lemmas.Bool.{cases_eq, cases_lt, cases_Bool, and_parts, and_from, false≢true}
 use Rattle.std.proofs.lemmas.Cmp.{nat_list_eq_equiv}
-use Rattle.std.proofs.lemmas.List.{append-nil, map-append, length-append, length-set, get_or_past, take_more, take-append-drop, drop_more}
+use Rattle.std.proofs.lemmas.List.{append-nil, length-append, length-set, get_or_past, take_more, take-append-drop, drop_more}
 use lib.Pointwise.{pointwise}
-use Rattle.std.proofs.lemmas.List.Elements.{filter-append}
 use Rattle.std.proofs.lemmas.List.FromFn.{length-range_with_len, get_or-range_with_len}
 use Rattle.lrc_time.specs.Time.{entry, joined}
 use Rattle.lrc_time.proofs.Times.{entry-joined, entry-set_same, entry-set_other, length-joined_same, same_times}
 use Rattle.lrc_store.specs.Interval.{IntervalRecord, index_of}
 use Rattle.lrc_exec.proofs.RoundsLaws.{range-last}
 use Rattle.lrc_protocol.specs.Expected.{indices_by, are_between}
+use Rattle.lrc_local.proofs.Indices.{indices-append, indices-here, indices-there}
 use Rattle.lrc_node.specs.News.{IsRunOf, AreRuns, IsBroken}
-
--- ---- the indices of one node's intervals
-
-indices-append : (xs ys : List IntervalRecord) (q : ℕ) → indices_by (xs ++ ys) q ≡ indices_by xs q ++ indices_by ys q
-indices-append xs ys q =
-    ap (map index_of) (filter-append (λ (i : IntervalRecord). i.node == q) xs ys)
-    ∙ map-append index_of (filter (λ (i : IntervalRecord). i.node == q) xs) (filter (λ (i : IntervalRecord). i.node == q) ys)
-
-taken : (x : IntervalRecord) (rest : List IntervalRecord) (b : Bool)
-    → map index_of (cond b (x ∷ rest) rest) ≡ cond b (index_of x ∷ map index_of rest) (map index_of rest)
-taken x rest true = refl
-taken x rest false = refl
-
-indices-first : (x : IntervalRecord) (rest : List IntervalRecord) (q : ℕ)
-    → indices_by (x ∷ rest) q ≡ cond (x.node == q) (index_of x ∷ indices_by rest q) (indices_by rest q)
-indices-first x rest q = taken x (filter (λ (i : IntervalRecord). i.node == q) rest) (x.node == q)
-
-indices-own : (x : IntervalRecord) (rest : List IntervalRecord) (q : ℕ) → x.node ≡ q → indices_by (x ∷ rest) q ≡ index_of x ∷ indices_by rest q
-indices-own x rest q own =
-    indices-first x rest q ∙ ap (λ b. cond b (index_of x ∷ indices_by rest q) (indices_by rest q)) (eq-eqb x.node q own)
-
-pub not_eqb : (a b : ℕ) → a ≢ b → (a == b) ≡ false
-not_eqb a b differ = ⊎_elim (λ (t : (a == b) ≡ true). absurd (differ (eqb-true a b t))) (λ (f : (a == b) ≡ false). f) (cases_Bool (a == b))
-
-indices-other : (x : IntervalRecord) (rest : List IntervalRecord) (q : ℕ) → x.node ≢ q → indices_by (x ∷ rest) q ≡ indices_by rest q
-indices-other x rest q other =
-    indices-first x rest q ∙ ap (λ b. cond b (index_of x ∷ indices_by rest q) (indices_by rest q)) (not_eqb x.node q other)
 
 -- ---- one interval more
 
@@ -55,7 +28,7 @@ run-own xs x q above last next is own index one = record {
       let more : next - above ≡ (last - above) + 1 = omega arith in
       let value : next ≡ (above + 1) + (last - above) = omega arith in
       indices-append xs (x ∷ []) q
-      ∙ ap (λ ys. indices_by xs q ++ ys) (indices-own x [] q own)
+      ∙ ap (λ ys. indices_by xs q ++ ys) (indices-here x [] q own)
       ∙ ap (λ ys. ys ++ (index_of x ∷ [])) is.run
       ∙ ap (λ n. range_with_len (above + 1) (last - above) ++ (n ∷ [])) (index ∙ value)
       ∙ sym (range-last (above + 1) (last - above))
@@ -68,7 +41,7 @@ run-other xs x q above last is other = record {
   risen = is.risen;
   run =
       indices-append xs (x ∷ []) q
-      ∙ ap (λ ys. indices_by xs q ++ ys) (indices-other x [] q other)
+      ∙ ap (λ ys. indices_by xs q ++ ys) (indices-there x [] q other)
       ∙ append-nil (indices_by xs q)
       ∙ is.run;
 }
@@ -118,7 +91,7 @@ between-broken xs x rest q above last upto is own differ =
     decided _ _
     (λ e.
     let h = is.risen in
-    let same = sym (indices-append xs (x ∷ rest) q ∙ ap (λ ys. indices_by xs q ++ ys) (indices-own x rest q own)
+    let same = sym (indices-append xs (x ∷ rest) q ∙ ap (λ ys. indices_by xs q ++ ys) (indices-here x rest q own)
     ∙ ap (λ ys. ys ++ (index_of x ∷ indices_by rest q)) is.run) ∙ e in
     let value = out_of_turn (above + 1) (last - above) (upto - above) (index_of x) (indices_by rest q) same in
     differ (omega arith))

@@ -313,7 +313,7 @@ contains-between twin page offset value = (
 
 -- ---- the changes found so far
 
-enumerate_from-push : (n : ℕ) (xs : List ℕ) (x : ℕ)
+pub enumerate_from-push : {X : Type 0} (n : ℕ) (xs : List X) (x : X)
     → enumerate_from n (xs ++ x ∷ []) ≡ enumerate_from n xs ++ (n + length xs, x) ∷ []
 enumerate_from-push n [] x = let k : n ≡ n + 0 = omega arith in ap (λ i. (i, x) ∷ []) k
 enumerate_from-push n (y ∷ ys) x =

@@ -10,7 +10,7 @@ use Rattle.lrc_trace.proofs.Positions.{slice_get-front, slice_get-seam}
 use Rattle.lrc_trace.specs.declared.race.Race.{Race}
 use Rattle.lrc_trace.specs.declared.trace.Segment.{Segment}
 use Rattle.lrc_trace.specs.Trace.{TraceRecord, has_access}
-use Rattle.lrc_race.specs.declared.places.Place.{Place}
+use Rattle.lrc_race.specs.declared.places.TouchedPlace.{TouchedPlace}
 use Rattle.lrc_race.specs.declared.detector.Lane.{Lane}
 use Rattle.lrc_race.specs.Adding.{Adds, IsOfSome}
 use Rattle.lrc_race.specs.Places.{ArePlaces, touches}
@@ -64,7 +64,7 @@ lanes-more traces lanes i trace lane within is are here =
     })
 
 -- the places of a trace are of its segments
-pub places-within : (trace : TraceRecord) (with_reads : Bool) (places : List Place) → ArePlaces trace with_reads places
+pub places-within : (trace : TraceRecord) (with_reads : Bool) (places : List TouchedPlace) → ArePlaces trace with_reads places
     → AreWithin trace places
 places-within trace with_reads places are k d within =
     let place = get_or places k d in
@@ -108,8 +108,8 @@ pair-found traces i j a b first second rs qs a_is b_is apart of_a of_b adds =
     let b_same : r.b ≡ b = some_same r.b b (sym r.b_there ∙ b_is) in
     let (m, m_is) = contains_at a.segments r.s (subst (λ (u : TraceRecord). Contains u.segments r.s) a_same r.s_there) in
     let (n, n_is) = contains_at b.segments r.t (subst (λ (u : TraceRecord). Contains u.segments r.t) b_same r.t_there) in
-    let x : Place = record { word = r.word; segment = m } in
-    let y : Place = record { word = r.word; segment = n } in
+    let x : TouchedPlace = record { word = r.word; segment = m } in
+    let y : TouchedPlace = record { word = r.word; segment = n } in
     let s_touches : IsTrue (touches a.size r.s true r.word) =
     subst (λ (u : TraceRecord). IsTrue (touches u.size r.s true r.word)) a_same r.first in
     let t_touches : IsTrue (touches b.size r.t false r.word) =

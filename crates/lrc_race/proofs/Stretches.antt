@@ -5,7 +5,7 @@ use Rattle.std.proofs.lemmas.Bool.{cases_eq, cases_lt}
 use Rattle.std.proofs.lemmas.Option.{get_or_from_slice_get, slice_get_read, slice_get_within, slice_get-get_or}
 use Rattle.lrc_trace.specs.declared.race.Race.{Race}
 use Rattle.lrc_trace.specs.Trace.{TraceRecord}
-use Rattle.lrc_race.specs.declared.places.Place.{Place}
+use Rattle.lrc_race.specs.declared.places.TouchedPlace.{TouchedPlace}
 use Rattle.lrc_race.specs.Adding.{Adds, IsOfSome}
 use Rattle.lrc_race.specs.Places.{IsBefore, AreInOrder}
 use Rattle.lrc_race.specs.Races.{RisesAlong, name_of}
@@ -22,7 +22,7 @@ at_contains xs k x is = (k, slice_get_within xs k x is, get_or_from_slice_get xs
 
 -- ---- places that do not race
 
-pub behind-no_race : (rise : Bool) (a : TraceRecord) (x : Place) (b : TraceRecord) (y : Place) (race : Race)
+pub behind-no_race : (rise : Bool) (a : TraceRecord) (x : TouchedPlace) (b : TraceRecord) (y : TouchedPlace) (race : Race)
     → IsBehind rise a x b y → IsRaceOfPlaces a x b y race → ⊥
 behind-no_race rise a x b y race behind r =
     ⊎_elim
@@ -33,7 +33,7 @@ behind-no_race rise a x b y race behind r =
     r.unordered.first (rw (← s, ← t) knows.knows))
     behind
 
-pub ahead-no_race : (rise : Bool) (a : TraceRecord) (x : Place) (b : TraceRecord) (y : Place) (race : Race)
+pub ahead-no_race : (rise : Bool) (a : TraceRecord) (x : TouchedPlace) (b : TraceRecord) (y : TouchedPlace) (race : Race)
     → IsBehind rise b y a x → IsRaceOfPlaces a x b y race → ⊥
 ahead-no_race rise a x b y race behind r =
     ⊎_elim
@@ -45,7 +45,7 @@ ahead-no_race rise a x b y race behind r =
     behind
 
 -- what is behind a place is behind every later place of its trace
-pub behind-later : (rise : Bool) (a : TraceRecord) (x later : Place) (b : TraceRecord) (y : Place) → (IsTrue rise → RisesAlong a)
+pub behind-later : (rise : Bool) (a : TraceRecord) (x later : TouchedPlace) (b : TraceRecord) (y : TouchedPlace) → (IsTrue rise → RisesAlong a)
     → IsBefore x later → later.segment < length a.segments → IsBehind rise a x b y → IsBehind rise a later b y
 behind-later rise a x later b y rises before within behind =
     ⊎_elim
@@ -73,7 +73,7 @@ behind-later rise a x later b y rises before within behind =
     behind
 
 -- two places have one race
-one_race : (a : TraceRecord) (x : Place) (b : TraceRecord) (y : Place) (q r : Race)
+one_race : (a : TraceRecord) (x : TouchedPlace) (b : TraceRecord) (y : TouchedPlace) (q r : Race)
     → IsRaceOfPlaces a x b y q → IsRaceOfPlaces a x b y r → q ≡ r
 one_race a x b y q r first second =
     let s : first.s ≡ second.s = some_same first.s second.s (sym first.first ∙ second.first) in
@@ -82,14 +82,14 @@ one_race a x b y q r first second =
 
 -- ---- the races of one place
 
-module _ (a : TraceRecord) (x : Place) (b : TraceRecord) (ys : List Place) (from : ℕ) where
+module _ (a : TraceRecord) (x : TouchedPlace) (b : TraceRecord) (ys : List TouchedPlace) (from : ℕ) where
   abbrev pub IsStretchAt : ℕ → Race → Type 0
   IsStretchAt k race = (from ≤ k) × IsRaceAt a x b ys k race
 
   pub stretch-none : (xs : List Race) → Adds xs xs (IsBelow IsStretchAt from)
   stretch-none xs = adds-same xs (IsBelow IsStretchAt from) (λ race (k, less, (after, is)). omega arith)
 
-  pub stretch-same : (rs qs : List Race) (k : ℕ) (y : Place) → slice_get ys k ≡ Some y
+  pub stretch-same : (rs qs : List Race) (k : ℕ) (y : TouchedPlace) → slice_get ys k ≡ Some y
       → ((race : Race) → ¬ IsRaceOfPlaces a x b y race)
       → Adds rs qs (IsBelow IsStretchAt k) → Adds rs qs (IsBelow IsStretchAt (k + 1))
   stretch-same rs qs k y is none adds =
@@ -97,7 +97,7 @@ module _ (a : TraceRecord) (x : Place) (b : TraceRecord) (ys : List Place) (from
       (adds-same qs (IsStretchAt k) (λ race (after, (z, there, r)).
       none race (subst (λ w. IsRaceOfPlaces a x b w race) (some_same z y (sym there ∙ is)) r)))
 
-  pub stretch-push : (rs qs ps : List Race) (k : ℕ) (y : Place) (race : Race) → from ≤ k → slice_get ys k ≡ Some y
+  pub stretch-push : (rs qs ps : List Race) (k : ℕ) (y : TouchedPlace) (race : Race) → from ≤ k → slice_get ys k ≡ Some y
       → IsRaceOfPlaces a x b y race → ps ≡ qs ++ race ∷ []
       → Adds rs qs (IsBelow IsStretchAt k) → Adds rs ps (IsBelow IsStretchAt (k + 1))
   stretch-push rs qs ps k y race after is r pushed adds =
@@ -110,7 +110,7 @@ module _ (a : TraceRecord) (x : Place) (b : TraceRecord) (ys : List Place) (from
 
   -- where nothing from a number on races
   pub stretch-all : (rs qs : List Race) (n : ℕ)
-      → ((k : ℕ) (y : Place) (race : Race) → n ≤ k → slice_get ys k ≡ Some y → ¬ IsRaceOfPlaces a x b y race)
+      → ((k : ℕ) (y : TouchedPlace) (race : Race) → n ≤ k → slice_get ys k ≡ Some y → ¬ IsRaceOfPlaces a x b y race)
       → Adds rs qs (IsBelow IsStretchAt n) → Adds rs qs (IsRaceFrom a x b ys from)
   stretch-all rs qs n none adds =
       adds-iff rs qs (IsBelow IsStretchAt n) (IsRaceFrom a x b ys from)
@@ -122,38 +122,38 @@ module _ (a : TraceRecord) (x : Place) (b : TraceRecord) (ys : List Place) (from
 -- ---- places in order
 
 -- the place that stands for what is not there
-abbrev pub nowhere : Place
+abbrev pub nowhere : TouchedPlace
 nowhere = record { word = 0; segment = 0 }
 
-pub order_at : (ys : List Place) → AreInOrder ys → (k j : ℕ) (y z : Place) → k ≤ j → slice_get ys k ≡ Some y
+pub order_at : (ys : List TouchedPlace) → AreInOrder ys → (k j : ℕ) (y z : TouchedPlace) → k ≤ j → slice_get ys k ≡ Some y
     → slice_get ys j ≡ Some z → IsBefore y z
 order_at ys sorted k j y z before y_is z_is =
     ⊎_elim
     (λ (same : k ≡ j).
     let one : y ≡ z = some_same y z (sym y_is ∙ ap (slice_get ys) same ∙ z_is) in
-    inr (ap (λ (p : Place). p.word) one, omega (arith, ap (λ (p : Place). p.segment) one)))
+    inr (ap (λ (p : TouchedPlace). p.word) one, omega (arith, ap (λ (p : TouchedPlace). p.segment) one)))
     (λ (apart : k ≡ j → ⊥).
     rw (get_or_from_slice_get ys k y nowhere y_is, get_or_from_slice_get ys j z nowhere z_is) at
     (sorted k j nowhere (omega arith) (slice_get_within ys j z z_is)))
     (cases_eq k j)
 
-pub within_at : (b : TraceRecord) (ys : List Place) → AreWithin b ys → (k : ℕ) (y : Place) → slice_get ys k ≡ Some y
+pub within_at : (b : TraceRecord) (ys : List TouchedPlace) → AreWithin b ys → (k : ℕ) (y : TouchedPlace) → slice_get ys k ≡ Some y
     → y.segment < length b.segments
 within_at b ys within k y is =
-    subst (λ (p : Place). p.segment < length b.segments) (get_or_from_slice_get ys k y nowhere is)
+    subst (λ (p : TouchedPlace). p.segment < length b.segments) (get_or_from_slice_get ys k y nowhere is)
     (within k nowhere (slice_get_within ys k y is))
 
 -- what stands after a place that is ahead does not race
-pub ahead-rest : (rise : Bool) (a : TraceRecord) (x : Place) (b : TraceRecord) (ys : List Place) → (IsTrue rise → RisesAlong b)
-    → AreInOrder ys → AreWithin b ys → (k : ℕ) (y : Place) → slice_get ys k ≡ Some y → IsBehind rise b y a x
-    → (j : ℕ) (z : Place) (race : Race) → k ≤ j → slice_get ys j ≡ Some z → ¬ IsRaceOfPlaces a x b z race
+pub ahead-rest : (rise : Bool) (a : TraceRecord) (x : TouchedPlace) (b : TraceRecord) (ys : List TouchedPlace) → (IsTrue rise → RisesAlong b)
+    → AreInOrder ys → AreWithin b ys → (k : ℕ) (y : TouchedPlace) → slice_get ys k ≡ Some y → IsBehind rise b y a x
+    → (j : ℕ) (z : TouchedPlace) (race : Race) → k ≤ j → slice_get ys j ≡ Some z → ¬ IsRaceOfPlaces a x b z race
 ahead-rest rise a x b ys rises sorted within k y y_is ahead j z race late z_is =
     ahead-no_race rise a x b z race
     (behind-later rise b y z a x rises (order_at ys sorted k j y z late y_is z_is) (within_at b ys within j z z_is) ahead)
 
 -- the races from a number on are all, where those before are behind
-pub from-all : (rise : Bool) (a : TraceRecord) (x : Place) (b : TraceRecord) (ys : List Place) (start : ℕ) (rs qs : List Race)
-    → ((k : ℕ) (y : Place) → k < start → slice_get ys k ≡ Some y → IsBehind rise a x b y)
+pub from-all : (rise : Bool) (a : TraceRecord) (x : TouchedPlace) (b : TraceRecord) (ys : List TouchedPlace) (start : ℕ) (rs qs : List Race)
+    → ((k : ℕ) (y : TouchedPlace) → k < start → slice_get ys k ≡ Some y → IsBehind rise a x b y)
     → Adds rs qs (IsRaceFrom a x b ys start) → Adds rs qs (IsOfSome ys (IsRaceOfPlaces a x b))
 from-all rise a x b ys start rs qs behind adds =
     adds-iff rs qs (IsRaceFrom a x b ys start) (IsOfSome ys (IsRaceOfPlaces a x b))

@@ -4,7 +4,7 @@ use Rattle.lrc_time.specs.Time.{Knows}
 use Rattle.lrc_trace.specs.declared.race.Race.{Race}
 use Rattle.lrc_trace.specs.declared.trace.Segment.{Segment}
 use Rattle.lrc_trace.specs.Trace.{TraceRecord}
-use Rattle.lrc_race.specs.declared.places.Place.{Place}
+use Rattle.lrc_race.specs.declared.places.TouchedPlace.{TouchedPlace}
 use Rattle.lrc_race.specs.declared.detector.Lane.{Lane}
 use Rattle.lrc_race.specs.Places.{ArePlaces, touches}
 use Rattle.lrc_race.specs.Races.{AreUnordered, name_of}
@@ -21,7 +21,7 @@ pub record AreLanes (traces : List TraceRecord) (lanes : List Lane) : Type 0 whe
       → IsLane trace lane
 
 -- each place is of a segment of the trace
-abbrev pub AreWithin : TraceRecord → List Place → Type 0
+abbrev pub AreWithin : TraceRecord → List TouchedPlace → Type 0
 AreWithin trace places = All (λ place. place.segment < length trace.segments) places
 
 -- the times of each have an entry for the other's node
@@ -30,7 +30,7 @@ pub record HaveEntries (a b : TraceRecord) : Type 0 where
   pub second : (t : Segment) → Contains b.segments t → a.node < length t.time
 
 -- the time of the segment of the one place knows the interval of the other's
-pub record KnowsAt (a : TraceRecord) (x : Place) (b : TraceRecord) (y : Place) : Type 0 where
+pub record KnowsAt (a : TraceRecord) (x : TouchedPlace) (b : TraceRecord) (y : TouchedPlace) : Type 0 where
   pub s : Segment
   pub t : Segment
   pub first : slice_get a.segments x.segment ≡ Some s
@@ -38,11 +38,11 @@ pub record KnowsAt (a : TraceRecord) (x : Place) (b : TraceRecord) (y : Place) :
   pub knows : Knows s.time b.node t.interval
 
 -- In order by words, and by what is known where times rise, the second place is before the first.
-abbrev pub IsBehind : Bool → TraceRecord → Place → TraceRecord → Place → Type 0
+abbrev pub IsBehind : Bool → TraceRecord → TouchedPlace → TraceRecord → TouchedPlace → Type 0
 IsBehind rise a x b y = (y.word < x.word) ⊎ (IsTrue rise × (y.word ≡ x.word) × KnowsAt a x b y)
 
 -- the places are of one word, and their segments race
-pub record IsRaceOfPlaces (a : TraceRecord) (x : Place) (b : TraceRecord) (y : Place) (race : Race) : Type 0 where
+pub record IsRaceOfPlaces (a : TraceRecord) (x : TouchedPlace) (b : TraceRecord) (y : TouchedPlace) (race : Race) : Type 0 where
   pub s : Segment
   pub t : Segment
   pub first : slice_get a.segments x.segment ≡ Some s
@@ -52,10 +52,10 @@ pub record IsRaceOfPlaces (a : TraceRecord) (x : Place) (b : TraceRecord) (y : P
   pub named : race ≡ name_of x.word a s b t
 
 -- the race is one of the place with that at number k, or at a later number
-abbrev pub IsRaceAt : TraceRecord → Place → TraceRecord → List Place → ℕ → Race → Type 0
-IsRaceAt a x b ys k race = (y : Place) × (slice_get ys k ≡ Some y) × IsRaceOfPlaces a x b y race
+abbrev pub IsRaceAt : TraceRecord → TouchedPlace → TraceRecord → List TouchedPlace → ℕ → Race → Type 0
+IsRaceAt a x b ys k race = (y : TouchedPlace) × (slice_get ys k ≡ Some y) × IsRaceOfPlaces a x b y race
 
-abbrev pub IsRaceFrom : TraceRecord → Place → TraceRecord → List Place → ℕ → Race → Type 0
+abbrev pub IsRaceFrom : TraceRecord → TouchedPlace → TraceRecord → List TouchedPlace → ℕ → Race → Type 0
 IsRaceFrom a x b ys from race = (k : ℕ) × (from ≤ k) × IsRaceAt a x b ys k race
 
 -- the race is of the i-th trace, which accesses the word, and the j-th, of another node, which writes it

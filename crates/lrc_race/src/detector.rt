@@ -5,12 +5,12 @@ ghost use Rattle.lrc_trace.specs.Trace.{TraceRecord};
 ghost use Rattle.lrc_time.specs.Time.{Knows};
 ghost use Rattle.lrc_race.specs.Adding.{Adds, IsOfSome};
 ghost use Rattle.lrc_trace.specs.declared.race.Race.{Race};
-ghost use Rattle.lrc_race.specs.declared.places.Place.{Place};
+ghost use Rattle.lrc_race.specs.declared.places.TouchedPlace.{TouchedPlace};
 ghost use Rattle.lrc_race.specs.Places.{AreInOrder};
 ghost use Rattle.lrc_race.specs.Races.{AreRacesOf, AreTracesOf, RisesAlong, name_of};
 ghost use Rattle.lrc_race.specs.Pairs.{IsLane, AreLanes, AreWithin, HaveEntries, IsBehind, IsRaceOfPlaces, IsRaceFrom, IsRaceOfTraces};
 
-use crate::places::{Place, places_of};
+use crate::places::{TouchedPlace, places_of};
 use crate::rising::all_rise;
 use lrc_trace::race::Race;
 use lrc_trace::trace::{Segment, Trace};
@@ -19,8 +19,8 @@ use std::alloc::{AllocError, Global};
 /// The words that a trace accesses, and those that it writes, in order.
 #[derive(Drop)]
 struct Lane {
-    accesses: Vec<Place>,
-    writes: Vec<Place>,
+    accesses: Vec<TouchedPlace>,
+    writes: Vec<TouchedPlace>,
 }
 
 /// The words of each trace.
@@ -67,7 +67,7 @@ fn named(word: u32, a: &Trace, s: &Segment, b: &Trace, t: &Segment) -> Race
 }
 
 /// Whether the second place comes before the first, by words, and where times rise by what the first one knows.
-fn is_behind(rise: bool, a: &Trace, x: Place, b: &Trace, y: Place) -> bool
+fn is_behind(rise: bool, a: &Trace, x: TouchedPlace, b: &Trace, y: TouchedPlace) -> bool
     requires first { x.segment < length a.now.segments }
     requires second { y.segment < length b.now.segments }
     requires entries { HaveEntries a.now b.now }
@@ -80,13 +80,20 @@ fn is_behind(rise: bool, a: &Trace, x: Place, b: &Trace, y: Place) -> bool
 }
 
 /// The first of the places from this one on that is not behind.
-fn skip(rise: bool, a: &Trace, x: Place, b: &Trace, ys: &[Place], from: usize) -> usize
+fn skip(
+    rise: bool,
+    a: &Trace,
+    x: TouchedPlace,
+    b: &Trace,
+    ys: &[TouchedPlace],
+    from: usize,
+) -> usize
     requires first { x.segment < length a.now.segments }
     requires second { AreWithin b.now ys.now }
     requires entries { HaveEntries a.now b.now }
     requires within { from ≤ length ys.now }
     ensures within { result ≤ length ys.now }
-    ensures behind { (k : ℕ) (y : Place) → from ≤ k → k < result → slice_get ys.now k ≡ Some y → IsBehind rise a.now x b.now y }
+    ensures behind { (k : ℕ) (y : TouchedPlace) → from ≤ k → k < result → slice_get ys.now k ≡ Some y → IsBehind rise a.now x b.now y }
 {
     let mut start = from;
     while start < ys.len() && is_behind(rise, a, x, b, ys[start]) {
@@ -96,7 +103,7 @@ fn skip(rise: bool, a: &Trace, x: Place, b: &Trace, ys: &[Place], from: usize) -
 }
 
 /// The race of two places.
-fn race_of(a: &Trace, x: Place, b: &Trace, y: Place) -> Option<Race>
+fn race_of(a: &Trace, x: TouchedPlace, b: &Trace, y: TouchedPlace) -> Option<Race>
     requires first { x.segment < length a.now.segments }
     requires second { y.segment < length b.now.segments }
     requires entries { HaveEntries a.now b.now }
@@ -115,9 +122,9 @@ fn add_stretch(
     races: &mut Vec<Race>,
     rise: bool,
     a: &Trace,
-    x: Place,
+    x: TouchedPlace,
     b: &Trace,
-    ys: &[Place],
+    ys: &[TouchedPlace],
     from: usize,
 ) -> Result<(), AllocError>
     requires first { x.segment < length a.now.segments }
@@ -145,9 +152,9 @@ fn add_races(
     races: &mut Vec<Race>,
     rise: bool,
     a: &Trace,
-    xs: &[Place],
+    xs: &[TouchedPlace],
     b: &Trace,
-    ys: &[Place],
+    ys: &[TouchedPlace],
 ) -> Result<(), AllocError>
     requires first { AreWithin a.now xs.now }
     requires second { AreWithin b.now ys.now }

@@ -20,6 +20,7 @@ use Rattle.lrc_theory.specs.Follows.{trapping, ending, Makes, nothing_more, and_
 use Rattle.lrc_theory.specs.InOrder.{ReadsInOrder}
 use Rattle.lrc_theory.proofs.Ahead.{does_ahead, drop_ahead}
 use Rattle.lrc_exec.proofs.NextLaws.{next_of-fine}
+use Rattle.lrc_exec.proofs.PlainLaws.{then_from, plain_from-append}
 use Rattle.lrc_exec.proofs.PlainParts.{thread_within}
 use Rattle.lrc_theory.proofs.Matching.{Matches}
 use Rattle.lrc_theory.proofs.Step.{step}
@@ -64,15 +65,10 @@ one_more machine after final node deed order more first rest =
     ∙ ap (option_map (λ m. (record { node = node; deed = deed } ∷ m.0, m.1))) rest
 
 -- a run and a run after it are a run
-pub plain_from-append : (xs ys : List ℕ) (machine mid final : Plain) (made later : List Act) → plain_from machine xs ≡ Some (made, mid)
+pub plain_from-joined : (xs ys : List ℕ) (machine mid final : Plain) (made later : List Act) → plain_from machine xs ≡ Some (made, mid)
     → plain_from mid ys ≡ Some (later, final) → plain_from machine (xs ++ ys) ≡ Some (made ++ later, final)
-plain_from-append [] ys machine mid final made later e f =
-    let parts = some_pair_parts [] made machine mid e in
-    ap (λ m. plain_from m ys) parts.1 ∙ f ∙ ap (λ zs. Some (zs ++ later, final)) parts.0
-plain_from-append (x ∷ xs) ys machine mid final made later e f =
-    let s = stepwise machine x xs made mid e in
-    one_more machine s.after final x s.deed (xs ++ ys) (s.more ++ later) s.first (plain_from-append xs ys s.after mid final s.more later s.rest f)
-    ∙ ap (λ zs. Some (zs ++ later, final)) (sym s.acts_are)
+plain_from-joined xs ys machine mid final made later e f =
+    plain_from-append machine xs ys ∙ ap (λ run. then_from run ys) e ∙ ap (option_map (λ more. (made ++ more.0, more.1))) f
 
 -- a deed that was done: what the thread did, and what the machine allowed
 record Undone (machine : Plain) (node : ℕ) (n : Next) (d : Deed) (after : Plain) : Type 0 where

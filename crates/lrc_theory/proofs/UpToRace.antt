@@ -22,7 +22,7 @@ use Rattle.lrc_exec.proofs.NextLaws.{IsFine, next_of-fine}
 use Rattle.lrc_theory.proofs.Matching.{Matches}
 use Rattle.lrc_theory.proofs.Lazy.{reads_last}
 use Rattle.lrc_theory.proofs.Runs.{SoundAt, done, can_do, makes_first, deeds_of-own, Ready, Led, led, start_ready}
-use Rattle.lrc_theory.proofs.Plainly.{one_more, plain_from-append}
+use Rattle.lrc_theory.proofs.Plainly.{one_more, plain_from-joined}
 
 -- the acts of a run that follows the text are of its nodes
 pub in_range : {program : Program} {nodes : ℕ} {run : List Act} → FollowsText program nodes run → (k n : ℕ) (d : Deed) → Does run k n d → n < nodes
@@ -113,7 +113,7 @@ module _ (program : Program) (nodes : ℕ) (run : List Act) (follows : FollowsTe
       ∙ m.is in
       let last : plain_from l.final (node ∷ []) ≡ Some (act_of node m.other ∷ [], m.after) =
       one_more l.final m.after m.after node m.other [] [] first_step refl in
-      let whole = plain_from-append (nodes_of (take position run)) (node ∷ []) (plain_start program nodes) l.final m.after (take position run)
+      let whole = plain_from-joined (nodes_of (take position run)) (node ∷ []) (plain_start program nodes) l.final m.after (take position run)
       (act_of node m.other ∷ []) l.is last in
       let order : nodes_of (take (position + 1) run) ≡ nodes_of (take position run) ++ node ∷ [] = ap (λ k. nodes_of (take k run)) (add-one position)
       ∙ ap nodes_of (take_ahead run position a here.stands) ∙ map-append (λ (x : Act). x.node) (take position run) (a ∷ []) in

@@ -7,7 +7,7 @@ use Rattle.lrc_protocol.specs.Log.{EntryRecord}
 use Rattle.lrc_weave.specs.Woven.{log_of, come_of}
 use Rattle.lrc_weave.specs.Next.{IsNextOf}
 use Rattle.lrc_protocol.specs.declared.event.Event.{Event}
-use Rattle.lrc_weave.specs.declared.events.Key.{Key}
+use Rattle.lrc_weave.specs.declared.events.MessageName.{MessageName}
 use Rattle.lrc_weave.specs.Events.{IsTurnOf}
 use Rattle.lrc_weave.proofs.Weaving.{to_come, one_less}
 use Rattle.lrc_weave.proofs.Stepping.{WovenSo, so_start, so_more}
@@ -42,24 +42,24 @@ module _ {V : Type 0} (f : V → List EntryRecord) where
   below_end vs come n place v next place_is v_is =
       subst (λ w. place < length (f w)) (sym v_is) (subst (λ p. p < length (f (slice_index_or vs n v))) (sym place_is) (next_place vs come n v next))
 
-  pub so_begin : (vs : List V) (come : List ℕ) (keys : List Key) (events : List Event) → come ≡ replicate (length vs) 0 → keys ≡ [] → events ≡ []
-      → (length come ≡ length vs) × WovenSo (map f vs) come keys events
-  so_begin vs come keys events come_is keys_is events_is = (
+  pub so_begin : (vs : List V) (come : List ℕ) (names : List MessageName) (events : List Event) → come ≡ replicate (length vs) 0 → names ≡ [] → events ≡ []
+      → (length come ≡ length vs) × WovenSo (map f vs) come names events
+  so_begin vs come names events come_is names_is events_is = (
     ap length come_is ∙ length-replicate (length vs) 0,
-    subst (λ c. WovenSo (map f vs) c keys events) (sym (come_is ∙ ap (λ k. replicate k 0) (sym (length-map vs f))))
-        (subst (λ k. WovenSo (map f vs) (replicate (length (map f vs)) 0) k events) (sym keys_is)
+    subst (λ c. WovenSo (map f vs) c names events) (sym (come_is ∙ ap (λ k. replicate k 0) (sym (length-map vs f))))
+        (subst (λ k. WovenSo (map f vs) (replicate (length (map f vs)) 0) k events) (sym names_is)
         (subst (λ e. WovenSo (map f vs) (replicate (length (map f vs)) 0) [] e) (sym events_is) (so_start (map f vs)))),
   )
 
-  pub so_next : (vs : List V) (come : List ℕ) (keys new : List Key) (events more : List Event) (event : Event) (n place x : ℕ) (v : V)
-      → (length come ≡ length vs) × WovenSo (map f vs) come keys events → IsNextOf (map f vs) come (Some n) → IsTurnOf n (f v) place keys new event
+  pub so_next : (vs : List V) (come : List ℕ) (names new : List MessageName) (events more : List Event) (event : Event) (n place x : ℕ) (v : V)
+      → (length come ≡ length vs) × WovenSo (map f vs) come names events → IsNextOf (map f vs) come (Some n) → IsTurnOf n (f v) place names new event
       → v ≡ slice_index_or vs n v → place ≡ come_of come n → x ≡ place + 1 → more ≡ events ++ event ∷ []
       → (length (slice_set come n x) ≡ length vs) × WovenSo (map f vs) (slice_set come n x) new more
-  so_next vs come keys new events more event n place x v so next turn v_is place_is x_is more_is =
+  so_next vs come names new events more event n place x v so next turn v_is place_is x_is more_is =
       let log_is : f v ≡ log_of (map f vs) n = ap f v_is ∙ sym (log_at vs n v (next_node vs come n next)) in
-      let turned : IsTurnOf n (log_of (map f vs) n) (come_of come n) keys new event =
-      subst (λ p. IsTurnOf n (log_of (map f vs) n) p keys new event) place_is (subst (λ l. IsTurnOf n l place keys new event) log_is turn) in
-      let done = so_more (map f vs) come keys new events event n (so.0 ∙ sym (length-map vs f)) next turned so.1 in (
+      let turned : IsTurnOf n (log_of (map f vs) n) (come_of come n) names new event =
+      subst (λ p. IsTurnOf n (log_of (map f vs) n) p names new event) place_is (subst (λ l. IsTurnOf n l place names new event) log_is turn) in
+      let done = so_more (map f vs) come names new events event n (so.0 ∙ sym (length-map vs f)) next turned so.1 in (
         length-set come n x ∙ so.0,
         subst (λ k. WovenSo (map f vs) (slice_set come n k) new more) (sym (x_is ∙ ap (λ p. p + 1) place_is))
             (subst (WovenSo (map f vs) (slice_set come n (come_of come n + 1)) new) (sym more_is) done),

@@ -9,10 +9,10 @@ use Rattle.std.proofs.lemmas.Option.{slice_get-get_or, slice_get_within, slice_g
 use Rattle.lrc_wire.specs.Envelope.{EnvelopeRecord}
 use Rattle.lrc_protocol.specs.declared.event.Event.{Event}
 use Rattle.lrc_protocol.specs.Log.{Input, run, taken, EntryRecord}
-use Rattle.lrc_weave.specs.declared.events.Key.{Key}
+use Rattle.lrc_weave.specs.declared.events.MessageName.{MessageName}
 use Rattle.lrc_weave.specs.Woven.{takes_same, is_taken_in}
 use Rattle.lrc_weave.specs.Again.{has_key, is_noted, is_again, AreAgain, AreAllAgain}
-use Rattle.lrc_weave.specs.Events.{key_of, IsMadeBy, IsTurnOf}
+use Rattle.lrc_weave.specs.Events.{name_of, IsMadeBy, IsTurnOf}
 use Rattle.lrc_weave.proofs.Places.{taken_more, dropped_less}
 use Rattle.lrc_weave.proofs.Members.{in_map}
 
@@ -137,9 +137,10 @@ bit_is log again place entry b are at is =
     same_Some b (is_again entry.input (drop (place + 1) log))
     (ap Some is ∙ sym (slice_get-get_or again place b within) ∙ are.each place entry at)
 
-pub turned : (node : ℕ) (log : List EntryRecord) (again : List Bool) (place : ℕ) (old left new : List Key) (event : Event) (entry : EntryRecord) (b : Bool)
+pub turned : (node : ℕ) (log : List EntryRecord) (again : List Bool) (place : ℕ) (old left new : List MessageName) (event : Event)
+    (entry : EntryRecord) (b : Bool)
     → place < length log → entry ≡ slice_index_or log place entry → AreAgain log again → b ≡ slice_index_or again place b
-    → IsMadeBy node b old entry.input left (Some event) → new ≡ left ++ map key_of entry.turn.out → IsTurnOf node log place old new event
+    → IsMadeBy node b old entry.input left (Some event) → new ≡ left ++ map name_of entry.turn.out → IsTurnOf node log place old new event
 turned node log again place old left new event entry b within is are bit made sent =
     let at : slice_get log place ≡ Some entry = slice_get_read log (length log) place entry refl within is in (
       entry,

@@ -18,13 +18,13 @@ use Rattle.lrc_protocol.specs.Log.{Input, run, taken, EntryRecord, Logged, logge
 use Rattle.lrc_protocol.specs.World.{Flying, marked, with_mark, sent_by}
 use Rattle.lrc_invariants.specs.Numbers.{numbers_between, Rises}
 use Rattle.lrc_invariants.proofs.InFlight.{Sends, all_send}
-use Rattle.lrc_weave.specs.declared.events.Key.{Key}
+use Rattle.lrc_weave.specs.declared.events.MessageName.{MessageName}
 use Rattle.lrc_weave.specs.Logs.{GoesOn, AreLogs}
 use Rattle.lrc_weave.specs.Matched.{AreMatched}
 use Rattle.lrc_weave.specs.Woven.{log_of, come_of, IsNext, is_taken_in, IsTakenAt, Makes, runs, takes_last, takes_again, Woven, nothing_yet, then_one, AreWoven}
 use Rattle.lrc_weave.specs.Next.{IsNextOf}
 use Rattle.lrc_weave.specs.Again.{is_again}
-use Rattle.lrc_weave.specs.Events.{key_of, is_key, taking, left_by, IsTakenFrom, IsMadeBy, IsTurnOf}
+use Rattle.lrc_weave.specs.Events.{name_of, is_named, taking, left_by, IsTakenFrom, IsMadeBy, IsTurnOf}
 use Rattle.lrc_weave.proofs.Places.{dropped_less, within_outer}
 use Rattle.lrc_weave.proofs.Members.{in_map, of_map}
 use Rattle.lrc_weave.proofs.Played.{all_played}
@@ -93,44 +93,45 @@ addressed l envelope came entry after e =
 
 -- ---- what flight is known by
 
-abbrev pub key_at : Flying → Key
-key_at flying = key_of flying.envelope
+abbrev pub name_at : Flying → MessageName
+name_at flying = name_of flying.envelope
 
-key_marked : (b : Bool) (f : Flying) → key_at (cond b (marked f) f) ≡ key_at f
-key_marked true f = refl
-key_marked false f = refl
+name_marked : (b : Bool) (f : Flying) → name_at (cond b (marked f) f) ≡ name_at f
+name_marked true f = refl
+name_marked false f = refl
 
-keys_marked : (flight : List Flying) (first place : ℕ)
-    → map key_at (map (λ (at : ℕ × Flying). cond (at.0 == place) (marked at.1) at.1) (enumerate_from first flight)) ≡ map key_at flight
-keys_marked [] first place = refl
-keys_marked (f ∷ flight) first place =
-    ap (λ k. k ∷ map key_at (map (λ (at : ℕ × Flying). cond (at.0 == place) (marked at.1) at.1) (enumerate_from (first + 1) flight)))
-    (key_marked (first == place) f)
-    ∙ ap (λ ks. key_at f ∷ ks) (keys_marked flight (first + 1) place)
+names_marked : (flight : List Flying) (first place : ℕ)
+    → map name_at (map (λ (at : ℕ × Flying). cond (at.0 == place) (marked at.1) at.1) (enumerate_from first flight)) ≡ map name_at flight
+names_marked [] first place = refl
+names_marked (f ∷ flight) first place =
+    ap (λ k. k ∷ map name_at (map (λ (at : ℕ × Flying). cond (at.0 == place) (marked at.1) at.1) (enumerate_from (first + 1) flight)))
+    (name_marked (first == place) f)
+    ∙ ap (λ ks. name_at f ∷ ks) (names_marked flight (first + 1) place)
 
-keys_removed : (flight : List Flying) (place : ℕ) → map key_at (remove flight place) ≡ remove (map key_at flight) place
-keys_removed [] zero = refl
-keys_removed [] (suc place) = refl
-keys_removed (f ∷ flight) zero = refl
-keys_removed (f ∷ flight) (suc place) = ap (λ ks. key_at f ∷ ks) (keys_removed flight place)
+names_removed : (flight : List Flying) (place : ℕ) → map name_at (remove flight place) ≡ remove (map name_at flight) place
+names_removed [] zero = refl
+names_removed [] (suc place) = refl
+names_removed (f ∷ flight) zero = refl
+names_removed (f ∷ flight) (suc place) = ap (λ ks. name_at f ∷ ks) (names_removed flight place)
 
 -- ---- one turn
 
 -- what the code keeps stands for a part of the weave
-abbrev pub WovenSo : List (List EntryRecord) → List ℕ → List Key → List Event → Type 0
-WovenSo logs come keys events = (program : Program) (nodes : ℕ) (options : OptionsRecord) (wires : List MailboxRecord) → AreLogs program nodes options logs
+abbrev pub WovenSo : List (List EntryRecord) → List ℕ → List MessageName → List Event → Type 0
+WovenSo logs come names events = (program : Program) (nodes : ℕ) (options : OptionsRecord) (wires : List MailboxRecord) → AreLogs program nodes options logs
     → AreMatched logs wires → length wires ≡ length logs
-    → (flight : List Flying) × Woven logs come flight events × Holds logs come flight × (map key_at flight ≡ keys)
+    → (flight : List Flying) × Woven logs come flight events × Holds logs come flight × (map name_at flight ≡ names)
 
 pub so_start : (logs : List (List EntryRecord)) → WovenSo logs (replicate (length logs) 0) [] []
 so_start logs program nodes options wires are matched count = ([], nothing_yet, holds_start logs, refl)
 
-pub so_all : (logs : List (List EntryRecord)) (come : List ℕ) (keys : List Key) (events : List Event) → WovenSo logs come keys events → IsNextOf logs come None
+pub so_all : (logs : List (List EntryRecord)) (come : List ℕ) (names : List MessageName) (events : List Event)
+    → WovenSo logs come names events → IsNextOf logs come None
     → (program : Program) (nodes : ℕ) (options : OptionsRecord) (wires : List MailboxRecord) → AreLogs program nodes options logs
-    → AreMatched logs wires → length wires ≡ length logs → (flight : List Flying) × AreWoven logs events flight × (length flight ≡ length keys)
-so_all logs come keys events so none program nodes options wires are matched count =
+    → AreMatched logs wires → length wires ≡ length logs → (flight : List Flying) × AreWoven logs events flight × (length flight ≡ length names)
+so_all logs come names events so none program nodes options wires are matched count =
     let s = so program nodes options wires are matched count in
-    (s.0, record { come = come; woven = s.1; all = none }, sym (length-map s.0 key_at) ∙ ap length s.3)
+    (s.0, record { come = come; woven = s.1; all = none }, sym (length-map s.0 name_at) ∙ ap length s.3)
 
 module _ (logs : List (List EntryRecord)) (come : List ℕ) (events : List Event) (counted : length come ≡ length logs)
     (node : ℕ) (entry : EntryRecord) (next : IsNext logs come node entry)
@@ -144,8 +145,8 @@ module _ (logs : List (List EntryRecord)) (come : List ℕ) (events : List Event
   later = drop (come_of come node + 1) (log_of logs node)
 
   -- the turn is made, and what is left in flight is known by these
-  abbrev MadeOf : Event → List Key → Type 0
-  MadeOf event left = (rest : List Flying) × Makes node before later entry flight event rest × (map key_at rest ≡ left)
+  abbrev MadeOf : Event → List MessageName → Type 0
+  MadeOf event left = (rest : List Flying) × Makes node before later entry flight event rest × (map name_at rest ≡ left)
 
   from_in : (envelope : EnvelopeRecord) → entry.input ≡ taken envelope → envelope.from < nodes
   from_in envelope is =
@@ -156,7 +157,7 @@ module _ (logs : List (List EntryRecord)) (come : List ℕ) (events : List Event
       subst (λ s. envelope.from < s) (ap (λ (s : _). s.nodes) sends.setting)
       (addressed here.0 envelope on.0 entry on.1 (ap (λ i. logs' here.0 i on.0) (sym is) ∙ on.3))
 
-  same_place : (p q : ℕ) (f g : Flying) → slice_get flight p ≡ Some f → slice_get flight q ≡ Some g → is_key g.envelope (key_at f) ≡ true
+  same_place : (p q : ℕ) (f g : Flying) → slice_get flight p ≡ Some f → slice_get flight q ≡ Some g → is_named g.envelope (name_at f) ≡ true
       → g.envelope.from < nodes → g.envelope.to < nodes → p ≡ q
   same_place p q f g at_p at_q is from_lt to_lt =
       let played = all_played logs program nodes options are come flight events woven in
@@ -173,65 +174,66 @@ module _ (logs : List (List EntryRecord)) (come : List ℕ) (events : List Event
       (eqb-true f.envelope.number g.envelope.number inner.1)
       rises
 
-  by_again : (keys left : List Key) (event : Event) (place : ℕ) (f : Flying) (b : Bool) → map key_at flight ≡ keys → IsTakenAt node before entry flight place f
-      → is_taken_in f.envelope later ≡ b → event ≡ taking b place → left ≡ left_by b place keys → MadeOf event left
-  by_again keys left event place f true same t again event_is left_is = (
+  by_again : (names left : List MessageName) (event : Event) (place : ℕ) (f : Flying) (b : Bool) → map name_at flight ≡ names
+      → IsTakenAt node before entry flight place f
+      → is_taken_in f.envelope later ≡ b → event ≡ taking b place → left ≡ left_by b place names → MadeOf event left
+  by_again names left event place f true same t again event_is left_is = (
     with_mark flight place,
     subst (λ e. Makes node before later entry flight e (with_mark flight place)) (sym event_is) (takes_again t again),
-    keys_marked flight 0 place ∙ same ∙ sym left_is,
+    names_marked flight 0 place ∙ same ∙ sym left_is,
   )
-  by_again keys left event place f false same t last event_is left_is = (
+  by_again names left event place f false same t last event_is left_is = (
     remove flight place,
     subst (λ e. Makes node before later entry flight e (remove flight place)) (sym event_is) (takes_last t last),
-    keys_removed flight place ∙ ap (λ ks. remove ks place) same ∙ sym left_is,
+    names_removed flight place ∙ ap (λ ks. remove ks place) same ∙ sym left_is,
   )
 
-  by_take : (keys left : List Key) (event : Event) (envelope : EnvelopeRecord) → map key_at flight ≡ keys → entry.input ≡ taken envelope
-      → IsTakenFrom keys envelope (is_taken_in envelope later) left (Some event) → MadeOf event left
-  by_take keys left event envelope same is t =
+  by_take : (names left : List MessageName) (event : Event) (envelope : EnvelopeRecord) → map name_at flight ≡ names → entry.input ≡ taken envelope
+      → IsTakenFrom names envelope (is_taken_in envelope later) left (Some event) → MadeOf event left
+  by_take names left event envelope same is t =
       let can = can_take logs program nodes options are wires matched count come flight node entry envelope next is holds in
-      let found = position-Some (is_key envelope) keys t.0 (key_of envelope) t.1 in
-      let there : slice_get (map key_at flight) t.0 ≡ Some (slice_index_or keys t.0 (key_of envelope)) =
-      ap (λ ks. slice_get ks t.0) same ∙ slice_get-get_or keys t.0 (key_of envelope) found.0 in
-      let f = of_map key_at flight (slice_index_or keys t.0 (key_of envelope)) t.0 there in
-      let passes : is_key can.1.envelope (key_at f.0) ≡ true =
-      ap (λ e. is_key e (key_at f.0)) can.3 ∙ ap (is_key envelope) f.2 ∙ found.1 in
+      let found = position-Some (is_named envelope) names t.0 (name_of envelope) t.1 in
+      let there : slice_get (map name_at flight) t.0 ≡ Some (slice_index_or names t.0 (name_of envelope)) =
+      ap (λ ks. slice_get ks t.0) same ∙ slice_get-get_or names t.0 (name_of envelope) found.0 in
+      let f = of_map name_at flight (slice_index_or names t.0 (name_of envelope)) t.0 there in
+      let passes : is_named can.1.envelope (name_at f.0) ≡ true =
+      ap (λ e. is_named e (name_at f.0)) can.3 ∙ ap (is_named envelope) f.2 ∙ found.1 in
       let within : node < length logs = within_outer logs node (come_of come node) entry next.next in
       let place_is : t.0 ≡ can.0 =
       same_place t.0 can.0 f.0 can.1 f.1 can.2.there passes
       (subst (λ (e : EnvelopeRecord). e.from < nodes) (sym can.3) (from_in envelope is))
       (subst (λ k. k < nodes) (sym can.2.receiver) (subst (λ k. node < k) are.count within)) in
-      by_again keys left event t.0 can.1 (is_taken_in envelope later) same
+      by_again names left event t.0 can.1 (is_taken_in envelope later) same
       (subst (λ p. IsTakenAt node before entry flight p can.1) (sym place_is) can.2)
       (ap (λ e. is_taken_in e later) can.3) t.2 t.3
 
-  made_by : (keys left : List Key) (event : Event) (input : Input) → map key_at flight ≡ keys → entry.input ≡ input
-      → IsMadeBy node (is_again input later) keys input left (Some event) → MadeOf event left
-  made_by keys left event run same is m =
+  made_by : (names left : List MessageName) (event : Event) (input : Input) → map name_at flight ≡ names → entry.input ≡ input
+      → IsMadeBy node (is_again input later) names input left (Some event) → MadeOf event left
+  made_by names left event run same is m =
       (flight, subst (λ e. Makes node before later entry flight e flight) (sym m.0) (runs is), same ∙ sym m.1)
-  made_by keys left event (taken envelope) same is m = by_take keys left event envelope same is m
+  made_by names left event (taken envelope) same is m = by_take names left event envelope same is m
 
-  one_step : (keys new : List Key) (event : Event) → map key_at flight ≡ keys → IsTurnOf node (log_of logs node) (come_of come node) keys new event
+  one_step : (names new : List MessageName) (event : Event) → map name_at flight ≡ names → IsTurnOf node (log_of logs node) (come_of come node) names new event
       → (rest : List Flying) × Woven logs (slice_set come node (come_of come node + 1)) rest (events ++ event ∷ [])
-      × Holds logs (slice_set come node (come_of come node + 1)) rest × (map key_at rest ≡ new)
-  one_step keys new event same t =
+      × Holds logs (slice_set come node (come_of come node + 1)) rest × (map name_at rest ≡ new)
+  one_step names new event same t =
       let entry_is : t.0 ≡ entry = same_Some t.0 entry (sym t.2 ∙ next.next) in
-      let made = made_by keys t.1 event entry.input same refl
-      (subst (λ (e : EntryRecord). IsMadeBy node (is_again e.input later) keys e.input t.1 (Some event)) entry_is t.3) in (
+      let made = made_by names t.1 event entry.input same refl
+      (subst (λ (e : EntryRecord). IsMadeBy node (is_again e.input later) names e.input t.1 (Some event)) entry_is t.3) in (
         made.0 ++ sent_by entry,
         then_one woven next made.1,
         holds_more logs come flight made.0 event node entry counted next.next made.1 holds,
-        map-append key_at made.0 (sent_by entry)
-            ∙ ap (λ ks. ks ++ map key_at (sent_by entry)) made.2
-            ∙ ap (λ ks. t.1 ++ ks) (map-map key_at (λ envelope. record { envelope = envelope; stamp = entry.stamp; delivered = false }) entry.turn.out)
-            ∙ ap (λ (e : EntryRecord). t.1 ++ map key_of e.turn.out) (sym entry_is)
+        map-append name_at made.0 (sent_by entry)
+            ∙ ap (λ ks. ks ++ map name_at (sent_by entry)) made.2
+            ∙ ap (λ ks. t.1 ++ ks) (map-map name_at (λ envelope. record { envelope = envelope; stamp = entry.stamp; delivered = false }) entry.turn.out)
+            ∙ ap (λ (e : EntryRecord). t.1 ++ map name_of e.turn.out) (sym entry_is)
             ∙ sym t.4,
       )
 
 -- the next turn is made
-pub so_more : (logs : List (List EntryRecord)) (come : List ℕ) (keys new : List Key) (events : List Event) (event : Event) (node : ℕ)
-    → length come ≡ length logs → IsNextOf logs come (Some node) → IsTurnOf node (log_of logs node) (come_of come node) keys new event
-    → WovenSo logs come keys events → WovenSo logs (slice_set come node (come_of come node + 1)) new (events ++ event ∷ [])
-so_more logs come keys new events event node counted next t so program nodes options wires are matched count =
+pub so_more : (logs : List (List EntryRecord)) (come : List ℕ) (names new : List MessageName) (events : List Event) (event : Event) (node : ℕ)
+    → length come ≡ length logs → IsNextOf logs come (Some node) → IsTurnOf node (log_of logs node) (come_of come node) names new event
+    → WovenSo logs come names events → WovenSo logs (slice_set come node (come_of come node + 1)) new (events ++ event ∷ [])
+so_more logs come names new events event node counted next t so program nodes options wires are matched count =
     let s = so program nodes options wires are matched count in
-    one_step logs come events counted node next.0 next.1 program nodes options wires are matched count s.0 s.1 s.2 keys new event s.3 t
+    one_step logs come events counted node next.0 next.1 program nodes options wires are matched count s.0 s.1 s.2 names new event s.3 t

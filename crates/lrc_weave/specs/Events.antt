@@ -4,16 +4,16 @@ use Rattle.lrc_wire.specs.Envelope.{EnvelopeRecord}
 use Rattle.lrc_protocol.specs.declared.event.Event.{Event}
 use Rattle.lrc_protocol.specs.declared.event.Event.TheVariants.{Run, Deliver, Repeat}
 use Rattle.lrc_protocol.specs.Log.{Input, run, taken, EntryRecord}
-use Rattle.lrc_weave.specs.declared.events.Key.{Key}
+use Rattle.lrc_weave.specs.declared.events.MessageName.{MessageName}
 use Rattle.lrc_weave.specs.Again.{is_again}
 
 -- what a message is known by
-abbrev pub key_of : EnvelopeRecord → Key
-key_of envelope = record { from = envelope.from; to = envelope.to; number = envelope.number }
+abbrev pub name_of : EnvelopeRecord → MessageName
+name_of envelope = record { from = envelope.from; to = envelope.to; number = envelope.number }
 
 -- whether a message is known by this
-abbrev pub is_key : EnvelopeRecord → Key → Bool
-is_key envelope key = (key.from == envelope.from) && ((key.to == envelope.to) && (key.number == envelope.number))
+abbrev pub is_named : EnvelopeRecord → MessageName → Bool
+is_named envelope name = (name.from == envelope.from) && ((name.to == envelope.to) && (name.number == envelope.number))
 
 -- the event that takes a message at a place, for the last time or not
 abbrev pub taking : Bool → ℕ → Event
@@ -21,23 +21,23 @@ taking true place = Repeat place
 taking false place = Deliver place
 
 -- what is left in flight then
-abbrev pub left_by : Bool → ℕ → List Key → List Key
+abbrev pub left_by : Bool → ℕ → List MessageName → List MessageName
 left_by true place flight = flight
 left_by false place flight = remove flight place
 
 -- a message is taken from flight by this event, if by any
-abbrev pub IsTakenFrom : List Key → EnvelopeRecord → Bool → List Key → Option Event → Type 0
+abbrev pub IsTakenFrom : List MessageName → EnvelopeRecord → Bool → List MessageName → Option Event → Type 0
 IsTakenFrom old envelope again new None = Unit {0}
 IsTakenFrom old envelope again new (Some event) =
-    (place : ℕ) × (position (is_key envelope) old ≡ Some place) × (event ≡ taking again place) × (new ≡ left_by again place old)
+    (place : ℕ) × (position (is_named envelope) old ≡ Some place) × (event ≡ taking again place) × (new ≡ left_by again place old)
 
 -- an input of a node, which is made again later or not, is made by this event, if by any
-abbrev pub IsMadeBy : ℕ → Bool → List Key → Input → List Key → Option Event → Type 0
+abbrev pub IsMadeBy : ℕ → Bool → List MessageName → Input → List MessageName → Option Event → Type 0
 IsMadeBy node again old run new None = Unit {0}
 IsMadeBy node again old run new (Some event) = (event ≡ Run node) × (new ≡ old)
 IsMadeBy node again old (taken envelope) new event = IsTakenFrom old envelope again new event
 
 -- the turn at a place of a node's log is made by this event, and its messages are in flight then
-abbrev pub IsTurnOf : ℕ → List EntryRecord → ℕ → List Key → List Key → Event → Type 0
-IsTurnOf node log place old new event = (entry : EntryRecord) × (left : List Key) × (slice_get log place ≡ Some entry)
-    × IsMadeBy node (is_again entry.input (drop (place + 1) log)) old entry.input left (Some event) × (new ≡ left ++ map key_of entry.turn.out)
+abbrev pub IsTurnOf : ℕ → List EntryRecord → ℕ → List MessageName → List MessageName → Event → Type 0
+IsTurnOf node log place old new event = (entry : EntryRecord) × (left : List MessageName) × (slice_get log place ≡ Some entry)
+    × IsMadeBy node (is_again entry.input (drop (place + 1) log)) old entry.input left (Some event) × (new ≡ left ++ map name_of entry.turn.out)

@@ -3,7 +3,7 @@
 ghost use Rattle.std.specs.Prelude.{◌≡◌, ◌<◌, ◌≤◌, ◌++◌, IfOk, OnOk, length, map, position};
 ghost use Rattle.lrc_node.specs.Logged.{seen_input};
 ghost use Rattle.lrc_weave.specs.Again.{AreAgain};
-ghost use Rattle.lrc_weave.specs.Events.{is_key, key_of, IsMadeBy, IsTakenFrom, IsTurnOf};
+ghost use Rattle.lrc_weave.specs.Events.{is_named, name_of, IsMadeBy, IsTakenFrom, IsTurnOf};
 
 use lrc_node::{Entry, Input};
 use lrc_protocol::Event;
@@ -12,7 +12,7 @@ use std::alloc::AllocError;
 
 /// A message in flight, by what it is known.
 #[derive(Clone, Copy)]
-pub(crate) struct Key {
+pub(crate) struct MessageName {
     /// Its sender.
     pub from: u8,
     /// Its receiver.
@@ -24,7 +24,7 @@ pub(crate) struct Key {
 /// The event that makes the turn at a place of a node's log, with what is in flight before it and after it. None where what the
 /// turn takes is not in flight. For each turn of the log it is given whether a later one takes the same message.
 pub(crate) fn turn(
-    flight: &mut Vec<Key>,
+    flight: &mut Vec<MessageName>,
     node: u8,
     log: &Vec<Entry>,
     again: &Vec<bool>,
@@ -43,7 +43,7 @@ pub(crate) fn turn(
 }
 
 // The event of an input.
-fn event_of(flight: &mut Vec<Key>, node: u8, input: &Input, again: bool) -> Option<Event>
+fn event_of(flight: &mut Vec<MessageName>, node: u8, input: &Input, again: bool) -> Option<Event>
     ensures { IsMadeBy node again flight.old.items (seen_input input.now) flight.new.items result }
 {
     match input {
@@ -53,7 +53,7 @@ fn event_of(flight: &mut Vec<Key>, node: u8, input: &Input, again: bool) -> Opti
 }
 
 // Takes a message from flight; it stays there if it is taken again.
-fn take(flight: &mut Vec<Key>, envelope: &Envelope, again: bool) -> Option<Event>
+fn take(flight: &mut Vec<MessageName>, envelope: &Envelope, again: bool) -> Option<Event>
     ensures { IsTakenFrom flight.old.items envelope.now again flight.new.items result }
 {
     let place = place_in(flight.as_slice(), envelope)?;
@@ -68,25 +68,25 @@ fn take(flight: &mut Vec<Key>, envelope: &Envelope, again: bool) -> Option<Event
 }
 
 // The first place in flight of a message.
-fn place_in(flight: &[Key], envelope: &Envelope) -> Option<usize>
-    ensures { result ≡ position (is_key envelope.now) flight.now }
+fn place_in(flight: &[MessageName], envelope: &Envelope) -> Option<usize>
+    ensures { result ≡ position (is_named envelope.now) flight.now }
 {
-    flight.iter().position(|key| is_key(envelope, *key))
+    flight.iter().position(|name| is_named(envelope, *name))
 }
 
 // Whether a message is known by this.
-fn is_key(envelope: &Envelope, key: Key) -> bool
-    ensures { result ≡ is_key envelope.now key }
+fn is_named(envelope: &Envelope, name: MessageName) -> bool
+    ensures { result ≡ is_named envelope.now name }
 {
-    key.from == envelope.from && key.to == envelope.to && key.number == envelope.number
+    name.from == envelope.from && name.to == envelope.to && name.number == envelope.number
 }
 
 // Puts messages in flight.
-fn send(flight: &mut Vec<Key>, out: &[Envelope]) -> Result<(), AllocError>
-    ensures { OnOk result (flight.new.items ≡ flight.old.items ++ map key_of out.now) }
+fn send(flight: &mut Vec<MessageName>, out: &[Envelope]) -> Result<(), AllocError>
+    ensures { OnOk result (flight.new.items ≡ flight.old.items ++ map name_of out.now) }
 {
     for envelope in out {
-        flight.push(Key {
+        flight.push(MessageName {
             from: envelope.from,
             to: envelope.to,
             number: envelope.number,

@@ -42,7 +42,7 @@ fn pages_of(alloc: Global, written: [bool; 2]) -> Result<Pages, AllocError>
     Ok(pages)
 }
 
-fn key_of(node: u8, index: u32, page: u16) -> Key {
+fn notice_key(node: u8, index: u32, page: u16) -> Key {
     Key { node, index, page }
 }
 
@@ -159,9 +159,9 @@ fn interval_lists(store: &Store) -> [[Option<Key>; 3]; 3] {
 fn lists_run_through_the_worked_intervals(rt: HostRuntime) -> Result<(), Fail> {
     let mut store = worked(&rt, rt.alloc())?;
     let none = [None, None, None];
-    let of_node_0 = [Some(key_of(0, 2, 1)), None, None];
-    let of_node_1 = [Some(key_of(1, 1, 0)), Some(key_of(1, 1, 1)), None];
-    assert!(rt; interval_list(&store, 0, 1) == [Some(key_of(0, 1, 0)), None, None]);
+    let of_node_0 = [Some(notice_key(0, 2, 1)), None, None];
+    let of_node_1 = [Some(notice_key(1, 1, 0)), Some(notice_key(1, 1, 1)), None];
+    assert!(rt; interval_list(&store, 0, 1) == [Some(notice_key(0, 1, 0)), None, None]);
     assert!(rt; interval_lists(&store) == [of_node_0, of_node_1, none]);
     let known = time_of(&rt, [1, 1, 0]);
     store.discard(&known);
@@ -178,11 +178,11 @@ fn freed_places_are_used_again(rt: HostRuntime) -> Result<(), Fail> {
     put(&rt, alloc, &mut store, 2, [2, 1, 1], [false, false])?;
     put(&rt, alloc, &mut store, 1, [2, 2, 1], [true, true])?;
     let none = [None, None, None];
-    let of_node_0 = [Some(key_of(0, 2, 1)), None, None];
-    let of_node_1 = [Some(key_of(1, 2, 0)), Some(key_of(1, 2, 1)), None];
+    let of_node_0 = [Some(notice_key(0, 2, 1)), None, None];
+    let of_node_1 = [Some(notice_key(1, 2, 0)), Some(notice_key(1, 2, 1)), None];
     assert!(rt; interval_lists(&store) == [of_node_0, of_node_1, none]);
-    let of_page_0 = [Some(key_of(1, 2, 0)), None, None];
-    let of_page_1 = [Some(key_of(1, 2, 1)), Some(key_of(0, 2, 1)), None];
+    let of_page_0 = [Some(notice_key(1, 2, 0)), None, None];
+    let of_page_1 = [Some(notice_key(1, 2, 1)), Some(notice_key(0, 2, 1)), None];
     assert!(rt; page_lists(&store) == [of_page_0, of_page_1]);
     assert!(rt;
         node_lists(&store)
@@ -203,26 +203,28 @@ fn discards_some_of_each_node(rt: HostRuntime) -> Result<(), Fail> {
     let known = time_of(&rt, [1, 1, 0]);
     store.discard(&known);
     assert!(rt; node_lists(&store) == [[Some((0, 2)), None], [Some((1, 2)), None], [None, None]]);
-    let of_page_0 = [Some(key_of(1, 2, 0)), None, None];
-    assert!(rt; page_lists(&store) == [of_page_0, [Some(key_of(0, 2, 1)), None, None]]);
+    let of_page_0 = [Some(notice_key(1, 2, 0)), None, None];
+    assert!(rt; page_lists(&store) == [of_page_0, [Some(notice_key(0, 2, 1)), None, None]]);
     Ok(())
 }
 
 #[test]
 fn lists_run_through_the_worked_store(rt: HostRuntime) -> Result<(), Fail> {
     let mut store = worked(&rt, rt.alloc())?;
-    let of_page_1 = [Some(key_of(0, 2, 1)), Some(key_of(1, 1, 1)), None];
+    let of_page_1 = [Some(notice_key(0, 2, 1)), Some(notice_key(1, 1, 1)), None];
     assert!(rt;
         page_lists(&store)
             == [
-                [Some(key_of(1, 1, 0)), Some(key_of(0, 1, 0)), None],
+                [Some(notice_key(1, 1, 0)), Some(notice_key(0, 1, 0)), None],
                 of_page_1
             ]
     );
     assert!(rt; node_list(&store, 0) == [Some((0, 2)), Some((0, 1))]);
     let known = time_of(&rt, [1, 1, 0]);
     store.discard(&known);
-    assert!(rt; page_lists(&store) == [[None, None, None], [Some(key_of(0, 2, 1)), None, None]]);
+    assert!(rt;
+        page_lists(&store) == [[None, None, None], [Some(notice_key(0, 2, 1)), None, None]]
+    );
     assert!(rt; node_lists(&store) == [[Some((0, 2)), None], [None, None], [None, None]]);
     Ok(())
 }
@@ -244,9 +246,9 @@ fn finds_what_the_worked_store_lacks(rt: HostRuntime) -> Result<(), Fail> {
     let store = worked(&rt, rt.alloc())?;
     let zeros = time_of(&rt, [0, 0, 0]);
     let of_page_0 = store.missing(0, &zeros)?;
-    assert!(rt; of_page_0.as_slice() == [key_of(0, 1, 0), key_of(1, 1, 0)].as_slice());
+    assert!(rt; of_page_0.as_slice() == [notice_key(0, 1, 0), notice_key(1, 1, 0)].as_slice());
     let of_page_1 = store.missing(1, &zeros)?;
-    assert!(rt; of_page_1.as_slice() == [key_of(1, 1, 1), key_of(0, 2, 1)].as_slice());
+    assert!(rt; of_page_1.as_slice() == [notice_key(1, 1, 1), notice_key(0, 2, 1)].as_slice());
     Ok(())
 }
 
@@ -268,7 +270,7 @@ fn what_is_discarded_is_gone(rt: HostRuntime) -> Result<(), Fail> {
     assert!(rt; (store.len(), store.last(1)) == (1, 1));
     let zeros = time_of(&rt, [0, 0, 0]);
     let of_page_1 = store.missing(1, &zeros)?;
-    assert!(rt; of_page_1.as_slice() == [key_of(0, 2, 1)].as_slice());
+    assert!(rt; of_page_1.as_slice() == [notice_key(0, 2, 1)].as_slice());
     Ok(())
 }
 
@@ -280,7 +282,7 @@ fn lighter_intervals_come_first(rt: HostRuntime) -> Result<(), Fail> {
     put(&rt, alloc, &mut store, 1, [0, 1, 0], [true, false])?;
     let zeros = time_of(&rt, [0, 0, 0]);
     let of_page_0 = store.missing(0, &zeros)?;
-    assert!(rt; of_page_0.as_slice() == [key_of(1, 1, 0), key_of(0, 1, 0)].as_slice());
+    assert!(rt; of_page_0.as_slice() == [notice_key(1, 1, 0), notice_key(0, 1, 0)].as_slice());
     Ok(())
 }
 
@@ -290,7 +292,9 @@ fn discards_nothing_and_everything(rt: HostRuntime) -> Result<(), Fail> {
     let none = time_of(&rt, [0, 0, 0]);
     store.discard(&none);
     assert!(rt; store.len() == 3);
-    assert!(rt; page_list(&store, 1) == [Some(key_of(0, 2, 1)), Some(key_of(1, 1, 1)), None]);
+    assert!(rt;
+        page_list(&store, 1) == [Some(notice_key(0, 2, 1)), Some(notice_key(1, 1, 1)), None]
+    );
     let all = time_of(&rt, [2, 1, 0]);
     store.discard(&all);
     assert!(rt; (store.is_empty(), store.last(0), store.last(1)) == (true, 2, 1));
@@ -369,7 +373,7 @@ fn known_and_new(alloc: Global) -> Result<(Store, Time), AllocError>
 fn finds_what_is_missing_up_to_what_was_known(rt: HostRuntime) -> Result<(), Fail> {
     let (store, since) = known_and_new(rt.alloc())?;
     let found = store.missing_until_known(1, &since)?;
-    assert!(rt; found.as_slice() == [key_of(1, 1, 1)].as_slice());
+    assert!(rt; found.as_slice() == [notice_key(1, 1, 1)].as_slice());
     let all = store.missing(1, &since)?;
     assert!(rt; all.as_slice() == found.as_slice());
     Ok(())
@@ -388,7 +392,7 @@ fn keeps_the_changes_of_a_key(rt: HostRuntime) -> Result<(), Fail> {
     let changes = seven(alloc)?;
     store.attach(key, changes);
     assert!(rt; is_seven(store.changes(key)));
-    assert!(rt; store.changes(key_of(0, 1, 0)).is_none());
+    assert!(rt; store.changes(notice_key(0, 1, 0)).is_none());
     Ok(())
 }
 
@@ -404,6 +408,6 @@ fn keeps_the_changes_of_a_link(rt: HostRuntime) -> Result<(), Fail> {
         assert!(rt; is_seven(store.changes_at(at)));
     }
     assert!(rt; at.is_some());
-    assert!(rt; is_seven(store.changes(key_of(0, 1, 1))));
+    assert!(rt; is_seven(store.changes(notice_key(0, 1, 1))));
     Ok(())
 }

@@ -3,7 +3,7 @@ use Rattle.std.specs.Prelude.{slice_get}
 use Rattle.std.proofs.lemmas.Bool.{cases_lt}
 use Rattle.std.proofs.lemmas.List.{get_or_default}
 use Rattle.std.proofs.lemmas.Option.{slice_get-get_or}
-use Rattle.lrc_race.specs.declared.places.Place.{Place}
+use Rattle.lrc_race.specs.declared.places.TouchedPlace.{TouchedPlace}
 use Rattle.lrc_race.specs.Adding.{IsOfSome}
 use Rattle.lrc_race.specs.Pairs.{IsBehind, IsRaceOfPlaces}
 use Rattle.lrc_race.proofs.Additions.{some-all, some-more}
@@ -19,7 +19,7 @@ loop-x-preserved c =
     let i = c.loop-x.x-index in
     let x = get_or xs i nowhere in
     let is : slice_get xs i ≡ Some x = slice_get-get_or xs i nowhere (omega arith) in
-    let here : (k : ℕ) (y : Place) → k < c.skip-start.result → slice_get ys k ≡ Some y → IsBehind c.args.rise a x b y =
+    let here : (k : ℕ) (y : TouchedPlace) → k < c.skip-start.result → slice_get ys k ≡ Some y → IsBehind c.args.rise a x b y =
     λ k y low y_is. ⊎_elim
     (λ (earlier : k < c.loop-x.start). c.loop-x.invariant.behind i k x y (omega arith) is earlier y_is)
     (λ late. c.skip-start.ensures.behind k y late low y_is)

@@ -1,6 +1,6 @@
 use Rattle.std.proofs.Common.{◌≡◌, ℕ, ◌<◌, ◌≤◌, Some, length, take}
 use Rattle.std.specs.Prelude.{slice_get}
-use Rattle.lrc_race.specs.declared.places.Place.{Place}
+use Rattle.lrc_race.specs.declared.places.TouchedPlace.{TouchedPlace}
 use Rattle.lrc_race.specs.Adding.{Adds, IsOfSome}
 use Rattle.lrc_race.specs.Pairs.{IsBehind, IsRaceOfPlaces}
 use Rattle.lrc_race.proofs.detector.add_races.Given as goal
@@ -9,7 +9,7 @@ use Rattle.lrc_race.proofs.detector.add_races.Given as goal
 abbrev pub invariant-loop-x : goal.invariant-loop-x
 invariant-loop-x l = record {
   within : l.start ≤ length l.fn.ys;
-  behind : (i k : ℕ) (x y : Place) → l.x-index ≤ i → slice_get l.fn.xs i ≡ Some x → k < l.start → slice_get l.fn.ys k ≡ Some y
+  behind : (i k : ℕ) (x y : TouchedPlace) → l.x-index ≤ i → slice_get l.fn.xs i ≡ Some x → k < l.start → slice_get l.fn.ys k ≡ Some y
       → IsBehind l.fn.rise l.fn.a x l.fn.b y;
   added : Adds l.fn.races.items l.races.items
       (IsOfSome (take l.x-index l.fn.xs) (λ x. IsOfSome l.fn.ys (IsRaceOfPlaces l.fn.a x l.fn.b)));

@@ -1,6 +1,6 @@
 use Rattle.std.proofs.Common.{◌≡◌, ℕ, ◌-◌, ◌<◌, ◌≤◌, Some, length}
 use Rattle.std.specs.Prelude.{slice_get}
-use Rattle.lrc_race.specs.declared.places.Place.{Place}
+use Rattle.lrc_race.specs.declared.places.TouchedPlace.{TouchedPlace}
 use Rattle.lrc_race.specs.Pairs.{IsBehind}
 use Rattle.lrc_race.proofs.detector.skip.Given as goal
 
@@ -8,7 +8,7 @@ use Rattle.lrc_race.proofs.detector.skip.Given as goal
 abbrev pub invariant-loop-start : goal.invariant-loop-start
 invariant-loop-start l = record {
   within : l.start ≤ length l.ys;
-  behind : (k : ℕ) (y : Place) → l.from ≤ k → k < l.start → slice_get l.ys k ≡ Some y → IsBehind l.rise l.a l.x l.b y;
+  behind : (k : ℕ) (y : TouchedPlace) → l.from ≤ k → k < l.start → slice_get l.ys k ≡ Some y → IsBehind l.rise l.a l.x l.b y;
 }
 
 abbrev pub decreases-loop-start : goal.decreases-loop-start
