@@ -1,16 +1,15 @@
 -- In every run no message is unexpected: each pending one would be accepted by its receiver, and each that was taken is a repeat.
-use Rattle.std.proofs.Common.{◌≡◌, ℕ, zero, suc, ◌<◌, ◌≤◌, List, [], ◌∷◌, Bool, true, false, length, refl, sym, ap, subst, ◌∙◌, ⊎_elim}
+use Rattle.std.proofs.Common.{◌≡◌, ℕ, ◌<◌, ◌≤◌, List, [], Bool, true, false, length, refl, sym, ap, subst, ◌∙◌, ⊎_elim}
 use Rattle.std.specs.Prelude.{Option, Some, None, ◌==◌, Contains, not, nat_lt, slice_get, slice_index_or, if◌then◌else◌}
 use Rattle.std.specs.List.{list_any}
 use Rattle.std.proofs.lemmas.Bool.{and_from, cases_lt, eq-eqb, false≢true, lt-ltb}
 use Rattle.std.proofs.lemmas.List.{get_or_past}
-use Rattle.std.proofs.lemmas.Option.{same_Some}
 use Rattle.lrc_lang.specs.declared.program.Program.{Program}
 use Rattle.lrc_wire.specs.Envelope.{EnvelopeRecord}
 use Rattle.lrc_wire.specs.declared.message.Message.{Message}
 use Rattle.lrc_wire.specs.declared.message.Message.TheVariants.{LockRequest, LockForward, LockGrant, Arrive, Depart, Clean, Discard}
 use Rattle.lrc_wire.specs.declared.message.Message.TheVariants.{ChangesRequest, ChangesReply, PageRequest, PageReply}
-use Rattle.lrc_copies.proofs.Members.{Contains-filter, Contains-first, Contains-later}
+use Rattle.lrc_copies.proofs.Members.{Contains-filter}
 use Rattle.lrc_protocol.specs.declared.event.Event.{Event}
 use Rattle.lrc_protocol.specs.Expected.{is_expected}
 use Rattle.lrc_protocol.specs.Mail.{numbered}
@@ -29,6 +28,7 @@ use Rattle.lrc_invariants.proofs.Reached.{IsReached}
 use Rattle.lrc_coherence.proofs.ArriveLaw.{arrival_expected}
 use Rattle.lrc_coherence.proofs.CollectLaw.{asked_have_bases}
 use Rattle.lrc_coherence.proofs.DepartNews.{depart_expected}
+use Rattle.lrc_coherence.proofs.ReceiverWorlds.{in_flight}
 use Rattle.lrc_coherence.proofs.RequestAccepted.{changes_reply-accepted, page_reply-accepted}
 use Rattle.lrc_coherence.proofs.RequestBases.{page_request-accepted}
 use Rattle.lrc_coherence.proofs.RequestExpected.{asker, changes_request-accepted}
@@ -65,12 +65,6 @@ taken-within taken from number e =
     (λ (le : length taken ≤ from).
     absurd (false≢true (ap (λ (ks : List ℕ). list_any (λ k. k == number) ks) (sym (get_or_past taken from [] le)) ∙ e)))
     (cases_lt from (length taken))
-
-in_flight : (flight : List Flying) (place : ℕ) (f : Flying) → slice_get flight place ≡ Some f → Contains (envelopes_in flight) f.envelope
-in_flight [] place f at = cc
-in_flight (x ∷ flight) zero f at =
-    subst (λ (y : Flying). Contains (envelopes_in (x ∷ flight)) y.envelope) (same_Some x f at) (Contains-first x.envelope (envelopes_in flight))
-in_flight (x ∷ flight) (suc place) f at = Contains-later x.envelope (envelopes_in flight) f.envelope (in_flight flight place f at)
 
 -- ---- every run
 

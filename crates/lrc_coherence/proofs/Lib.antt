@@ -88,4 +88,6 @@ pub mod ArriveLaw
 pub mod DepartSteps
 pub mod DepartLets
 pub mod DepartNews
+pub mod Receivers
+pub mod ReceiverWorlds
 pub mod AllExpected

@@ -36,7 +36,7 @@ pub same-itself : (w : Wish) → same_wish w w ≡ true
 same-itself (base_copy page) = eq-eqb page page refl
 same-itself (changes page indices) = and_from (page == page) (pointwise ◌==◌ indices indices) (eq-eqb page page refl) (same_indices indices)
 
-passes : (w : Wish) (o : Option Wish) (a b : ℕ) → o ≡ Some w → ((is_wish w o && (a == a)) && (b == b)) ≡ true
+pub passes : (w : Wish) (o : Option Wish) (a b : ℕ) → o ≡ Some w → ((is_wish w o && (a == a)) && (b == b)) ≡ true
 passes w o a b e =
     and_from (is_wish w o && (a == a)) (b == b) (and_from (is_wish w o) (a == a) (ap (is_wish w) e ∙ same-itself w) (eq-eqb a a refl)) (eq-eqb b b refl)
 

@@ -1,8 +1,8 @@
 -- In every run whoever is said to ask for a lock, by a request, by one that is passed on, or as a successor, waits for a grant and has
 -- the time that is said of it.
 use Rattle.std.proofs.Common.{◌≡◌, ◌⊎◌, ℕ, zero, suc, ◌+◌, ◌<◌, ◌≤◌, List, [], ◌∷◌, ◌++◌, Bool, true, false, cond}
-use Rattle.std.proofs.Common.{length, map, refl, sym, ap, subst, ◌∙◌, inl, inr, ⊎_elim, arith}
-use Rattle.std.specs.Prelude.{Option, Some, None, Contains, ◌==◌, count_by, sum_by, slice_get, slice_set, slice_index_or, if◌then◌else◌}
+use Rattle.std.proofs.Common.{length, refl, sym, ap, subst, ◌∙◌, inl, inr, ⊎_elim, arith}
+use Rattle.std.specs.Prelude.{Option, Some, None, Contains, count_by, sum_by, slice_get, slice_set}
 use Rattle.std.specs.List.{range_with_len}
 use Rattle.std.proofs.lemmas.Bool.{cases_eq, cases_lt, eq-eqb, false≢true}
 use Rattle.std.proofs.lemmas.List.{get_or_past}
@@ -18,9 +18,7 @@ use Rattle.lrc_wire.specs.declared.message.Message.TheVariants.{LockRequest, Loc
 use Rattle.lrc_lock.specs.declared.state.Waiter.{Waiter}
 use Rattle.lrc_lock.specs.declared.state.LockState.{LockState}
 use Rattle.lrc_lock.specs.declared.state.LockState.TheVariants.{Away, Awaited, Free, Held}
-use Rattle.lrc_lock.specs.Lock.{manager_of}
-use Rattle.lrc_lock.specs.Held.{lock_at, first_state}
-use Rattle.lrc_time.specs.Time.{zeros}
+use Rattle.lrc_lock.specs.Held.{lock_at}
 use Rattle.lrc_copies.proofs.Members.{Contains-first, Contains-later, cases_Contains, none_Contains}
 use Rattle.lrc_protocol.specs.Mail.{Wait, nothing, grant, departure, access, upkeep, discard, awaits_grant}
 use Rattle.lrc_protocol.specs.Node.{Node, OptionsRecord}
@@ -42,7 +40,7 @@ use Rattle.lrc_invariants.proofs.LockContents.{IsSound, SoundMessage}
 use Rattle.lrc_invariants.proofs.LockExpected.{all_sound}
 use Rattle.lrc_invariants.proofs.Reached.{IsReached, KeptByReached, by_reached}
 use Rattle.lrc_coherence.proofs.StampWorlds.{placed}
-use Rattle.lrc_coherence.proofs.StampAsks.{waiter_in, is_granting, TurnAsks, turn_asks}
+use Rattle.lrc_coherence.proofs.StampAsks.{waiter_in, no_waiters, is_granting, TurnAsks, turn_asks}
 use Rattle.lrc_coherence.proofs.Known.{from_out, letter_out}
 
 -- this time is said of a node that asks
@@ -331,15 +329,6 @@ module _ (program : Program) (nodes : ℕ) (options : OptionsRecord) where
             (λ (new : (n ≡ b) × (after.node.locks.time ≡ time)). absurd (ne new.0))
             (so.before b time says)
       ]
-
-  no_waiter : (me nodes lock : ℕ) (b : Bool) → waiter_in (if b then Free (zeros nodes) else Away) ≡ None
-  no_waiter me nodes lock true = refl
-  no_waiter me nodes lock false = refl
-
-  no_waiters : (me count : ℕ) (locks : List ℕ) (k : ℕ) → waiter_in (slice_index_or (map (first_state me count) locks) k Away) ≡ None
-  no_waiters me count [] k = refl
-  no_waiters me count (lock ∷ locks) zero = no_waiter me count lock (manager_of count lock == me)
-  no_waiters me count (lock ∷ locks) (suc k) = no_waiters me count locks k
 
   asks-fresh : AsksSo (fresh_world program nodes options)
   asks-fresh b l time at (by_request e m c is from t) = absurd (none_Contains e c)

@@ -1,9 +1,10 @@
 -- What a turn does to what is said of who asks for a lock: to the requests that are made and passed on, and to the successors.
-use Rattle.std.proofs.Common.{◌≡◌, ◌⊎◌, ℕ, List, [], ◌∷◌, Bool, true, false, length, map, refl, sym, ap, subst, ◌∙◌, inl, inr, ⊎_elim, arith}
-use Rattle.std.specs.Prelude.{Option, Some, None, Contains, ◌==◌, slice_set, if◌then◌else◌}
+use Rattle.std.proofs.Common.{◌≡◌, ◌⊎◌, ℕ, zero, suc, List, [], ◌∷◌, Bool, true, false, length, map, refl, sym, ap, subst, ◌∙◌, inl, inr, ⊎_elim, arith}
+use Rattle.std.specs.Prelude.{Option, Some, None, Contains, ◌==◌, slice_index_or, slice_set, if◌then◌else◌}
 use Rattle.std.specs.List.{range_with_len}
 use Rattle.std.proofs.lemmas.Bool.{cases_eq, cases_lt, false≢true}
 use Rattle.std.proofs.lemmas.List.{get_or_past, get_or-set_same, get_or-set_other, length-set}
+use Rattle.lrc_time.specs.Time.{zeros}
 use Rattle.lrc_wire.specs.Records.{LockRequestRecord, LockForwardRecord}
 use Rattle.lrc_wire.specs.declared.message.Message.{Message}
 use Rattle.lrc_wire.specs.declared.message.Message.TheVariants.{LockRequest, LockForward, LockGrant, Arrive, Depart, Clean, Discard}
@@ -13,7 +14,8 @@ use Rattle.lrc_lock.specs.declared.state.Pass.{Pass}
 use Rattle.lrc_lock.specs.declared.state.Waiter.{Waiter}
 use Rattle.lrc_lock.specs.declared.state.LockState.{LockState}
 use Rattle.lrc_lock.specs.declared.state.LockState.TheVariants.{Away, Awaited, Free, Held}
-use Rattle.lrc_lock.specs.Held.{HeldRecord, LockStep, refuses, stays, passes, lock_at, with_lock, is_free, released}
+use Rattle.lrc_lock.specs.Lock.{manager_of}
+use Rattle.lrc_lock.specs.Held.{HeldRecord, LockStep, refuses, stays, passes, lock_at, with_lock, first_state, is_free, released}
 use Rattle.lrc_lock.specs.Held.{released_at, forwarded, forwarded_at, granted, granted_at, held_after}
 use Rattle.lrc_barrier.specs.declared.departure.Departure.{Departure}
 use Rattle.lrc_copies.proofs.Members.{cases_Contains, none_Contains}
@@ -80,6 +82,16 @@ waiter_in (Awaited next) = next
 waiter_in (Held next) = next
 waiter_in (Free kept) = None
 waiter_in Away = None
+
+-- at the start there is none
+no_waiter : (nodes : ℕ) (b : Bool) → waiter_in (if b then Free (zeros nodes) else Away) ≡ None
+no_waiter nodes true = refl
+no_waiter nodes false = refl
+
+pub no_waiters : (me nodes : ℕ) (locks : List ℕ) (k : ℕ) → waiter_in (slice_index_or (map (first_state me nodes) locks) k Away) ≡ None
+no_waiters me nodes [] k = refl
+no_waiters me nodes (lock ∷ locks) zero = no_waiter nodes (manager_of nodes lock == me)
+no_waiters me nodes (lock ∷ locks) (suc k) = no_waiters me nodes locks k
 
 pub none_some : {X : Type 0} (Y : Type 0) (x : X) → None ≡ Some x → Y
 none_some Y x e = absurd cc

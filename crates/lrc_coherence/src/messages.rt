@@ -1,6 +1,6 @@
 // What holds of all messages, in every run. Each function is a theorem: its body is empty, and its clauses are the law.
 
-ghost use Rattle.std.specs.Prelude.{◌≡◌, ◌≢◌, ℕ, List, Some, true, Contains, slice_get};
+ghost use Rattle.std.specs.Prelude.{◌≡◌, ◌≢◌, ◌<◌, ℕ, List, Some, true, Contains, slice_get};
 ghost use Rattle.lrc_lang.specs.declared.program.Program.{Program};
 ghost use Rattle.lrc_wire.specs.Envelope.{EnvelopeRecord};
 ghost use Rattle.lrc_protocol.specs.declared.event.Event.{Event};
@@ -19,4 +19,12 @@ pub fn no_taken_message_is_unexpected()
     ensures in_flight { (program : Program) (nodes : ℕ) (options : OptionsRecord) (events : List Event) (world : World) (place : ℕ)
         (flying : Flying) (l : Logged) → run_of program nodes options events ≡ Some world → slice_get world.flight place ≡ Some flying
         → slice_get world.nodes flying.envelope.to ≡ Some l → take_turn l.node flying.envelope ≢ unexpected }
+{}
+
+/// In every run each message in flight, of whatever kind and also one that was taken before, is from one of the nodes and goes to
+/// one of them.
+pub fn messages_go_from_node_to_node()
+    ensures { (program : Program) (nodes : ℕ) (options : OptionsRecord) (events : List Event) (world : World) (place : ℕ)
+        (flying : Flying) → run_of program nodes options events ≡ Some world → slice_get world.flight place ≡ Some flying
+        → (flying.envelope.from < nodes) × (flying.envelope.to < nodes) }
 {}

@@ -1,6 +1,6 @@
 -- What every report promises of each moment of its run, and of the times at its accesses.
-use Rattle.std.proofs.Common.{◌≡◌, ℕ, ◌<◌, List, sym, ap, subst, ◌∙◌, ⊎_elim}
-use Rattle.std.specs.Prelude.{Some}
+use Rattle.std.proofs.Common.{◌≡◌, ℕ, ◌<◌, List, length, sym, ap, subst, ◌∙◌, ⊎_elim}
+use Rattle.std.specs.Prelude.{Some, slice_get}
 use Rattle.std.proofs.lemmas.Option.{same_Some}
 use Rattle.lrc_lang.specs.declared.program.Program.{Program}
 use Rattle.lrc_trace.specs.declared.act.Act.{Act}
@@ -11,12 +11,16 @@ use Rattle.lrc_clock.proofs.Intervals.{other_complete, other_sound}
 use Rattle.lrc_clock.proofs.Ordering.{cover_to_order, order_to_cover}
 use Rattle.lrc_protocol.specs.declared.event.Event.{Event}
 use Rattle.lrc_protocol.specs.Node.{OptionsRecord}
+use Rattle.lrc_protocol.specs.Log.{Logged}
 use Rattle.lrc_protocol.specs.World.{World as Run, pending, run_of}
+use Rattle.lrc_protocol.proofs.Worlds.{run-whole}
 use Rattle.lrc_invariants.specs.Tokens.{grants_of_lock}
 use Rattle.lrc_invariants.proofs.Timed.{keeps, synchronized}
+use Rattle.lrc_invariants.proofs.Timely.{get_within}
 use Rattle.lrc_invariants.proofs.TokenCounts.{one_place}
 use Rattle.lrc_invariants.proofs.TokenWorlds.{all_tokens}
 use Rattle.lrc_coherence.proofs.AllExpected.{accepted}
+use Rattle.lrc_coherence.proofs.ReceiverWorlds.{in_flight, all_to}
 use Rattle.lrc_world.specs.declared.report.Report.{Report}
 use Rattle.lrc_world.specs.Moments.{Throughout, RefusesNone, HasEachToken, AreCovered}
 use Rattle.lrc_world.specs.Report.{IsReportOf}
@@ -27,7 +31,18 @@ does_some acts j node word a = ⊎_elim (λ read. (_, read.1)) (λ write. (_, wr
 
 module _ (program : Program) (nodes : ℕ) (options : OptionsRecord) (events : List Event) where
   pub refuses_none : Throughout program nodes options events RefusesNone
-  refuses_none before after run is runs = λ place flying l there at. accepted program nodes options before run runs place flying l there at
+  refuses_none before after run is runs = λ place flying there.
+      let count : length run.nodes ≡ nodes = (run-whole program nodes options before run runs).count in
+      let between : (flying.envelope.from < nodes) × (flying.envelope.to < nodes) =
+      (all_to program nodes options before run runs).to flying.envelope (in_flight run.flight place flying there) in
+      let receiver : (l : Logged) × (slice_get run.nodes flying.envelope.to ≡ Some l) =
+      get_within run.nodes flying.envelope.to (subst (λ k. flying.envelope.to < k) (sym count) between.1) in
+      record {
+        from = subst (λ k. flying.envelope.from < k) (sym count) between.0;
+        receiver = receiver.0;
+        to = receiver.1;
+        taken = accepted program nodes options before run runs place flying receiver.0 there receiver.1;
+      }
 
   pub each_token : 0 < nodes → Throughout program nodes options events (HasEachToken program.locks)
   each_token some before after run is runs = λ lock lt.

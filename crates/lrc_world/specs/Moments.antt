@@ -8,6 +8,7 @@ use Rattle.lrc_trace.specs.Interval.{interval_at}
 use Rattle.lrc_trace.specs.Order.{HappensBefore}
 use Rattle.lrc_clock.specs.Cover.{ClosesAt}
 use Rattle.lrc_clock.specs.Times.{time_at}
+use Rattle.lrc_wire.specs.Envelope.{EnvelopeRecord}
 use Rattle.lrc_protocol.specs.declared.event.Event.{Event}
 use Rattle.lrc_protocol.specs.Node.{OptionsRecord}
 use Rattle.lrc_protocol.specs.Turn.{take_turn, unexpected}
@@ -20,10 +21,16 @@ abbrev pub Throughout : Program → ℕ → OptionsRecord → List Event → (Ru
 Throughout program nodes options events Holds =
     (before after : List Event) (run : Run) → events ≡ before ++ after → run_of program nodes options before ≡ Some run → Holds run
 
--- no message in flight is refused by its receiver as unexpected, also none that it took before
+-- One of the nodes sent the message, and one of them is its receiver, which does not refuse it as unexpected.
+pub record IsWelcome (run : Run) (envelope : EnvelopeRecord) : Type 0 where
+  pub from : envelope.from < length run.nodes
+  pub receiver : Logged
+  pub to : slice_get run.nodes envelope.to ≡ Some receiver
+  pub taken : take_turn receiver.node envelope ≢ unexpected
+
+-- so it is of each message in flight, also of each that its receiver took before
 abbrev pub RefusesNone : Run → Type 0
-RefusesNone run = (place : ℕ) (flying : Flying) (l : Logged) → slice_get run.flight place ≡ Some flying
-    → slice_get run.nodes flying.envelope.to ≡ Some l → take_turn l.node flying.envelope ≢ unexpected
+RefusesNone run = (place : ℕ) (flying : Flying) → slice_get run.flight place ≡ Some flying → IsWelcome run flying.envelope
 
 -- the token of each lock is at just one node, free or held, or in just one grant that was sent and never taken
 abbrev pub HasEachToken : ℕ → Run → Type 0
