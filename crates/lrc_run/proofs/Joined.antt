@@ -1,6 +1,6 @@
 -- Threads that are joined in order.
-use Rattle.std.proofs.Common.{◌≡◌, ◌∙◌, ℕ, zero, suc, ◌+◌, List, [], ◌∷◌, ◌++◌, Option, None, Some, IfNone,
-    refl, sym, ap, subst, arith, length, map}
+use Rattle.std.proofs.Common.{◌≡◌, ◌∙◌, ℕ, zero, suc, ◌+◌, List, [], ◌∷◌, ◌++◌, Option, None, Some, IfNone}
+use Rattle.std.proofs.Common.{refl, sym, ap, subst, arith, length, map}
 use Rattle.std.specs.Prelude.{slice_get}
 use Rattle.std.proofs.lemmas.List.{length-map, length_push, map-append}
 use Rattle.lrc_lang.specs.declared.program.Program.{Program}

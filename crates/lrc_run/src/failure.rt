@@ -76,6 +76,7 @@ fn events_until(
         let last = unfinished(alloc, log.as_slice(), mailbox)?;
         log.push(last)?;
     }
+    // There is at most one log for each node, so there are never more.
     if logs.len() > 16 {
         return Err(AllocError);
     }

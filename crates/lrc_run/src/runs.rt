@@ -46,7 +46,8 @@ impl Gate for OpenGate {
 /// its first race; and where no order gives the plain machine a race, no run has one.
 ///
 /// Of several faults the one of the lowest node is answered; `Mismatch`, and want of memory after the threads have ended, only where
-/// no node had one.
+/// no node had one. `Worn` is answered only where some run of the program on one thread wears out: where a node's thread did, the
+/// turns of all nodes are made once more, in one order, up to there, for which memory may be missing too.
 pub fn run<R: Threads + Wait + Sync>(
     rt: &R,
     alloc: Global,

@@ -5,9 +5,9 @@ use Rattle.lrc_run.proofs.nodes.joined.Goals as goal
 pub loop-thread-preserved : goal.loop-thread-preserved
 loop-thread-preserved g c =
     let so_far = subst (λ left. IfNone c.loop-thread.lives.failure
-        (AreSoFar c.args.program.now c.args.nodes c.args.options.now (map (λ log. log.items) c.loop-thread.lives.logs.items)
-        (map (λ handle. handle.promise) left)))
-        c.in-Some.ensures.steps.0 c.loop-thread.invariant in
+    (AreSoFar c.args.program.now c.args.nodes c.args.options.now (map (λ log. log.items) c.loop-thread.lives.logs.items)
+    (map (λ handle. handle.promise) left)))
+    c.in-Some.ensures.steps.0 c.loop-thread.invariant in
     joined_more c.args.program.now c.args.nodes c.args.options.now (λ log. log.items) (λ handle. handle.promise) c.in-Some.thread
     c.next.new.self.rest.items c.loop-thread.lives.logs.items c.added-lives.result.logs.items c.join.result.log c.loop-thread.lives.failure
     c.added-lives.result.failure c.join.result.fault c.added-lives.ensures.none so_far c.join.ensures
