@@ -1,8 +1,10 @@
 //! Runs of a program whose nodes are on threads of their own, one for each node, with a post between them.
 #![tactic(auto)]
 
+mod failure;
 mod fault;
 mod gate;
+mod life;
 mod mail;
 mod nodes;
 mod runs;
@@ -12,6 +14,7 @@ mod worker;
 
 pub use fault::RunFault;
 pub use gate::Gate;
+pub use life::Life;
 pub use mail::{Line, Mail};
 pub use runs::{run, run_gated};
 pub use stop::Stop;
