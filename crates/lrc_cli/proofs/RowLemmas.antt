@@ -13,22 +13,25 @@ use Rattle.clap.specs.Facts.{explicit_source, parser_of_value, unwrap_or_range}
 use Rattle.clap.specs.Values.{read_as}
 use Rattle.clap.specs.Walk.{Held, Names, Outcome, Row, Rule, Step, Text, Waiting, Walk, action_of, after_flag, after_step, arg_by_id, arg_by_index}
 use Rattle.clap.specs.Walk.{arg_by_long, arg_by_short, at_row, attached_value, bundle, bundle_met, bundle_step, default_rows, done, first_of, flag_met}
-use Rattle.clap.specs.Walk.{has_row, idle, is_pending, long_met, long_or_other, more_values, most_values, next, nothing_held, one_of, option, option_met}
+use Rattle.clap.specs.Walk.{has_row, idle, is_empty, is_pending, long_met, long_or_other, more_values, most_values, next, nothing_held}
+use Rattle.clap.specs.Walk.{one_of, option, option_met}
 use Rattle.clap.specs.Walk.{option_word, plain, plain_word, positional, reacted, reading_by, refused, row_text, rows_after, settled, settled_rows}
 use Rattle.clap.specs.Walk.{short_met, short_or_plain, subcommand, subcommand_met, subcommand_or_other, takes_several, takes_values, to_positional}
 use Rattle.clap.specs.Walk.{trailing, used, used_as, used_by_id, value, values_or_missing, waits, walk, walk_from, walked, walked_from, with_default}
 use Rattle.clap.specs.Walk.{with_values, without, word_met}
 use Rattle.clap.specs.Simple.{Shape}
 use Rattle.clap.specs.Takes.{is_given}
-use Rattle.clap.specs.Kinds.{Kinds, check_kinds, or_else, range_kinds, value_kinds, values_kinds}
-use Rattle.clap.specs.Faults.{action_fault, bundle_fault, bundle_step_fault, check_fault, defaults_fault, flag_word_fault}
-use Rattle.clap.specs.Faults.{flags_fault, level_fault, long_fault, option_fault, other_fault, positional_fault, react_fault}
+use Rattle.clap.specs.Kinds.{Kinds, check_kinds, or_else, range_kinds, request_kinds, value_kinds, values_kinds}
+use Rattle.clap.specs.Faults.{action_fault, bundle_fault, bundle_step_fault, check_fault, default_fault, defaults_fault, flag_word_fault}
+use Rattle.clap.specs.Faults.{flags_fault, given_default_fault, level_fault, long_fault, option_fault, other_fault, positional_fault, react_fault}
 use Rattle.clap.specs.Faults.{settle_fault, short_fault, step_fault, turn_fault, use_fault, values_fault, walk_fault, word_fault}
 use Rattle.clap.specs.declared.builder.action.ArgAction.{ArgAction}
 use Rattle.clap.specs.declared.builder.action.ArgAction.TheVariants.{Set, Help}
+use Rattle.clap.specs.declared.builder.value_parser.Reading.{Reading}
 use Rattle.clap.specs.declared.builder.value_parser.ValueParser.{ValueParser}
 use Rattle.clap.specs.declared.error.kind.ErrorKind.TheVariants.{InvalidValue, TooManyValues}
-use Rattle.clap.specs.declared.parser.matches.ValueSource.TheVariants.{CommandLine}
+use Rattle.clap.specs.declared.parser.matches.ValueSource.{ValueSource}
+use Rattle.clap.specs.declared.parser.matches.ValueSource.TheVariants.{CommandLine, DefaultValue}
 
 -- ---- no fault
 
@@ -53,7 +56,6 @@ values_kinds-append ignore p (x ∷ xs) ys h k =
 pub record IsKeyed (c : List Rule) (a : Rule) : Type 0 where
   pub own : arg_by_id c a.id ≡ Some a
   pub acts : ((action_of a ≡ Set) × (0 < (unwrap_or_range a.range).start_inclusive)) ⊎ (action_of a ≡ Help)
-  pub bare : a.defaults ≡ []
 
 -- the row has a value, and it is as its argument wants
 pub record IsGood (c : List Rule) (r : Row) : Type 0 where
@@ -79,12 +81,12 @@ good-at_row c id change missing (r ∷ rs) h k good =
     (λ e. good-append c (change r) rs (h r (same_bytes r.id id e) good.0) good.1)
     (λ e. (good.0, good-at_row c id change missing rs h k good.1))
 
-good-with_values : (c : List Rule) (a : Rule) (values : List Text) (rows : List Row) → IsKeyed c a → 0 < length values → values_fault a values ≡ []
-    → AreGood c rows → AreGood c (with_values a.id (reading_by a) CommandLine values rows)
-good-with_values c a values rows keyed some pass good =
+good-with_values : (c : List Rule) (a : Rule) (source : ValueSource) (values : List Text) (rows : List Row) → IsKeyed c a → 0 < length values
+    → values_fault a values ≡ [] → AreGood c rows → AreGood c (with_values a.id (reading_by a) source values rows)
+good-with_values c a source values rows keyed some pass good =
     let same = λ (id : Text) (b : Rule) (e : id ≡ a.id) (f : arg_by_id c id ≡ Some b). let g : Some a ≡ Some b = sym keyed.own ∙ ap (arg_by_id c) (sym e) ∙ f in
     let h : a ≡ b = cc in h in
-    good-at_row c a.id (more_values CommandLine values) _ rows
+    good-at_row c a.id (more_values source values) _ rows
     (λ r e g. (
       record {
         some = omega (arith, length-append r.values values);
@@ -120,7 +122,7 @@ set_good : (c : List Rule) (again : Bool) (a : Rule) (values : List Text) (rows 
     → AreGood c (used_as Set a.id (reading_by a) (values_or_missing a values) rows)
 set_good c again a [] rows keyed some none good = absurd (omega arith)
 set_good c again a (v ∷ vs) rows keyed some none good =
-    good-with_values c a (v ∷ vs) (without a.id rows) keyed some (neither _ _ none).1 (good-without c a.id rows good)
+    good-with_values c a CommandLine (v ∷ vs) (without a.id rows) keyed some (neither _ _ none).1 (good-without c a.id rows good)
 
 used_good : (c : List Rule) (again : Bool) (a : Rule) (values : List Text) (rows : List Row) → IsKeyed c a → use_fault again a values rows ≡ [] → AreGood c rows
     → AreGood c (used a values rows)
@@ -315,21 +317,105 @@ module _ (s : Shape) (keyed : AllByRecursion (IsKeyed s.rules) s.rules) where
       let parts = neither (turn_fault s names w word) _ none in
       walk_good names (walked c names w word) rest parts.1 (turn_good names w word parts.0 good)
 
--- no argument has a default
-defaults_none : (c d : List Rule) (rows : List Row) → AllByRecursion (IsKeyed c) d → fold with_default rows d ≡ rows
-defaults_none c [] rows keyed = refl
-defaults_none c (a ∷ d) rows keyed =
-    let same : with_default rows a ≡ rows = go (has_row a.id rows) a.defaults keyed.0.bare in
-    ap (λ r. fold with_default r d) same ∙ defaults_none c d rows keyed.1
-  where
-    go : (b : Bool) (defaults : List Text) → defaults ≡ [] → cond b rows (default_rows a.id (reading_by a) defaults rows) ≡ rows
-    go true defaults e = refl
-    go false [] e = refl
-    go false (v ∷ vs) e = absurd (let bad : v ∷ vs ≡ [] = e in cc)
+-- ---- defaults
 
--- the rows of a level in which clap finds no fault
+-- the defaults of the arguments that have no row yet
+defaulted_good : (all d : List Rule) (rows : List Row) → AllByRecursion (IsKeyed all) d → defaults_fault rows d ≡ [] → AreGood all rows
+    → AreGood all (fold with_default rows d)
+unfolding defaults_fault
+defaulted_good all [] rows keyed none good = good
+defaulted_good all (a ∷ d) rows keyed none good =
+    let parts = neither (default_fault rows a) _ none in
+    defaulted_good all d (with_default rows a) keyed.1 parts.1 (go (has_row a.id rows) a.defaults parts.0)
+  where
+    go : (b : Bool) (defaults : List Text) → cond (b || is_empty defaults) [] (given_default_fault a defaults) ≡ []
+        → AreGood all (cond b rows (default_rows a.id (reading_by a) defaults rows))
+    go true defaults e = good
+    go false [] e = good
+    go false (v ∷ vs) e =
+        let full : is_empty (v ∷ vs) ≡ false = search (rules, tests) in
+        let passes = subst (λ (empty : Bool). cond empty [] (given_default_fault a (v ∷ vs)) ≡ []) full e in
+        good-with_values all a DefaultValue (v ∷ vs) rows keyed.0 (omega arith)
+        (neither (request_kinds (action_of a)) (values_fault a (v ∷ vs)) passes).1 good
+
+or_left : (a b : Bool) → a ≡ true → (a || b) ≡ true
+or_left true b e = refl
+or_left false b e = absurd (true≢false (sym e))
+
+or_right : (a b : Bool) → b ≡ true → (a || b) ≡ true
+or_right true b e = refl
+or_right false b e = e
+
+or_with : (a b c : Bool) → (b ≡ true → c ≡ true) → (a || b) ≡ true → (a || c) ≡ true
+or_with true b c h e = refl
+or_with false b c h e = h e
+
+module _ (how : Reading) (source : ValueSource) (values : List Text) where
+  -- values that come leave no row out
+  row_kept : (id other : Text) (rows : List Row) → has_row id rows ≡ true → has_row id (with_values other how source values rows) ≡ true
+  row_kept id other [] there = absurd (true≢false (sym there))
+  row_kept id other (r ∷ rs) there = if_all (λ rows. has_row id rows ≡ true) (bytes_eq r.id other) _ _ (λ e. there)
+      (λ e. or_with (bytes_eq r.id id) (has_row id rs) _ (row_kept id other rs) there)
+
+  -- and there is a row of their own
+  row_placed : (id : Text) (rows : List Row) → has_row id (with_values id how source values rows) ≡ true
+  row_placed id [] = or_left (bytes_eq id id) false ((bytes_eq-Decides id id).1 refl)
+  row_placed id (r ∷ rs) = if_all (λ rows. has_row id rows ≡ true) (bytes_eq r.id id) _ _ (λ e. or_left (bytes_eq r.id id) (has_row id rs) e)
+      (λ e. or_right (bytes_eq r.id id) _ (row_placed id rs))
+
+defaults_kept : (id : Text) (d : List Rule) (rows : List Row) → has_row id rows ≡ true → has_row id (fold with_default rows d) ≡ true
+defaults_kept id [] rows there = there
+defaults_kept id (a ∷ d) rows there = defaults_kept id d (with_default rows a) (go (has_row a.id rows) a.defaults)
+  where
+    go : (b : Bool) (defaults : List Text) → has_row id (cond b rows (default_rows a.id (reading_by a) defaults rows)) ≡ true
+    go true defaults = there
+    go false [] = there
+    go false (v ∷ vs) = row_kept (reading_by a) DefaultValue (v ∷ vs) id a.id rows there
+
+-- an argument with a default has a row
+defaulted_there : (d : List Rule) (a : Rule) (rows : List Row) → arg_by_id d a.id ≡ Some a → 0 < length a.defaults
+    → has_row a.id (fold with_default rows d) ≡ true
+defaulted_there [] a rows own some = absurd (let bad : None ≡ Some a = own in cc)
+defaulted_there (x ∷ d) a rows own some = go (bytes_eq x.id a.id) own (λ e. defaulted_there d a (with_default rows x) e some)
+  where
+    placed : (b : Bool) (defaults : List Text) → has_row a.id rows ≡ b → 0 < length defaults
+        → has_row a.id (cond b rows (default_rows a.id (reading_by a) defaults rows)) ≡ true
+    placed true defaults is h = is
+    placed false [] is h = absurd (omega arith)
+    placed false (v ∷ vs) is h = row_placed (reading_by a) DefaultValue (v ∷ vs) a.id rows
+
+    go : (b : Bool) → cond b (Some x) (arg_by_id d a.id) ≡ Some a
+        → (arg_by_id d a.id ≡ Some a → has_row a.id (fold with_default (with_default rows x) d) ≡ true)
+        → has_row a.id (fold with_default (with_default rows x) d) ≡ true
+    go true e later =
+        let same : x ≡ a = cc in
+        defaults_kept a.id d (with_default rows x)
+        (subst (λ (y : Rule). has_row a.id (with_default rows y) ≡ true) (sym same) (placed (has_row a.id rows) a.defaults refl some))
+    go false e later = later e
+
+first_some : (values : List Text) → 0 < length values → IsSome (slice_get values 0)
+first_some [] none = absurd (omega arith)
+first_some (v ∷ vs) has = refl
+
+-- a row has a first value
+row_some : (all : List Rule) (id : Text) (rows : List Row) → AreGood all rows → has_row id rows ≡ true → IsSome (first_of id rows)
+row_some all id [] good there = absurd (true≢false (sym there))
+row_some all id (r ∷ rs) good there = go (bytes_eq r.id id) there (row_some all id rs good.1)
+  where
+    go : (b : Bool) → (b || has_row id rs) ≡ true → (has_row id rs ≡ true → IsSome (first_of id rs))
+        → IsSome (option_and_then (λ x. slice_get x.values 0) (cond b (Some r) (find (λ x. bytes_eq x.id id) rs)))
+    go true e later = first_some r.values good.0.some
+    go false e later = later e
+
+-- what holds of the rows of a level in which clap finds no fault
+pub record IsLevel (s : Shape) (rows : List Row) : Type 0 where
+  pub good : AreGood s.rules rows
+  -- an argument with a default has a value
+  pub there : (a : Rule) → arg_by_id s.rules a.id ≡ Some a → 0 < length a.defaults → IsSome (first_of a.id rows)
+  pub checked : check_fault s rows false ≡ []
+
 pub level_good : (s : Shape) (words : List Text) → AllByRecursion (IsKeyed s.rules) s.rules → level_fault s [] nothing_held words false [] ≡ []
-    → AreGood s.rules (rows_after s.rules [] words) × (check_fault s (rows_after s.rules [] words) false ≡ [])
+    → IsLevel s (rows_after s.rules [] words)
 level_good s words keyed none =
     let end = (walk s.rules [] nothing_held words).held in
     let first = neither (walk_fault s [] (walk_from nothing_held) words) _ none in
@@ -337,7 +423,12 @@ level_good s words keyed none =
     let third = neither (defaults_fault (settled s.rules end).rows s.rules) _ second.1 in
     let walked_good = walk_good s keyed [] (walk_from nothing_held) words first.0 tt in
     let settled_rows_good = settled_good s.rules s.args_override_self keyed end second.0 walked_good in
-    (subst (AreGood s.rules) (sym (defaults_none s.rules s.rules _ keyed)) settled_rows_good, third.1)
+    let good = defaulted_good s.rules s.rules (settled s.rules end).rows keyed third.0 settled_rows_good in
+    record {
+      good = good;
+      there = λ a own some. row_some s.rules a.id _ good (defaulted_there s.rules a (settled s.rules end).rows own some);
+      checked = third.1;
+    }
 
 -- ---- what is read of good rows
 
@@ -356,14 +447,10 @@ found_good c id (x ∷ xs) r good is = go (bytes_eq x.id id) refl is (found_good
 pub given_some : (c : List Rule) (id : Text) (rows : List Row) → AreGood c rows → is_given id rows ≡ true → IsSome (first_of id rows)
 given_some c id rows good given = go (find (λ r. bytes_eq r.id id) rows) refl given
   where
-    some : (values : List Text) → 0 < length values → IsSome (slice_get values 0)
-    some [] none = absurd (omega arith)
-    some (v ∷ vs) has = refl
-
     go : (o : Option Row) → find (λ r. bytes_eq r.id id) rows ≡ o → option_map_or (λ r. explicit_source r.source) o false ≡ true
         → IsSome (option_and_then (λ r. slice_get r.values 0) o)
     go None is e = absurd (true≢false (sym e))
-    go (Some r) is e = some r.values (found_good c id rows r good is).0.some
+    go (Some r) is e = first_some r.values (found_good c id rows r good is).0.some
 
 -- the first value of an argument passes its parser, and is read as the parser says
 pub first_passes : (c : List Rule) (a : Rule) (rows : List Row) → AreGood c rows → arg_by_id c a.id ≡ Some a

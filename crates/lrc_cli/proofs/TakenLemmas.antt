@@ -1,23 +1,21 @@
 -- What clap's definitions say of words in which they find no fault: they name one of the commands, with a FILE, and
 -- the values of its number options are numbers.
-use Rattle.std.proofs.Common.{◌≡◌, ◌∙◌, Bool, cond, true, false, refl, ap, subst, codes, List, [], ◌∷◌}
-use Rattle.std.proofs.Common.{Option, Some, None, IfSome, inl, inr, is_some, lit<, option_map}
+use Rattle.std.proofs.Common.{◌≡◌, ◌∙◌, Bool, cond, true, false, refl, codes, List, [], ◌∷◌}
+use Rattle.std.proofs.Common.{Option, Some, None, IfSome, IsSome, IsSomeAnd, inl, inr, is_some, lit<, option_map}
 use Rattle.std.specs.List.{AllByRecursion}
 use Rattle.std.specs.Option.{option_map_or}
-use Rattle.clap.specs.Words.{App, IsUnsignedIn, Row, Rule, Shape, Text, first_of, subcommand_of}
+use Rattle.clap.specs.Words.{App, IsUnsignedIn, Row, Shape, Text, first_of, subcommand_of}
 use Rattle.clap.specs.Walk.{answers_to, arg_by_id, finished, nothing_held, rows_after, settled, stop_after, walk, walk_from}
 use Rattle.clap.specs.Simple.{built_leaf, entered, filled, inherited, label_of, names_of, rows_at}
-use Rattle.clap.specs.Facts.{parser_of_value}
 use Rattle.clap.specs.Kinds.{value_kinds}
 use Rattle.clap.specs.ValueTests.{accepts}
-use Rattle.clap.specs.Values.{read_as, reading_of}
 use Rattle.clap.specs.Faults.{check_fault, defaults_fault, entered_fault, fault_of, level_fault, settle_fault, walk_fault}
-use Rattle.clap.specs.declared.builder.value_parser.ValueParser.{ValueParser}
 use Rattle.clap.specs.declared.builder.value_parser.ValueParser.TheVariants.{Unsigned}
 use Rattle.clap.specs.declared.error.kind.ErrorKind.TheVariants.{ValueValidation}
 use Rattle.clap.proofs.ValueTestLemmas.{accepts-Accepts}
-use Rattle.lrc_cli.specs.CommandLine.{HasFile, IsNumberOption, IsPlainTaken, IsRunTaken, IsTaken, check, number, plain, run, sim, treadmarks, treadmarks_shape}
-use Rattle.lrc_cli.proofs.RowLemmas.{AreGood, IsKeyed, first_passes, given_some, level_good, neither, required_given}
+use Rattle.lrc_cli.specs.CommandLine.{HasValue, IsNumberOption, IsPlainTaken, IsRunTaken, IsTaken, check, collect, nodes, number, order, page}
+use Rattle.lrc_cli.specs.CommandLine.{plain, run, sim, steps, treadmarks, treadmarks_shape}
+use Rattle.lrc_cli.proofs.RowLemmas.{IsKeyed, IsLevel, first_passes, given_some, level_good, neither, required_given}
 
 abbrev check_built : Shape
 check_built = built_leaf (inherited treadmarks_shape check.top)
@@ -33,38 +31,38 @@ run_built = built_leaf (inherited treadmarks_shape run.top)
 
 check_keyed : AllByRecursion (IsKeyed check_built.rules) check_built.rules
 check_keyed = (
-  record { own = refl; acts = inl (refl, lit< tt); bare = refl },
-  (record { own = refl; acts = inr refl; bare = refl }, tt),
+  record { own = refl; acts = inl (refl, lit< tt) },
+  (record { own = refl; acts = inr refl }, tt),
 )
 
 plain_keyed : AllByRecursion (IsKeyed plain_built.rules) plain_built.rules
 plain_keyed = (
-  record { own = refl; acts = inl (refl, lit< tt); bare = refl },
+  record { own = refl; acts = inl (refl, lit< tt) },
   (
-    record { own = refl; acts = inl (refl, lit< tt); bare = refl },
+    record { own = refl; acts = inl (refl, lit< tt) },
     (
-      record { own = refl; acts = inl (refl, lit< tt); bare = refl },
-      (record { own = refl; acts = inr refl; bare = refl }, tt),
+      record { own = refl; acts = inl (refl, lit< tt) },
+      (record { own = refl; acts = inr refl }, tt),
     ),
   ),
 )
 
 sim_keyed : AllByRecursion (IsKeyed sim_built.rules) sim_built.rules
 sim_keyed = (
-  record { own = refl; acts = inl (refl, lit< tt); bare = refl },
+  record { own = refl; acts = inl (refl, lit< tt) },
   (
-    record { own = refl; acts = inl (refl, lit< tt); bare = refl },
+    record { own = refl; acts = inl (refl, lit< tt) },
     (
-      record { own = refl; acts = inl (refl, lit< tt); bare = refl },
+      record { own = refl; acts = inl (refl, lit< tt) },
       (
-        record { own = refl; acts = inl (refl, lit< tt); bare = refl },
+        record { own = refl; acts = inl (refl, lit< tt) },
         (
-          record { own = refl; acts = inl (refl, lit< tt); bare = refl },
+          record { own = refl; acts = inl (refl, lit< tt) },
           (
-            record { own = refl; acts = inl (refl, lit< tt); bare = refl },
+            record { own = refl; acts = inl (refl, lit< tt) },
             (
-              record { own = refl; acts = inl (refl, lit< tt); bare = refl },
-              (record { own = refl; acts = inr refl; bare = refl }, tt),
+              record { own = refl; acts = inl (refl, lit< tt) },
+              (record { own = refl; acts = inr refl }, tt),
             ),
           ),
         ),
@@ -75,18 +73,18 @@ sim_keyed = (
 
 run_keyed : AllByRecursion (IsKeyed run_built.rules) run_built.rules
 run_keyed = (
-  record { own = refl; acts = inl (refl, lit< tt); bare = refl },
+  record { own = refl; acts = inl (refl, lit< tt) },
   (
-    record { own = refl; acts = inl (refl, lit< tt); bare = refl },
+    record { own = refl; acts = inl (refl, lit< tt) },
     (
-      record { own = refl; acts = inl (refl, lit< tt); bare = refl },
+      record { own = refl; acts = inl (refl, lit< tt) },
       (
-        record { own = refl; acts = inl (refl, lit< tt); bare = refl },
+        record { own = refl; acts = inl (refl, lit< tt) },
         (
-          record { own = refl; acts = inl (refl, lit< tt); bare = refl },
+          record { own = refl; acts = inl (refl, lit< tt) },
           (
-            record { own = refl; acts = inl (refl, lit< tt); bare = refl },
-            (record { own = refl; acts = inr refl; bare = refl }, tt),
+            record { own = refl; acts = inl (refl, lit< tt) },
+            (record { own = refl; acts = inr refl }, tt),
           ),
         ),
       ),
@@ -94,17 +92,11 @@ run_keyed = (
   ),
 )
 
-check_taken : (words : List Text) → level_fault check_built [] nothing_held words false [] ≡ [] → HasFile (rows_after check_built.rules [] words)
-check_taken words none =
-    let rows = rows_after check_built.rules [] words in
-    let level = level_good check_built words check_keyed none in
-    given_some check_built.rules (codes "FILE") rows level.0 ((required_given check_built rows level.1).0 refl)
-
 -- a value that the parser of numbers let through
-number_passed : (text : Option Text) → IfSome text (λ t. value_kinds false (Unsigned 0 18446744073709551615) t ≡ [])
-    → IfSome text (IsUnsignedIn 0 18446744073709551615)
-number_passed None none = tt
-number_passed (Some t) none = accepts-Accepts false (Unsigned 0 18446744073709551615) t (go (accepts false (Unsigned 0 18446744073709551615) t) none)
+number_passed : (text : Option Text) → IsSome text → IfSome text (λ t. value_kinds false (Unsigned 0 18446744073709551615) t ≡ [])
+    → IsSomeAnd text (IsUnsignedIn 0 18446744073709551615)
+number_passed None there none = absurd cc
+number_passed (Some t) there none = accepts-Accepts false (Unsigned 0 18446744073709551615) t (go (accepts false (Unsigned 0 18446744073709551615) t) none)
   where
     go : (b : Bool) → cond b [] (ValueValidation ∷ []) ≡ [] → b ≡ true
     go true e = refl
@@ -114,56 +106,62 @@ same_text : (o : Option Text) → option_map (λ t. t) o ≡ o
 same_text None = refl
 same_text (Some t) = refl
 
-number_taken : (rules : List Rule) (rows : List Row) (a : Rule) → AreGood rules rows → arg_by_id rules a.id ≡ Some a → a.ignore_case ≡ false
-    → a.parser ≡ Some (Unsigned 0 18446744073709551615) → IsNumberOption a.id rows
-number_taken rules rows a good own exact parser =
-    let first = first_passes rules a rows good own in
-    let pass : IfSome (first_of a.id rows) (λ t. value_kinds false (Unsigned 0 18446744073709551615) t ≡ []) =
-    subst (λ (p : Bool × Option ValueParser). IfSome (first_of a.id rows) (λ t. value_kinds p.0 (parser_of_value p.1) t ≡ []))
-    (λ i. (exact i, parser i)) first.0 in
-    let written = first.1 ∙ ap (λ (p : Option ValueParser). option_map (read_as (reading_of (parser_of_value p))) (first_of a.id rows)) parser in
-    record { number = number_passed (first_of a.id rows) pass; as_written = written ∙ same_text (first_of a.id rows) }
+-- what clap makes sure of in the rows of a level
+module _ (s : Shape) (rows : List Row) (level : IsLevel s rows) where
+  number_taken : (name value : Text) → arg_by_id s.rules name ≡ Some (filled (number name value)) → IsNumberOption name rows
+  number_taken name value own =
+      let first = first_passes s.rules (filled (number name value)) rows level.good own in
+      record {
+        number = number_passed (first_of name rows) (level.there (filled (number name value)) own (lit< tt)) first.0;
+        as_written = first.1 ∙ same_text (first_of name rows);
+      }
 
--- a command with a FILE and the two numbers of a run on the plain machine
-all_plain_taken : (rules : List Rule) (rows : List Row) → AreGood rules rows → HasFile rows
-    → arg_by_id rules (codes "nodes") ≡ Some (filled (number (codes "nodes")))
-    → arg_by_id rules (codes "steps") ≡ Some (filled (number (codes "steps"))) → IsPlainTaken rows
-all_plain_taken rules rows good file nodes_own steps_own = record {
-  file = file;
-  nodes = number_taken rules rows (filled (number (codes "nodes"))) good nodes_own refl refl;
-  steps = number_taken rules rows (filled (number (codes "steps"))) good steps_own refl refl;
-}
+  -- of a command with a FILE and the two numbers of a run on the plain machine
+  all_plain_taken : HasValue (codes "FILE") rows → arg_by_id s.rules (codes "nodes") ≡ Some (filled nodes)
+      → arg_by_id s.rules (codes "steps") ≡ Some (filled steps) → IsPlainTaken rows
+  all_plain_taken file nodes_own steps_own = record {
+    file = file;
+    nodes = number_taken (codes "nodes") (codes "1") nodes_own;
+    steps = number_taken (codes "steps") (codes "1000000") steps_own;
+  }
 
--- one that has the number for collections too
-all_run_taken : (rules : List Rule) (rows : List Row) → AreGood rules rows → HasFile rows
-    → arg_by_id rules (codes "nodes") ≡ Some (filled (number (codes "nodes")))
-    → arg_by_id rules (codes "steps") ≡ Some (filled (number (codes "steps")))
-    → arg_by_id rules (codes "collect") ≡ Some (filled (number (codes "collect"))) → IsRunTaken rows
-all_run_taken rules rows good file nodes_own steps_own collect_own = record {
-  plain = all_plain_taken rules rows good file nodes_own steps_own;
-  collect = number_taken rules rows (filled (number (codes "collect"))) good collect_own refl refl;
-}
+  -- of one that has the other options of a run too
+  all_run_taken : IsPlainTaken rows → arg_by_id s.rules (codes "collect") ≡ Some (filled collect)
+      → arg_by_id s.rules (codes "order") ≡ Some (filled order) → arg_by_id s.rules (codes "page") ≡ Some (filled page) → IsRunTaken rows
+  all_run_taken plain collect_own order_own page_own = record {
+    plain = plain;
+    collect = number_taken (codes "collect") (codes "0") collect_own;
+    order = level.there (filled order) order_own (lit< tt);
+    page = level.there (filled page) page_own (lit< tt);
+  }
+
+check_taken : (words : List Text) → level_fault check_built [] nothing_held words false [] ≡ []
+    → HasValue (codes "FILE") (rows_after check_built.rules [] words)
+check_taken words none =
+    let rows = rows_after check_built.rules [] words in
+    let level = level_good check_built words check_keyed none in
+    given_some check_built.rules (codes "FILE") rows level.good ((required_given check_built rows level.checked).0 refl)
 
 plain_taken : (words : List Text) → level_fault plain_built [] nothing_held words false [] ≡ [] → IsPlainTaken (rows_after plain_built.rules [] words)
 plain_taken words none =
     let rows = rows_after plain_built.rules [] words in
     let level = level_good plain_built words plain_keyed none in
-    all_plain_taken plain_built.rules rows level.0
-    (given_some plain_built.rules (codes "FILE") rows level.0 ((required_given plain_built rows level.1).0 refl)) refl refl
+    let file = given_some plain_built.rules (codes "FILE") rows level.good ((required_given plain_built rows level.checked).0 refl) in
+    all_plain_taken plain_built rows level file refl refl
 
 sim_taken : (words : List Text) → level_fault sim_built [] nothing_held words false [] ≡ [] → IsRunTaken (rows_after sim_built.rules [] words)
 sim_taken words none =
     let rows = rows_after sim_built.rules [] words in
     let level = level_good sim_built words sim_keyed none in
-    all_run_taken sim_built.rules rows level.0
-    (given_some sim_built.rules (codes "FILE") rows level.0 ((required_given sim_built rows level.1).0 refl)) refl refl refl
+    let file = given_some sim_built.rules (codes "FILE") rows level.good ((required_given sim_built rows level.checked).0 refl) in
+    all_run_taken sim_built rows level (all_plain_taken sim_built rows level file refl refl) refl refl refl
 
 run_taken : (words : List Text) → level_fault run_built [] nothing_held words false [] ≡ [] → IsRunTaken (rows_after run_built.rules [] words)
 run_taken words none =
     let rows = rows_after run_built.rules [] words in
     let level = level_good run_built words run_keyed none in
-    all_run_taken run_built.rules rows level.0
-    (given_some run_built.rules (codes "FILE") rows level.0 ((required_given run_built rows level.1).0 refl)) refl refl refl
+    let file = given_some run_built.rules (codes "FILE") rows level.good ((required_given run_built rows level.checked).0 refl) in
+    all_run_taken run_built rows level (all_plain_taken run_built rows level file refl refl) refl refl refl
 
 -- the top of the command line, as clap builds it
 abbrev top_built : App

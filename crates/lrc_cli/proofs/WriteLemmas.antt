@@ -1,6 +1,6 @@
 -- What a writer has in the middle of a text.
 use Rattle.std.proofs.Common.{◌≡◌, ◌∙◌, ◌<◌, ◌+◌, ℕ, refl, sym, ap, subst, arith, List, [], ◌∷◌, ◌++◌, length, take, drop, Option, Some, None, Result}
-use Rattle.std.proofs.Common.{Ok, Err, OnErr, ◌==◌, true, false, append-nil, length-append, length-drop, get_or, Vec, rules, tests}
+use Rattle.std.proofs.Common.{Ok, Err, OnErr, ◌==◌, true, false, length-append, length-drop, get_or, Vec, rules, tests}
 use Rattle.std.specs.Io.KnownBytes.{Appends, Keeps}
 use Rattle.std.proofs.lemmas.List.{append_assoc, drop_more, take_at, take-append-drop}
 use Rattle.lrc_cli.specs.Output.{AppendsFront}

@@ -1,5 +1,5 @@
 -- The words of the command line, as clap reads them, and the choice that they make.
-use Rattle.std.specs.Prelude.{◌≡◌, ◌⊎◌, ℕ, true, List, [], ◌∷◌, Option, None, Some, Result, Ok, Err, IfSome, IsSome, IsSomeAnd, codes, option_map}
+use Rattle.std.specs.Prelude.{◌≡◌, ◌⊎◌, ℕ, true, List, [], ◌∷◌, Option, None, Some, Result, Ok, Err, IsSome, IsSomeAnd, codes, option_map}
 use Rattle.std.specs.Int.{IsOutOfRange}
 use Rattle.std.specs.Option.{option_map_or}
 use Rattle.std.specs.Str.Parse.{digits_value, without_leading_plus}
@@ -31,20 +31,39 @@ file = record (new_rule (codes "FILE")) { required = true }
 abbrev pub option : Text → Rule
 option name = record (new_rule name) { long = Some name; value_names = 1 }
 
+-- one that has this value where the words give it none
+abbrev pub defaulted : Text → Text → Rule
+defaulted name value = record (option name) { defaults = value ∷ [] }
+
 -- an option that takes a number of 64 bits
-abbrev pub number : Text → Rule
-number name = record (option name) { parser = Some (Unsigned 0 18446744073709551615) }
+abbrev pub number : Text → Text → Rule
+number name value = record (defaulted name value) { parser = Some (Unsigned 0 18446744073709551615) }
+
+abbrev pub nodes : Rule
+nodes = number (codes "nodes") (codes "1")
+
+abbrev pub steps : Rule
+steps = number (codes "steps") (codes "1000000")
+
+abbrev pub collect : Rule
+collect = number (codes "collect") (codes "0")
+
+-- `order` and `page` take one of few words, which are looked at once clap has read them
+abbrev pub order : Rule
+order = defaulted (codes "order") (codes "oldest")
+
+abbrev pub page : Rule
+page = defaulted (codes "page") (codes "64")
 
 abbrev pub check : App
 check = with_rule (new_app (codes "check")) file
 
 abbrev pub plain : App
-plain = with_rule (with_rule (with_rule (new_app (codes "plain")) file) (number (codes "nodes"))) (number (codes "steps"))
+plain = with_rule (with_rule (with_rule (new_app (codes "plain")) file) nodes) steps
 
--- What `sim` and `run` have in common. `order` and `page` take one of few words, which are looked at once clap has read them.
+-- what `sim` and `run` have in common
 abbrev pub with_run_options : App → App
-with_run_options command = with_rule (with_rule (with_rule (with_rule (with_rule (with_rule command file)
-    (number (codes "nodes"))) (number (codes "steps"))) (number (codes "collect"))) (option (codes "order"))) (option (codes "page"))
+with_run_options command = with_rule (with_rule (with_rule (with_rule (with_rule (with_rule command file) nodes) steps) collect) order) page
 
 abbrev pub sim : App
 sim = with_rule (with_run_options (new_app (codes "sim"))) (option (codes "events"))
@@ -70,43 +89,42 @@ abbrev pub words_meant : List Text → List Text
 words_meant [] = codes "sim" ∷ codes "-" ∷ []
 words_meant (word ∷ words) = word ∷ words
 
--- the number that an option has among these matches, or its default
-abbrev pub number_in : Text → ℕ → List Row → ℕ
-number_in name default rows =
-    option_map_or (λ text. digits_value 10 (without_leading_plus text)) (first_of name rows) default
+-- these matches have a value of the option or argument
+abbrev pub HasValue : Text → List Row → Type 0
+HasValue name rows = IsSome (first_of name rows)
+
+-- the number that an option has among these matches; clap makes sure that there is one
+abbrev pub number_in : Text → List Row → ℕ
+number_in name rows = option_map_or (λ text. digits_value 10 (without_leading_plus text)) (first_of name rows) 0
 
 abbrev pub nodes_in : List Row → ℕ
-nodes_in = number_in (codes "nodes") 1
+nodes_in = number_in (codes "nodes")
 
 abbrev pub steps_in : List Row → ℕ
-steps_in = number_in (codes "steps") 1000000
+steps_in = number_in (codes "steps")
 
 abbrev pub collect_in : List Row → ℕ
-collect_in = number_in (codes "collect") 0
+collect_in = number_in (codes "collect")
 
--- the order of deliveries that a word names; with none it is that of sending
+-- the order of deliveries that a word names
 abbrev pub IsOrder : Option Text → Picker → Type 0
-IsOrder word Oldest = (word ≡ None) ⊎ (word ≡ Some (codes "oldest"))
+IsOrder word Oldest = word ≡ Some (codes "oldest")
 IsOrder word Newest = word ≡ Some (codes "newest")
 IsOrder word Twice = word ≡ Some (codes "twice")
 
--- the size of a page that a word names; with none it has 64 words
+-- the size of a page that a word names
 abbrev pub IsSize : Option Text → Size → Type 0
-IsSize word Words64 = (word ≡ None) ⊎ (word ≡ Some (codes "64"))
+IsSize word Words64 = word ≡ Some (codes "64")
 IsSize word Words256 = word ≡ Some (codes "256")
 
--- these matches have a FILE
-abbrev pub HasFile : List Row → Type 0
-HasFile rows = IsSome (first_of (codes "FILE") rows)
-
--- the option has no value, or a number of 64 bits, which clap reads as it is written
+-- the option has a number of 64 bits, which clap reads as it is written
 pub record IsNumberOption (name : Text) (rows : List Row) : Type 0 where
-  pub number : IfSome (first_of name rows) (IsUnsignedIn 0 18446744073709551615)
+  pub number : IsSomeAnd (first_of name rows) (IsUnsignedIn 0 18446744073709551615)
   pub as_written : one_of name rows ≡ first_of name rows
 
 -- what clap makes sure of in the matches of `plain`
 pub record IsPlainTaken (rows : List Row) : Type 0 where
-  pub file : HasFile rows
+  pub file : HasValue (codes "FILE") rows
   pub nodes : IsNumberOption (codes "nodes") rows
   pub steps : IsNumberOption (codes "steps") rows
 
@@ -114,11 +132,13 @@ pub record IsPlainTaken (rows : List Row) : Type 0 where
 pub record IsRunTaken (rows : List Row) : Type 0 where
   pub plain : IsPlainTaken rows
   pub collect : IsNumberOption (codes "collect") rows
+  pub order : HasValue (codes "order") rows
+  pub page : HasValue (codes "page") rows
 
 -- the command that the words name, with what clap makes sure of in its matches
 abbrev pub IsTaken : Option (Text × List Row) → Type 0
 IsTaken None = ⊥
-IsTaken (Some found) = ((found.0 ≡ codes "check") × HasFile found.1)
+IsTaken (Some found) = ((found.0 ≡ codes "check") × HasValue (codes "FILE") found.1)
     ⊎ ((found.0 ≡ codes "plain") × IsPlainTaken found.1)
     ⊎ ((found.0 ≡ codes "sim") × IsRunTaken found.1)
     ⊎ ((found.0 ≡ codes "run") × IsRunTaken found.1)

@@ -6,10 +6,11 @@ ghost use Rattle.clap.specs.Words.{app_of, fault_of, first_of, found_of, kind_of
 ghost use Rattle.clap.specs.Words.{subcommand_rows_of};
 ghost use Rattle.clap.specs.declared.builder.command.Command.TheViews.{out-Command as fields_of};
 ghost use Rattle.clap.specs.declared.error.kind.ErrorKind.TheVariants.{InvalidValue};
-ghost use Rattle.lrc_cli.specs.CommandLine.{Chooses, HasBadOrder, HasBadPage, HasFile, HasMisfit, HasPlainMisfit, HasRunMisfit};
+ghost use Rattle.lrc_cli.specs.CommandLine.{Chooses, HasBadOrder, HasBadPage, HasMisfit, HasPlainMisfit, HasRunMisfit, HasValue};
 ghost use Rattle.lrc_cli.specs.CommandLine.{IsFound, IsFoundFault, IsMisfitFault, IsNumberOption, IsOrder, IsPlainRun, IsPlainTaken};
 ghost use Rattle.lrc_cli.specs.CommandLine.{AreRunOptions, IsRunTaken, IsSimulation, IsSize, IsTaken, IsWordFault, check, fault_from};
-ghost use Rattle.lrc_cli.specs.CommandLine.{collect_in, file, number, nodes_in, number_in, option, plain, run, sim, steps_in, treadmarks};
+ghost use Rattle.lrc_cli.specs.CommandLine.{collect, collect_in, file, nodes, nodes_in, number, number_in, option, order, page, plain, run, sim};
+ghost use Rattle.lrc_cli.specs.CommandLine.{steps, steps_in, treadmarks};
 ghost use Rattle.lrc_cli.specs.CommandLine.{with_run_options, words_meant};
 ghost use Rattle.lrc_page.specs.declared.size.Size.{Size};
 ghost use Rattle.lrc_wire.specs.declared.picker.Picker.{Picker};
@@ -26,20 +27,20 @@ use std::convert::AsStr;
 // What the program does where it gets no words.
 static NO_WORDS: [&str; 2] = ["sim", "-"];
 
-const NODES_HELP: &str = "How many nodes run the program: 1 to 16 [default: 1]";
+const NODES_HELP: &str = "How many nodes run the program: 1 to 16";
 
-const STEPS_HELP: &str = "How many statements each node may begin: 1 to 1000000 [default: 1000000]";
+const STEPS_HELP: &str = "How many statements each node may begin: 1 to 1000000";
 
 const COLLECT_HELP: &str =
-    "From how many stored intervals on a node asks for a collection: 0 to 1000000, 0 for never [default: 0]";
+    "From how many stored intervals on a node asks for a collection: 0 to 1000000, 0 for never";
 
 const ORDER_HELP: &str =
-    "Which message is delivered next: oldest, newest or twice (the oldest, and each two times) [default: oldest]";
+    "Which message is delivered next: oldest, newest or twice (the oldest, and each two times)";
 
-const PAGE_HELP: &str = "How many words a page has: 64 or 256 [default: 64]";
+const PAGE_HELP: &str = "How many words a page has: 64 or 256";
 
 const EVENTS_HELP: &str =
-    "A file of events to play, `run N`, `deliver I` or `repeat I` on each line [default: all nodes in turn]";
+    "A file of events to play, `run N`, `deliver I` or `repeat I` on each line; without it all nodes run in turn";
 
 const BAD_ORDER: &str = "invalid value for '--order <ORDER>': it is oldest, newest or twice";
 
@@ -128,7 +129,7 @@ fn choice_from<'w>(matches: &ArgMatches<'w>) -> Result<Choice<'w>, Misfit>
     ensures err { IfErr result (λ misfit. IsSomeAnd (subcommand_rows_of matches.now) (HasMisfit misfit)) }
 {
     if let Some(options) = matches.subcommand_matches("check") {
-        return Ok(Choice::Check(file_of(options)));
+        return Ok(Choice::Check(text_of(options, "FILE")));
     }
     if let Some(options) = matches.subcommand_matches("plain") {
         return Ok(Choice::Plain(plain_run(options)?));
@@ -146,7 +147,7 @@ fn plain_run<'w>(options: &ArgMatches<'w>) -> Result<PlainRun<'w>, Misfit>
     ensures err { IfErr result (λ misfit. HasPlainMisfit misfit (rows_of (found_of options.now))) }
 {
     Ok(PlainRun {
-        file: file_of(options),
+        file: text_of(options, "FILE"),
         nodes: nodes_of(options)?,
         steps: steps_of(options)?,
     })
@@ -171,7 +172,7 @@ fn run_options<'w>(options: &ArgMatches<'w>) -> Result<RunOptions<'w>, Misfit>
     let order = order_of(options)?;
     let size = size_of(options)?;
     Ok(RunOptions {
-        file: file_of(options),
+        file: text_of(options, "FILE"),
         nodes: nodes_of(options)?,
         steps: steps_of(options)?,
         collect: collect_of(options)?,
@@ -181,13 +182,11 @@ fn run_options<'w>(options: &ArgMatches<'w>) -> Result<RunOptions<'w>, Misfit>
 }
 
 fn order_of(options: &ArgMatches<'_>) -> Result<Picker, Misfit>
+    requires { HasValue (codes "order") (rows_of (found_of options.now)) }
     ensures ok { IfOk result (IsOrder (first_of (codes "order") (rows_of (found_of options.now)))) }
     ensures err { IfErr result (λ misfit. (misfit ≡ Misfit.Order) × HasBadOrder (rows_of (found_of options.now))) }
 {
-    match options.get_str("order") {
-        Some(word) => order_named(word),
-        None => Ok(Picker::Oldest),
-    }
+    order_named(text_of(options, "order"))
 }
 
 fn order_named(word: &str) -> Result<Picker, Misfit>
@@ -206,13 +205,11 @@ fn order_named(word: &str) -> Result<Picker, Misfit>
 }
 
 fn size_of(options: &ArgMatches<'_>) -> Result<Size, Misfit>
+    requires { HasValue (codes "page") (rows_of (found_of options.now)) }
     ensures ok { IfOk result (IsSize (first_of (codes "page") (rows_of (found_of options.now)))) }
     ensures err { IfErr result (λ misfit. (misfit ≡ Misfit.Page) × HasBadPage (rows_of (found_of options.now))) }
 {
-    match options.get_str("page") {
-        Some(word) => size_named(word),
-        None => Ok(Size::Words64),
-    }
+    size_named(text_of(options, "page"))
 }
 
 fn size_named(word: &str) -> Result<Size, Misfit>
@@ -228,11 +225,11 @@ fn size_named(word: &str) -> Result<Size, Misfit>
     }
 }
 
-fn file_of<'w>(options: &ArgMatches<'w>) -> &'w str
-    requires { HasFile (rows_of (found_of options.now)) }
-    ensures { first_of (codes "FILE") (rows_of (found_of options.now)) ≡ Some result.now }
+fn text_of<'w>(options: &ArgMatches<'w>, name: &str) -> &'w str
+    requires { HasValue name.now (rows_of (found_of options.now)) }
+    ensures { first_of name.now (rows_of (found_of options.now)) ≡ Some result.now }
 {
-    options.get_str("FILE").unwrap()
+    options.get_str(name).unwrap()
 }
 
 fn nodes_of(options: &ArgMatches<'_>) -> Result<Nodes, Misfit>
@@ -241,7 +238,7 @@ fn nodes_of(options: &ArgMatches<'_>) -> Result<Nodes, Misfit>
     ensures err { IfErr result (λ misfit. (misfit ≡ Misfit.Number)
         × IsOutOfRange 1 16 (nodes_in (rows_of (found_of options.now)))) }
 {
-    let count = number_of(options, "nodes", 1);
+    let count = number_of(options, "nodes");
     match u32::try_from(count) {
         Ok(count) if 1 <= count && count <= 16 => Ok(Nodes { count }),
         _ => Err(Misfit::Number),
@@ -254,7 +251,7 @@ fn steps_of(options: &ArgMatches<'_>) -> Result<Steps, Misfit>
     ensures err { IfErr result (λ misfit. (misfit ≡ Misfit.Number)
         × IsOutOfRange 1 1000000 (steps_in (rows_of (found_of options.now)))) }
 {
-    let count = number_of(options, "steps", 1_000_000);
+    let count = number_of(options, "steps");
     match u32::try_from(count) {
         Ok(count) if 1 <= count && count <= 1_000_000 => Ok(Steps { count }),
         _ => Err(Misfit::Number),
@@ -267,18 +264,18 @@ fn collect_of(options: &ArgMatches<'_>) -> Result<Collect, Misfit>
     ensures err { IfErr result (λ misfit. (misfit ≡ Misfit.Number)
         × IsOutOfRange 0 1000000 (collect_in (rows_of (found_of options.now)))) }
 {
-    let count = number_of(options, "collect", 0);
+    let count = number_of(options, "collect");
     match u32::try_from(count) {
         Ok(count) if count <= 1_000_000 => Ok(Collect { count }),
         _ => Err(Misfit::Number),
     }
 }
 
-fn number_of(options: &ArgMatches<'_>, name: &str, default: u64) -> u64
+fn number_of(options: &ArgMatches<'_>, name: &str) -> u64
     requires { IsNumberOption name.now (rows_of (found_of options.now)) }
-    ensures { result ≡ number_in name.now default (rows_of (found_of options.now)) }
+    ensures { result ≡ number_in name.now (rows_of (found_of options.now)) }
 {
-    options.get_one::<u64>(name).unwrap_or(default)
+    options.get_one::<u64>(name).unwrap()
 }
 
 impl From<AllocError> for ChooseFault {
@@ -335,8 +332,8 @@ fn plain_command<'w>(alloc: Global) -> Result<Command<'w>, AllocError>
             "Runs the program of FILE over one flat memory, each node in turn, and looks for no race",
         )
         .arg(file(alloc))?
-        .arg(number(alloc, "nodes", NODES_HELP))?
-        .arg(number(alloc, "steps", STEPS_HELP))
+        .arg(nodes(alloc))?
+        .arg(steps(alloc))
 }
 
 fn sim_command<'w>(alloc: Global) -> Result<Command<'w>, AllocError>
@@ -367,11 +364,11 @@ fn taking_run_options<'w>(alloc: Global, command: Command<'w>) -> Result<Command
 {
     command
         .arg(file(alloc))?
-        .arg(number(alloc, "nodes", NODES_HELP))?
-        .arg(number(alloc, "steps", STEPS_HELP))?
-        .arg(number(alloc, "collect", COLLECT_HELP))?
-        .arg(text(alloc, "order", "ORDER", ORDER_HELP))?
-        .arg(text(alloc, "page", "WORDS", PAGE_HELP))
+        .arg(nodes(alloc))?
+        .arg(steps(alloc))?
+        .arg(collect(alloc))?
+        .arg(order(alloc))?
+        .arg(page(alloc))
 }
 
 fn file<'w>(alloc: Global) -> Arg<'w>
@@ -393,13 +390,46 @@ fn text<'w>(alloc: Global, name: &'w str, value: &'w str, help: &'w str) -> Arg<
         .help(help)
 }
 
-fn number<'w>(alloc: Global, name: &'w str, help: &'w str) -> Arg<'w>
-    ensures rule { rule_of result ≡ number name.entry.now }
+fn nodes<'w>(alloc: Global) -> Arg<'w>
+    ensures rule { rule_of result ≡ nodes }
     ensures local { result.global ≡ false }
 {
-    Arg::new(alloc, name)
-        .long(name)
-        .value_name("N")
+    number(alloc, "nodes", "1", NODES_HELP)
+}
+
+fn steps<'w>(alloc: Global) -> Arg<'w>
+    ensures rule { rule_of result ≡ steps }
+    ensures local { result.global ≡ false }
+{
+    number(alloc, "steps", "1000000", STEPS_HELP)
+}
+
+fn collect<'w>(alloc: Global) -> Arg<'w>
+    ensures rule { rule_of result ≡ collect }
+    ensures local { result.global ≡ false }
+{
+    number(alloc, "collect", "0", COLLECT_HELP)
+}
+
+fn order<'w>(alloc: Global) -> Arg<'w>
+    ensures rule { rule_of result ≡ order }
+    ensures local { result.global ≡ false }
+{
+    text(alloc, "order", "ORDER", ORDER_HELP).default_value("oldest")
+}
+
+fn page<'w>(alloc: Global) -> Arg<'w>
+    ensures rule { rule_of result ≡ page }
+    ensures local { result.global ≡ false }
+{
+    text(alloc, "page", "WORDS", PAGE_HELP).default_value("64")
+}
+
+fn number<'w>(alloc: Global, name: &'w str, default: &'w str, help: &'w str) -> Arg<'w>
+    ensures rule { rule_of result ≡ number name.entry.now default.entry.now }
+    ensures local { result.global ≡ false }
+{
+    text(alloc, name, "N", help)
         .value_parser(value_parser!(u64))
-        .help(help)
+        .default_value(default)
 }

@@ -1,5 +1,5 @@
-use Rattle.std.proofs.Common.{◌≡◌, ◌∙◌, ◌∷◌, ◌++◌, [], ℕ, List, Option, Result, Ok, Err, Vec, IfErr, IfOk}
-use Rattle.std.proofs.Common.{IsErrAnd, refl, sym, ap, subst, append-nil, option_map}
+use Rattle.std.proofs.Common.{◌≡◌, ◌∙◌, ◌∷◌, ◌++◌, [], ℕ, List, Option, Result, Ok, Err, Vec, IfOk}
+use Rattle.std.proofs.Common.{refl, sym, ap, subst, append-nil, option_map}
 use Rattle.std.specs.Borrow.{Bor}
 use Rattle.std.specs.declared.alloc.Global.{Global}
 use Rattle.lrc_lang.specs.declared.program.Program.{Program}

@@ -1,4 +1,4 @@
-use Rattle.std.proofs.Common.{◌≡◌, ◌∙◌, ℕ, Bool, true, false, List, Option, Some, None, is_some, sym, ap, subst, option_map}
+use Rattle.std.proofs.Common.{◌≡◌, ◌∙◌, ℕ, false, List, Option, Some, None, is_some, sym, ap, subst, option_map}
 use Rattle.std.specs.Borrow.{Bor}
 use Rattle.lrc_cli.specs.Answer.{names_events}
 use Rattle.lrc_cli.specs.Performance.{Performs}

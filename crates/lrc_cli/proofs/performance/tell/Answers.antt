@@ -1,9 +1,8 @@
-use Rattle.std.proofs.Common.{◌≡◌, ◌⊎◌, ℕ, List, Option, Some, None, Result, Ok, Err, refl, sym, subst, inl, inr}
+use Rattle.std.proofs.Common.{◌⊎◌, ℕ, List, Option, Some, None, refl, subst, inl, inr}
 use Rattle.std.specs.Io.KnownBytes.{Keeps}
 use Rattle.lrc_cli.specs.Answer.{Answers, IsFault}
 use Rattle.lrc_cli.specs.FaultLine.{fault_line}
 use Rattle.lrc_cli.specs.Performance.{IsWritten, Performs, faults, prints}
-use Rattle.lrc_cli.specs.declared.answer.Printout.{Printout}
 use Rattle.lrc_cli.specs.declared.choice.Choice.{Choice}
 use Rattle.lrc_cli.specs.declared.fault.Fault.{Fault}
 use Rattle.lrc_cli.specs.declared.fault.Fault.TheVariants.{NoMemory}
