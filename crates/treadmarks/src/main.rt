@@ -20,11 +20,15 @@ use std::time::Clock;
 use std::{env, fs, io, thread};
 use thiserror::Error;
 
-/// One byte more than the longest text of a program has.
-const TEXT_READ: u64 = 65_536 + 1;
+/// One byte more than the longest text of a program has: a longer one is cut there, and is still too long.
+const TEXT_READ: u64 = lrc_lang::MOST_BYTES as u64 + 1;
 
-/// One byte more than the longest text of events has.
-const EVENTS_READ: u64 = 16_777_216 + 1;
+const _: () = prove!(TEXT_READ > lrc_lang::MOST_BYTES as u64);
+
+/// One byte more than the longest text of events has: a longer one is cut there, and is still too long.
+const EVENTS_READ: u64 = lrc_cli::events::MOST_BYTES as u64 + 1;
+
+const _: () = prove!(EVENTS_READ > lrc_cli::events::MOST_BYTES as u64);
 
 /// The status after a fault of a file or of memory.
 const FAULT: u8 = 1;
