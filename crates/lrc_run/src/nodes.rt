@@ -6,6 +6,7 @@ ghost use Rattle.lrc_weave.specs.Logs.{AreLogs};
 ghost use Rattle.lrc_run.specs.Threads.{AreFirstLogs, AreOwedFrom};
 ghost use Rattle.lrc_run.specs.Worker.{IsLogOf};
 
+use crate::coded::Coded;
 use crate::gate::Gate;
 use crate::stop::Stop;
 use crate::thread::on_thread;
@@ -30,17 +31,20 @@ impl<'p> Promise<Result<Vec<Entry>, Stop>> for LogOf<'p> {
     ghost kept_by = { λ p r. IfOk r (λ log. IsLogOf (fresh_node p.program.now p.nodes p.options p.me) log.items) };
 }
 
-/// The turns of all nodes of a program, from node 0 up: each node lives on a thread of its own until the post is closed. Where one
-/// fails, or there is no memory for a thread, the post is closed at once, and the fault is that of the lowest node that had one.
-pub(crate) fn logs_of<G: Gate + Sync, R: Threads + Wait + Sync>(
+/// The turns of all nodes of a program, from node 0 up: each node lives on a thread of its own, over the one code of the program, until
+/// the post is closed. Where one fails, or there is no memory for a thread, the post is closed at once, and the fault is that of the
+/// lowest node that had one.
+pub(crate) fn logs_of<C: Coded + Sync, G: Gate + Sync, R: Threads + Wait + Sync>(
     rt: &R,
     alloc: Global,
     program: &Program,
+    code: &C,
     nodes: u8,
     options: &Options,
     post: &Post,
     gate: &G,
 ) -> Result<Vec<Vec<Entry>>, Stop>
+    requires code { C.program_of code.now ≡ program.now }
     requires few { nodes ≤ 16 }
     ensures { IfOk result (λ logs. AreLogs program.now nodes options.now (map (λ log. log.items) logs.items)) }
 {
@@ -48,7 +52,7 @@ pub(crate) fn logs_of<G: Gate + Sync, R: Threads + Wait + Sync>(
         thread::scope_env(),
         rt,
         |scope| -> Result<Vec<Vec<Entry>>, Stop>
-            requires { nodes ≤ 16 }
+            requires { (C.program_of code.now ≡ program.now) × (nodes ≤ 16) }
             ensures { IfOk result (λ logs. AreLogs program.entry.now nodes options.entry.now (map (λ log. log.items) logs.items)) }
         {
             let logs = Vec::with_capacity(alloc, usize::from(nodes))?;
@@ -56,8 +60,8 @@ pub(crate) fn logs_of<G: Gate + Sync, R: Threads + Wait + Sync>(
             for me in 0..nodes {
                 let body = move || -> Result<Vec<Entry>, Stop>
                     requires { (me < nodes) × (nodes ≤ 16) }
-                    ensures { IfOk result (λ log. IsLogOf (fresh_node program.entry.now nodes options.entry.now me) log.items) }
-                { on_thread(rt, alloc, program, nodes, options, post, gate, me) };
+                    ensures { IfOk result (λ log. IsLogOf (fresh_node (C.program_of code.entry.now) nodes options.entry.now me) log.items) }
+                { on_thread(rt, alloc, code.code(), nodes, options, post, gate, me) };
                 let owed = LogOf {
                     program,
                     nodes,

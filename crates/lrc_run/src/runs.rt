@@ -16,6 +16,7 @@ ghost use Rattle.lrc_run.specs.Run.{AreWiresOf, IsLate, IsWovenReport, turns_of}
 use crate::fault::RunFault;
 use crate::gate::Gate;
 use crate::nodes::logs_of;
+use lrc_exec::code::Code;
 use lrc_lang::program::Program;
 use lrc_node::{Entry, Options};
 use lrc_post::{Mailbox, Post, Wires};
@@ -124,7 +125,8 @@ fn live<G: Gate + Sync, R: Threads + Wait + Sync>(
     ensures late { IfErr result IsLate }
 {
     let post = Post::new(alloc, nodes, picker)?;
-    let logs = logs_of(rt, alloc, program, nodes, options, &post, gate)?;
+    let code = Code::new(alloc, program)?;
+    let logs = logs_of(rt, alloc, program, &code, nodes, options, &post, gate)?;
     Ok((logs, post.into_wires()))
 }
 

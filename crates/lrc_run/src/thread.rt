@@ -10,7 +10,6 @@ use crate::mail::Line;
 use crate::stop::Stop;
 use crate::worker::work;
 use lrc_exec::code::Code;
-use lrc_lang::program::Program;
 use lrc_node::{Entry, Logged, Node, Options};
 use lrc_post::Post;
 use std::alloc::{AllocError, Global};
@@ -20,7 +19,7 @@ use std::sync::Wait;
 pub fn on_thread<G: Gate, R: Wait>(
     rt: &R,
     alloc: Global,
-    program: &Program,
+    code: &Code<'_>,
     nodes: u8,
     options: &Options,
     post: &Post,
@@ -29,9 +28,9 @@ pub fn on_thread<G: Gate, R: Wait>(
 ) -> Result<Vec<Entry>, Stop>
     requires here { me < nodes }
     requires few { nodes ≤ 16 }
-    ensures { IfOk result (λ log. IsLogOf (fresh_node program.now nodes options.now me) log.items) }
+    ensures { IfOk result (λ log. IsLogOf (fresh_node code.now nodes options.now me) log.items) }
 {
-    let log = coded(rt, alloc, program, nodes, options, post, gate, me);
+    let log = live(rt, alloc, code, nodes, options, post, gate, me);
     if log.is_err() {
         post.close(rt);
     }
@@ -39,25 +38,6 @@ pub fn on_thread<G: Gate, R: Wait>(
 }
 
 // The same, but a node that fails leaves the post as it is.
-fn coded<G: Gate, R: Wait>(
-    rt: &R,
-    alloc: Global,
-    program: &Program,
-    nodes: u8,
-    options: &Options,
-    post: &Post,
-    gate: &G,
-    me: u8,
-) -> Result<Vec<Entry>, Stop>
-    requires here { me < nodes }
-    requires few { nodes ≤ 16 }
-    ensures { IfOk result (λ log. IsLogOf (fresh_node program.now nodes options.now me) log.items) }
-{
-    let code = Code::new(alloc, program)?;
-    live(rt, alloc, &code, nodes, options, post, gate, me)
-}
-
-// The same of a program whose code is there.
 fn live<G: Gate, R: Wait>(
     rt: &R,
     alloc: Global,
