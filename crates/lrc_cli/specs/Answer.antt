@@ -109,7 +109,8 @@ abbrev pub HasBadEvent : Option (List ℕ) → ℕ → Type 0
 HasBadEvent None line = ⊥
 HasBadEvent (Some events_text) line = Reads events_text (Err (BadEvent line))
 
--- A number or a message becomes too large at one of the events of the run.
+-- A number or a message becomes too large at one of the events of the run. With no text of events, those are the events of some run
+-- of the program.
 abbrev pub IsWornRun : Program → RunOptions → Option (List ℕ) → Type 0
 IsWornRun program run None = (events : List Event) × IsWornBy program run.nodes.count (options_of run) events
 IsWornRun program run (Some events_text) =
@@ -124,19 +125,19 @@ IsRunFault program run events_text Mismatch = ⊥
 IsRunFault program run events_text NoMemory = Unit {0}
 
 -- Why a run on threads answers no report. Which thread goes on when is not known, and so is no more of its faults.
-abbrev pub IsThreadedFault : Fault → Type 0
-IsThreadedFault (Text line kind) = ⊥
-IsThreadedFault (Events line) = ⊥
-IsThreadedFault Worn = Unit {0}
-IsThreadedFault Mismatch = Unit {0}
-IsThreadedFault NoMemory = Unit {0}
+abbrev pub IsThreadedFault : Program → RunOptions → Fault → Type 0
+IsThreadedFault program run (Text line kind) = ⊥
+IsThreadedFault program run (Events line) = ⊥
+IsThreadedFault program run Worn = IsWornRun program run None
+IsThreadedFault program run Mismatch = Unit {0}
+IsThreadedFault program run NoMemory = Unit {0}
 
 -- the same for a choice; the other commands have no such fault
 abbrev pub IsWornChoice : Choice → Program → Option (List ℕ) → Type 0
 IsWornChoice (Check file) program events_text = ⊥
 IsWornChoice (Plain run) program events_text = ⊥
 IsWornChoice (Simulate run) program events_text = IsWornRun program run.options events_text
-IsWornChoice (Run run) program events_text = Unit {0}
+IsWornChoice (Run run) program events_text = IsWornRun program run None
 
 -- The first fault: of the text, then of the events, then of the run. Memory may run out at any time. Only nodes on threads can have
 -- logs that differ from what went through the post.

@@ -39,7 +39,7 @@ fn run_on_threads<R: Threads + Wait + Sync>(
     program: &Program,
 ) -> Result<Report, Fault>
     ensures ok { IfOk result (IsThreadedRunOf program.now options.now) }
-    ensures err { IfErr result IsThreadedFault }
+    ensures err { IfErr result (IsThreadedFault program.now options.now) }
 {
     let nodes = options.nodes.count;
     let run = run(

@@ -22,14 +22,14 @@ is_some_and (Some t) P h = refl
 
 -- an answer keeps the setting
 done_setting : (value : ℕ) (thread : Thread) (next : Next) → IsFine thread next → (done value thread next).setting ≡ thread.setting
-done_setting value thread (quiet after) fine = fine.setting
-done_setting value thread (prints printed after) fine = fine.setting
-done_setting value thread (reads word after) fine = (fine.1 value).setting
-done_setting value thread (writes word written after) fine = fine.1.setting
-done_setting value thread (acquires lock after) fine = fine.2.setting
-done_setting value thread (releases lock after) fine = fine.2.setting
-done_setting value thread (arrives after) fine = fine.0
-done_setting value thread (departs after) fine = ap (λ (t : Thread). t.setting) fine.1
+done_setting value thread (quiet after) fine = fine.1.setting
+done_setting value thread (prints printed after) fine = fine.1.setting
+done_setting value thread (reads word after) fine = (fine.1 value).1.setting
+done_setting value thread (writes word written after) fine = fine.1.1.setting
+done_setting value thread (acquires lock after) fine = fine.3.setting
+done_setting value thread (releases lock after) fine = fine.3.setting
+done_setting value thread (arrives after) fine = fine.1.setting
+done_setting value thread (departs after) fine = fine.1.setting
 done_setting value thread (traps cause) fine = refl
 done_setting value thread ends fine = refl
 

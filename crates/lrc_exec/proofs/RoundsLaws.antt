@@ -12,7 +12,8 @@ use Rattle.lrc_trace.specs.declared.act.Deed.{Deed}
 use Rattle.lrc_exec.specs.Meaning.{Thread, Next, quiet, prints, reads, writes, acquires, releases, arrives, departs, traps, ends, next_of}
 use Rattle.lrc_lang.specs.declared.program.Program.{Program}
 use Rattle.lrc_exec.specs.Plain.{Plain, plain_start, is_free, all_arrived, deed_of, thread_in, plain_step, plain_from, plain}
-use Rattle.lrc_exec.specs.Rounds.{Paced, steps_of, turn, turns, round, rounds, paced_start, AreActsOfRounds}
+use Rattle.lrc_exec.specs.Ask.{steps_of}
+use Rattle.lrc_exec.specs.Rounds.{Paced, turn, turns, round, rounds, paced_start, AreActsOfRounds}
 use Rattle.lrc_exec.specs.RoundsCode.{MakesRound}
 use Rattle.lrc_exec.proofs.PlainLaws.{no_arrivals, then_from, plain_from-append, plain_from-length, plain_from-arrivals}
 use Rattle.lrc_exec.proofs.NextLaws.{IsFine, next_of-fine}
@@ -120,27 +121,26 @@ counted machine node thread after not_arrived d new one threads =
 deed_leaves : (machine : Plain) (node : ℕ) (thread : Thread) (next : Next) (s : Deed × Plain) → IsFine thread next → deed_of machine node next ≡ Some s
     → Leaves machine node thread s
 deed_leaves machine node thread (quiet after) s fine e =
-    where_true (Leaves machine node thread) true (counted machine node thread after fine.not_before _ _ refl refl) e
+    where_true (Leaves machine node thread) true (counted machine node thread after fine.0 _ _ refl refl) e
 deed_leaves machine node thread (prints value after) s fine e =
-    where_true (Leaves machine node thread) true (counted machine node thread after fine.not_before _ _ refl refl) e
+    where_true (Leaves machine node thread) true (counted machine node thread after fine.0 _ _ refl refl) e
 deed_leaves machine node thread (reads word after) s fine e =
     let value = slice_index machine.memory word in
-    where_true (Leaves machine node thread) true (counted machine node thread (after value) (fine.1 value).not_before _ _ refl refl) e
+    where_true (Leaves machine node thread) true (counted machine node thread (after value) (fine.1 value).0 _ _ refl refl) e
 deed_leaves machine node thread (writes word value after) s fine e =
-    where_true (Leaves machine node thread) true (counted machine node thread after fine.1.not_before _ _ refl refl) e
+    where_true (Leaves machine node thread) true (counted machine node thread after fine.1.0 _ _ refl refl) e
 deed_leaves machine node thread (acquires lock after) s fine e =
-    where_true (Leaves machine node thread) (is_free machine lock) (counted machine node thread after fine.2.not_before _ _ refl refl) e
+    where_true (Leaves machine node thread) (is_free machine lock) (counted machine node thread after fine.2 _ _ refl refl) e
 deed_leaves machine node thread (releases lock after) s fine e =
-    where_true (Leaves machine node thread) true (counted machine node thread after fine.2.not_before _ _ refl refl) e
+    where_true (Leaves machine node thread) true (counted machine node thread after fine.2 _ _ refl refl) e
 deed_leaves machine node thread (arrives after) s fine e =
-    where_true (Leaves machine node thread) true (counted machine node thread after fine.1 _ _ refl refl) e
+    where_true (Leaves machine node thread) true (counted machine node thread after fine.0 _ _ refl refl) e
 deed_leaves machine node thread (departs after) s fine e =
-    let gone : after.arrived ≡ false = ap (λ (t : Thread). t.arrived) fine.1 in
     where_true (Leaves machine node thread) (all_arrived machine node) (record {
       after = Some after;
       threads = refl;
       lighter =
-          omega (arith, weight_of thread true fine.0, weight_of after false gone);
+          omega (arith, weight_of thread true fine.0, weight_of after false fine.1.arrived);
     }) e
 deed_leaves machine node thread (traps cause) s fine e =
     where_true (Leaves machine node thread) true (record { after = None; threads = refl; lighter = omega arith }) e

@@ -1,8 +1,9 @@
 -- What a machine's thread does next, and where an answer leads it.
-use Rattle.std.proofs.Common.{◌≡◌, ℕ, zero, suc, ◌+◌, ◌-◌, ◌≤◌, Bool, true, false, List, ◌∷◌, ◌++◌, length}
+use Rattle.std.proofs.Common.{◌≡◌, ℕ, zero, suc, ◌+◌, ◌-◌, ◌<◌, ◌≤◌, Bool, true, false, List, ◌∷◌, ◌++◌, length}
 use Rattle.std.proofs.Common.{get_or, Option, Some, None, refl, sym, ap, ◌∙◌, subst, arith}
-use Rattle.std.specs.Prelude.{slice_get, slice_set, unwrap_or, nat_lt, if◌then◌else◌}
-use Rattle.std.proofs.lemmas.Option.{slice_get-get_or}
+use Rattle.std.specs.Prelude.{slice_get, slice_set, unwrap_or, nat_lt, if◌then◌else◌, IsSome}
+use Rattle.std.proofs.lemmas.Bool.{ltb-true}
+use Rattle.std.proofs.lemmas.Option.{same_Some, slice_get-get_or}
 use Rattle.lrc_lang.specs.declared.program.Expression.{Expression}
 use Rattle.lrc_lang.specs.declared.program.Statement.{Statement}
 use Rattle.lrc_lang.specs.declared.program.Statement.TheVariants.{Assign, Read, Write, Acquire, Release, Barrier, Print, If', While', If, While}
@@ -11,7 +12,7 @@ use Rattle.lrc_trace.specs.declared.act.Cause.{Cause}
 use Rattle.lrc_trace.specs.declared.act.Cause.TheVariants.{WordOutOfRange, LockOutOfRange, LockHeld, LockNotHeld}
 use Rattle.lrc_exec.specs.declared.code.Instruction.{Instruction}
 use Rattle.lrc_exec.specs.declared.machine.Machine.TheInside.{Inside}
-use Rattle.lrc_exec.specs.Meaning.{Thread, Next, or_trap, value_in, traps, block, holds, then_does}
+use Rattle.lrc_exec.specs.Meaning.{Thread, Next, or_trap, if_below, value_in, traps, block, holds, then_does}
 use Rattle.lrc_exec.specs.Meaning.{then_keeps, then_holds, chosen, act_of, first_act, next_of, ends}
 use Rattle.lrc_exec.specs.Ask.{GoesOn, done, answered}
 use Rattle.lrc_exec.specs.Flat.{rest_at, where_it_holds, where_it_fails, IsSound}
@@ -29,6 +30,21 @@ or_trap_done : (value : ℕ) (thread : Thread) (o : Option ℕ) (go : ℕ → Ne
 or_trap_done value thread None go after each goes = absurd goes
 or_trap_done value thread (Some v) go after each goes = each v goes
 
+there_is : (o : Option ℕ) (go : ℕ → Next) → GoesOn (or_trap o go) → IsSome o
+there_is None go goes = absurd goes
+there_is (Some v) go goes = refl
+
+-- where a thread goes on, the number that it goes on with is below the limit
+passed : (test : Bool) (next : Next) (cause : Cause) → GoesOn (if test then next else traps cause) → test ≡ true
+passed true next cause goes = refl
+passed false next cause goes = absurd goes
+
+below_limit : (o : Option ℕ) (limit number : ℕ) (cause : Cause) (next : ℕ → Next) → GoesOn (or_trap o (λ l. if_below l limit cause (next l)))
+    → o ≡ Some number → number < limit
+below_limit None limit number cause next goes is = absurd goes
+below_limit (Some l) limit number cause next goes is =
+    subst (λ k. k < limit) (same_Some l number is) (ltb-true l limit (passed (nat_lt l limit) (next l) cause goes))
+
 -- where a thread goes on, a test passed that traps otherwise
 then_done : (value : ℕ) (thread : Thread) (test : Bool) (next : Next) (cause : Cause) (after : Thread) → (GoesOn next → done value thread next ≡ after)
     → GoesOn (if test then next else traps cause) → done value thread (if test then next else traps cause) ≡ after
@@ -39,6 +55,61 @@ else_done : (value : ℕ) (thread : Thread) (test : Bool) (next : Next) (cause :
     → GoesOn (if test then traps cause else next) → done value thread (if test then traps cause else next) ≡ after
 else_done value thread true next cause after each goes = absurd goes
 else_done value thread false next cause after each goes = each goes
+
+-- the expression whose value a statement needs first, and that of the lock that it takes or gives back
+abbrev pub needed_by : Statement → Option Expression
+needed_by (Assign name e) = Some e
+needed_by (Read name e) = Some e
+needed_by (Write e value) = Some e
+needed_by (Acquire e) = Some e
+needed_by (Release e) = Some e
+needed_by Barrier = None
+needed_by (Print e) = Some e
+needed_by (If' e p a q b) = Some e
+needed_by (While' e p a) = Some e
+
+abbrev pub lock_in : Statement → Option Expression
+lock_in (Acquire e) = Some e
+lock_in (Release e) = Some e
+lock_in _ = None
+
+-- where a thread goes on, the value that its statement needs first is there
+has_value : (thread : Thread) (rest : List Statement) (s : Statement) (e : Expression) → needed_by s ≡ Some e → GoesOn (act_of thread s rest)
+    → IsSome (value_in thread e)
+has_value thread rest s e is goes = by_kind s is goes
+  where
+    at_own : (own : Expression) → Some own ≡ Some e → IsSome (value_in thread own) → IsSome (value_in thread e)
+    at_own own is h = subst (λ x. IsSome (value_in thread x)) (same_Some own e is) h
+
+    by_kind : (s : Statement) → needed_by s ≡ Some e → GoesOn (act_of thread s rest) → IsSome (value_in thread e)
+    by_kind (Assign name x) is goes = at_own x is (there_is (value_in thread x) _ goes)
+    by_kind (Read name x) is goes = at_own x is (there_is (value_in thread x) _ goes)
+    by_kind (Write x value) is goes = at_own x is (there_is (value_in thread x) _ goes)
+    by_kind (Acquire x) is goes = at_own x is (there_is (value_in thread x) _ goes)
+    by_kind (Release x) is goes = at_own x is (there_is (value_in thread x) _ goes)
+    by_kind Barrier is goes = cc
+    by_kind (Print x) is goes = at_own x is (there_is (value_in thread x) _ goes)
+    by_kind (If' x p a q b) is goes = at_own x is (there_is (value_in thread x) _ goes)
+    by_kind (While' x p a) is goes = at_own x is (there_is (value_in thread x) _ goes)
+
+-- and the lock that it takes or gives back is one of the program's
+is_lock : (thread : Thread) (rest : List Statement) (s : Statement) (e : Expression) (number : ℕ) → lock_in s ≡ Some e
+    → value_in thread e ≡ Some number → GoesOn (act_of thread s rest) → number < thread.setting.locks
+is_lock thread rest s e number is value_is goes = by_kind s is goes
+  where
+    value_of-own : (own : Expression) → Some own ≡ Some e → value_in thread own ≡ Some number
+    value_of-own own is = ap (value_in thread) (same_Some own e is) ∙ value_is
+
+    by_kind : (s : Statement) → lock_in s ≡ Some e → GoesOn (act_of thread s rest) → number < thread.setting.locks
+    by_kind (Acquire x) is goes = below_limit (value_in thread x) thread.setting.locks number LockOutOfRange _ goes (value_of-own x is)
+    by_kind (Release x) is goes = below_limit (value_in thread x) thread.setting.locks number LockOutOfRange _ goes (value_of-own x is)
+    by_kind (Assign name x) is goes = cc
+    by_kind (Read name x) is goes = cc
+    by_kind (Write x value) is goes = cc
+    by_kind Barrier is goes = cc
+    by_kind (Print x) is goes = cc
+    by_kind (If' x p a q b) is goes = cc
+    by_kind (While' x p a) is goes = cc
 
 module _ (value : ℕ) (thread : Thread) (rest : List Statement) where
   -- the thread once an assignment is done
@@ -155,16 +226,37 @@ module _ (m : Inside) (thread : Thread) (d : Instruction) (k : ℕ) (view : thre
   chosen_within zero = otherwise_within
   chosen_within (suc v) = then_within
 
+  -- what the instruction's statement needs first has a value, and its lock is among the 64 that the machine knows
+  goes_at : (s : Statement) → (get_or m.code.now k d).statement.now ≡ s → GoesOn (next_of thread)
+      → GoesOn (act_of thread s (rest_at m.code.now (get_or m.code.now k d).next))
+  goes_at s is_s goes =
+      subst GoesOn (next_of-at ∙ ap (λ x. act_of thread x (rest_at m.code.now (get_or m.code.now k d).next)) is_s) goes
+
+  pub value_there : (s : Statement) (e : Expression) → (get_or m.code.now k d).statement.now ≡ s → needed_by s ≡ Some e → GoesOn (next_of thread)
+      → IsSome (value_in thread e)
+  value_there s e is_s is goes = has_value thread (rest_at m.code.now (get_or m.code.now k d).next) s e is (goes_at s is_s goes)
+
+  pub lock_there : (s : Statement) (e : Expression) (number : ℕ) → (get_or m.code.now k d).statement.now ≡ s → lock_in s ≡ Some e
+      → value_in thread e ≡ Some number → GoesOn (next_of thread) → number < 64
+  lock_there s e number is_s is value_is goes =
+      let below : number < thread.setting.locks =
+      is_lock thread (rest_at m.code.now (get_or m.code.now k d).next) s e number is value_is (goes_at s is_s goes) in
+      let known : m.locks ≡ thread.setting.locks = ap (λ (t : Thread). t.setting.locks) view in
+      omega (arith, below, known, running.few_locks)
+
+  number_of : (e : Expression) (number : ℕ) → value_in thread e ≡ Some number → number ≡ unwrap_or (value_in thread e) 0
+  number_of e number is = sym (ap (λ o. unwrap_or o 0) is)
+
   -- the thread once each statement is answered
   pub assign_answered : (value name number : ℕ) (e : Expression) (privates : List ℕ) → (get_or m.code.now k d).statement.now ≡ Assign name e
-      → number ≡ unwrap_or (value_in thread e) 0 → privates ≡ slice_set m.privates name number → GoesOn (next_of thread)
+      → value_in thread e ≡ Some number → privates ≡ slice_set m.privates name number → GoesOn (next_of thread)
       → thread_of (moved m (get_or m.code.now k d).next privates m.held) ≡ answered value thread
   assign_answered value name number e privates is_s number_is privates_is goes =
       let next = (get_or m.code.now k d).next in
       let rest = rest_at m.code.now next in
       ap (λ p. thread_of (moved m next p m.held)) privates_is
       ∙ ap (λ t. then_keeps t rest name number) view
-      ∙ ap (then_keeps thread rest name) number_is
+      ∙ ap (then_keeps thread rest name) (number_of e number number_is)
       ∙ sym (answered-at value (Assign name e) _ is_s goes (assign_done value thread rest name e))
 
   pub read_answered : (value name : ℕ) (e : Expression) (privates : List ℕ) → (get_or m.code.now k d).statement.now ≡ Read name e
@@ -178,25 +270,25 @@ module _ (m : Inside) (thread : Thread) (d : Instruction) (k : ℕ) (view : thre
       ∙ sym (answered-at value (Read name e) _ is_s goes (read_done value thread rest name e))
 
   pub acquire_answered : (value number : ℕ) (e : Expression) (held : List Bool) → (get_or m.code.now k d).statement.now ≡ Acquire e
-      → number ≡ unwrap_or (value_in thread e) 0 → held ≡ slice_set m.held number true → GoesOn (next_of thread)
+      → value_in thread e ≡ Some number → held ≡ slice_set m.held number true → GoesOn (next_of thread)
       → thread_of (moved m (get_or m.code.now k d).next m.privates held) ≡ answered value thread
   acquire_answered value number e held is_s number_is held_is goes =
       let next = (get_or m.code.now k d).next in
       let rest = rest_at m.code.now next in
       ap (λ h. thread_of (moved m next m.privates h)) held_is
       ∙ ap (λ t. then_holds t rest number true) view
-      ∙ ap (λ n. then_holds thread rest n true) number_is
+      ∙ ap (λ n. then_holds thread rest n true) (number_of e number number_is)
       ∙ sym (answered-at value (Acquire e) _ is_s goes (acquire_done value thread rest e))
 
   pub release_answered : (value number : ℕ) (e : Expression) (held : List Bool) → (get_or m.code.now k d).statement.now ≡ Release e
-      → number ≡ unwrap_or (value_in thread e) 0 → held ≡ slice_set m.held number false → GoesOn (next_of thread)
+      → value_in thread e ≡ Some number → held ≡ slice_set m.held number false → GoesOn (next_of thread)
       → thread_of (moved m (get_or m.code.now k d).next m.privates held) ≡ answered value thread
   release_answered value number e held is_s number_is held_is goes =
       let next = (get_or m.code.now k d).next in
       let rest = rest_at m.code.now next in
       ap (λ h. thread_of (moved m next m.privates h)) held_is
       ∙ ap (λ t. then_holds t rest number false) view
-      ∙ ap (λ n. then_holds thread rest n false) number_is
+      ∙ ap (λ n. then_holds thread rest n false) (number_of e number number_is)
       ∙ sym (answered-at value (Release e) _ is_s goes (release_done value thread rest e))
 
   pub other_answered : (value : ℕ) → ((n : _) (e : _) → (get_or m.code.now k d).statement.now ≡ Assign n e → ⊥)
@@ -220,23 +312,23 @@ module _ (m : Inside) (thread : Thread) (d : Instruction) (k : ℕ) (view : thre
   rest_at-chosen (suc v) s is_s = sound_at.then_leads ∙ ap (λ x. where_it_holds x (rest_at m.code.now (get_or m.code.now k d).next)) is_s
 
   pub if_answered : (value number place : ℕ) (e : Expression) (a b : _) → (get_or m.code.now k d).statement.now ≡ If e a b
-      → number ≡ unwrap_or (value_in thread e) 0 → place ≡ chosen number (get_or m.code.now k d).then (get_or m.code.now k d).otherwise
+      → value_in thread e ≡ Some number → place ≡ chosen number (get_or m.code.now k d).then (get_or m.code.now k d).otherwise
       → GoesOn (next_of thread) → thread_of (moved m place m.privates m.held) ≡ answered value thread
   if_answered value number place e a b is_s number_is place_is goes =
       let rest = rest_at m.code.now (get_or m.code.now k d).next in
       let leads = λ (n : ℕ). chosen n (where_it_holds (If e a b) rest) (where_it_fails (If e a b) rest) in
       ap (λ t. then_does t (rest_at m.code.now place)) view
-      ∙ ap (then_does thread) (ap (rest_at m.code.now) place_is ∙ rest_at-chosen number (If e a b) is_s ∙ ap leads number_is)
+      ∙ ap (then_does thread) (ap (rest_at m.code.now) place_is ∙ rest_at-chosen number (If e a b) is_s ∙ ap leads (number_of e number number_is))
       ∙ sym (answered-at value (If e a b) _ is_s goes
       (if_done value thread rest e (shape-the_row-Statement-0 a) (hidden-the_row-Statement-0 a) (shape-the_row-Statement-0 b)
       (hidden-the_row-Statement-0 b)))
 
   pub while_answered : (value number place : ℕ) (e : Expression) (a : _) → (get_or m.code.now k d).statement.now ≡ While e a
-      → number ≡ unwrap_or (value_in thread e) 0 → place ≡ chosen number (get_or m.code.now k d).then (get_or m.code.now k d).otherwise
+      → value_in thread e ≡ Some number → place ≡ chosen number (get_or m.code.now k d).then (get_or m.code.now k d).otherwise
       → GoesOn (next_of thread) → thread_of (moved m place m.privates m.held) ≡ answered value thread
   while_answered value number place e a is_s number_is place_is goes =
       let rest = rest_at m.code.now (get_or m.code.now k d).next in
       let leads = λ (n : ℕ). chosen n (where_it_holds (While e a) rest) (where_it_fails (While e a) rest) in
       ap (λ t. then_does t (rest_at m.code.now place)) view
-      ∙ ap (then_does thread) (ap (rest_at m.code.now) place_is ∙ rest_at-chosen number (While e a) is_s ∙ ap leads number_is)
+      ∙ ap (then_does thread) (ap (rest_at m.code.now) place_is ∙ rest_at-chosen number (While e a) is_s ∙ ap leads (number_of e number number_is))
       ∙ sym (answered-at value (While e a) _ is_s goes (while_done value thread rest e (shape-the_row-Statement-0 a) (hidden-the_row-Statement-0 a)))

@@ -1,6 +1,8 @@
 -- What the code of a thread asks for, and where an answer leads.
 use Rattle.std.specs.Prelude.{ℕ, false, Result, Ok, Err}
 use Rattle.lrc_trace.specs.declared.act.Cause.{Cause}
+use Rattle.lrc_trace.specs.declared.act.Deed.{Deed}
+use Rattle.lrc_trace.specs.declared.act.Deed.TheVariants as deeds
 use Rattle.lrc_exec.specs.declared.machine.Ask.{Ask}
 use Rattle.lrc_exec.specs.declared.machine.Ask.TheVariants.{Quiet, Print, Read, Write, Acquire, Release, Barrier, Trap, End}
 use Rattle.lrc_exec.specs.Meaning.{Thread, Next, quiet, prints, reads, writes, acquires, releases, arrives, departs, traps, ends, next_of}
@@ -17,6 +19,29 @@ ask_of (arrives after) = Barrier
 ask_of (departs after) = Barrier
 ask_of (traps cause) = Trap cause
 ask_of ends = End
+
+-- the deed of a thread that asks for this, a read giving this value
+abbrev pub deed_asked : ℕ → Ask → Deed
+deed_asked value Quiet = deeds.Quiet
+deed_asked value (Print printed) = deeds.Print printed
+deed_asked value (Read word) = deeds.Read word value
+deed_asked value (Write word written) = deeds.Write word written
+deed_asked value (Acquire lock) = deeds.Acquire lock
+deed_asked value (Release lock) = deeds.Release lock
+deed_asked value Barrier = deeds.Arrive
+deed_asked value (Trap cause) = deeds.Trap cause
+deed_asked value End = deeds.End
+
+-- how many steps a deed takes: one for each condition evaluated and each other statement begun. A depart ends what the
+-- arrive began, and the end of the text is no statement
+abbrev pub steps_of : Deed → ℕ
+steps_of deeds.Depart = 0
+steps_of deeds.End = 0
+steps_of _ = 1
+
+-- how many steps it costs to begin what is asked for
+abbrev pub cost_asked : Ask → ℕ
+cost_asked ask = steps_of (deed_asked 0 ask)
 
 -- an answer is due to all but a trap and the end
 abbrev pub TakesAnswer : Ask → Type 0

@@ -4,23 +4,8 @@ use Rattle.std.specs.Prelude.{if◌then◌else◌, option_and_then, replicate, s
 use Rattle.std.specs.List.{range_with_len}
 use Rattle.lrc_lang.specs.declared.program.Program.{Program}
 use Rattle.lrc_trace.specs.declared.act.Act.{Act}
-use Rattle.lrc_trace.specs.declared.act.Deed.{Deed}
-use Rattle.lrc_trace.specs.declared.act.Deed.TheVariants.{Quiet, Print, Read, Write, Acquire, Release, Arrive, Depart, Trap, End}
+use Rattle.lrc_exec.specs.Ask.{steps_of}
 use Rattle.lrc_exec.specs.Plain.{Plain, plain_start, plain_step, plain}
-
--- how many steps a deed takes: one for each condition evaluated and each other statement begun. A depart ends what the
--- arrive began, and the end of the text is no statement
-abbrev pub steps_of : Deed → ℕ
-steps_of Quiet = 1
-steps_of (Print value) = 1
-steps_of (Read word value) = 1
-steps_of (Write word value) = 1
-steps_of (Acquire lock) = 1
-steps_of (Release lock) = 1
-steps_of Arrive = 1
-steps_of Depart = 0
-steps_of (Trap cause) = 1
-steps_of End = 0
 
 -- the plain machine, and for each node the steps that it has left
 pub record Paced : Type 0 where

@@ -1,17 +1,17 @@
 // What a thread asks for, and the machine that runs its code.
 
-ghost use Rattle.std.specs.Prelude.{◌≡◌, ◌<◌, ◌≤◌, false, List, if◌then◌else◌, nat_lt, ok_or, slice_set, unwrap_or};
+ghost use Rattle.std.specs.Prelude.{◌≡◌, ◌<◌, ◌≤◌, false, List, if◌then◌else◌, nat_lt, ok_or, slice_set, IsSome, Some};
 ghost use Rattle.lrc_lang.specs.declared.program.Statement.{Statement};
 ghost use Rattle.lrc_lang.specs.Sizes.{names_in_expression, names_in_statement};
 ghost use Rattle.lrc_lang.specs.Statements.{expression_of, statement_of};
 ghost use Rattle.lrc_exec.specs.Meaning.{act_of, next_of, value_in};
 ghost use Rattle.lrc_exec.specs.Plain.{start_of};
-ghost use Rattle.lrc_exec.specs.Ask.{ask_of, answered, ask_or_trap, TakesAnswer};
+ghost use Rattle.lrc_exec.specs.Ask.{ask_of, answered, ask_or_trap, TakesAnswer, steps_of as steps_taken};
 
 use crate::code::{Code, Instruction};
 use crate::value::evaluate;
 use lrc_lang::program::{Expression, Statement};
-use lrc_trace::act::Cause;
+use lrc_trace::act::{Cause, Deed};
 use std::marker::Model;
 
 /// What a thread asks for next.
@@ -35,6 +35,44 @@ pub enum Ask {
     Trap(Cause),
     /// Nothing more: it is at the end of the text.
     End,
+}
+
+impl Ask {
+    ghost use Rattle.lrc_exec.specs.Ask.{cost_asked, deed_asked};
+
+    /// The deed of a thread that asks for this, a read with this value.
+    pub fn deed(self, value: u64) -> Deed
+        ensures { result ≡ deed_asked value self }
+    {
+        match self {
+            Ask::Quiet => Deed::Quiet,
+            Ask::Print(printed) => Deed::Print(printed),
+            Ask::Read(word) => Deed::Read(word, value),
+            Ask::Write(word, written) => Deed::Write(word, written),
+            Ask::Acquire(lock) => Deed::Acquire(lock),
+            Ask::Release(lock) => Deed::Release(lock),
+            Ask::Barrier => Deed::Arrive,
+            Ask::Trap(cause) => Deed::Trap(cause),
+            Ask::End => Deed::End,
+        }
+    }
+
+    /// How many steps it costs to begin this.
+    pub fn cost(self) -> u32
+        ensures { result ≡ cost_asked self }
+    {
+        steps_of(self.deed(0))
+    }
+}
+
+// How many steps a deed takes.
+pub(crate) fn steps_of(deed: Deed) -> u32
+    ensures { result ≡ steps_taken deed }
+{
+    match deed {
+        Deed::Depart | Deed::End => 0,
+        _ => 1,
+    }
 }
 
 /// A thread that runs the code of a program on one node. In a contract it is the thread of the meaning, which has not
@@ -198,10 +236,11 @@ impl<'c> Machine<'c> {
 
     // The value of an expression that has one.
     fn number(&self, expression: &Expression) -> u64
-        requires { names_in_expression (expression_of expression.now) ≤ 32 }
-        ensures { result ≡ unwrap_or (value_in self.now expression.now) 0 }
+        requires names { names_in_expression (expression_of expression.now) ≤ 32 }
+        requires value { IsSome (value_in self.now expression.now) }
+        ensures { value_in self.now expression.now ≡ Some result }
     {
-        self.value(expression).unwrap_or(0)
+        self.value(expression).unwrap()
     }
 
     // A word's number, where there is such a word.
@@ -237,9 +276,8 @@ fn set_name(privates: &mut [u64; 32], name: u8, value: u64)
 
 // Holds a lock from now on, or no longer.
 fn set_held(locks: &mut [bool; 64], lock: u64, held: bool)
+    requires { lock < 64 }
     ensures { locks.new ≡ slice_set locks.old lock held }
 {
-    if lock < 64 {
-        locks[lock as usize] = held;
-    }
+    locks[lock as usize] = held;
 }

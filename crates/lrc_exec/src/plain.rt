@@ -86,19 +86,11 @@ impl<'c> PlainMachine<'c> {
         if runner.arrived {
             return self.depart(node);
         }
-        match runner.machine.ask() {
-            Ask::Quiet => Some(Deed::Quiet),
-            Ask::Print(value) => Some(Deed::Print(value)),
-            Ask::Read(word) => Some(Deed::Read(word, self.memory[word as usize])),
-            Ask::Write(word, value) => Some(Deed::Write(word, value)),
-            Ask::Acquire(lock) => match self.holders[lock as usize] {
-                None => Some(Deed::Acquire(lock)),
-                Some(_) => None,
-            },
-            Ask::Release(lock) => Some(Deed::Release(lock)),
-            Ask::Barrier => Some(Deed::Arrive),
-            Ask::Trap(cause) => Some(Deed::Trap(cause)),
-            Ask::End => Some(Deed::End),
+        let ask = runner.machine.ask();
+        match ask {
+            Ask::Read(word) => Some(ask.deed(self.memory[word as usize])),
+            Ask::Acquire(lock) if self.holders[lock as usize].is_some() => None,
+            _ => Some(ask.deed(0)),
         }
     }
 

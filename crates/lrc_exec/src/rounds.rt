@@ -1,23 +1,14 @@
 // Rounds on the plain machine.
 
 ghost use Rattle.std.specs.Prelude.{◌≡◌, ℕ, ◌≤◌, ◌<◌, ◌-◌, ◌^◌, ◌↔◌, IfOk, IsTrue, slice_index, vec_len};
-ghost use Rattle.lrc_exec.specs.Rounds.{steps_of as steps_taken, AreActsOfRounds};
+ghost use Rattle.lrc_exec.specs.Rounds.{AreActsOfRounds};
 
 use crate::code::Code;
+use crate::machine::steps_of;
 use crate::plain::PlainMachine;
 use lrc_lang::program::Program;
 use lrc_trace::act::{Act, Deed};
 use std::alloc::{AllocError, Global};
-
-// How many steps a deed takes.
-fn steps_of(deed: Deed) -> u32
-    ensures { result ≡ steps_taken deed }
-{
-    match deed {
-        Deed::Depart | Deed::End => 0,
-        _ => 1,
-    }
-}
 
 // The plain machine, and the steps that each node has left.
 #[derive(Drop)]

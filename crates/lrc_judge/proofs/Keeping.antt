@@ -10,7 +10,7 @@ use Rattle.lrc_trace.specs.declared.act.Deed.TheVariants.{Read, Write}
 use Rattle.lrc_trace.specs.Run.{Does}
 use Rattle.lrc_trace.specs.Interval.{interval_at}
 use Rattle.lrc_trace.proofs.Positions.{Does-one_node, Does-one_deed}
-use Rattle.lrc_judge.specs.declared.segments.Place.{Place}
+use Rattle.lrc_judge.specs.declared.segments.AccessPlace.{AccessPlace}
 use Rattle.lrc_judge.specs.declared.segments.Access.{Access}
 use Rattle.lrc_judge.specs.declared.segments.Segment.{Segment}
 use Rattle.lrc_judge.specs.Segments.{AccessesBy, IsAccess, IsKept, AreSegments}
@@ -27,16 +27,16 @@ Contains-pushed xs ys x e a = (
 )
 
 -- no segment keeps nothing
-pub IsKept-none : {p : Place} {a : Access} → IsKept [] p a → ⊥
+pub IsKept-none : {p : AccessPlace} {a : Access} → IsKept [] p a → ⊥
 IsKept-none h = let (k, lt, e) = h.there in absurd (omega arith)
 
 -- this segment keeps it
-kept_in : {segments : List Segment} {p : Place} {a : Access} (s : Segment) → Contains segments s → Contains s.accesses.items a
+kept_in : {segments : List Segment} {p : AccessPlace} {a : Access} (s : Segment) → Contains segments s → Contains s.accesses.items a
     → s.place ≡ p → IsKept segments p a
 kept_in s there has at = record { segment = s; there = there; has = has; at = at }
 
 -- a segment more
-pub IsKept-push : (segments : List Segment) (new : Segment) (p : Place) (a : Access) → IsKept (segments ++ new ∷ []) p a
+pub IsKept-push : (segments : List Segment) (new : Segment) (p : AccessPlace) (a : Access) → IsKept (segments ++ new ∷ []) p a
     ↔ (IsKept segments p a ⊎ (Contains new.accesses.items a × (new.place ≡ p)))
 IsKept-push segments new p a = (
   λ h.
@@ -52,8 +52,8 @@ IsKept-push segments new p a = (
 )
 
 -- a segment more, for one access
-pub IsKept-new : (segments more : List Segment) (new : Segment) (place : Place) (access : Access) → new.place ≡ place
-    → new.accesses.items ≡ [] ++ access ∷ [] → more ≡ segments ++ new ∷ [] → (p : Place) (a : Access) → IsKept more p a
+pub IsKept-new : (segments more : List Segment) (new : Segment) (place : AccessPlace) (access : Access) → new.place ≡ place
+    → new.accesses.items ≡ [] ++ access ∷ [] → more ≡ segments ++ new ∷ [] → (p : AccessPlace) (a : Access) → IsKept more p a
     ↔ (IsKept segments p a ⊎ ((p ≡ place) × (a ≡ access)))
 IsKept-new segments more new place access at only e p a = (
   λ h.
@@ -72,10 +72,10 @@ IsKept-new segments more new place access at only e p a = (
 )
 
 -- an access more in the segment at i
-module _ (segments : List Segment) (i : ℕ) (old new : Segment) (access : Access) (place : Place) (within : i < length segments)
+module _ (segments : List Segment) (i : ℕ) (old new : Segment) (access : Access) (place : AccessPlace) (within : i < length segments)
     (is : get_or segments i old ≡ old) (old_at : old.place ≡ place) (new_at : new.place ≡ place)
     (more : (a : Access) → Contains new.accesses.items a ↔ (Contains old.accesses.items a ⊎ (a ≡ access))) where
-  kept_forth : (p : Place) (a : Access) → IsKept (set segments i new) p a → IsKept segments p a ⊎ ((p ≡ place) × (a ≡ access))
+  kept_forth : (p : AccessPlace) (a : Access) → IsKept (set segments i new) p a → IsKept segments p a ⊎ ((p ≡ place) × (a ≡ access))
   kept_forth p a h =
       let s = h.segment in
       let (k, lt, e) = h.there in
@@ -93,7 +93,7 @@ module _ (segments : List Segment) (i : ℕ) (old new : Segment) (access : Acces
             ]
       ]
 
-  kept_back : (p : Place) (a : Access) → IsKept segments p a ⊎ ((p ≡ place) × (a ≡ access)) → IsKept (set segments i new) p a
+  kept_back : (p : AccessPlace) (a : Access) → IsKept segments p a ⊎ ((p ≡ place) × (a ≡ access)) → IsKept (set segments i new) p a
   kept_back p a (inl h) =
       let s = h.segment in
       let (k, lt, e) = h.there in
@@ -110,7 +110,7 @@ module _ (segments : List Segment) (i : ℕ) (old new : Segment) (access : Acces
       let long = length-set segments i new in
       kept_in new (i, omega arith, get_or-set_same segments i new new within) ((more a).1 (inr new')) (new_at ∙ sym there)
 
-  pub IsKept-set : (p : Place) (a : Access) → IsKept (set segments i new) p a ↔ (IsKept segments p a ⊎ ((p ≡ place) × (a ≡ access)))
+  pub IsKept-set : (p : AccessPlace) (a : Access) → IsKept (set segments i new) p a ↔ (IsKept segments p a ⊎ ((p ≡ place) × (a ≡ access)))
   IsKept-set p a = (kept_forth p a, kept_back p a)
 
 -- one access stands at a position
@@ -120,8 +120,8 @@ one_access run n false false p q x y (v, a) (w, b) = let e = Does-one_deed a b i
 one_access run n true false p q x y (v, a) (w, b) = let e = Does-one_deed a b in let never : ⊥ = cc in absurd never
 one_access run n false true p q x y (v, a) (w, b) = let e = Does-one_deed a b in let never : ⊥ = cc in absurd never
 
-same_place : (p q : Place) → p.word ≡ q.word → p.node ≡ q.node → p.interval ≡ q.interval → p ≡ q
-same_place p q words nodes intervals = let e : ◌≡◌ {A = Place} (record { word = p.word; node = p.node; interval = p.interval })
+same_place : (p q : AccessPlace) → p.word ≡ q.word → p.node ≡ q.node → p.interval ≡ q.interval → p ≡ q
+same_place p q words nodes intervals = let e : ◌≡◌ {A = AccessPlace} (record { word = p.word; node = p.node; interval = p.interval })
     (record { word = q.word; node = q.node; interval = q.interval }) = cc in e
 
 same_access : (a b : Access) → a.position ≡ b.position → a.is_write ≡ b.is_write → a ≡ b
@@ -150,9 +150,9 @@ module _ (run : List Act) (n node : ℕ) (deed : Deed) (here : Does run n node d
       none false q word (v, d) = not_read word v (Does-one_deed here d)
 
   -- an act that accesses a word
-  pub AreSegments-more : (segments more : List Segment) (place : Place) (is_write : Bool) → place.node ≡ node
+  pub AreSegments-more : (segments more : List Segment) (place : AccessPlace) (is_write : Bool) → place.node ≡ node
       → AccessesBy is_write run n node place.word → place.interval ≡ interval_at run node n → AreSegments run n segments
-      → ((p : Place) (a : Access) → IsKept more p a
+      → ((p : AccessPlace) (a : Access) → IsKept more p a
       ↔ (IsKept segments p a ⊎ ((p ≡ place) × (a ≡ record { position = n; is_write = is_write })))) → AreSegments run (n + 1) more
   AreSegments-more segments more place is_write own stands interval old adds = record {
     exact = λ p a. (

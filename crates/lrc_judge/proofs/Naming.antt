@@ -14,7 +14,7 @@ use Rattle.lrc_trace.proofs.Positions.{Does-one_node, Does-within}
 use Rattle.lrc_trace.proofs.HappensBefore.{forward}
 use Rattle.lrc_trace.proofs.Conflicts.{ConflictAt-symmetric}
 use Rattle.lrc_judge.specs.declared.order.Order.{Order}
-use Rattle.lrc_judge.specs.declared.segments.Place.{Place}
+use Rattle.lrc_judge.specs.declared.segments.AccessPlace.{AccessPlace}
 use Rattle.lrc_judge.specs.declared.segments.Access.{Access}
 use Rattle.lrc_judge.specs.declared.segments.Segment.{Segment}
 use Rattle.lrc_judge.specs.Order.{is_before, IsOrderOf}
@@ -151,7 +151,7 @@ AccessesBy-within run i p x true (_, a) = Does-within a
 AccessesBy-within run i p x false (_, a) = Does-within a
 
 -- the race of two places
-abbrev name_at : Place → Place → Race
+abbrev name_at : AccessPlace → AccessPlace → Race
 name_at p q = record { word = p.word; node_a = p.node; node_b = q.node; interval_a = p.interval; interval_b = q.interval }
 
 module _ (run : List Act) (order : Order) (is : IsOrderOf run order) (segments : List Segment) (all : AreSegments run (length run) segments) where
@@ -221,14 +221,14 @@ module _ (run : List Act) (order : Order) (is : IsOrderOf run order) (segments :
     of_kinds : (v w : Bool) → AccessesBy v run i race.node_a race.word → AccessesBy w run j race.node_b race.word
         → (v || w) ≡ true → IsRaceAmong order segments race
     of_kinds v w hx hy writes =
-        let p : Place = record { word = race.word; node = race.node_a; interval = race.interval_a } in
-        let q : Place = record { word = race.word; node = race.node_b; interval = race.interval_b } in
+        let p : AccessPlace = record { word = race.word; node = race.node_a; interval = race.interval_a } in
+        let q : AccessPlace = record { word = race.word; node = race.node_b; interval = race.interval_b } in
         let x : Access = record { position = i; is_write = v } in
         let y : Access = record { position = j; is_write = w } in
         let kx = (all.exact p x).1 (AccessesBy-within run i race.node_a race.word v hx, record { stands = hx; interval = names.interval_a }) in
         let ky = (all.exact q y).1 (AccessesBy-within run j race.node_b race.word w hy, record { stands = hy; interval = names.interval_b }) in
-        let nodes_a = ap (λ (m : Place). m.node) kx.at in
-        let nodes_b = ap (λ (m : Place). m.node) ky.at in
+        let nodes_a = ap (λ (m : AccessPlace). m.node) kx.at in
+        let nodes_b = ap (λ (m : AccessPlace). m.node) ky.at in
         let lower = names.ascending in
         record {
           a = kx.segment;
@@ -236,7 +236,7 @@ module _ (run : List Act) (order : Order) (is : IsOrderOf run order) (segments :
           first = kx.there;
           second = ky.there;
           racing = record {
-            word = ap (λ (m : Place). m.word) kx.at ∙ sym (ap (λ (m : Place). m.word) ky.at);
+            word = ap (λ (m : AccessPlace). m.word) kx.at ∙ sym (ap (λ (m : AccessPlace). m.word) ky.at);
             ascending = omega arith;
             x = x;
             y = y;

@@ -14,17 +14,17 @@ use Rattle.lrc_trace.proofs.Intervals.{act_at}
 use Rattle.lrc_trace.proofs.HappensBefore.{forward, transitive}
 use Rattle.lrc_judge.specs.Reading.{Misreads}
 use Rattle.lrc_trace.proofs.Decided.{HappensBefore-decided}
-use Rattle.lrc_judge.specs.declared.reading.Stored.{Stored}
+use Rattle.lrc_judge.specs.declared.reading.StoredValue.{StoredValue}
 
 -- the last write before position n, if there is one
-abbrev pub IsLast : List Act → ℕ → ℕ → ℕ → Option Stored → Type 0
+abbrev pub IsLast : List Act → ℕ → ℕ → ℕ → Option StoredValue → Type 0
 IsLast run j word n None = (k v : ℕ) → k < n → WrittenBefore run j word k v → ⊥
 IsLast run j word n (Some w) = (w.position < n) × WrittenBefore run j word w.position w.value
     × ((k v : ℕ) → k < n → WrittenBefore run j word k v → k ≤ w.position)
 
 -- of the writes before position n that happen before j: whether one writes the value, whether any two are ordered, and
 -- the last
-pub record IsTally (run : List Act) (j word value n : ℕ) (is_written are_ordered : Bool) (last : Option Stored) : Type 0 where
+pub record IsTally (run : List Act) (j word value n : ℕ) (is_written are_ordered : Bool) (last : Option StoredValue) : Type 0 where
   pub written : (is_written ≡ true) ↔ ((value ≡ 0) ⊎ ((i : ℕ) × (i < n) × WrittenBefore run j word i value))
   pub ordered : (are_ordered ≡ true) ↔ ((i k u v : ℕ) → k < n → WrittenBefore run j word i u → WrittenBefore run j word k v → i < k → HappensBefore run i k)
   pub latest : IsLast run j word n last
@@ -43,7 +43,7 @@ module _ (run : List Act) (j word value : ℕ) where
   }
 
   -- a position without such a write
-  pub IsTally-same : (n : ℕ) (is_written are_ordered : Bool) (last : Option Stored) → ((v : ℕ) → WrittenBefore run j word n v → ⊥)
+  pub IsTally-same : (n : ℕ) (is_written are_ordered : Bool) (last : Option StoredValue) → ((v : ℕ) → WrittenBefore run j word n v → ⊥)
       → IsTally run j word value n is_written are_ordered last → IsTally run j word value (n + 1) is_written are_ordered last
   IsTally-same n is_written are_ordered last none t = record {
     written = (
@@ -60,12 +60,12 @@ module _ (run : List Act) (j word value : ℕ) where
       below : (k v : ℕ) → k < n + 1 → WrittenBefore run j word k v → k < n
       below k v lt w = elim (cases_eq k n) [ inl here ↦ absurd (none v (subst (λ m. WrittenBefore run j word m v) here w)) | inr other ↦ omega arith ]
 
-      latest : (last : Option Stored) → IsLast run j word n last → IsLast run j word (n + 1) last
+      latest : (last : Option StoredValue) → IsLast run j word n last → IsLast run j word (n + 1) last
       latest None h = λ k v lt w. h k v (below k v lt w) w
       latest (Some w) (lt, a, max) = (omega arith, a, λ k v lt' b. max k v (below k v lt' b) b)
 
   -- a position with such a write
-  module _ (before : ℕ → ℕ → Bool) (is : (i k : ℕ) → (before i k ≡ true) ↔ HappensBefore run i k) (write : Stored)
+  module _ (before : ℕ → ℕ → Bool) (is : (i k : ℕ) → (before i k ≡ true) ↔ HappensBefore run i k) (write : StoredValue)
       (here : WrittenBefore run j word write.position write.value) where
     abbrev n : ℕ
     n = write.position
@@ -73,9 +73,9 @@ module _ (run : List Act) (j word value : ℕ) where
     abbrev v : ℕ
     v = write.value
 
-    more_here : (is_written are_ordered : Bool) (last : Option Stored) → IsTally run j word value n is_written are_ordered last
+    more_here : (is_written are_ordered : Bool) (last : Option StoredValue) → IsTally run j word value n is_written are_ordered last
         → IsTally run j word value (n + 1) (is_written || (v == value))
-        (are_ordered && option_map_or (λ (w : Stored). before w.position n) last true) (Some write)
+        (are_ordered && option_map_or (λ (w : StoredValue). before w.position n) last true) (Some write)
     more_here is_written are_ordered last t = record {
       written = (
         λ h. elim (or_cases is_written (v == value) h) [
@@ -98,8 +98,8 @@ module _ (run : List Act) (j word value : ℕ) where
       latest = (omega arith, here, λ k x lt b. omega arith);
     }
       where
-        ordered : (last : Option Stored) → IsLast run j word n last
-            → option_map_or (λ (w : Stored). before w.position n) last true ≡ true
+        ordered : (last : Option StoredValue) → IsLast run j word n last
+            → option_map_or (λ (w : StoredValue). before w.position n) last true ≡ true
             → ((i k x y : ℕ) → k < n → WrittenBefore run j word i x → WrittenBefore run j word k y → i < k
             → HappensBefore run i k) → (i k x y : ℕ) → k < n + 1 → WrittenBefore run j word i x → WrittenBefore run j word k y → i < k → HappensBefore run i k
         ordered None none yes' old i k x y lt a b lower =
@@ -120,24 +120,24 @@ module _ (run : List Act) (j word value : ℕ) where
                   subst (λ m. HappensBefore run i m) (sym there) to_n
             ]
 
-        related : (last : Option Stored) → IsLast run j word n last
+        related : (last : Option StoredValue) → IsLast run j word n last
             → ((i k x y : ℕ) → k < n + 1 → WrittenBefore run j word i x → WrittenBefore run j word k y → i < k
-            → HappensBefore run i k) → option_map_or (λ (w : Stored). before w.position n) last true ≡ true
+            → HappensBefore run i k) → option_map_or (λ (w : StoredValue). before w.position n) last true ≡ true
         related None none o = refl
         related (Some w) (within, written, max) o = (is w.position n).1 (o w.position n w.value v (omega arith) written here within)
 
-    pub IsTally-more : (at : ℕ) (is_written are_ordered : Bool) (last : Option Stored) → write.position ≡ at
+    pub IsTally-more : (at : ℕ) (is_written are_ordered : Bool) (last : Option StoredValue) → write.position ≡ at
         → IsTally run j word value at is_written are_ordered last
         → IsTally run j word value (at + 1) (is_written || (write.value == value))
-        (are_ordered && option_map_or (λ (w : Stored). before w.position write.position) last true) (Some write)
+        (are_ordered && option_map_or (λ (w : StoredValue). before w.position write.position) last true) (Some write)
     IsTally-more at is_written are_ordered last e t =
         let there = subst (λ m. IsTally run j word value m is_written are_ordered last) (sym e) t in
         subst (λ m. IsTally run j word value (m + 1) (is_written || (write.value == value))
-        (are_ordered && option_map_or (λ (w : Stored). before w.position write.position) last true) (Some write)) e
+        (are_ordered && option_map_or (λ (w : StoredValue). before w.position write.position) last true) (Some write)) e
         (more_here is_written are_ordered last there)
 
   -- at the read itself the tally decides what it may give
-  module _ (is_written are_ordered : Bool) (last : Option Stored) (t : IsTally run j word value j is_written are_ordered last) where
+  module _ (is_written are_ordered : Bool) (last : Option StoredValue) (t : IsTally run j word value j is_written are_ordered last) where
     ordered_all : are_ordered ≡ true → AreOrdered run j word
     ordered_all h i k x y a b lt = t.ordered.0 h i k x y (forward b.before) a b lt
 
@@ -151,7 +151,8 @@ module _ (run : List Act) (j word value : ℕ) where
     write_of_some s = t.written.1 (elim s [ inl nothing ↦ inl nothing | inr (i, w) ↦ inr (i, forward w.before, w) ])
 
     -- the value of the last write, or 0
-    latest_is : (last : Option Stored) → IsLast run j word j last → (value ≡ option_map_or (λ (w : Stored). w.value) last 0) ↔ IsLatest run j word value
+    latest_is : (last : Option StoredValue) → IsLast run j word j last
+        → (value ≡ option_map_or (λ (w : StoredValue). w.value) last 0) ↔ IsLatest run j word value
     latest_is None none = (
       λ e. record {
         none = λ _. e;
@@ -171,16 +172,16 @@ module _ (run : List Act) (j word value : ℕ) where
       λ l. l.last w.position w.value (record { written = written; last = λ k v b. max k v (forward b.before) b }),
     )
 
-    pub may_from : is_written ≡ true → (are_ordered ≡ true → value ≡ option_map_or (λ (w : Stored). w.value) last 0) → MayRead run j word value
+    pub may_from : is_written ≡ true → (are_ordered ≡ true → value ≡ option_map_or (λ (w : StoredValue). w.value) last 0) → MayRead run j word value
     may_from h e = record {
       weak = some_write h;
       strong = λ o. (latest_is last t.latest).0 (e (all_ordered o));
     }
 
-    pub from_may : MayRead run j word value → (is_written ≡ true) × (are_ordered ≡ true → value ≡ option_map_or (λ (w : Stored). w.value) last 0)
+    pub from_may : MayRead run j word value → (is_written ≡ true) × (are_ordered ≡ true → value ≡ option_map_or (λ (w : StoredValue). w.value) last 0)
     from_may m = (write_of_some m.weak, λ h. (latest_is last t.latest).1 (m.strong (ordered_all h)))
 
-    pub decides : (r : Bool) → r ≡ (is_written && (not are_ordered || (value == option_map_or (λ (w : Stored). w.value) last 0)))
+    pub decides : (r : Bool) → r ≡ (is_written && (not are_ordered || (value == option_map_or (λ (w : StoredValue). w.value) last 0)))
         → IsTrue r ↔ MayRead run j word value
     decides r e = (
       λ yes'.
@@ -214,7 +215,7 @@ before_of-is run i k =
 record SomeTally (run : List Act) (j word value n : ℕ) : Type 0 where
   is_written : Bool
   are_ordered : Bool
-  last : Option Stored
+  last : Option StoredValue
   tally : IsTally run j word value n is_written are_ordered last
 
 module _ (run : List Act) (j word value : ℕ) where
@@ -229,10 +230,10 @@ module _ (run : List Act) (j word value : ℕ) where
 
   some_more : (n v : ℕ) → WrittenBefore run j word n v → SomeTally run j word value n → SomeTally run j word value (n + 1)
   some_more n v here t =
-      let write : Stored = record { position = n; value = v } in
+      let write : StoredValue = record { position = n; value = v } in
       record {
         is_written = t.is_written || (v == value);
-        are_ordered = t.are_ordered && option_map_or (λ (w : Stored). before_of run w.position n) t.last true;
+        are_ordered = t.are_ordered && option_map_or (λ (w : StoredValue). before_of run w.position n) t.last true;
         last = Some write;
         tally = IsTally-more run j word value (before_of run) (before_of-is run) write here n t.is_written t.are_ordered t.last refl t.tally;
       }
@@ -268,7 +269,7 @@ module _ (run : List Act) (j word value : ℕ) where
   pub MayRead-decided : MayRead run j word value ⊎ (MayRead run j word value → ⊥)
   MayRead-decided =
       let t = some_tally j in
-      let r = t.is_written && (not t.are_ordered || (value == option_map_or (λ (w : Stored). w.value) t.last 0)) in
+      let r = t.is_written && (not t.are_ordered || (value == option_map_or (λ (w : StoredValue). w.value) t.last 0)) in
       let d = decides run j word value t.is_written t.are_ordered t.last t.tally r refl in
       elim (cases_Bool r) [
         | inl may ↦ inl (d.0 may)

@@ -6,6 +6,7 @@
 
 ghost use Rattle.std.specs.Prelude.{◌<◌, ◌↔◌, All, IsTrue};
 
+use lrc_time::MOST_NODES;
 use lrc_trace::act::Act;
 
 mod accesses;
@@ -21,7 +22,10 @@ pub mod synchronization;
 mod touched;
 
 /// How many nodes a run has at most.
-pub const NODES: usize = 16;
+pub const NODES: usize = MOST_NODES;
+
+/// How many locks an act can name.
+const LOCKS: usize = 256;
 
 /// Whether every act is of a node from 0 to 15, as the judge asks.
 pub fn are_in_range(acts: &[Act]) -> bool

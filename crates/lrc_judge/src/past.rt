@@ -1,15 +1,11 @@
 // What the acts before a position hand on to the act there.
 ghost use Rattle.std.specs.Prelude.{◌≡◌, length, vec_len};
-ghost use Rattle.lrc_judge.specs.declared.TheConstants.{NODES};
-ghost use Rattle.lrc_judge.specs.declared.past.TheConstants.{LOCKS};
+ghost use Rattle.lrc_judge.specs.declared.TheConstants.{NODES, LOCKS};
 
-use crate::NODES;
 use crate::reach::Reach;
+use crate::{LOCKS, NODES};
 use lrc_trace::act::{Act, Deed};
 use std::alloc::{AllocError, Global};
-
-/// How many locks an act can name.
-const LOCKS: usize = 256;
 
 /// What the acts before a position hand on to the act there.
 #[derive(Drop)]

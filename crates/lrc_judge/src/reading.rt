@@ -14,19 +14,19 @@ use std::alloc::{AllocError, Global};
 
 /// A write: where it is, and what it writes.
 #[derive(Clone, Copy)]
-struct Stored {
+struct StoredValue {
     position: usize,
     value: u64,
 }
 
 /// The write to the word at this position, if there is one.
-fn stored_at(acts: &[Act], position: usize, word: u32) -> Option<Stored>
+fn stored_at(acts: &[Act], position: usize, word: u32) -> Option<StoredValue>
     requires { position < length acts.now }
     ensures { MatchOption result ((value : ℕ) → ¬ IsDone acts.now position (Write word value))
         (λ w. (w.position ≡ position) × IsDone acts.now position (Write word w.value)) }
 {
     match acts[position].deed {
-        Deed::Write(to, value) if to == word => Some(Stored { position, value }),
+        Deed::Write(to, value) if to == word => Some(StoredValue { position, value }),
         _ => None,
     }
 }
@@ -39,12 +39,12 @@ struct Tally {
     /// Whether any two of them are ordered.
     are_ordered: bool,
     /// The last of them.
-    last: Option<Stored>,
+    last: Option<StoredValue>,
 }
 
 impl Tally {
     /// One write more.
-    fn with(self, order: &Order, write: Stored, value: u64) -> Tally
+    fn with(self, order: &Order, write: StoredValue, value: u64) -> Tally
         ensures written { result.is_written ≡ (self.is_written || (write.value == value)) }
         ensures ordered { result.are_ordered ≡ (self.are_ordered
             && option_map_or (λ w. is_before order.now w.position write.position) self.last true) }

@@ -1,7 +1,7 @@
 // The accesses of a run, by word, node and interval.
 ghost use Rattle.std.specs.Prelude.{◌≡◌, ℕ, ◌+◌, ◌<◌, List, ◌≤◌, ◌↔◌, ◌⊎◌, All, IsTrue, IfOk, IfSome, OnOk, length, slice_index_or};
 ghost use Rattle.lrc_judge.specs.declared.TheConstants.{NODES};
-ghost use Rattle.lrc_judge.specs.declared.segments.Place.{Place};
+ghost use Rattle.lrc_judge.specs.declared.segments.AccessPlace.{AccessPlace};
 ghost use Rattle.lrc_judge.specs.declared.segments.Access.{Access};
 ghost use Rattle.lrc_judge.specs.declared.segments.Segment.{Segment};
 ghost use Rattle.lrc_judge.specs.Segments.{IsKept, AreSegments};
@@ -10,9 +10,9 @@ use crate::NODES;
 use lrc_trace::act::{Act, Deed};
 use std::alloc::{AllocError, Global};
 
-/// A word, a node and one of its intervals.
+/// Where accesses belong: a word, a node and one of its intervals.
 #[derive(Clone, Copy, PartialEq, Eq)]
-pub struct Place {
+pub struct AccessPlace {
     pub word: u32,
     pub node: u8,
     pub interval: u64,
@@ -28,12 +28,12 @@ pub struct Access {
 /// Accesses of one place.
 #[derive(Drop)]
 pub struct Segment {
-    pub place: Place,
+    pub place: AccessPlace,
     pub accesses: Vec<Access>,
 }
 
 /// The index of the segment of this place.
-fn index_of(segments: &[Segment], place: Place) -> Option<usize>
+fn index_of(segments: &[Segment], place: AccessPlace) -> Option<usize>
     ensures { IfSome result (λ i. (i < length segments.now) × ((d : Segment) → (slice_index_or segments.now i d).place ≡ place)) }
 {
     segments.iter().position(|segment| segment.place == place)
@@ -43,10 +43,10 @@ fn index_of(segments: &[Segment], place: Place) -> Option<usize>
 fn add(
     alloc: Global,
     segments: &mut Vec<Segment>,
-    place: Place,
+    place: AccessPlace,
     access: Access,
 ) -> Result<(), AllocError>
-    ensures { OnOk result ((p : Place) (a : Access) → IsKept segments.new.items p a
+    ensures { OnOk result ((p : AccessPlace) (a : Access) → IsKept segments.new.items p a
         ↔ (IsKept segments.old.items p a ⊎ ((p ≡ place) × (a ≡ access)))) }
 {
     match index_of(segments, place) {
@@ -91,30 +91,16 @@ impl Log {
     {
         let node = acts[position].node;
         let interval = self.intervals[usize::from(node)];
-        match acts[position].deed {
-            Deed::Read(word, _) => {
-                let place = Place {
+        let deed = acts[position].deed;
+        match deed {
+            Deed::Read(word, _) | Deed::Write(word, _) => {
+                let place = AccessPlace {
                     word,
                     node,
                     interval,
                 };
-                let access = Access {
-                    position,
-                    is_write: false,
-                };
-                add(alloc, &mut self.segments, place, access)?;
-                Ok(())
-            }
-            Deed::Write(word, _) => {
-                let place = Place {
-                    word,
-                    node,
-                    interval,
-                };
-                let access = Access {
-                    position,
-                    is_write: true,
-                };
+                let is_write = matches!(deed, Deed::Write(_, _));
+                let access = Access { position, is_write };
                 add(alloc, &mut self.segments, place, access)?;
                 Ok(())
             }

@@ -2,15 +2,11 @@
 ghost use Rattle.std.specs.Prelude.{◌≡◌, ℕ, ◌+◌, ◌<◌, ◌≤◌, ◌↔◌, List, All, IsTrue, MatchBool, MatchOption, length};
 ghost use Rattle.lrc_trace.specs.declared.act.Act.{Act};
 ghost use Rattle.lrc_trace.specs.Synchronization.{IsWellSynchronized};
-ghost use Rattle.lrc_judge.specs.declared.TheConstants.{NODES};
-ghost use Rattle.lrc_judge.specs.declared.synchronization.TheConstants.{LOCKS};
+ghost use Rattle.lrc_judge.specs.declared.TheConstants.{NODES, LOCKS};
 ghost use Rattle.lrc_judge.specs.Synchronization.{Breaks, IsFirstBreak};
 
-use crate::NODES;
+use crate::{LOCKS, NODES};
 use lrc_trace::act::{Act, Deed};
-
-/// How many locks an act can name.
-const LOCKS: usize = 256;
 
 /// What the acts before a position leave of locks and barriers, as long as they are well synchronized.
 #[derive(Clone, Copy)]

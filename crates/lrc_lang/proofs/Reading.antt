@@ -4,7 +4,7 @@ use Rattle.lrc_lang.specs.declared.fault.FaultKind.{FaultKind}
 use Rattle.lrc_lang.specs.declared.fault.FaultKind.TheVariants.{NoMemory}
 use Rattle.lrc_lang.specs.declared.fault.ParseFault as code_fault
 use Rattle.lrc_lang.specs.declared.limits.Limits as code_limits
-use Rattle.lrc_lang.specs.declared.state.State as code_state
+use Rattle.lrc_lang.specs.declared.state.ParserState as code_state
 use Rattle.lrc_lang.specs.Token.{Token, finish, Lexeme, token, bad_byte, bad_number, Placed}
 use Rattle.lrc_lang.specs.Lexemes.{at, NextIs}
 use Rattle.lrc_lang.specs.Parser.Past.{GoesOn, IsPast}
@@ -40,17 +40,17 @@ ArePassed-push passed before own t are faultless = record {
 }
 
 -- The text has been read up to a line and a rest, and the parser is behind the tokens so far.
-pub record IsRead (text : List ℕ) (line : ℕ) (rest : List ℕ) (s : code_state.State) (l : code_limits.Limits) : Type 0 where
+pub record IsRead (text : List ℕ) (line : ℕ) (rest : List ℕ) (s : code_state.ParserState) (l : code_limits.Limits) : Type 0 where
   pub passed : List Placed
   pub before : List Token
   pub past : IsPast text passed line rest
   pub are : ArePassed passed before
   pub behind : IsBehind before s l
 
-pub IsRead-start : (text : List ℕ) (s : code_state.State) (l : code_limits.Limits) → IsBehind [] s l → IsRead text 1 text s l
+pub IsRead-start : (text : List ℕ) (s : code_state.ParserState) (l : code_limits.Limits) → IsBehind [] s l → IsRead text 1 text s l
 IsRead-start text s l b = record { passed = []; before = []; past = nothing_past text; are = ArePassed-none; behind = b }
 
-module _ (text : List ℕ) (line : ℕ) (rest : List ℕ) (s s' : code_state.State) (l l' : code_limits.Limits) (r : IsRead text line rest s l) where
+module _ (text : List ℕ) (line : ℕ) (rest : List ℕ) (s s' : code_state.ParserState) (l l' : code_limits.Limits) (r : IsRead text line rest s l) where
   -- a token that is taken is read
   pub IsRead-push : (own : ℕ) (t : Token) (behind : ℕ) (last : List ℕ) → NextIs line rest (at own (token t)) behind last → GoesOn (token t) →
       TakesLexeme (Ok tt) s l (token t) s' l' → IsRead text behind last s' l'
@@ -112,7 +112,7 @@ goes_on (Token.sign mark) no_end = tt
 goes_on finish no_end = absurd (no_end refl)
 
 -- what is taken and is not the end of the text is read
-pub IsRead-more : (text : List ℕ) (line : ℕ) (rest : List ℕ) (s s' : code_state.State) (l l' : code_limits.Limits) → IsRead text line rest s l →
+pub IsRead-more : (text : List ℕ) (line : ℕ) (rest : List ℕ) (s s' : code_state.ParserState) (l l' : code_limits.Limits) → IsRead text line rest s l →
     (own : ℕ) (found : Lexeme) (behind : ℕ) (last : List ℕ) → NextIs line rest (at own found) behind last → found ≢ token finish →
     TakesLexeme (Ok tt) s l found s' l' → IsRead text behind last s' l'
 IsRead-more text line rest s s' l l' r own (token t) behind last next no_end taken =
@@ -121,7 +121,7 @@ IsRead-more text line rest s s' l l' r own bad_byte behind last next no_end take
 IsRead-more text line rest s s' l l' r own bad_number behind last next no_end taken = absurd taken
 
 -- the end of the text, where it is taken, ends a program
-pub IsText-end : (text : List ℕ) (line : ℕ) (rest : List ℕ) (s s' : code_state.State) (l l' : code_limits.Limits) → IsRead text line rest s l →
+pub IsText-end : (text : List ℕ) (line : ℕ) (rest : List ℕ) (s s' : code_state.ParserState) (l l' : code_limits.Limits) → IsRead text line rest s l →
     length text ≤ 65536 → (own : ℕ) (found : Lexeme) (behind : ℕ) (last : List ℕ) → NextIs line rest (at own found) behind last → found ≡ token finish →
     TakesLexeme (Ok tt) s l found s' l' → IsText text (program_in (state_seen s'))
 IsText-end text line rest s s' l l' r fits own found behind last next e taken =

@@ -10,7 +10,7 @@ use Rattle.lrc_lang.specs.Parser.Body.{Body, body_with, whole_of, if_some}
 use Rattle.lrc_lang.specs.Parser.Body as body
 use Rattle.lrc_lang.specs.Parser.State as state
 use Rattle.lrc_lang.specs.Parser.State.{Stage, words, words_number, words_end, locks, locks_number, locks_end}
-use Rattle.lrc_lang.specs.Parser.State.{statements, nothing, State, state_with, program_in}
+use Rattle.lrc_lang.specs.Parser.State.{statements, nothing, ParserState, state_with, program_in}
 use Rattle.lrc_lang.proofs.Statements.{CompletesBody, all_statements, statements_all}
 use Rattle.lrc_lang.proofs.StatementSteps as steps
 use Rattle.lrc_lang.proofs.StatementSteps.{turns_body}
@@ -35,15 +35,15 @@ pub data FromStage : Body → Stage → ℕ → ℕ → ProgramTree → List Sym
   at_end : {b : Body} {w l : ℕ} {p : ProgramTree} → p ≡ record { words = w; locks = l; statements = b.before } → FromStage b nothing w l p []
 
 -- these symbols complete what has come to this program
-abbrev pub CompletesState : State → ProgramTree → List Symbol → Type 0
+abbrev pub CompletesState : ParserState → ProgramTree → List Symbol → Type 0
 CompletesState s p all = FromStage s.body s.stage s.words s.locks p all
 
 -- The next symbol can stand there, and the symbols behind it complete what has come with it; or all has come.
-pub data Turns (step : Symbol → Option State) (s : State) (p : ProgramTree) : List Symbol → Type 0 where
-  goes : {symbol : Symbol} {all : List Symbol} (t : State) → step symbol ≡ Some t → CompletesState t p all → Turns step s p (symbol ∷ all)
+pub data Turns (step : Symbol → Option ParserState) (s : ParserState) (p : ProgramTree) : List Symbol → Type 0 where
+  goes : {symbol : Symbol} {all : List Symbol} (t : ParserState) → step symbol ≡ Some t → CompletesState t p all → Turns step s p (symbol ∷ all)
   stops : p ≡ program_in s → Turns step s p []
 
-abbrev in_body : Body → ℕ → ℕ → State
+abbrev in_body : Body → ℕ → ℕ → ParserState
 in_body b w l = record { stage = statements; words = w; locks = l; body = b }
 
 statements_turn : (b : Body) (w l : ℕ) {whole : Block} {p : ProgramTree} {all : List Symbol} →
@@ -67,12 +67,12 @@ stage_turns b statements w l (in_statements k e) = statements_turn b w l (turns_
 stage_turns b nothing w l (at_end e) = stops e
 
 -- what completes the text begins with a symbol that can stand there, unless all has come
-pub turns_state : (s : State) {p : ProgramTree} {all : List Symbol} → CompletesState s p all → Turns (state_with s) s p all
+pub turns_state : (s : ParserState) {p : ProgramTree} {all : List Symbol} → CompletesState s p all → Turns (state_with s) s p all
 turns_state s k = stage_turns s.body s.stage s.words s.locks k
 
 -- ---- and back
 
-at_same : {s t : State} (p : ProgramTree) (all : List Symbol) → Some s ≡ Some t → CompletesState t p all → CompletesState s p all
+at_same : {s t : ParserState} (p : ProgramTree) (all : List Symbol) → Some s ≡ Some t → CompletesState t p all → CompletesState s p all
 at_same p all q k = subst (λ s. CompletesState s p all) (sym (some_same q)) k
 
 from_statements : {b : Body} {w l : ℕ} {p : ProgramTree} {all : List Symbol} → FromStage b statements w l p all →
@@ -83,7 +83,7 @@ from_end : (b : Body) (w l : ℕ) (p : ProgramTree) (all : List Symbol) → From
     (all ≡ []) × (p ≡ record { words = w; locks = l; statements = b.before })
 from_end b w l p all (at_end e) = (refl, e)
 
-finish_back : (s : State) (found : Option Block) (p : ProgramTree) (all : List Symbol) {t : State} →
+finish_back : (s : ParserState) (found : Option Block) (p : ProgramTree) (all : List Symbol) {t : ParserState} →
     whole_of s.body ≡ found → if_some found (λ whole. Some (state.finished s whole)) ≡ Some t → CompletesState t p all →
     FromStage s.body statements s.words s.locks p (finish ∷ all)
 finish_back s None p all v q k = absurd (none_some q)
@@ -91,7 +91,7 @@ finish_back s (Some whole) p all v q k =
     let e = from_end _ s.words s.locks p all (at_same p all q k) in
     subst (λ rest. FromStage s.body statements s.words s.locks p (finish ∷ rest)) (sym e.0) (in_statements (whole_body s.body whole v) e.1)
 
-body_back : (s : State) (symbol : Symbol) (found : Option Body) (p : ProgramTree) (all : List Symbol) {t : State} →
+body_back : (s : ParserState) (symbol : Symbol) (found : Option Body) (p : ProgramTree) (all : List Symbol) {t : ParserState} →
     body_with s.body symbol ≡ found → if_some found (λ b. Some (record s { body = b })) ≡ Some t → s.stage ≡ statements → CompletesState t p all →
     FromStage s.body statements s.words s.locks p (symbol ∷ all)
 body_back s symbol None p all v q e k = absurd (none_some q)
@@ -100,55 +100,25 @@ body_back s symbol (Some b) p all v q e k =
     let c = from_statements (subst (λ stage. FromStage b stage s.words s.locks p all) e there) in
     in_statements (back_body s.body symbol c.0 all v c.1) c.2
 
-statements_back : (s : State) (symbol : Symbol) (p : ProgramTree) (all : List Symbol) {t : State} →
+statements_back : (s : ParserState) (symbol : Symbol) (p : ProgramTree) (all : List Symbol) {t : ParserState} →
     s.stage ≡ statements → state.in_statements s symbol ≡ Some t → CompletesState t p all →
     FromStage s.body statements s.words s.locks p (symbol ∷ all)
 statements_back s finish p all e q k = finish_back s (whole_of s.body) p all refl q k
 statements_back s symbol p all e q k = body_back s symbol (body_with s.body symbol) p all refl q e k
 
-words_back : (s : State) (symbol : Symbol) (p : ProgramTree) (all : List Symbol) {t : State} →
-    state.at_words s symbol ≡ Some t → CompletesState t p all → FromStage s.body words s.words s.locks p (symbol ∷ all)
-words_back s (keyword Words) p all q k = at_words (at_same p all q k)
-words_back s _ p all q k = absurd (none_some q)
-
-words_number_back : (s : State) (symbol : Symbol) (p : ProgramTree) (all : List Symbol) {t : State} →
-    state.at_words_number s symbol ≡ Some t → CompletesState t p all → FromStage s.body words_number s.words s.locks p (symbol ∷ all)
-words_number_back s (number n) p all q k = at_words_number (at_same p all q k)
-words_number_back s _ p all q k = absurd (none_some q)
-
-words_end_back : (s : State) (symbol : Symbol) (p : ProgramTree) (all : List Symbol) {t : State} →
-    state.at_words_end s symbol ≡ Some t → CompletesState t p all → FromStage s.body words_end s.words s.locks p (symbol ∷ all)
-words_end_back s (sign Semicolon) p all q k = at_words_end (at_same p all q k)
-words_end_back s _ p all q k = absurd (none_some q)
-
-locks_back : (s : State) (symbol : Symbol) (p : ProgramTree) (all : List Symbol) {t : State} →
-    state.at_locks s symbol ≡ Some t → CompletesState t p all → FromStage s.body locks s.words s.locks p (symbol ∷ all)
-locks_back s (keyword Locks) p all q k = at_locks (at_same p all q k)
-locks_back s _ p all q k = absurd (none_some q)
-
-locks_number_back : (s : State) (symbol : Symbol) (p : ProgramTree) (all : List Symbol) {t : State} →
-    state.at_locks_number s symbol ≡ Some t → CompletesState t p all → FromStage s.body locks_number s.words s.locks p (symbol ∷ all)
-locks_number_back s (number n) p all q k = at_locks_number (at_same p all q k)
-locks_number_back s _ p all q k = absurd (none_some q)
-
-locks_end_back : (s : State) (symbol : Symbol) (p : ProgramTree) (all : List Symbol) {t : State} →
-    state.at_locks_end s symbol ≡ Some t → CompletesState t p all → FromStage s.body locks_end s.words s.locks p (symbol ∷ all)
-locks_end_back s (sign Semicolon) p all q k = at_locks_end (at_same p all q k)
-locks_end_back s _ p all q k = absurd (none_some q)
-
-stage_back : (s : State) (stage : Stage) (symbol : Symbol) (p : ProgramTree) (all : List Symbol) {t : State} →
+stage_back : (s : ParserState) (stage : Stage) (symbol : Symbol) (p : ProgramTree) (all : List Symbol) {t : ParserState} →
     s.stage ≡ stage → state.moved stage s symbol ≡ Some t → CompletesState t p all → FromStage s.body stage s.words s.locks p (symbol ∷ all)
-stage_back s words symbol p all e q k = words_back s symbol p all q k
-stage_back s words_number symbol p all e q k = words_number_back s symbol p all q k
-stage_back s words_end symbol p all e q k = words_end_back s symbol p all q k
-stage_back s locks symbol p all e q k = locks_back s symbol p all q k
-stage_back s locks_number symbol p all e q k = locks_number_back s symbol p all q k
-stage_back s locks_end symbol p all e q k = locks_end_back s symbol p all q k
+stage_back s words (keyword Words) p all e q k = at_words (at_same p all q k)
+stage_back s words_number (number n) p all e q k = at_words_number (at_same p all q k)
+stage_back s words_end (sign Semicolon) p all e q k = at_words_end (at_same p all q k)
+stage_back s locks (keyword Locks) p all e q k = at_locks (at_same p all q k)
+stage_back s locks_number (number n) p all e q k = at_locks_number (at_same p all q k)
+stage_back s locks_end (sign Semicolon) p all e q k = at_locks_end (at_same p all q k)
 stage_back s statements symbol p all e q k = statements_back s symbol p all e q k
-stage_back s nothing symbol p all e q k = absurd (none_some q)
+stage_back s _ _ p all e q k = absurd (none_some q)
 
 -- where a symbol can stand, it and what completes the text behind it complete the text in front of it
-pub back_state : (s : State) (symbol : Symbol) (p : ProgramTree) (all : List Symbol) {t : State} →
+pub back_state : (s : ParserState) (symbol : Symbol) (p : ProgramTree) (all : List Symbol) {t : ParserState} →
     state_with s symbol ≡ Some t → CompletesState t p all → CompletesState s p (symbol ∷ all)
 back_state s symbol p all q k = stage_back s s.stage symbol p all refl q k
 
@@ -165,7 +135,7 @@ completing statements rest = rest
 completing nothing rest = []
 
 -- tokens that complete what has come
-abbrev pub completion : State → List Token
+abbrev pub completion : ParserState → List Token
 completion s = completing s.stage (body_completion s.body)
 
 completed_at : (names : Names) (b : Body) (stage : Stage) (w l : ℕ) →
@@ -181,7 +151,7 @@ completed_at names b locks_end w l = let k = body_completed names b in (_, at_lo
 completed_at names b statements w l = let k = body_completed names b in (_, in_statements k.1 refl)
 completed_at names b nothing w l = (_, at_end refl)
 
-pub completed : (names : Names) (s : State) → (p : ProgramTree) × CompletesState s p (symbols_after names (completion s))
+pub completed : (names : Names) (s : ParserState) → (p : ProgramTree) × CompletesState s p (symbols_after names (completion s))
 completed names s = completed_at names s.body s.stage s.words s.locks
 
 -- ---- the beginning

@@ -16,14 +16,14 @@ use Rattle.lrc_lang.specs.Grammar.{IsProgram}
 abbrev pub IsUnexpected : List Token → Token → Type 0
 IsUnexpected before t = (rest : List Token) (p : ProgramTree) → IsProgram p (before ++ t ∷ rest) → ⊥
 
--- it is the number behind `words` and not 1 to 65,536, or the number behind `locks` and over 64
-abbrev pub IsNumberTooLarge : Option Token → Token → Type 0
-IsNumberTooLarge (Some (keyword keywords.Words)) (number n) = (n < 1) ⊎ (MOST_WORDS < n)
-IsNumberTooLarge (Some (keyword keywords.Locks)) (number n) = 64 < n
-IsNumberTooLarge _ _ = ⊥
+-- the number behind `words` is not 1 to 65,536, or the number behind `locks` is over 64
+abbrev pub IsNumberOutOfRange : Option Token → Token → Type 0
+IsNumberOutOfRange (Some (keyword keywords.Words)) (number n) = (n < 1) ⊎ (MOST_WORDS < n)
+IsNumberOutOfRange (Some (keyword keywords.Locks)) (number n) = 64 < n
+IsNumberOutOfRange _ _ = ⊥
 
 abbrev pub IsOverLimit : List Token → Token → Type 0
-IsOverLimit before t = IsNumberTooLarge (last_of before) t ⊎ IsOperatorTooMany (operators_of before) t
+IsOverLimit before t = IsNumberOutOfRange (last_of before) t ⊎ IsOperatorTooMany (operators_of before) t
 
 -- what stands next has this fault
 abbrev pub HasFault : FaultKind → List Token → Lexeme → Type 0

@@ -135,7 +135,7 @@ impl Body {
             outer: Vec::new(alloc),
             before: Vec::new(alloc),
             place: Place::AtStatement,
-            expression: Partial::nothing(alloc),
+            expression: Partial::empty(alloc),
         }
     }
 

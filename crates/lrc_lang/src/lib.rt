@@ -13,7 +13,7 @@ mod state;
 mod symbol;
 pub mod token;
 
-pub use parser::{parse, tokens_are_of_one_program};
+pub use parser::{MOST_BYTES, parse, tokens_are_of_one_program};
 
 /// The largest number of words of a program's shared memory.
 pub const MOST_WORDS: u32 = 65_536;

@@ -55,7 +55,7 @@ impl<'t> Limits<'t> {
     ghost use Rattle.lrc_lang.specs.Parser.SeenLimits.{names_seen, TakesToken};
 
     /// The counts where no token has come.
-    pub fn nothing(alloc: Global) -> Self
+    pub fn empty(alloc: Global) -> Self
         ensures names { names_seen result ≡ [] }
         ensures nested { result.nested ≡ 0 }
         ensures operators { result.operators ≡ 0 }

@@ -18,12 +18,12 @@ use crate::fault::{FaultKind, ParseFault};
 use crate::lexer::Lexer;
 use crate::limits::Limits;
 use crate::program::Program;
-use crate::state::State;
+use crate::state::ParserState;
 use crate::token::{Lexeme, Token};
 use std::alloc::Global;
 
 /// How many bytes a text may have.
-const MOST_BYTES: usize = 65_536;
+pub const MOST_BYTES: usize = 65_536;
 
 /// Parses a text of at most 65,536 bytes, in one pass from the left. The parser keeps the trees so far, at most 32
 /// names, and what is open around the token that it has come to. However deep a text nests, no call nests with it.
@@ -55,20 +55,20 @@ fn read(alloc: Global, text: &[u8]) -> Result<Program, ParseFault>
     ensures program { IfOk result (λ p. IsText text.now (program_of p)) }
     ensures fault { IfErr result (λ e. IsOutOfMemory e ⊎ HasFirstFault text.now e.line e.kind) }
 {
-    let mut state = State::start(alloc);
+    let mut state = ParserState::start(alloc);
     read_into(&mut state, alloc, text)?;
     Ok(state.into_program())
 }
 
 /// Takes all that stands in a text that is not too long.
-fn read_into(state: &mut State, alloc: Global, text: &[u8]) -> Result<(), ParseFault>
+fn read_into(state: &mut ParserState, alloc: Global, text: &[u8]) -> Result<(), ParseFault>
     requires start { state_seen state.old ≡ start }
     requires short { length text.now ≤ 65536 }
     ensures program { OnOk result (IsText text.now (program_in (state_seen state.new))) }
     ensures fault { IfErr result (λ e. IsOutOfMemory e ⊎ HasFirstFault text.now e.line e.kind) }
 {
     let mut lexer = Lexer::new(text);
-    let mut limits = Limits::nothing(alloc);
+    let mut limits = Limits::empty(alloc);
     loop {
         let found = lexer.next_lexeme();
         if let Err(kind) = take(state, &mut limits, found.lexeme) {
@@ -81,7 +81,11 @@ fn read_into(state: &mut State, alloc: Global, text: &[u8]) -> Result<(), ParseF
 }
 
 /// Takes what stands next.
-fn take<'t>(state: &mut State, limits: &mut Limits<'t>, lexeme: Lexeme<'t>) -> Result<(), FaultKind>
+fn take<'t>(
+    state: &mut ParserState,
+    limits: &mut Limits<'t>,
+    lexeme: Lexeme<'t>,
+) -> Result<(), FaultKind>
     ensures { TakesLexeme result state.old limits.old (lexeme_of lexeme.entry) state.new limits.new }
 {
     match lexeme {

@@ -89,7 +89,7 @@ fn joined(
 }
 
 impl Level {
-    fn nothing() -> Level
+    fn empty() -> Level
         ensures { level_seen result ≡ no_pending }
     {
         Level {
@@ -152,12 +152,12 @@ fn waiting(left: Expression, operator: Operator) -> Option<Pending>
 
 impl Partial {
     /// An expression of which nothing has come.
-    pub fn nothing(alloc: Global) -> Partial
+    pub fn empty(alloc: Global) -> Partial
         ensures { partial_seen result ≡ nothing }
     {
         Partial {
             outer: Vec::new(alloc),
-            level: Level::nothing(),
+            level: Level::empty(),
             operand: None,
         }
     }
@@ -166,7 +166,7 @@ impl Partial {
     pub fn clear(&mut self, alloc: Global)
         ensures { partial_seen self.new ≡ nothing }
     {
-        *self = Partial::nothing(alloc);
+        *self = Partial::empty(alloc);
     }
 
     /// Takes one more symbol, if it can stand here.
@@ -192,7 +192,7 @@ impl Partial {
             Symbol::Keyword(Keyword::Me) => self.operand = Some(Expression::Me),
             Symbol::Keyword(Keyword::Nodes) => self.operand = Some(Expression::Nodes),
             Symbol::Sign(Sign::OpenParenthesis) => {
-                let around = mem::replace(&mut self.level, Level::nothing());
+                let around = mem::replace(&mut self.level, Level::empty());
                 self.outer.push(around)?;
             }
             _ => return Err(FaultKind::Unexpected),
@@ -239,7 +239,7 @@ impl Partial {
         let Some(operand) = self.operand.take() else {
             return Err(FaultKind::Unexpected);
         };
-        let level = mem::replace(&mut self.level, Level::nothing());
+        let level = mem::replace(&mut self.level, Level::empty());
         Ok(level.whole(alloc, operand)?)
     }
 }

@@ -25,9 +25,9 @@ enum Stage {
     Nothing,
 }
 
-/// A text of which some symbols have come.
+/// What the parser keeps of a text of which some symbols have come.
 #[derive(Drop)]
-pub struct State {
+pub struct ParserState {
     stage: Stage,
     words: u32,
     locks: u8,
@@ -37,7 +37,7 @@ pub struct State {
     ghost few_locks: { locks ≤ 64 },
 }
 
-impl State {
+impl ParserState {
     ghost use Rattle.lrc_lang.specs.Parser.Seen.{symbol_seen};
     ghost use Rattle.lrc_lang.specs.Parser.SeenState.{state_seen, TakesSymbol};
     ghost use Rattle.lrc_lang.specs.Parser.State.{start, program_in};
@@ -45,10 +45,10 @@ impl State {
     ghost use Rattle.lrc_lang.specs.Tree.{program_of};
 
     /// A text of which nothing has come.
-    pub fn start(alloc: Global) -> State
+    pub fn start(alloc: Global) -> ParserState
         ensures { state_seen result ≡ start }
     {
-        State {
+        ParserState {
             stage: Stage::Words,
             words: 1,
             locks: 0,

@@ -10,6 +10,13 @@ ghost use Rattle.lrc_lock.specs.Managed.{ManagedRecord, requested, forwards};
 ghost use Rattle.lrc_lock.specs.Held.{HeldRecord, LockStep, stays, passes, pass_to, lock_at, held_after, first_held};
 ghost use Rattle.lrc_lock.specs.Held.{has_token, taken, asked, forwarded, granted, released};
 
+use crate::MOST_LOCKS;
+
+/// The limit as a number: 64 locks.
+pub fn the_limits()
+    ensures { MOST_LOCKS ≡ 64 }
+{}
+
 /// At the start the token of each lock is at one node, the lock's manager.
 pub fn one_node_has_the_token_at_first()
     ensures { (me nodes locks lock : ℕ) → lock < locks

@@ -1,6 +1,6 @@
 -- How a node is kept, and how it is seen.
 use Rattle.lrc_protocol.specs.Node.{Node}
-use Rattle.lrc_node.specs.declared.state.State.TheInside.{Inside}
+use Rattle.lrc_node.specs.declared.state.NodeState.TheInside.{Inside}
 use Rattle.lrc_node.specs.State.{IsState}
 
 -- what is kept, as the protocol has it

@@ -1,16 +1,15 @@
 -- A node's text: how far it has come, and how many steps are left of those that the node may make.
-use Rattle.std.specs.Prelude.{ℕ, ◌-◌, Bool, false, true, if◌then◌else◌, nat_le, Option, Some, None, option_map}
+use Rattle.std.specs.Prelude.{ℕ, ◌-◌, true, if◌then◌else◌, nat_le, Option, Some, None, option_map}
 use Rattle.lrc_trace.specs.declared.act.Deed.{Deed}
-use Rattle.lrc_trace.specs.declared.act.Deed.TheVariants as deeds
 use Rattle.lrc_exec.specs.declared.machine.Ask.{Ask}
-use Rattle.lrc_exec.specs.declared.machine.Ask.TheVariants.{Quiet, Print, Read, Write, Acquire, Release, Barrier, Trap, End}
-use Rattle.lrc_exec.specs.Ask.{ask_of}
+use Rattle.lrc_exec.specs.declared.machine.Ask.TheVariants.{Barrier, Trap, End}
+use Rattle.lrc_exec.specs.Ask.{ask_of, cost_asked}
 use Rattle.lrc_exec.specs.Meaning.{Thread, Next, next_of}
 use Rattle.lrc_protocol.specs.Course.{Course, going, trapped, ended, deed_of, course_of, cost_of}
 use Rattle.lrc_protocol.specs.Node.{begins_of}
 use Rattle.lrc_invariants.specs.Waiting.{next_in}
-use Rattle.lrc_node.specs.declared.text.Standing.{Standing}
-use Rattle.lrc_node.specs.declared.text.Standing.TheVariants.{Running, Arrived, Trapped, Ended}
+use Rattle.lrc_node.specs.declared.text.TextStanding.{TextStanding}
+use Rattle.lrc_node.specs.declared.text.TextStanding.TheVariants.{Running, Arrived, Trapped, Ended}
 use Rattle.lrc_node.specs.declared.end.End.{End as Ending}
 use Rattle.lrc_node.specs.declared.end.End.TheVariants.{Ended as End_Ended, Trapped as End_Trapped, Unfinished}
 
@@ -20,7 +19,7 @@ pub record TextRecord : Type 0 where
   pub left : ℕ
 
 -- the course of a machine that stands so: at a barrier its thread has arrived, and once stopped there is none
-abbrev pub course_in : Standing → Thread → Course
+abbrev pub course_in : TextStanding → Thread → Course
 course_in Running thread = going thread
 course_in Arrived thread = going (record thread { arrived = true })
 course_in (Trapped cause) thread = trapped cause
@@ -61,36 +60,13 @@ end_of ended = End_Ended
 
 -- ---- by what is asked for
 
--- what it costs to begin what is asked for
-abbrev pub cost_asked : Ask → ℕ
-cost_asked End = 0
-cost_asked _ = 1
-
 -- what is begun where this is asked for, with so many steps left
 abbrev pub allowed_with : ℕ → Ask → Option Ask
 allowed_with left ask = if nat_le (cost_asked ask) left then Some ask else None
 
--- the deed of a thread that asks for this, a read giving this value
-abbrev pub deed_asked : ℕ → Ask → Deed
-deed_asked value Quiet = deeds.Quiet
-deed_asked value (Print printed) = deeds.Print printed
-deed_asked value (Read word) = deeds.Read word value
-deed_asked value (Write word written) = deeds.Write word written
-deed_asked value (Acquire lock) = deeds.Acquire lock
-deed_asked value (Release lock) = deeds.Release lock
-deed_asked value Barrier = deeds.Arrive
-deed_asked value (Trap cause) = deeds.Trap cause
-deed_asked value End = deeds.End
-
 -- where a machine stands once it has done what it asked for
-abbrev pub standing_after : Ask → Standing
+abbrev pub standing_after : Ask → TextStanding
 standing_after Barrier = Arrived
 standing_after (Trap cause) = Trapped cause
 standing_after End = Ended
 standing_after _ = Running
-
--- whether the thread goes no further
-abbrev pub stops : Ask → Bool
-stops (Trap cause) = true
-stops End = true
-stops _ = false

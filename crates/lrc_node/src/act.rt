@@ -6,13 +6,13 @@ ghost use Rattle.lrc_node.specs.Effects.{CanAccess, memory_asked, value_asked};
 ghost use Rattle.lrc_node.specs.State.{seen_effect, AreFor};
 ghost use Rattle.lrc_node.specs.Text.{asked_in};
 
-use crate::state::State;
+use crate::state::NodeState;
 use crate::turn::Effect;
 use lrc_exec::machine::Ask;
 use lrc_mail::Letter;
 use std::alloc::AllocError;
 
-impl State<'_> {
+impl NodeState<'_> {
     /// Makes the access that the text asks for next, if it asks for one. The value is what is read, else 0.
     fn access(&mut self, asked: Option<Ask>) -> Result<u64, AllocError>
         requires { CanAccess self.old asked }

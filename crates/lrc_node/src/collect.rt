@@ -19,7 +19,7 @@ ghost use Rattle.lrc_node.specs.State.{seen_effect, AreFor};
 ghost use Rattle.lrc_node.specs.Text.{asked_in};
 
 use crate::letters::one;
-use crate::state::State;
+use crate::state::NodeState;
 use crate::turn::Effect;
 use lrc_mail::{Collection, Letter, Need, Wait, requests};
 use lrc_memory::Memory;
@@ -74,7 +74,7 @@ fn keep_all(memory: &mut Memory, pages: &[u16]) -> Result<(), AllocError>
     Ok(())
 }
 
-impl State<'_> {
+impl NodeState<'_> {
     /// Repairs the pages that the node keeps, for which all has come, and keeps base copies. The node tells node 0 that its
     /// copies are clean, and waits for the word to discard.
     fn clean(&mut self, collection: Collection, needs: &[Need]) -> Result<Effect, AllocError>

@@ -10,7 +10,7 @@ ghost use Rattle.lrc_protocol.specs.Expected.{are_arriving, is_expected, is_lear
 
 use crate::news::are_between;
 use crate::ranges::{all_on_page, are_of, covers, fits, leads};
-use crate::state::State;
+use crate::state::NodeState;
 use lrc_memory::Memory;
 use lrc_page::pages_of;
 use lrc_wire::{
@@ -18,7 +18,7 @@ use lrc_wire::{
     LockRequest, Message, News, PageReply, PageRequest,
 };
 
-impl State<'_> {
+impl NodeState<'_> {
     /// Whether the node expects a message from one of the nodes.
     pub(crate) fn expects(&self, from: u8, message: &Message) -> bool
         requires { from < self.now.setting.nodes }

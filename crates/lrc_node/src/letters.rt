@@ -6,7 +6,7 @@ ghost use Rattle.lrc_lock.specs.Lock.{IsPass};
 ghost use Rattle.lrc_protocol.specs.Letters.{asks_for_collection, grants_of, own_news};
 ghost use Rattle.lrc_node.specs.State.{AreFor};
 
-use crate::state::State;
+use crate::state::NodeState;
 use lrc_lock::Pass;
 use lrc_mail::Letter;
 use lrc_store::Intervals;
@@ -38,7 +38,7 @@ fn with_entry(time: &Time, node: u8, entry: u32) -> Time
     other
 }
 
-impl State<'_> {
+impl NodeState<'_> {
     /// The grant of a pass, if there is one.
     pub(crate) fn grants(&self, pass: Option<Pass>) -> Result<Vec<Letter>, AllocError>
         requires pass { IfSome pass (IsPass self.now.setting.me self.now.setting.nodes) }

@@ -10,7 +10,7 @@ ghost use Rattle.lrc_node.specs.declared.fault.NodeFault.TheVariants.{Failed, No
 use crate::end::End;
 use crate::fault::NodeFault;
 use crate::options::Options;
-use crate::state::State;
+use crate::state::NodeState;
 use crate::turn::Turn;
 use lrc_exec::code::Code;
 use lrc_trace::trace::Trace;
@@ -22,7 +22,7 @@ use std::marker::Model;
 /// protocol machine, and none once it has failed: a number was too large, or no memory was left.
 #[derive(Drop)]
 pub struct Node<'c> {
-    state: State<'c>,
+    state: NodeState<'c>,
     trace: Trace,
     failed: bool,
 }
@@ -60,7 +60,7 @@ impl<'c> Node<'c> {
         }) }
     {
         Ok(Node {
-            state: State::new(alloc, code, me, nodes, options)?,
+            state: NodeState::new(alloc, code, me, nodes, options)?,
             trace: Trace::new(alloc, me, options.size),
             failed: false,
         })

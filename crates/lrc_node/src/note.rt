@@ -9,14 +9,14 @@ ghost use Rattle.lrc_node.specs.Taken.{RefusesTake};
 ghost use Rattle.lrc_node.specs.declared.fault.NodeFault.TheVariants.{NotReady, Unexpected};
 
 use crate::fault::NodeFault;
-use crate::state::State;
+use crate::state::NodeState;
 use crate::turn::Turn;
 use lrc_trace::act::{Act, Deed};
 use lrc_trace::trace::Trace;
 use lrc_wire::Envelope;
 use std::alloc::AllocError;
 
-impl State<'_> {
+impl NodeState<'_> {
     /// Goes on as `run` does, and notes the access that is made, if one is. After an error the trace is as it was.
     pub(crate) fn run_noting(&mut self, trace: &mut Trace) -> Result<Turn, NodeFault>
         requires { IsTraced self.old trace.old }

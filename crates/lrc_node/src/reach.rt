@@ -12,12 +12,12 @@ ghost use Rattle.lrc_node.specs.Effects.{AccessesPage};
 ghost use Rattle.lrc_node.specs.State.{seen_effect, AreFor};
 ghost use Rattle.lrc_node.specs.Text.{asked_in};
 
-use crate::state::State;
+use crate::state::NodeState;
 use crate::turn::Effect;
 use lrc_mail::{Letter, Need, Wait};
 use std::alloc::AllocError;
 
-impl State<'_> {
+impl NodeState<'_> {
     /// Makes the access that comes next, of this page, at once where its copy may be read. At a miss the node asks for what
     /// the page needs and waits, or where nothing has to be asked repairs the page and goes on.
     pub(crate) fn reach(&mut self, page: u16) -> Result<Effect, AllocError>

@@ -10,12 +10,12 @@ ghost use Rattle.lrc_node.specs.Text.{asked_in};
 ghost use Rattle.lrc_node.specs.declared.fault.NodeFault.TheVariants.{NoMemory, NotReady, Worn};
 
 use crate::fault::NodeFault;
-use crate::state::State;
+use crate::state::NodeState;
 use crate::turn::{Effect, Turn};
 use lrc_exec::machine::Ask;
 use lrc_page::page_of;
 
-impl State<'_> {
+impl NodeState<'_> {
     /// Whether the node would go on if it were named.
     pub(crate) fn is_ready(&self) -> bool
         ensures { result ≡ is_ready self.now }

@@ -6,12 +6,12 @@ ghost use Rattle.lrc_node.specs.State.{seen_effect, AreFor};
 ghost use Rattle.lrc_node.specs.declared.fault.NodeFault.TheVariants.{NoMemory, Worn};
 
 use crate::fault::NodeFault;
-use crate::state::State;
+use crate::state::NodeState;
 use crate::turn::{Effect, Turn};
 use lrc_mail::MailFault;
 use lrc_trace::act::Act;
 
-impl State<'_> {
+impl NodeState<'_> {
     /// The turn of an effect, whose messages have numbers. `Worn` where a number would be too large.
     pub(crate) fn send(&mut self, effect: Effect) -> Result<Turn, NodeFault>
         requires { AreFor self.old.setting.nodes effect.letters.items }

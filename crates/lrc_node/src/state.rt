@@ -15,7 +15,7 @@ use std::marker::Model;
 
 /// A node, as long as it has not failed: its text, its clock with tokens, its part in barriers, its memory and its mail.
 #[derive(Drop)]
-pub(crate) struct State<'c> {
+pub(crate) struct NodeState<'c> {
     pub(crate) alloc: Global,
     pub(crate) me: u8,
     pub(crate) nodes: u8,
@@ -29,7 +29,7 @@ pub(crate) struct State<'c> {
     pub(crate) mail: Mail,
 }
 
-impl<'c> Model for State<'c> {
+impl<'c> Model for NodeState<'c> {
     ghost use Rattle.std.specs.Coded.{codes};
     ghost use Rattle.lrc_lang.specs.contracts.program.Statement as statement;
     ghost use Rattle.lrc_protocol.specs.Node.{Node};
@@ -45,7 +45,7 @@ impl<'c> Model for State<'c> {
     ghost invariant = { IsKept };
 }
 
-impl<'c> State<'c> {
+impl<'c> NodeState<'c> {
     /// Node `me` of `nodes` at the beginning of a program.
     pub(crate) fn new(
         alloc: Global,
@@ -53,7 +53,7 @@ impl<'c> State<'c> {
         me: u8,
         nodes: u8,
         options: &Options,
-    ) -> Result<State<'c>, AllocError>
+    ) -> Result<NodeState<'c>, AllocError>
         requires here { me < nodes }
         requires few { nodes ≤ 16 }
         ensures { IfOk result (λ state. state ≡ fresh_node code.now nodes options.now me) }
@@ -62,7 +62,7 @@ impl<'c> State<'c> {
         let locks = code.locks();
         let memory = Memory::new(alloc, me, nodes, words, options.size)?;
         let mail = Mail::new(alloc, nodes)?;
-        Ok(State {
+        Ok(NodeState {
             alloc,
             me,
             nodes,

@@ -14,13 +14,13 @@ ghost use Rattle.lrc_node.specs.declared.fault.NodeFault.TheVariants.{NoMemory, 
 
 use crate::fault::NodeFault;
 use crate::letters::one;
-use crate::state::State;
+use crate::state::NodeState;
 use crate::turn::Effect;
 use lrc_mail::Wait;
 use lrc_wire::{Arrive, LockRequest, Message, News};
 use std::alloc::AllocError;
 
-impl State<'_> {
+impl NodeState<'_> {
     /// Closes the open interval. `Worn`, with nothing changed, where its index would be too large.
     pub(crate) fn close(&mut self) -> Result<(), NodeFault>
         requires { entry (next_time self.old.setting.me self.old.locks.time) self.old.setting.me ≡ entry self.old.memory.store.last self.old.setting.me + 1 }

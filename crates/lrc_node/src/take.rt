@@ -9,11 +9,11 @@ ghost use Rattle.lrc_node.specs.Taken.{RefusesTake};
 ghost use Rattle.lrc_node.specs.declared.fault.NodeFault.TheVariants.{NoMemory, Unexpected, Worn};
 
 use crate::fault::NodeFault;
-use crate::state::State;
+use crate::state::NodeState;
 use crate::turn::Turn;
 use lrc_wire::Envelope;
 
-impl State<'_> {
+impl NodeState<'_> {
     /// Takes a message. A repeat of one that was taken is an empty turn. `Unexpected`, with nothing changed, where the
     /// message is for another node, from none, or not expected; `Worn` where a number would be too large.
     pub(crate) fn take(&mut self, envelope: &Envelope) -> Result<Turn, NodeFault>

@@ -10,7 +10,7 @@ ghost use Rattle.lrc_node.specs.Barrier.{arrival_in, AreDepartures};
 ghost use Rattle.lrc_node.specs.State.{seen_effect, AreFor};
 
 use crate::fault::NodeFault;
-use crate::state::State;
+use crate::state::NodeState;
 use crate::turn::Effect;
 use lrc_barrier::{Arrival, Departures};
 use lrc_mail::Letter;
@@ -54,7 +54,7 @@ fn departs(alloc: Global, nodes: u8, departures: Departures) -> Result<Vec<Lette
     Ok(letters)
 }
 
-impl State<'_> {
+impl NodeState<'_> {
     /// A node has arrived. With the last one each node is told to depart.
     pub(crate) fn take_arrival(&mut self, from: u8, arrive: &Arrive) -> Result<Effect, AllocError>
         requires from { from < self.old.setting.nodes }

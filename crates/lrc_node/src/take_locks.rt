@@ -11,13 +11,13 @@ ghost use Rattle.lrc_node.specs.State.{seen_effect, AreFor};
 ghost use Rattle.lrc_node.specs.Text.{asked_in};
 
 use crate::letters::one;
-use crate::state::State;
+use crate::state::NodeState;
 use crate::turn::Effect;
 use lrc_mail::Wait;
 use lrc_wire::{LockForward, LockGrant, LockRequest, Message, News};
 use std::alloc::AllocError;
 
-impl State<'_> {
+impl NodeState<'_> {
     /// A node asks for a lock that this one manages: its request goes on to who asked last.
     pub(crate) fn take_request(
         &mut self,

@@ -6,12 +6,12 @@ ghost use Rattle.lrc_node.specs.State.{seen_effect, AreFor};
 ghost use Rattle.lrc_node.specs.Taken.{IsTaking};
 ghost use Rattle.lrc_node.specs.Taking.{CanTake};
 
-use crate::state::State;
+use crate::state::NodeState;
 use crate::turn::Effect;
 use lrc_wire::Message;
 use std::alloc::AllocError;
 
-impl State<'_> {
+impl NodeState<'_> {
     /// Does what a message from a node asks for, which was expected and whose number is taken.
     pub(crate) fn take_message(&mut self, from: u8, message: &Message) -> Result<Effect, AllocError>
         requires { IsTaking self.old from message.now }

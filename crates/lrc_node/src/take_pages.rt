@@ -10,13 +10,13 @@ ghost use Rattle.lrc_protocol.specs.Waits.{waits_or_goes_on, with_needs};
 ghost use Rattle.lrc_node.specs.Effects.{CanGoOn, with_parts};
 ghost use Rattle.lrc_node.specs.State.{seen_effect, AreFor};
 
-use crate::state::State;
+use crate::state::NodeState;
 use crate::turn::Effect;
 use lrc_mail::{Letter, Need, Wait};
 use lrc_wire::{ChangesReply, PageReply};
 use std::alloc::AllocError;
 
-impl State<'_> {
+impl NodeState<'_> {
     /// Makes the access that is awaited, once all has come that its page needs; else goes on waiting.
     pub(crate) fn go_on_with(&mut self, need: Need) -> Result<Effect, AllocError>
         requires { CanGoOn self.old (access need) }

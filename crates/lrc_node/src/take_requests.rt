@@ -10,7 +10,7 @@ ghost use Rattle.lrc_node.specs.Requests.{part_in};
 ghost use Rattle.lrc_node.specs.State.{seen_effect, AreFor};
 
 use crate::letters::one;
-use crate::state::State;
+use crate::state::NodeState;
 use crate::turn::Effect;
 use lrc_memory::Memory;
 use lrc_wire::{
@@ -43,7 +43,7 @@ fn parts_of(
     Ok(Parts::from_ascending(parts))
 }
 
-impl State<'_> {
+impl NodeState<'_> {
     /// A node asks for changes that this one's intervals made.
     pub(crate) fn take_changes_request(
         &mut self,

@@ -1,12 +1,12 @@
 // A node's text: how far it has come, and how many steps are left.
 
 ghost use Rattle.std.specs.Prelude.{◌≡◌, ◌≤◌, IfNone, IfSome, false, is_some, option_map};
-ghost use Rattle.lrc_exec.specs.Ask.{ask_of};
+ghost use Rattle.lrc_exec.specs.Ask.{ask_of, cost_asked};
 ghost use Rattle.lrc_exec.specs.Meaning.{next_of};
 ghost use Rattle.lrc_exec.specs.Plain.{start_of};
 ghost use Rattle.lrc_protocol.specs.Course.{going, course_of, deed_of};
 ghost use Rattle.lrc_node.specs.Text.{asked_in, begun, begun_by, deed_in, end_of, gone_on, course_in};
-ghost use Rattle.lrc_node.specs.Text.{cost_asked, allowed_with, deed_asked, standing_after, stops};
+ghost use Rattle.lrc_node.specs.Text.{allowed_with, standing_after};
 
 use crate::end::End;
 use lrc_exec::code::Code;
@@ -16,7 +16,7 @@ use std::marker::Model;
 
 /// Where a node's text stands.
 #[derive(Clone, Copy)]
-pub(crate) enum Standing {
+pub(crate) enum TextStanding {
     /// It goes on.
     Running,
     /// It has arrived at a barrier, and has not departed from it.
@@ -32,7 +32,7 @@ pub(crate) enum Standing {
 #[derive(Drop)]
 pub(crate) struct Text<'c> {
     machine: Machine<'c>,
-    standing: Standing,
+    standing: TextStanding,
     left: u32,
 }
 
@@ -58,7 +58,7 @@ impl<'c> Text<'c> {
     {
         Text {
             machine: Machine::new(code, me, nodes),
-            standing: Standing::Running,
+            standing: TextStanding::Running,
             left: steps,
         }
     }
@@ -68,9 +68,9 @@ impl<'c> Text<'c> {
         ensures { result ≡ asked_in self.now.course }
     {
         match self.standing {
-            Standing::Running => Some(self.machine.ask()),
-            Standing::Arrived => Some(Ask::Barrier),
-            Standing::Trapped(_) | Standing::Ended => None,
+            TextStanding::Running => Some(self.machine.ask()),
+            TextStanding::Arrived => Some(Ask::Barrier),
+            TextStanding::Trapped(_) | TextStanding::Ended => None,
         }
     }
 
@@ -80,8 +80,8 @@ impl<'c> Text<'c> {
         ensures paid { IfSome result (λ ask. cost_asked ask ≤ self.now.left) }
     {
         match self.standing {
-            Standing::Running => allowed(self.machine.ask(), self.left),
-            Standing::Arrived | Standing::Trapped(_) | Standing::Ended => None,
+            TextStanding::Running => allowed(self.machine.ask(), self.left),
+            TextStanding::Arrived | TextStanding::Trapped(_) | TextStanding::Ended => None,
         }
     }
 
@@ -90,8 +90,8 @@ impl<'c> Text<'c> {
         ensures { result ≡ is_some (begun_by self.now) }
     {
         match self.standing {
-            Standing::Running => self.left > 0 || self.begins().is_some(),
-            Standing::Arrived | Standing::Trapped(_) | Standing::Ended => false,
+            TextStanding::Running => self.left > 0 || self.begins().is_some(),
+            TextStanding::Arrived | TextStanding::Trapped(_) | TextStanding::Ended => false,
         }
     }
 
@@ -102,7 +102,7 @@ impl<'c> Text<'c> {
         ensures none { IfNone result (self.new ≡ self.old) }
     {
         let ask = self.begins()?;
-        self.left -= cost(ask);
+        self.left -= ask.cost();
         Some(ask)
     }
 
@@ -114,16 +114,16 @@ impl<'c> Text<'c> {
         ensures text { self.new ≡ record self.old { course = gone_on value self.old.course } }
     {
         match self.standing {
-            Standing::Running => {
+            TextStanding::Running => {
                 let (deed, standing) = step(&mut self.machine, asked?, value);
                 self.standing = standing;
                 Some(deed)
             }
-            Standing::Arrived => {
-                self.standing = Standing::Running;
+            TextStanding::Arrived => {
+                self.standing = TextStanding::Running;
                 Some(Deed::Depart)
             }
-            Standing::Trapped(_) | Standing::Ended => None,
+            TextStanding::Trapped(_) | TextStanding::Ended => None,
         }
     }
 
@@ -132,20 +132,10 @@ impl<'c> Text<'c> {
         ensures { result ≡ end_of self.now.course }
     {
         match self.standing {
-            Standing::Running | Standing::Arrived => End::Unfinished,
-            Standing::Trapped(cause) => End::Trapped(cause),
-            Standing::Ended => End::Ended,
+            TextStanding::Running | TextStanding::Arrived => End::Unfinished,
+            TextStanding::Trapped(cause) => End::Trapped(cause),
+            TextStanding::Ended => End::Ended,
         }
-    }
-}
-
-/// What it costs to begin what is asked for.
-fn cost(ask: Ask) -> u32
-    ensures { result ≡ cost_asked ask }
-{
-    match ask {
-        Ask::End => 0,
-        _ => 1,
     }
 }
 
@@ -154,40 +144,23 @@ fn allowed(ask: Ask, left: u32) -> Option<Ask>
     ensures asked { result ≡ allowed_with left ask }
     ensures paid { IfSome result (λ ask. cost_asked ask ≤ left) }
 {
-    if cost(ask) <= left { Some(ask) } else { None }
-}
-
-/// The deed of a thread that asks for this, a read with this value.
-fn deed_for(ask: Ask, value: u64) -> Deed
-    ensures { result ≡ deed_asked value ask }
-{
-    match ask {
-        Ask::Quiet => Deed::Quiet,
-        Ask::Print(printed) => Deed::Print(printed),
-        Ask::Read(word) => Deed::Read(word, value),
-        Ask::Write(word, written) => Deed::Write(word, written),
-        Ask::Acquire(lock) => Deed::Acquire(lock),
-        Ask::Release(lock) => Deed::Release(lock),
-        Ask::Barrier => Deed::Arrive,
-        Ask::Trap(cause) => Deed::Trap(cause),
-        Ask::End => Deed::End,
-    }
+    if ask.cost() <= left { Some(ask) } else { None }
 }
 
 /// Where a text stands once it has done what it asked for.
-fn stand_after(ask: Ask) -> Standing
+fn stand_after(ask: Ask) -> TextStanding
     ensures { result ≡ standing_after ask }
 {
     match ask {
-        Ask::Barrier => Standing::Arrived,
-        Ask::Trap(cause) => Standing::Trapped(cause),
-        Ask::End => Standing::Ended,
-        _ => Standing::Running,
+        Ask::Barrier => TextStanding::Arrived,
+        Ask::Trap(cause) => TextStanding::Trapped(cause),
+        Ask::End => TextStanding::Ended,
+        _ => TextStanding::Running,
     }
 }
 
 /// Makes a thread's next deed, a read with this value, and answers where the text stands then.
-fn step(machine: &mut Machine<'_>, ask: Ask, value: u64) -> (Deed, Standing)
+fn step(machine: &mut Machine<'_>, ask: Ask, value: u64) -> (Deed, TextStanding)
     requires ask { ask ≡ ask_of (next_of machine.old) }
     requires not_arrived { machine.old.arrived ≡ false }
     ensures deed { result.0 ≡ deed_of value (next_of machine.old) }
@@ -197,5 +170,5 @@ fn step(machine: &mut Machine<'_>, ask: Ask, value: u64) -> (Deed, Standing)
     if !matches!(ask, Ask::Trap(_) | Ask::End) {
         machine.answer(value);
     }
-    (deed_for(ask, value), stand_after(ask))
+    (ask.deed(value), stand_after(ask))
 }

@@ -2,7 +2,8 @@
 use Rattle.std.specs.Prelude.{ℕ, Option, Some, None}
 use Rattle.lrc_trace.specs.declared.act.Cause.{Cause}
 use Rattle.lrc_trace.specs.declared.act.Deed.{Deed}
-use Rattle.lrc_trace.specs.declared.act.Deed.TheVariants.{Quiet, Print, Read, Write, Acquire, Release, Arrive, Depart, Trap, End}
+use Rattle.lrc_trace.specs.declared.act.Deed.TheVariants.{Depart}
+use Rattle.lrc_exec.specs.Ask.{ask_of, deed_asked, steps_of}
 use Rattle.lrc_exec.specs.Meaning.{Thread, Next, quiet, prints, reads, writes, acquires, releases, arrives, departs, traps, ends}
 
 -- a thread that goes on; a trap and its cause; or the end of the text
@@ -19,16 +20,8 @@ thread_of ended = None
 
 -- the deed of what a thread does next, a read giving this value
 abbrev pub deed_of : ℕ → Next → Deed
-deed_of value (quiet after) = Quiet
-deed_of value (prints printed after) = Print printed
-deed_of value (reads word after) = Read word value
-deed_of value (writes word written after) = Write word written
-deed_of value (acquires lock after) = Acquire lock
-deed_of value (releases lock after) = Release lock
-deed_of value (arrives after) = Arrive
 deed_of value (departs after) = Depart
-deed_of value (traps cause) = Trap cause
-deed_of value ends = End
+deed_of value next = deed_asked value (ask_of next)
 
 -- how far the text has come after that deed
 abbrev pub course_of : ℕ → Next → Course
@@ -43,8 +36,6 @@ course_of value (departs after) = going after
 course_of value (traps cause) = trapped cause
 course_of value ends = ended
 
--- what it counts of a node's steps to begin this: the end of the text and a departure count none
+-- what it counts of a node's steps to begin this
 abbrev pub cost_of : Next → ℕ
-cost_of (departs after) = 0
-cost_of ends = 0
-cost_of _ = 1
+cost_of next = steps_of (deed_of 0 next)

@@ -14,7 +14,7 @@ use Rattle.lrc_race.specs.declared.places.Place.{Place}
 use Rattle.lrc_race.specs.declared.detector.Lane.{Lane}
 use Rattle.lrc_race.specs.Adding.{Adds, IsOfSome}
 use Rattle.lrc_race.specs.Places.{ArePlaces, touches}
-use Rattle.lrc_race.specs.Races.{AreUnordered, IsRaceOf, name_of}
+use Rattle.lrc_race.specs.Races.{AreConflicting, AreUnordered, IsRaceOf, name_of}
 use Rattle.lrc_race.specs.Pairs.{AreWithin, IsLane, AreLanes, IsRaceOfPlaces, IsRaceOfTraces}
 use Rattle.lrc_race.proofs.Additions.{adds-same, adds-iff, some_same, IsBelow}
 use Rattle.lrc_race.proofs.Stretches.{at_contains, contains_at}
@@ -169,59 +169,49 @@ written b t word either = ⊎_elim (λ wrote. wrote) (λ never. absurd (false≢
 writes : (b : TraceRecord) (t : Segment) (word : ℕ) → IsTrue (has_access b.size t true word) → IsTrue (touches b.size t false word)
 writes b t word wrote = rw wrote refl
 
+-- a race of two of the traces, the lower node first
+race_of : (traces : List TraceRecord) (word : ℕ) (a : TraceRecord) (s : Segment) (b : TraceRecord) (t : Segment) → Contains traces a → Contains traces b
+    → Contains a.segments s → Contains b.segments t → a.node < b.node → AreConflicting a s b t word → AreUnordered a s b t
+    → IsRaceOf traces (record { word = word; node_a = a.node; node_b = b.node; interval_a = s.interval; interval_b = t.interval })
+race_of traces word a s b t a_there b_there s_there t_there ascending conflicting unordered = record {
+  a = a;
+  b = b;
+  s = s;
+  t = t;
+  a_there = a_there;
+  b_there = b_there;
+  s_there = s_there;
+  t_there = t_there;
+  node_a = refl;
+  node_b = refl;
+  interval_a = refl;
+  interval_b = refl;
+  ascending = ascending;
+  conflicting = conflicting;
+  unordered = unordered;
+}
+
 -- the race of two traces is one of the traces
 race_from : (traces : List TraceRecord) (i j : ℕ) (race : Race) → IsRaceOfTraces traces i j race → IsRaceOf traces race
 race_from traces i j race r =
     let (first_writes, first) = accessed r.a r.s r.word r.first in
     let second = written r.b r.t r.word r.second in
+    let a_there = at_contains traces i r.a r.a_there in
+    let b_there = at_contains traces j r.b r.b_there in
     ⊎_elim
     (λ same. absurd (r.apart same))
     (λ either.
     ⊎_elim
     (λ (low : r.a.node < r.b.node).
     let named = r.named ∙ named_low r.word r.a r.s r.b r.t low in
-    rw named (record {
-      a = r.a;
-      b = r.b;
-      s = r.s;
-      t = r.t;
-      a_there = at_contains traces i r.a r.a_there;
-      b_there = at_contains traces j r.b r.b_there;
-      s_there = r.s_there;
-      t_there = r.t_there;
-      node_a = refl;
-      node_b = refl;
-      interval_a = refl;
-      interval_b = refl;
-      ascending = low;
-      conflicting = record {
-        first_writes = first_writes;
-        second_writes = true;
-        one = or_right first_writes true refl;
-        first = first;
-        second = second;
-      };
-      unordered = r.unordered;
-    }))
+    rw named (race_of traces r.word r.a r.s r.b r.t a_there b_there r.s_there r.t_there low
+    (record { first_writes = first_writes; second_writes = true; one = or_right first_writes true refl; first = first; second = second })
+    r.unordered))
     (λ (high : r.b.node < r.a.node).
     let named = r.named ∙ named_high r.word r.a r.s r.b r.t (omega arith) in
-    rw named (record {
-      a = r.b;
-      b = r.a;
-      s = r.t;
-      t = r.s;
-      a_there = at_contains traces j r.b r.b_there;
-      b_there = at_contains traces i r.a r.a_there;
-      s_there = r.t_there;
-      t_there = r.s_there;
-      node_a = refl;
-      node_b = refl;
-      interval_a = refl;
-      interval_b = refl;
-      ascending = high;
-      conflicting = record { first_writes = true; second_writes = first_writes; one = refl; first = second; second = first };
-      unordered = record { first = r.unordered.second; second = r.unordered.first };
-    }))
+    rw named (race_of traces r.word r.b r.t r.a r.s b_there a_there r.t_there r.s_there high
+    (record { first_writes = true; second_writes = first_writes; one = refl; first = second; second = first })
+    (record { first = r.unordered.second; second = r.unordered.first })))
     either)
     (cases_order r.a.node r.b.node)
 
@@ -239,6 +229,36 @@ same_race race node_a node_b interval_a interval_b first second third fourth =
     })
     (record { word = race.word; node_a = node_a; node_b = node_b; interval_a = interval_a; interval_b = interval_b }) = cc in same
 
+-- an access of one trace and a write of another
+race_at : (traces : List TraceRecord) (race : Race) (i j word : ℕ) (a : TraceRecord) (s : Segment) (b : TraceRecord) (t : Segment)
+    → slice_get traces i ≡ Some a → slice_get traces j ≡ Some b → Contains a.segments s → Contains b.segments t → a.node ≢ b.node
+    → IsTrue (touches a.size s true word) → IsTrue (touches b.size t false word) → AreUnordered a s b t → race ≡ name_of word a s b t
+    → (i : ℕ) × (i < length traces) × IsRaceOfTrace traces i race
+race_at traces race i j word a s b t a_there b_there s_there t_there apart first second unordered named = (
+  i,
+  slice_get_within traces i a a_there,
+  (
+    j,
+    slice_get_within traces j b b_there,
+    record {
+      a = a;
+      b = b;
+      s = s;
+      t = t;
+      a_there = a_there;
+      b_there = b_there;
+      s_there = s_there;
+      t_there = t_there;
+      apart = apart;
+      word = word;
+      first = first;
+      second = second;
+      unordered = unordered;
+      named = named;
+    },
+  ),
+)
+
 -- a race of the traces is one of two of them
 race_to : (traces : List TraceRecord) (race : Race) → IsRaceOf traces race
     → (i : ℕ) × (i < length traces) × IsRaceOfTrace traces i race
@@ -249,54 +269,18 @@ race_to traces race r =
     let is = same_race race r.a.node r.b.node r.s.interval r.t.interval r.node_a r.node_b r.interval_a r.interval_b in
     let c = r.conflicting in
     ⊎_elim
-    (λ (first_writes : c.first_writes ≡ true). (
-      j,
-      slice_get_within traces j r.b j_is,
-      (
-        i,
-        slice_get_within traces i r.a i_is,
-        record {
-          a = r.b;
-          b = r.a;
-          s = r.t;
-          t = r.s;
-          a_there = j_is;
-          b_there = i_is;
-          s_there = r.t_there;
-          t_there = r.s_there;
-          apart = λ same. omega (arith, same, low);
-          word = race.word;
-          first = accesses r.b r.t race.word c.second_writes c.second;
-          second = writes r.a r.s race.word (subst (λ w. IsTrue (has_access r.a.size r.s w race.word)) first_writes c.first);
-          unordered = record { first = r.unordered.second; second = r.unordered.first };
-          named = is ∙ sym (named_high race.word r.b r.t r.a r.s (omega arith));
-        },
-      ),
-    ))
-    (λ (second_writes : c.second_writes ≡ true). (
-      i,
-      slice_get_within traces i r.a i_is,
-      (
-        j,
-        slice_get_within traces j r.b j_is,
-        record {
-          a = r.a;
-          b = r.b;
-          s = r.s;
-          t = r.t;
-          a_there = i_is;
-          b_there = j_is;
-          s_there = r.s_there;
-          t_there = r.t_there;
-          apart = λ same. omega (arith, same, low);
-          word = race.word;
-          first = accesses r.a r.s race.word c.first_writes c.first;
-          second = writes r.b r.t race.word (subst (λ w. IsTrue (has_access r.b.size r.t w race.word)) second_writes c.second);
-          unordered = r.unordered;
-          named = is ∙ sym (named_low race.word r.a r.s r.b r.t low);
-        },
-      ),
-    ))
+    (λ (first_writes : c.first_writes ≡ true).
+    race_at traces race j i race.word r.b r.t r.a r.s j_is i_is r.t_there r.s_there (λ same. omega (arith, same, low))
+    (accesses r.b r.t race.word c.second_writes c.second)
+    (writes r.a r.s race.word (subst (λ w. IsTrue (has_access r.a.size r.s w race.word)) first_writes c.first))
+    (record { first = r.unordered.second; second = r.unordered.first })
+    (is ∙ sym (named_high race.word r.b r.t r.a r.s (omega arith))))
+    (λ (second_writes : c.second_writes ≡ true).
+    race_at traces race i j race.word r.a r.s r.b r.t i_is j_is r.s_there r.t_there (λ same. omega (arith, same, low))
+    (accesses r.a r.s race.word c.first_writes c.first)
+    (writes r.b r.t race.word (subst (λ w. IsTrue (has_access r.b.size r.t w race.word)) second_writes c.second))
+    r.unordered
+    (is ∙ sym (named_low race.word r.a r.s r.b r.t low)))
     (or_cases c.first_writes c.second_writes c.one)
 
 -- as many as there are traces are all

@@ -1,5 +1,6 @@
 -- Threads that are joined in order.
-use Rattle.std.proofs.Common.{◌≡◌, ◌∙◌, ℕ, zero, suc, ◌+◌, List, [], ◌∷◌, ◌++◌, Some, Result, Ok, Err, IfOk, IsOk, refl, sym, ap, subst, arith, length, map}
+use Rattle.std.proofs.Common.{◌≡◌, ◌∙◌, ℕ, zero, suc, ◌+◌, List, [], ◌∷◌, ◌++◌, Option, None, Some, IfNone}
+use Rattle.std.proofs.Common.{refl, sym, ap, subst, arith, length, map}
 use Rattle.std.specs.Prelude.{slice_get}
 use Rattle.std.proofs.lemmas.List.{length-map, length_push, map-append}
 use Rattle.lrc_lang.specs.declared.program.Program.{Program}
@@ -46,18 +47,17 @@ module _ (program : Program) (nodes : ℕ) (options : OptionsRecord) where
       )
 
   -- one thread more is joined
-  pub joined_more : {A B H S : Type 0} (items : B → List A) (seen : A → List EntryRecord) (promise : H → LogOf) (handle : H) (rest : List H)
-      (old new : Result B S) (log : Result A S) → IfOk new (λ all. IsOk log × IsOk old)
-      → IfOk new (λ all. IfOk log (λ one. IfOk old (λ before. items all ≡ items before ++ one ∷ [])))
-      → IfOk old (λ before. AreSoFar (map seen (items before)) (map promise (handle ∷ rest)))
-      → IfOk log (λ one. IsLogOf (fresh_node (promise handle).program.now (promise handle).nodes (promise handle).options (promise handle).me) (seen one))
-      → IfOk new (λ all. AreSoFar (map seen (items all)) (map promise rest))
-  joined_more items seen promise handle rest old (Err s) log both more so_far its = tt
-  joined_more items seen promise handle rest (Err s) (Ok all) log both more so_far its = let no = both.1 in cc
-  joined_more items seen promise handle rest (Ok before) (Ok all) (Err s) both more so_far its = let no = both.0 in cc
-  joined_more items seen promise handle rest (Ok before) (Ok all) (Ok one) both more so_far its =
-      so_far_more (map seen (items before)) (map seen (items all)) (seen one) (promise handle) (map promise rest)
-      (ap (map seen) more ∙ map-append seen (items before) (one ∷ [])) so_far its
+  pub joined_more : {A H F S : Type 0} (seen : A → List EntryRecord) (promise : H → LogOf) (handle : H) (rest : List H) (before all : List A) (one : A)
+      (old new : Option F) (fault : Option S) → IfNone new ((old ≡ None) × (fault ≡ None) × (all ≡ before ++ one ∷ []))
+      → IfNone old (AreSoFar (map seen before) (map promise (handle ∷ rest)))
+      → IfNone fault (IsLogOf (fresh_node (promise handle).program.now (promise handle).nodes (promise handle).options (promise handle).me) (seen one))
+      → IfNone new (AreSoFar (map seen all) (map promise rest))
+  joined_more seen promise handle rest before all one old (Some failure) fault none so_far its = tt
+  joined_more seen promise handle rest before all one (Some failure) None fault none so_far its = let no = none.0 in cc
+  joined_more seen promise handle rest before all one None None (Some stop) none so_far its = let no = none.1 in cc
+  joined_more seen promise handle rest before all one None None None none so_far its =
+      so_far_more (map seen before) (map seen all) (seen one) (promise handle) (map promise rest)
+      (ap (map seen) none.2 ∙ map-append seen before (one ∷ [])) so_far its
 
   owed_more : (owed : List LogOf) (one : LogOf) → AreOwedFrom program nodes options 0 owed → IsOwed program nodes options (length owed) one
       → AreOwedFrom program nodes options 0 (owed ++ one ∷ [])
@@ -77,11 +77,12 @@ module _ (program : Program) (nodes : ℕ) (options : OptionsRecord) where
       )
 
   -- the logs of all nodes
-  pub all_logs : {A B S : Type 0} (items : B → List A) (seen : A → List EntryRecord) (joined : B) (r : Result B S)
-      → AreFirstLogs program nodes options (map seen (items joined)) → IfOk r (λ all. length (items all) ≡ nodes) → IfOk r (λ all. all ≡ joined)
-      → IfOk r (λ all. AreLogs program nodes options (map seen (items all)))
-  all_logs items seen joined (Ok all) first count same = record {
-    count = length-map (items all) seen ∙ count;
-    each = subst (λ logs. AreFirstLogs program nodes options (map seen (items logs))) (sym same) first;
+  pub all_logs : {A B F : Type 0} (items : B → List A) (seen : A → List EntryRecord) (before all : B) (old new : Option F)
+      → IfNone new ((old ≡ None) × (all ≡ before) × (length (items all) ≡ nodes))
+      → IfNone old (AreFirstLogs program nodes options (map seen (items before))) → IfNone new (AreLogs program nodes options (map seen (items all)))
+  all_logs items seen before all old (Some failure) none first = tt
+  all_logs items seen before all (Some failure) None none first = let no = none.0 in cc
+  all_logs items seen before all None None none first = record {
+    count = length-map (items all) seen ∙ none.2;
+    each = subst (λ logs. AreFirstLogs program nodes options (map seen (items logs))) (sym none.1) first;
   }
-  all_logs items seen joined (Err s) first count same = tt

@@ -1,5 +1,5 @@
 -- The log of a thread.
-use Rattle.std.proofs.Common.{◌≡◌, List, Result, Ok, Err, sym, ap, subst}
+use Rattle.std.proofs.Common.{◌≡◌, List, Option, None, Some, Result, Ok, Err, IfNone, sym, ap, subst}
 use Rattle.lrc_post.specs.declared.parcel.Parcel.{Parcel}
 use Rattle.lrc_protocol.specs.Node.{Node}
 use Rattle.lrc_protocol.specs.Log.{Logged}
@@ -26,3 +26,8 @@ pub cut_log : {S A : Type 0} (puts : S → List Parcel → S → Type 0) (takes 
 cut_log {A = A} puts takes s t start new r is h =
     let cut : (j : Logged) × (new ≡ sound j) × Turns (unmade start) j = subst (GoesTo {A = A} puts takes s (unmade start) t new) is h in
     seen_log start new cut.0 cut.1 cut.2
+
+-- what holds anyway holds where there is no fault
+pub anyway : {F : Type 0} (P : Type 0) (fault : Option F) → P → IfNone fault P
+anyway P None p = p
+anyway P (Some f) p = tt

@@ -15,8 +15,6 @@ use Rattle.lrc_world.specs.declared.report.Report.{Report}
 use Rattle.lrc_world.specs.Report.{AreAll, IsReportOf}
 use Rattle.lrc_run.specs.declared.fault.RunFault.{RunFault}
 use Rattle.lrc_run.specs.declared.fault.RunFault.TheVariants.{BadNodes, BadSteps, Worn, Mismatch, NoMemory}
-use Rattle.lrc_run.specs.declared.stop.Stop.{Stop}
-use Rattle.lrc_run.specs.declared.stop.Stop.TheVariants as stops
 
 -- the turns of each node of a report, from node 0 up
 abbrev pub turns_of : Report → List (List EntryRecord)
@@ -39,12 +37,6 @@ pub record AreWiresOf (nodes : ℕ) (report : Report) (wires : List MailboxRecor
   pub matched : AreMatched (turns_of report) wires
 
 -- ---- faults
-
--- what is said of a thread that stopped
-abbrev pub of_stop : Stop → RunFault
-of_stop stops.Closed = NoMemory
-of_stop stops.Worn = Worn
-of_stop stops.NoMemory = NoMemory
 
 -- what is said of a weave that failed
 abbrev pub of_weaving : WeaveFault → RunFault

@@ -2,9 +2,8 @@
 
 ghost use Rattle.std.specs.Prelude.{◌≡◌};
 ghost use Rattle.lrc_run.specs.declared.fault.RunFault.TheVariants.{NoMemory};
-ghost use Rattle.lrc_run.specs.Run.{of_stop, of_weaving};
+ghost use Rattle.lrc_run.specs.Run.{of_weaving};
 
-use crate::stop::Stop;
 use lrc_weave::WeaveFault;
 use std::alloc::AllocError;
 use thiserror::Error;
@@ -35,18 +34,6 @@ impl From<AllocError> for RunFault {
 
     fn from(_error: AllocError) -> RunFault {
         RunFault::NoMemory
-    }
-}
-
-impl From<Stop> for RunFault {
-    ghost from_gives = { λ stop e. e ≡ of_stop stop };
-
-    // A thread whose post is closed ends without a fault, so `Closed` does not come here.
-    fn from(stop: Stop) -> RunFault {
-        match stop {
-            Stop::Worn => RunFault::Worn,
-            Stop::Closed | Stop::NoMemory => RunFault::NoMemory,
-        }
     }
 }
 

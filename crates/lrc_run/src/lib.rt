@@ -2,8 +2,10 @@
 #![tactic(auto)]
 
 mod coded;
+mod failure;
 mod fault;
 mod gate;
+mod life;
 mod mail;
 mod nodes;
 mod runs;
@@ -13,6 +15,7 @@ mod worker;
 
 pub use fault::RunFault;
 pub use gate::Gate;
+pub use life::Life;
 pub use mail::{Line, Mail};
 pub use runs::{run, run_gated};
 pub use stop::Stop;

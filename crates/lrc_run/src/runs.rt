@@ -1,6 +1,6 @@
 // Runs of a program whose nodes are on threads.
 
-ghost use Rattle.std.specs.Prelude.{◌≡◌, ℕ, ◌≤◌, ◌↔◌, ◌⊎◌, Some, Err, IfOk, IfErr, MatchResult, length, map};
+ghost use Rattle.std.specs.Prelude.{◌≡◌, ℕ, ◌≤◌, ◌↔◌, ◌⊎◌, List, Some, Err, IfOk, IfErr, MatchResult, length, map};
 ghost use Rattle.lrc_trace.specs.Conflict.{IsRaceFree, IsFirstRace};
 ghost use Rattle.lrc_trace.specs.Reading.{ReadsLazily};
 ghost use Rattle.lrc_trace.specs.Synchronization.{IsWellSynchronized};
@@ -8,11 +8,14 @@ ghost use Rattle.lrc_judge.specs.Races.{AreNamedRaces};
 ghost use Rattle.lrc_exec.specs.Plain.{plain};
 ghost use Rattle.lrc_theory.specs.Follows.{nodes_of};
 ghost use Rattle.lrc_theory.specs.Racing.{HasNoRace, PlainToRace};
+ghost use Rattle.lrc_protocol.specs.declared.event.Event.{Event};
 ghost use Rattle.lrc_weave.specs.Logs.{AreLogs};
 ghost use Rattle.lrc_weave.specs.Matched.{AreMatched};
 ghost use Rattle.lrc_world.specs.Range.{AreNodes, AreSteps};
+ghost use Rattle.lrc_world.specs.Report.{IsWornBy};
 ghost use Rattle.lrc_run.specs.Run.{AreWiresOf, IsLate, IsWovenReport, turns_of};
 
+use crate::failure::fault_of;
 use crate::fault::RunFault;
 use crate::gate::Gate;
 use crate::nodes::logs_of;
@@ -44,7 +47,8 @@ impl Gate for OpenGate {
 /// its first race; and where no order gives the plain machine a race, no run has one.
 ///
 /// Of several faults the one of the lowest node is answered; `Mismatch`, and want of memory after the threads have ended, only where
-/// no node had one.
+/// no node had one. `Worn` is answered only where some run of the program on one thread wears out: where a node's thread did, the
+/// turns of all nodes are made once more, in one order, up to there, for which memory may be missing too.
 pub fn run<R: Threads + Wait + Sync>(
     rt: &R,
     alloc: Global,
@@ -65,6 +69,7 @@ pub fn run<R: Threads + Wait + Sync>(
         → PlainToRace program.now nodes done.0.acts.items position) }
     ensures unraced { IfOk result (λ done. HasNoRace program.now nodes → IsRaceFree done.0.acts.items) }
 
+    ensures worn { result ≡ Err RunFault.Worn → (events : List Event) × IsWornBy program.now nodes options.now events }
     ensures bad_nodes { (result ≡ Err RunFault.BadNodes) ↔ (¬ AreNodes nodes) }
     ensures bad_steps { (result ≡ Err RunFault.BadSteps) ↔ (AreNodes nodes × ¬ AreSteps options.now.steps) }
 {
@@ -93,6 +98,7 @@ pub fn run_gated<G: Gate + Sync, R: Threads + Wait + Sync>(
         → PlainToRace program.now nodes done.0.acts.items position) }
     ensures unraced { IfOk result (λ done. HasNoRace program.now nodes → IsRaceFree done.0.acts.items) }
 
+    ensures worn { result ≡ Err RunFault.Worn → (events : List Event) × IsWornBy program.now nodes options.now events }
     ensures bad_nodes { (result ≡ Err RunFault.BadNodes) ↔ (¬ AreNodes nodes) }
     ensures bad_steps { (result ≡ Err RunFault.BadSteps) ↔ (AreNodes nodes × ¬ AreSteps options.now.steps) }
 {
@@ -122,12 +128,25 @@ fn live<G: Gate + Sync, R: Threads + Wait + Sync>(
     requires few { nodes ≤ 16 }
     ensures logs { IfOk result (λ lived. AreLogs program.now nodes options.now (map (λ log. log.items) lived.0.items)) }
     ensures wires { IfOk result (λ lived. length lived.1 ≡ nodes) }
+    ensures worn { result ≡ Err RunFault.Worn → (events : List Event) × IsWornBy program.now nodes options.now events }
     ensures late { IfErr result IsLate }
 {
     let post = Post::new(alloc, nodes, picker)?;
     let code = Code::new(alloc, program)?;
-    let logs = logs_of(rt, alloc, program, &code, nodes, options, &post, gate)?;
-    Ok((logs, post.into_wires()))
+    let lives = logs_of(rt, alloc, program, &code, nodes, options, &post, gate)?;
+    let wires = post.into_wires();
+    match lives.failure {
+        None => Ok((lives.logs, wires)),
+        Some(failure) => Err(fault_of(
+            alloc,
+            program,
+            nodes,
+            options,
+            lives.logs,
+            wires.mailboxes(),
+            failure,
+        )),
+    }
 }
 
 // The report of the nodes' turns, where what the post kept agrees with them, and nothing was left to do.
@@ -154,13 +173,15 @@ fn told(
         → PlainToRace program.now nodes report.acts.items position) }
     ensures unraced { IfOk result (λ report. HasNoRace program.now nodes → IsRaceFree report.acts.items) }
 
+    ensures worn { result ≡ Err RunFault.Worn → (events : List Event) × IsWornBy program.now nodes options.now events }
     ensures late { IfErr result IsLate }
 {
     let events = weave(alloc, logs, wires)?;
     match replay(alloc, program, nodes, options, events.as_slice()) {
         Ok((report, true)) => Ok(report),
         Err(SimFault::NoMemory) => Err(RunFault::NoMemory),
-        // The events are those of a run, so no other fault comes.
+        // The events are those of a run, and each message was sent, so no other fault comes.
+        Err(SimFault::Worn) => Err(RunFault::Worn),
         Ok(_) | Err(_) => Err(RunFault::Mismatch),
     }
 }

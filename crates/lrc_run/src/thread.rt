@@ -1,21 +1,24 @@
 // A node on a thread of its own.
 
-ghost use Rattle.std.specs.Prelude.{◌≡◌, ◌<◌, ◌≤◌, [], IfOk};
+ghost use Rattle.std.specs.Prelude.{◌≡◌, ◌<◌, ◌≤◌, [], Some, IfNone, IfOk};
 ghost use Rattle.lrc_protocol.specs.Node.{fresh_node};
 ghost use Rattle.lrc_node.specs.Logged.{sound};
+ghost use Rattle.lrc_run.specs.declared.stop.Stop.TheVariants.{NoMemory};
 ghost use Rattle.lrc_run.specs.Worker.{IsLogOf, unmade};
 
 use crate::gate::Gate;
+use crate::life::Life;
 use crate::mail::Line;
 use crate::stop::Stop;
 use crate::worker::work;
 use lrc_exec::code::Code;
-use lrc_node::{Entry, Logged, Node, Options};
+use lrc_node::{Logged, Node, Options};
 use lrc_post::Post;
 use std::alloc::{AllocError, Global};
 use std::sync::Wait;
 
-/// The turns of a node of a program with their stamps, from its first until the post is closed. A node that fails closes the post.
+/// The turns of a node of a program with their stamps, from its first until the post is closed or the node fails. A node that fails
+/// closes the post.
 pub fn on_thread<G: Gate, R: Wait>(
     rt: &R,
     alloc: Global,
@@ -25,16 +28,16 @@ pub fn on_thread<G: Gate, R: Wait>(
     post: &Post,
     gate: &G,
     me: u8,
-) -> Result<Vec<Entry>, Stop>
+) -> Life
     requires here { me < nodes }
     requires few { nodes ≤ 16 }
-    ensures { IfOk result (λ log. IsLogOf (fresh_node code.now nodes options.now me) log.items) }
+    ensures { IfNone result.fault (IsLogOf (fresh_node code.now nodes options.now me) result.log.items) }
 {
-    let log = live(rt, alloc, code, nodes, options, post, gate, me);
-    if log.is_err() {
+    let life = live(rt, alloc, code, nodes, options, post, gate, me);
+    if life.fault.is_some() {
         post.close(rt);
     }
-    log
+    life
 }
 
 // The same, but a node that fails leaves the post as it is.
@@ -47,17 +50,38 @@ fn live<G: Gate, R: Wait>(
     post: &Post,
     gate: &G,
     me: u8,
-) -> Result<Vec<Entry>, Stop>
+) -> Life
     requires here { me < nodes }
     requires few { nodes ≤ 16 }
-    ensures { IfOk result (λ log. IsLogOf (fresh_node code.now nodes options.now me) log.items) }
+    ensures { IfNone result.fault (IsLogOf (fresh_node code.now nodes options.now me) result.log.items) }
 {
-    let mut node = fresh(alloc, code, nodes, options, me)?;
+    let Ok(mut node) = fresh(alloc, code, nodes, options, me) else {
+        return unborn(alloc);
+    };
     let mut line = Line { rt, post, me };
     match work(rt, alloc, gate, &mut line, &mut node, me) {
-        Ok(()) => Ok(node.into_parts().0),
-        Err(Stop::Closed) => Ok(node.into_parts().0),
-        Err(stop) => Err(stop),
+        Ok(()) => ended(node, None),
+        Err(Stop::Closed) => ended(node, None),
+        Err(stop) => ended(node, Some(stop)),
+    }
+}
+
+// What a node leaves.
+fn ended(node: Logged<'_>, fault: Option<Stop>) -> Life
+    ensures log { result.log.items ≡ node.logged.log }
+    ensures fault { result.fault ≡ fault }
+{
+    let (log, _trace) = node.into_parts();
+    Life { log, fault }
+}
+
+// What is left of a node for which there was no memory.
+fn unborn(alloc: Global) -> Life
+    ensures { result.fault ≡ Some NoMemory }
+{
+    Life {
+        log: Vec::new(alloc),
+        fault: Some(Stop::NoMemory),
     }
 }
 

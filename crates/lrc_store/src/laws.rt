@@ -11,6 +11,13 @@ ghost use Rattle.lrc_store.specs.Lists.{newest_of, next_in_interval_of, next_on_
 ghost use Rattle.lrc_store.specs.Store.{StoreRecord, IsMissing, IsNewer, IsStore, added, attached, discarded, is_covered, intervals_of};
 ghost use Rattle.lrc_store.specs.Store.{key_of, missing_of, newer_of, notice_at, stored_at, unread, without_changes};
 
+use crate::chains::MOST_ENTRIES;
+
+/// The limit as a number: 4,294,967,295 intervals, and as many notices.
+pub fn the_limits()
+    ensures { MOST_ENTRIES ≡ 4294967295 }
+{}
+
 /// An interval that follows the last one of its node gets an entry of its own, with notices without changes. All others
 /// stay.
 pub fn adding_makes_one_entry()

@@ -1,6 +1,5 @@
 pub mod Ahead
 pub mod LastValue
-pub mod Threads
 pub mod Matching
 pub mod Step
 pub mod Lazy

@@ -19,7 +19,7 @@ use Rattle.lrc_theory.specs.Follows.{Goes, quietly, printing, reading, writing, 
 use Rattle.lrc_theory.specs.Follows.{trapping, ending, Makes, nothing_more, and_then, deeds_of, FollowsText}
 use Rattle.lrc_theory.specs.InOrder.{ReadsInOrder}
 use Rattle.lrc_theory.proofs.Ahead.{does_ahead, drop_ahead}
-use Rattle.lrc_theory.proofs.Threads.{fine}
+use Rattle.lrc_exec.proofs.NextLaws.{next_of-fine}
 use Rattle.lrc_exec.proofs.PlainParts.{thread_within}
 use Rattle.lrc_theory.proofs.Matching.{Matches}
 use Rattle.lrc_theory.proofs.Step.{step}
@@ -150,9 +150,9 @@ module _ (run : List Act) (nodes : ℕ) where
       let here : Does run j node s.deed = does_ahead run j a s.more stands' in
       let within = thread_within machine node t at in
       let node_in_range : node < nodes = let sizes = m.sizes in omega arith in
-      let now : SoundAt run nodes j node s.deed = is_sound run nodes j node machine t at m size u.goes (fine t) u.can in
+      let now : SoundAt run nodes j node s.deed = is_sound run nodes j node machine t at m size u.goes (next_of-fine t) u.can in
       let rest = sound_from order s.more (j + 1) s.after final s.rest (ap (λ i. drop i run) (add-one j)
-      ∙ drop_ahead run j a s.more stands') (step run j node machine t at m (next_of t) (fine t) s.deed s.after is here) (u.size ∙ size) in
+      ∙ drop_ahead run j a s.more stands') (step run j node machine t at m (next_of t) (next_of-fine t) s.deed s.after is here) (u.size ∙ size) in
       let own : Makes (thread_in machine node) (s.deed ∷ deeds_of node s.more) =
       subst (λ o. Makes o (s.deed ∷ deeds_of node s.more)) (sym at)
       (and_then u.goes (subst (λ o. Makes o (deeds_of node s.more)) (thread_after machine s.after node u.thread u.threads within)

@@ -21,7 +21,7 @@ use Rattle.lrc_theory.specs.Follows.{Goes, quietly, printing, reading, writing, 
 use Rattle.lrc_theory.specs.Follows.{trapping, ending, Makes, and_then, deeds_of, nodes_of, FollowsText}
 use Rattle.lrc_theory.specs.InOrder.{last_value}
 use Rattle.lrc_theory.proofs.Ahead.{does_ahead, drop_ahead}
-use Rattle.lrc_theory.proofs.Threads.{IsFine, fine}
+use Rattle.lrc_exec.proofs.NextLaws.{IsFine, next_of-fine}
 use Rattle.lrc_exec.proofs.PlainParts.{thread_within}
 use Rattle.lrc_theory.proofs.Matching.{IsPaired, ThreadFits, Matches}
 use Rattle.lrc_theory.proofs.Step.{none_since, holder_cases, step}
@@ -190,7 +190,7 @@ stepped : (run : List Act) (nodes j : ℕ) (machine : Plain) (a : Act) (more : L
     → SoundAt run nodes j a.node a.deed → Stepped run nodes j machine a more
 stepped run nodes j machine a more r in_range sound =
     let first = makes_first (subst (λ ds. Makes (thread_in machine a.node) ds) (deeds_of-own a more) (r.makes a.node in_range)) in
-    let f = fine first.thread in
+    let f = next_of-fine first.thread in
     let can = can_do run nodes j a.node machine first.thread first.is r.matches r.size first.goes f sound in
     let result = done machine a.node first.goes can in
     let after = result.0 in

@@ -16,7 +16,7 @@ use Rattle.lrc_exec.specs.Meaning.{Thread, Next, quiet, prints, reads, writes, a
 use Rattle.lrc_exec.specs.Plain.{Plain, is_free, all_arrived, deed_of, with_thread, thread_in}
 use Rattle.lrc_theory.specs.InOrder.{value_after, last_value}
 use Rattle.lrc_theory.proofs.LastValue.{last_value-more, value_after-same, value_after-other}
-use Rattle.lrc_theory.proofs.Threads.{Leads, Stays, IsFine}
+use Rattle.lrc_exec.proofs.NextLaws.{Leads, Stays, IsFine}
 use Rattle.lrc_exec.proofs.PlainParts.{thread_within}
 use Rattle.lrc_theory.proofs.Matching.{IsPaired, ThreadFits, Matches, arrives-same, departs-same, threads_after}
 

@@ -18,7 +18,7 @@ use Rattle.lrc_theory.specs.Follows.{Goes, quietly, printing, reading, writing, 
 use Rattle.lrc_theory.specs.Follows.{departing, trapping, ending, Makes, nodes_of, FollowsText}
 use Rattle.lrc_theory.specs.Kinds.{SameKind, same, reads, PlainUpTo}
 use Rattle.lrc_theory.proofs.Ahead.{take_ahead}
-use Rattle.lrc_theory.proofs.Threads.{IsFine, fine}
+use Rattle.lrc_exec.proofs.NextLaws.{IsFine, next_of-fine}
 use Rattle.lrc_theory.proofs.Matching.{Matches}
 use Rattle.lrc_theory.proofs.Lazy.{reads_last}
 use Rattle.lrc_theory.proofs.Runs.{SoundAt, done, can_do, makes_first, deeds_of-own, Ready, Led, led, start_ready}
@@ -108,7 +108,7 @@ module _ (program : Program) (nodes : ℕ) (run : List Act) (follows : FollowsTe
       (subst (λ k. Ready run nodes k l.final (drop position run)) (let e : 0 + length (take position run) ≡ position = omega arith in e) l.ready) in
       let f = makes_first (subst (λ ds. Makes (thread_in l.final node) ds) (deeds_of-own a (drop (suc position) run))
       (r.makes node (in_range follows position node deed here))) in
-      let m = made run nodes position node l.final f.thread f.is r.matches r.size ws f.goes (fine f.thread) here in
+      let m = made run nodes position node l.final f.thread f.is r.matches r.size ws f.goes (next_of-fine f.thread) here in
       let first_step : plain_step l.final node ≡ Some (m.other, m.after) = ap (λ o. option_and_then (λ thread. deed_of l.final node (next_of thread)) o) f.is
       ∙ m.is in
       let last : plain_from l.final (node ∷ []) ≡ Some (act_of node m.other ∷ [], m.after) =

@@ -15,7 +15,7 @@ use Rattle.lrc_exec.specs.Meaning.{Thread, Next, departs, first_act, next_of}
 use Rattle.lrc_exec.specs.Plain.{start_of}
 use Rattle.lrc_theory.specs.Follows.{Goes, quietly, printing, reading, writing, acquiring, releasing, arriving}
 use Rattle.lrc_theory.specs.Follows.{departing, trapping, ending, Makes, deeds_of, FollowsText}
-use Rattle.lrc_theory.proofs.Threads.{IsFine, fine}
+use Rattle.lrc_exec.proofs.NextLaws.{IsFine, next_of-fine}
 use Rattle.lrc_theory.proofs.Matching.{IsPaired}
 use Rattle.lrc_theory.proofs.Runs.{makes_first, deeds_of-own, deeds_of-other}
 use Rattle.lrc_theory.proofs.UpToRace.{in_range}
@@ -89,7 +89,7 @@ module _ (node : ℕ) where
             subst (λ k. deeds_of k (x ∷ acts) ≡ x.deed ∷ deeds_of k acts) same (deeds_of-own x acts) in
             let first = makes_first (subst (λ ds. Makes o ds) own m) in
             let p : IsPaired first.thread.arrived a e = subst (λ q. Paired q a e) first.is paired in
-            let next = next_paired first.thread first.goes (fine first.thread) a e p in
+            let next = next_paired first.thread first.goes (next_of-fine first.thread) a e p in
             let rest = waits first.after acts first.more (one (is_arrive x.deed) + a) (one (is_depart x.deed) + e) next j d later other in
             let counted : (kind : Deed → Bool) → one (x.node == node && kind x.deed) ≡ one (kind x.deed) =
             λ kind. ap (λ b. one (b && kind x.deed)) (eq-eqb x.node node same) in

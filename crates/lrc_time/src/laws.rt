@@ -3,6 +3,13 @@
 ghost use Rattle.std.specs.Prelude.{◌≡◌, ◌≢◌, ℕ, ◌<◌, List, length};
 ghost use Rattle.lrc_time.specs.Time.{Covers, joined, weight_of};
 
+use crate::MOST_NODES;
+
+/// The limit as a number: 16 nodes.
+pub fn the_limits()
+    ensures { MOST_NODES ≡ 16 }
+{}
+
 /// Of two different times of equally many nodes where one covers the other, the one that covers weighs more.
 pub fn weight_rises_with_cover()
     ensures { (a b : List ℕ) → length a ≡ length b → Covers a b → a ≢ b → weight_of b < weight_of a }

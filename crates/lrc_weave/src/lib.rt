@@ -13,4 +13,4 @@ mod spelled;
 mod woven;
 
 pub use fault::WeaveFault;
-pub use woven::weave;
+pub use woven::{events_of, weave};

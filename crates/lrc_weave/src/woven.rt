@@ -43,8 +43,9 @@ pub fn weave(
     Ok(events_of(alloc, logs)?)
 }
 
-// The events that make all turns of the logs, where there are mailboxes that tell of the same messages.
-fn events_of(alloc: Global, logs: &[Vec<Entry>]) -> Result<Vec<Event>, AllocError>
+/// The events that make all turns of the logs, in the order of [`weave`], where there are mailboxes that tell of the same messages.
+/// `NoMemory` also comes where a message was taken that none of the logs sent.
+pub fn events_of(alloc: Global, logs: &[Vec<Entry>]) -> Result<Vec<Event>, AllocError>
     requires few { length logs.now ≤ 16 }
     ensures { IfOk result (λ events. (program : Program) (nodes : ℕ) (options : OptionsRecord) (wires : List MailboxRecord)
         → AreLogs program nodes options (map (λ log. log.items) logs.now) → AreMatched (map (λ log. log.items) logs.now) wires

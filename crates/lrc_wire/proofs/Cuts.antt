@@ -1,6 +1,6 @@
 -- The reader of changes in runs agrees with how the runs of changes are spelled.
-use Rattle.std.proofs.Common.{◌≡◌, ◌∙◌, ℕ, ◌+◌, ◌-◌, ◌<◌, ◌≤◌, true, ltb, leb, List, [], ◌∷◌, ◌++◌, length}
-use Rattle.std.proofs.Common.{Option, Some, None, Ok, refl, sym, ap, subst, append_assoc, arith}
+use Rattle.std.proofs.Common.{◌≡◌, ℕ, ◌+◌, ◌-◌, ◌<◌, ◌≤◌, true, ltb, leb, List, [], ◌∷◌, ◌++◌, length}
+use Rattle.std.proofs.Common.{Option, Some, None, Ok, refl, sym, ap, subst, arith}
 use Rattle.std.specs.Prelude.{All, IsSomeAnd}
 use Rattle.std.specs.Int.{w16, w64}
 use Rattle.std.specs.List.{flat_map}
@@ -12,11 +12,12 @@ use Rattle.lrc_wire.specs.declared.fault.WireFault.TheVariants.{BadCount, NotAsc
 use Rattle.lrc_wire.specs.Ranges.{HasBits}
 use Rattle.lrc_wire.specs.Runs.{Run, changes_of, end_of, runs_of}
 use Rattle.lrc_wire.specs.Spelling.{byte, number, numbers, run, in_runs}
-use Rattle.lrc_wire.specs.Reading.{◌>>=◌, byte_at, number_at, tested, is_after, is_apart, elements_at, values_at, last_of, next_run_at, runs_at, whole_runs}
-use Rattle.lrc_wire.proofs.Bytes.{IsBytes, Takes, Takes-then}
+use Rattle.lrc_wire.specs.Reading.{byte_at, number_at, tested, is_after, is_apart, elements_at, values_at, last_of, next_run_at, runs_at, whole_runs}
+use Rattle.lrc_wire.proofs.Bytes.{IsBytes, Takes}
 use Rattle.lrc_wire.proofs.Steps.{bind_ok, ok_is}
 use Rattle.lrc_wire.proofs.Along.{Along, elements_along, All-from_along, along_from_all}
-use Rattle.lrc_wire.proofs.Agrees.{Agrees, Agrees-as, Agrees-tested, step, byte_agrees, number16_agrees, number64_agrees, elements_agree}
+use Rattle.lrc_wire.proofs.Sequences.{whole, then_fields, last_field, Agrees-counted}
+use Rattle.lrc_wire.proofs.Agrees.{Agrees, Agrees-as, Agrees-tested, byte_agrees, number16_agrees, number64_agrees, elements_agree}
 use Rattle.lrc_wire.proofs.Runs.{Runs, IsRun, IsSome, AreChanging, runs_of-whole, runs_of-apart, runs_of-only}
 use Rattle.lrc_wire.proofs.Runs.{few_runs, runs_changes, runs_weaker, are_changing, changing_from}
 
@@ -51,47 +52,48 @@ more_agrees : (first : ℕ)
     × (ltb (first + n) MOST_PAGE_WORDS ≡ true))
 more_agrees first = Agrees-tested byte_at byte (HasBits 8) (λ n. ltb (first + n) MOST_PAGE_WORDS) BadCount byte_agrees
 
-next_run_takes : (before : Option ℕ) (bytes : List ℕ) (r : Run) (rest : List ℕ) → IsBytes bytes → next_run_at before bytes ≡ Ok (r, rest)
-    → Takes bytes (run r) rest × Comes before r
-unfolding next_run_at run
-next_run_takes before bytes r rest fits e =
-    let a = step (λ bytes. tested (is_after is_apart before) NotAscending (byte_at bytes)) byte (λ n. HasBits 8 n
-    × (is_after is_apart before n ≡ true)) (first_agrees before) bytes
-    (λ first. tested (λ n. ltb (first.0 + n) MOST_PAGE_WORDS) BadCount (byte_at first.1) >>= λ more. values_at (more.0 + 1) more.1 >>= λ values. Ok
-    (record { first = first.0; values = values.0 }, values.1)) (r, rest) fits e in
-    let b = step (λ bytes. tested (λ n. ltb (a.value + n) MOST_PAGE_WORDS) BadCount (byte_at bytes)) byte (λ n. HasBits 8 n
-    × (ltb (a.value + n) MOST_PAGE_WORDS ≡ true)) (more_agrees a.value) a.rest
-    (λ more. values_at (more.0 + 1) more.1 >>= λ values. Ok (record { first = a.value; values = values.0 }, values.1)) (r, rest) a.took.rest_fits a.then in
-    let c = step (values_at (b.value + 1)) (numbers w64) (λ vs. (length vs ≡ b.value + 1)
-    × All (HasBits 64) vs) (values_agree (b.value + 1)) b.rest (λ values. Ok (record { first = a.value; values = values.0 }, values.1)) (
-      r,
-      rest,
-    ) b.took.rest_fits b.then in
-    let more : b.value ≡ length c.value - 1 = omega (arith, c.fits.0) in
-    let bc = Takes-then a.rest (byte b.value) b.rest (numbers w64 c.value) c.rest b.took c.took in
-    let abc = Takes-then bytes (byte a.value) a.rest (byte b.value ++ numbers w64 c.value) c.rest a.took bc in
-    let made : Run × List ℕ = (record { first = a.value; values = c.value }, c.rest) in
-    let within : a.value + length c.value ≤ 256 = omega (arith, c.fits.0, ltb-true (a.value + b.value) MOST_PAGE_WORDS b.fits.1) in
-    subst (λ (y : Run × List ℕ). Takes bytes (run y.0) y.1 × Comes before y.0) (ok_is made (r, rest) c.then) (
-      subst (λ (n : ℕ). Takes bytes (byte a.value ++ (byte n ++ numbers w64 c.value)) c.rest) more abc,
-      (a.fits.1, record { some = omega (arith, c.fits.0); within = within; bits = c.fits.1 }),
-    )
+-- the fields of a run, and what each of them fits
+abbrev FitRun : Option ℕ → ℕ × (ℕ × List ℕ) → Type 0
+FitRun before r = (HasBits 8 r.0 × (is_after is_apart before r.0 ≡ true))
+    × ((HasBits 8 r.1.0 × (ltb (r.0 + r.1.0) MOST_PAGE_WORDS ≡ true)) × ((length r.1.1 ≡ r.1.0 + 1) × All (HasBits 64) r.1.1))
 
-next_run_again : (before : Option ℕ) (r : Run) (rest : List ℕ) → Comes before r → next_run_at before (run r ++ rest) ≡ Ok (r, rest)
-unfolding next_run_at run
-next_run_again before r rest h =
-    let more : ℕ = length r.values - 1 in
-    let regrouped : (byte r.first ++ (byte more ++ numbers w64 r.values)) ++ rest ≡ byte r.first ++ (byte more ++ (numbers w64 r.values ++ rest)) =
-    append_assoc (byte r.first) (byte more ++ numbers w64 r.values) rest
-    ∙ ap (λ (t : List ℕ). byte r.first ++ t) (append_assoc (byte more) (numbers w64 r.values) rest) in
-    let a = (first_agrees before).again r.first (byte more ++ (numbers w64 r.values ++ rest)) (omega (arith, h.1.some, h.1.within), h.0) in
-    let b = (more_agrees r.first).again more (numbers w64 r.values
-    ++ rest) (omega (arith, h.1.some, h.1.within), lt-ltb (r.first + more) MOST_PAGE_WORDS (omega (arith, h.1.some, h.1.within))) in
-    let c = (values_agree (more + 1)).again r.values rest (omega (arith, h.1.some), h.1.bits) in
-    rw (regrouped, a, b, c) refl
+abbrev fields_of : Run → ℕ × (ℕ × List ℕ)
+fields_of r = (r.first, (length r.values - 1, r.values))
+
+comes_from : (before : Option ℕ) (r : Run) → FitRun before (fields_of r) → Comes before r
+comes_from before r h = (
+  h.0.1,
+  record {
+    some = omega (arith, h.1.1.0);
+    within = omega (arith, h.1.1.0, ltb-true (r.first + (length r.values - 1)) MOST_PAGE_WORDS h.1.0.1);
+    bits = h.1.1.1;
+  },
+)
+
+fit_run : (before : Option ℕ) (r : Run) → Comes before r → FitRun before (fields_of r)
+fit_run before r h = (
+  (omega (arith, h.1.some, h.1.within), h.0),
+  (
+    (
+      omega (arith, h.1.some, h.1.within),
+      lt-ltb (r.first + (length r.values - 1)) MOST_PAGE_WORDS (omega (arith, h.1.some, h.1.within)),
+    ),
+    (omega (arith, h.1.some), h.1.bits),
+  ),
+)
+
+fields_are : (before : Option ℕ) (r : ℕ × (ℕ × List ℕ)) → FitRun before r → fields_of (record { first = r.0; values = r.1.1 }) ≡ r
+fields_are before r h =
+    let more : length r.1.1 - 1 ≡ r.1.0 = omega (arith, h.1.1.0) in
+    ap (λ (n : ℕ). (r.0, (n, r.1.1))) more
 
 next_run_agrees : (before : Option ℕ) → Agrees (next_run_at before) run (Comes before)
-next_run_agrees before = record { takes = next_run_takes before; again = next_run_again before }
+unfolding next_run_at run
+next_run_agrees before =
+    Agrees-as _ _ (λ r. FitRun before (fields_of r)) (Comes before) (comes_from before) (fit_run before)
+    (whole fields_of (fields_are before) (λ r. refl)
+    (then_fields (first_agrees before) (λ first _. then_fields (more_agrees first) (λ more _.
+    last_field (λ values. record { first = first; values = values }) (values_agree (more + 1))))))
 
 -- ---- runs
 
@@ -137,32 +139,17 @@ elements_of_runs count =
 run_count_agrees : Agrees (λ bytes. tested (λ n. leb n MOST_RUNS) BadCount (number_at w16 bytes)) (number w16) (λ n. HasBits 16 n × (leb n MOST_RUNS ≡ true))
 run_count_agrees = Agrees-tested (number_at w16) (number w16) (HasBits 16) (λ n. leb n MOST_RUNS) BadCount number16_agrees
 
-runs_take : (bytes : List ℕ) (rs : List Run) (rest : List ℕ) → IsBytes bytes → runs_at bytes ≡ Ok (rs, rest) → Takes bytes (in_runs rs) rest × Runs IsRun 0 rs
-unfolding runs_at in_runs
-runs_take bytes rs rest fits e =
-    let a = step (λ bytes. tested (λ n. leb n MOST_RUNS) BadCount (number_at w16 bytes)) (number w16) (λ n. HasBits 16 n
-    × (leb n MOST_RUNS ≡ true)) run_count_agrees bytes (λ count. elements_at next_run_at (λ _ r. Some (last_of r)) count.0 None count.1) (
-      rs,
-      rest,
-    ) fits e in
-    let b = (elements_of_runs a.value).takes a.rest rs rest a.took.rest_fits a.then in (
-      subst (λ (n : ℕ). Takes bytes (number w16 n
-          ++ flat_map run rs) rest) (sym b.1.0) (Takes-then bytes (number w16 a.value) a.rest (flat_map run rs) rest a.took b.0),
-      b.1.1,
-    )
-
 at_most_128 : (rs : List Run) → Runs IsRun 0 rs → length rs ≤ MOST_RUNS
 at_most_128 [] h = omega arith
 at_most_128 (r ∷ rs) h = omega (arith, few_runs 0 (r ∷ rs) h (omega arith))
 
-runs_again : (rs : List Run) (rest : List ℕ) → Runs IsRun 0 rs → runs_at (in_runs rs ++ rest) ≡ Ok (rs, rest)
+runs_agree : Agrees runs_at in_runs (Runs IsRun 0)
 unfolding runs_at in_runs
-runs_again rs rest h =
-    let few = at_most_128 rs h in
-    let regrouped : (number w16 (length rs) ++ flat_map run rs) ++ rest ≡ number w16 (length rs) ++ (flat_map run rs ++ rest) =
-    append_assoc (number w16 (length rs)) (flat_map run rs) rest in
-    let first = run_count_agrees.again (length rs) (flat_map run rs ++ rest) (omega (arith, few), le-leb (length rs) MOST_RUNS few) in
-    rw (regrouped, first) ((elements_of_runs (length rs)).again rs rest (refl, h))
+runs_agree =
+    Agrees-as _ _ (λ rs. (HasBits 16 (length rs) × (leb (length rs) MOST_RUNS ≡ true)) × Runs IsRun 0 rs) (Runs IsRun 0)
+    (λ rs h. h.1)
+    (λ rs h. let few = at_most_128 rs h in ((omega (arith, few), le-leb (length rs) MOST_RUNS few), h))
+    (Agrees-counted run_count_agrees (λ count _. elements_of_runs count))
 
 -- ---- changes in runs
 
@@ -173,7 +160,7 @@ in_runs_take : (bytes : List ℕ) (cs : List Change) (rest : List ℕ) → IsByt
     → Takes bytes (in_runs (runs_of cs)) rest × AreChanging cs
 in_runs_take bytes cs rest fits e =
     let a = bind_ok (runs_at bytes) (λ runs. Ok (flat_map changes_of runs.0, runs.1)) (cs, rest) e in
-    let t = runs_take bytes a.0.0 a.0.1 fits a.1 in
+    let t = runs_agree.takes bytes a.0.0 a.0.1 fits a.1 in
     let only = runs_of-only 0 a.0.0 (runs_weaker IsRun IsSome some_of_run 0 a.0.0 t.1) in
     let here : Takes bytes (in_runs (runs_of (flat_map changes_of a.0.0))) a.0.1 = subst (λ (rs : List Run). Takes bytes (in_runs rs) a.0.1) (sym only) t.0 in
     let made : List Change × List ℕ = (flat_map changes_of a.0.0, a.0.1) in
@@ -183,7 +170,7 @@ in_runs_take bytes cs rest fits e =
 in_runs_again : (cs : List Change) (rest : List ℕ) → AreChanging cs → whole_runs (runs_at (in_runs (runs_of cs) ++ rest)) ≡ Ok (cs, rest)
 in_runs_again cs rest h =
     let apart = runs_of-apart 0 cs (changing_from 0 cs h.0 h.1 (λ k d within. omega arith)) in
-    let read = runs_again (runs_of cs) rest apart in
+    let read = runs_agree.again (runs_of cs) rest apart in
     rw (read, runs_of-whole cs) refl
 
 pub in_runs_agree : Agrees (λ bytes. whole_runs (runs_at bytes)) (λ cs. in_runs (runs_of cs)) AreChanging

@@ -1,5 +1,5 @@
 -- Reading all of the bytes agrees with how envelopes are spelled.
-use Rattle.std.proofs.Common.{◌≡◌, ◌∙◌, ℕ, ◌+◌, ◌-◌, ◌<◌, ◌≤◌, ◌⊎◌, Bool, true, false, cond, eqb, ltb, leb, List, [], ◌∷◌, ◌++◌, length}
+use Rattle.std.proofs.Common.{◌≡◌, ◌∙◌, ℕ, ◌+◌, ◌-◌, ◌<◌, ◌≤◌, Bool, true, false, cond, eqb, ltb, leb, List, [], ◌∷◌, ◌++◌, length}
 use Rattle.std.proofs.Common.{take, Option, Some, None, Ok, Err, refl, sym, ap, subst, append_assoc, arith, inl, inr}
 use Rattle.std.specs.Prelude.{ok_or, All}
 use Rattle.std.specs.Int.{w16, w32}
@@ -15,6 +15,7 @@ use Rattle.lrc_wire.specs.declared.version.Version.{Version}
 use Rattle.lrc_wire.specs.declared.version.Version.TheVariants.{One, Two}
 use Rattle.lrc_wire.specs.declared.kind.Kind.{Kind}
 use Rattle.lrc_wire.specs.declared.kind.Kind.TheVariants as kinds
+use Rattle.lrc_wire.specs.declared.fault.WireFault.{WireFault}
 use Rattle.lrc_wire.specs.declared.fault.WireFault.TheVariants.{Short, Long, BadVersion, BadKind, BadCount}
 use Rattle.lrc_wire.specs.declared.message.Message.{Message}
 use Rattle.lrc_wire.specs.declared.message.Message.TheVariants.{LockRequest, LockForward, LockGrant, Arrive, Depart, Clean, Discard}
@@ -25,13 +26,14 @@ use Rattle.lrc_wire.specs.Envelope.{EnvelopeRecord}
 use Rattle.lrc_wire.specs.Ranges.{HasBits, FitPart, IsMessage, IsFit}
 use Rattle.lrc_wire.specs.Runs.{runs_of}
 use Rattle.lrc_wire.specs.Spelling.{byte, number, kind, part, parts, body, header, Cut, IsCut, Spells}
-use Rattle.lrc_wire.specs.Reading.{◌>>=◌, Field, HeaderRecord, byte_at, number_at, tested, node_at, version_at}
+use Rattle.lrc_wire.specs.Reading.{◌>>=◌, Field, HeaderRecord, byte_at, number_at, tested, version_at}
 use Rattle.lrc_wire.specs.Reading.{kind_of, kind_at, header_at, body_at, whole_body_of, envelope_of}
-use Rattle.lrc_wire.proofs.Bytes.{IsBytes, Takes, Takes-then}
+use Rattle.lrc_wire.proofs.Bytes.{IsBytes, Takes}
 use Rattle.lrc_wire.proofs.Steps.{bind_ok, guard_ok, unless_ok, ok_is}
 use Rattle.lrc_wire.proofs.Agrees.{Agrees, Agrees-as, Agrees-tested, step, byte_agrees, number32_agrees}
+use Rattle.lrc_wire.proofs.Sequences.{whole, then_fields, last_field}
 use Rattle.lrc_wire.proofs.Fields.{node_agrees}
-use Rattle.lrc_wire.proofs.Bodies.{kind_named, body_agrees}
+use Rattle.lrc_wire.proofs.Bodies.{kind_named, kind_of-kind, body_agrees}
 use Rattle.lrc_wire.proofs.Runs.{runs_of-are, runs_are}
 
 -- ---- kinds
@@ -50,102 +52,70 @@ numbered kinds.ChangesReply = 9
 numbered kinds.PageRequest = 10
 numbered kinds.PageReply = 11
 
-kind_is : (message : Message) → kind message ≡ numbered (kind_named message)
-unfolding numbered
-kind_is (LockRequest m) = refl
-kind_is (LockForward m) = refl
-kind_is (LockGrant m) = refl
-kind_is (Arrive m) = refl
-kind_is (Depart m) = refl
-kind_is (Clean episode) = refl
-kind_is (Discard episode) = refl
-kind_is (ChangesRequest m) = refl
-kind_is (ChangesReply m) = refl
-kind_is (PageRequest page) = refl
-kind_is (PageReply m) = refl
-
-chosen : (b : Bool) (x : Kind) (y : Option Kind) (k : Kind) → cond b (Some x) y ≡ Some k → ((b ≡ true) × (x ≡ k)) ⊎ (y ≡ Some k)
-chosen true x y k e = inl (refl, cc)
-chosen false x y k e = inr e
+by_number : (n : ℕ) (x k : Kind) {y : Option Kind} → cond (eqb n (numbered x)) (Some x) y ≡ Some k → (y ≡ Some k → n ≡ numbered k) → n ≡ numbered k
+by_number n x k {y} e other = by_test (eqb n (numbered x)) refl e
+  where
+    by_test : (b : Bool) → eqb n (numbered x) ≡ b → cond b (Some x) y ≡ Some k → n ≡ numbered k
+    by_test true is e = let same : x ≡ k = cc in eqb-true n (numbered x) is ∙ ap numbered same
+    by_test false is e = other e
 
 kind_numbered : (n : ℕ) (k : Kind) → kind_of n ≡ Some k → n ≡ numbered k
 unfolding numbered
-kind_numbered n k e0 =
-    elim (chosen (eqb n 1) kinds.LockRequest _ k e0) [
-      | inl p ↦ eqb-true n 1 p.0 ∙ ap numbered p.1
-      | inr e1 ↦
-          elim (chosen (eqb n 2) kinds.LockForward _ k e1) [
-            | inl p ↦ eqb-true n 2 p.0 ∙ ap numbered p.1
-            | inr e2 ↦
-                elim (chosen (eqb n 3) kinds.LockGrant _ k e2) [
-                  | inl p ↦ eqb-true n 3 p.0 ∙ ap numbered p.1
-                  | inr e3 ↦
-                      elim (chosen (eqb n 4) kinds.Arrive _ k e3) [
-                        | inl p ↦ eqb-true n 4 p.0 ∙ ap numbered p.1
-                        | inr e4 ↦
-                            elim (chosen (eqb n 5) kinds.Depart _ k e4) [
-                              | inl p ↦ eqb-true n 5 p.0 ∙ ap numbered p.1
-                              | inr e5 ↦
-                                  elim (chosen (eqb n 6) kinds.Clean _ k e5) [
-                                    | inl p ↦ eqb-true n 6 p.0 ∙ ap numbered p.1
-                                    | inr e6 ↦
-                                        elim (chosen (eqb n 7) kinds.Discard _ k e6) [
-                                          | inl p ↦ eqb-true n 7 p.0 ∙ ap numbered p.1
-                                          | inr e7 ↦
-                                              elim (chosen (eqb n 8) kinds.ChangesRequest _ k e7) [
-                                                | inl p ↦ eqb-true n 8 p.0 ∙ ap numbered p.1
-                                                | inr e8 ↦
-                                                    elim (chosen (eqb n 9) kinds.ChangesReply _ k e8) [
-                                                      | inl p ↦ eqb-true n 9 p.0 ∙ ap numbered p.1
-                                                      | inr e9 ↦
-                                                          elim (chosen (eqb n 10) kinds.PageRequest _ k e9) [
-                                                            | inl p ↦ eqb-true n 10 p.0 ∙ ap numbered p.1
-                                                            | inr e10 ↦
-                                                                elim (chosen (eqb n 11) kinds.PageReply _ k e10) [
-                                                                  | inl p ↦ eqb-true n 11 p.0
-                                                                      ∙ ap numbered p.1
-                                                                  | inr e11 ↦ absurd cc
-                                                                ]
-                                                          ]
-                                                    ]
-                                              ]
-                                        ]
-                                  ]
-                            ]
-                      ]
-                ]
-          ]
-    ]
+kind_numbered n k e =
+    by_number n kinds.LockRequest k e (λ e. by_number n kinds.LockForward k e (λ e. by_number n kinds.LockGrant k e (λ e.
+    by_number n kinds.Arrive k e (λ e. by_number n kinds.Depart k e (λ e. by_number n kinds.Clean k e (λ e.
+    by_number n kinds.Discard k e (λ e. by_number n kinds.ChangesRequest k e (λ e. by_number n kinds.ChangesReply k e (λ e.
+    by_number n kinds.PageRequest k e (λ e. by_number n kinds.PageReply k e (λ e. absurd cc)))))))))))
 
-named : (o : Option Kind) (k : Kind) → ok_or o BadKind ≡ Ok k → o ≡ Some k
-named (Some x) k e = cc
-named None k e = absurd cc
+kind_of-numbered : (k : Kind) → kind_of (numbered k) ≡ Some k
+unfolding numbered
+kind_of-numbered kinds.LockRequest = refl
+kind_of-numbered kinds.LockForward = refl
+kind_of-numbered kinds.LockGrant = refl
+kind_of-numbered kinds.Arrive = refl
+kind_of-numbered kinds.Depart = refl
+kind_of-numbered kinds.Clean = refl
+kind_of-numbered kinds.Discard = refl
+kind_of-numbered kinds.ChangesRequest = refl
+kind_of-numbered kinds.ChangesReply = refl
+kind_of-numbered kinds.PageRequest = refl
+kind_of-numbered kinds.PageReply = refl
 
-kind_takes : (bytes : List ℕ) (k : Kind) (rest : List ℕ) → IsBytes bytes → kind_at bytes ≡ Ok (k, rest) → Takes bytes (byte (numbered k)) rest × Unit {0}
-unfolding kind_at
-kind_takes bytes k rest fits e =
-    let a = step byte_at byte (HasBits 8) byte_agrees bytes (λ n. ok_or (kind_of n.0) BadKind >>= λ k. Ok (k, n.1)) (k, rest) fits e in
-    let b = bind_ok (ok_or (kind_of a.value) BadKind) (λ k. Ok (k, a.rest)) (k, rest) a.then in
-    let is : a.value ≡ numbered b.0 = kind_numbered a.value b.0 (named (kind_of a.value) b.0 b.1) in
-    subst (λ (y : Kind × List ℕ). Takes bytes (byte (numbered y.0)) y.1
-    × Unit {0}) (ok_is (b.0, a.rest) (k, rest) b.2) (subst (λ (n : ℕ). Takes bytes (byte n) a.rest) is a.took, tt)
+kind_is : (message : Message) → kind message ≡ numbered (kind_named message)
+kind_is message = kind_numbered (kind message) (kind_named message) (kind_of-kind message)
 
-kind_again : (k : Kind) (rest : List ℕ) → Unit {0} → kind_at (byte (numbered k) ++ rest) ≡ Ok (k, rest)
-unfolding kind_at byte byte_at numbered
-kind_again kinds.LockRequest rest h = refl
-kind_again kinds.LockForward rest h = refl
-kind_again kinds.LockGrant rest h = refl
-kind_again kinds.Arrive rest h = refl
-kind_again kinds.Depart rest h = refl
-kind_again kinds.Clean rest h = refl
-kind_again kinds.Discard rest h = refl
-kind_again kinds.ChangesRequest rest h = refl
-kind_again kinds.ChangesReply rest h = refl
-kind_again kinds.PageRequest rest h = refl
-kind_again kinds.PageReply rest h = refl
+-- a byte that is the code of a value
+code_named : {K : Type 0} (o : Option K) (fault : WireFault) (k : K) → ok_or o fault ≡ Ok k → o ≡ Some k
+code_named (Some x) fault k e = cc
+code_named None fault k e = absurd cc
+
+abbrev coded_at : {K : Type 0} → (ℕ → Option K) → WireFault → List ℕ → Field K
+coded_at of fault bytes = do
+  n ← byte_at bytes
+  k ← ok_or (of n.0) fault
+  Ok (k, n.1)
+
+coded_again : {K : Type 0} (of : ℕ → Option K) (code : K → ℕ) (fault : WireFault) → ((k : K) → of (code k) ≡ Some k) → (k : K) (rest : List ℕ)
+    → coded_at of fault (byte (code k) ++ rest) ≡ Ok (k, rest)
+unfolding byte byte_at
+coded_again of code fault again k rest = let is = again k in rw is refl
+
+coded_agrees : {K : Type 0} (of : ℕ → Option K) (code : K → ℕ) (fault : WireFault) → ((n : ℕ) (k : K) → of n ≡ Some k → n ≡ code k)
+    → ((k : K) → of (code k) ≡ Some k)
+    → Agrees (coded_at of fault) (λ k. byte (code k)) (λ k. Unit {0})
+coded_agrees {K} of code fault is again = record {
+  takes = λ bytes k rest fits e.
+      let a = step byte_at byte (HasBits 8) byte_agrees bytes (λ n. ok_or (of n.0) fault >>= λ k. Ok (k, n.1)) (k, rest) fits e in
+      let b = bind_ok (ok_or (of a.value) fault) (λ k. Ok (k, a.rest)) (k, rest) a.then in
+      let same : a.value ≡ code b.0 = is a.value b.0 (code_named (of a.value) fault b.0 b.1) in
+      subst (λ (y : K × List ℕ). Takes bytes (byte (code y.0)) y.1 × Unit {0}) (ok_is (b.0, a.rest) (k, rest) b.2)
+      (subst (λ (n : ℕ). Takes bytes (byte n) a.rest) same a.took, tt);
+  again = λ k rest h. coded_again of code fault again k rest;
+}
 
 kind_agrees : Agrees kind_at (λ k. byte (numbered k)) (λ k. Unit {0})
-kind_agrees = record { takes = kind_takes; again = kind_again }
+unfolding kind_at
+kind_agrees = coded_agrees kind_of numbered BadKind kind_numbered kind_of-numbered
 
 abbrev here : {A : Type 0} → A → Option A
 here x = Some x
@@ -166,27 +136,13 @@ version_is n v e =
       ]
     ]
 
-version_named : (o : Option Version) (v : Version) → ok_or o BadVersion ≡ Ok v → o ≡ Some v
-version_named (Some x) v e = cc
-version_named None v e = absurd cc
-
-version_takes : (bytes : List ℕ) (v : Version) (rest : List ℕ) → IsBytes bytes → version_at bytes ≡ Ok (v, rest) → Takes bytes (byte (version_number v)) rest
-    × Unit {0}
-unfolding version_at
-version_takes bytes v rest fits e =
-    let a = step byte_at byte (HasBits 8) byte_agrees bytes (λ n. ok_or (version_of n.0) BadVersion >>= λ v. Ok (v, n.1)) (v, rest) fits e in
-    let b = bind_ok (ok_or (version_of a.value) BadVersion) (λ v. Ok (v, a.rest)) (v, rest) a.then in
-    let is : a.value ≡ version_number b.0 = version_is a.value b.0 (version_named (version_of a.value) b.0 b.1) in
-    subst (λ (y : Version × List ℕ). Takes bytes (byte (version_number y.0)) y.1
-    × Unit {0}) (ok_is (b.0, a.rest) (v, rest) b.2) (subst (λ (n : ℕ). Takes bytes (byte n) a.rest) is a.took, tt)
-
-version_again : (v : Version) (rest : List ℕ) → Unit {0} → version_at (byte (version_number v) ++ rest) ≡ Ok (v, rest)
-unfolding version_at byte byte_at
-version_again One rest h = refl
-version_again Two rest h = refl
+version_of-number : (v : Version) → version_of (version_number v) ≡ Some v
+version_of-number One = refl
+version_of-number Two = refl
 
 version_agrees : Agrees version_at (λ v. byte (version_number v)) (λ v. Unit {0})
-version_agrees = record { takes = version_takes; again = version_again }
+unfolding version_at
+version_agrees = coded_agrees version_of version_number BadVersion version_is version_of-number
 
 body_len_agrees : Agrees (λ bytes. tested (λ n. leb n MOST_BODY_BYTES) BadCount (number_at w32 bytes)) (number w32) (λ n. n ≤ MOST_BODY_BYTES)
 body_len_agrees =
@@ -205,122 +161,22 @@ pub record IsHeader (h : HeaderRecord) : Type 0 where
   pub number : HasBits 32 h.number
   pub body_len : h.body_len ≤ MOST_BODY_BYTES
 
--- a header, from its last field to its first
+abbrev header_fields : HeaderRecord → Version × (Kind × (ℕ × (ℕ × (ℕ × ℕ))))
+header_fields h = (h.version, (h.kind, (h.from, (h.to, (h.number, h.body_len)))))
 
-after_number : Version → Kind → ℕ → ℕ → ℕ → List ℕ → Field HeaderRecord
-after_number v k f t n bytes = do
-  len ← tested (λ n. leb n MOST_BODY_BYTES) BadCount (number_at w32 bytes)
-  Ok (record { version = v; kind = k; from = f; to = t; number = n; body_len = len.0 }, len.1)
+abbrev FitFields : HeaderRecord → Type 0
+FitFields h = Unit {0} × (Unit {0} × ((h.from < MOST_NODES) × ((h.to < MOST_NODES) × (HasBits 32 h.number × (h.body_len ≤ MOST_BODY_BYTES)))))
 
-after_to : Version → Kind → ℕ → ℕ → List ℕ → Field HeaderRecord
-after_to v k f t bytes = do
-  n ← number_at w32 bytes
-  after_number v k f t n.0 n.1
-
-after_from : Version → Kind → ℕ → List ℕ → Field HeaderRecord
-after_from v k f bytes = do
-  t ← node_at bytes
-  after_to v k f t.0 t.1
-
-after_kind : Version → Kind → List ℕ → Field HeaderRecord
-after_kind v k bytes = do
-  f ← node_at bytes
-  after_from v k f.0 f.1
-
-after_version : Version → List ℕ → Field HeaderRecord
-after_version v bytes = do
-  k ← kind_at bytes
-  after_kind v k.0 k.1
-
-header_steps : (bytes : List ℕ) → header_at bytes ≡ (version_at bytes >>= λ version. after_version version.0 version.1)
-unfolding header_at after_version after_kind after_from after_to after_number
-header_steps bytes = refl
-
-after_number_takes : (v : Version) (k : Kind) (f t n : ℕ) (bytes : List ℕ) (h : HeaderRecord) (rest : List ℕ) → IsBytes bytes
-    → after_number v k f t n bytes ≡ Ok (h, rest)
-    → Takes bytes (number w32 h.body_len) rest × (h.body_len ≤ MOST_BODY_BYTES) × (k ≡ h.kind) × (f ≡ h.from) × (t ≡ h.to) × (n ≡ h.number) × (v ≡ h.version)
-unfolding after_number
-after_number_takes v k f t n bytes h rest fits e =
-    let a = step (λ bytes. tested (λ n. leb n MOST_BODY_BYTES) BadCount (number_at w32 bytes)) (number w32) (λ n. n ≤ MOST_BODY_BYTES) body_len_agrees bytes
-    (λ len. Ok (record { version = v; kind = k; from = f; to = t; number = n; body_len = len.0 }, len.1)) (h, rest) fits e in
-    let made : HeaderRecord × List ℕ = (record { version = v; kind = k; from = f; to = t; number = n; body_len = a.value }, a.rest) in
-    subst (λ (y : HeaderRecord × List ℕ). Takes bytes (number w32 y.0.body_len) y.1 × (y.0.body_len ≤ MOST_BODY_BYTES) × (k ≡ y.0.kind) × (f ≡ y.0.from)
-    × (t ≡ y.0.to) × (n ≡ y.0.number) × (v ≡ y.0.version))
-    (ok_is made (h, rest) a.then) (a.took, a.fits, refl, refl, refl, refl, refl)
-
-after_to_takes : (v : Version) (k : Kind) (f t : ℕ) (bytes : List ℕ) (h : HeaderRecord) (rest : List ℕ) → IsBytes bytes → after_to v k f t bytes ≡ Ok (h, rest)
-    → Takes bytes (number w32 h.number ++ number w32 h.body_len) rest × (HasBits 32 h.number × (h.body_len ≤ MOST_BODY_BYTES)) × (k ≡ h.kind) × (f ≡ h.from)
-    × (t ≡ h.to) × (v ≡ h.version)
-unfolding after_to
-after_to_takes v k f t bytes h rest fits e =
-    let a = step (number_at w32) (number w32) (HasBits 32) number32_agrees bytes (λ n. after_number v k f t n.0 n.1) (h, rest) fits e in
-    let b = after_number_takes v k f t a.value a.rest h rest a.took.rest_fits a.then in
-    let both = Takes-then bytes (number w32 a.value) a.rest (number w32 h.body_len) rest a.took b.0 in
-    (subst (λ (n : ℕ). Takes bytes (number w32 n ++ number w32 h.body_len) rest) b.5 both, (subst (HasBits 32) b.5 a.fits, b.1), b.2, b.3, b.4, b.6)
-
-abbrev after_to_text : HeaderRecord → List ℕ
-after_to_text h = number w32 h.number ++ number w32 h.body_len
-
-after_from_takes : (v : Version) (k : Kind) (f : ℕ) (bytes : List ℕ) (h : HeaderRecord) (rest : List ℕ) → IsBytes bytes → after_from v k f bytes ≡ Ok (h, rest)
-    → Takes bytes (byte h.to ++ after_to_text h) rest × ((h.to < MOST_NODES) × HasBits 32 h.number × (h.body_len ≤ MOST_BODY_BYTES)) × (k ≡ h.kind)
-    × (f ≡ h.from) × (v ≡ h.version)
-unfolding after_from
-after_from_takes v k f bytes h rest fits e =
-    let a = step node_at byte (λ n. n < MOST_NODES) node_agrees bytes (λ t. after_to v k f t.0 t.1) (h, rest) fits e in
-    let b = after_to_takes v k f a.value a.rest h rest a.took.rest_fits a.then in
-    let both = Takes-then bytes (byte a.value) a.rest (after_to_text h) rest a.took b.0 in
-    (subst (λ (n : ℕ). Takes bytes (byte n ++ after_to_text h) rest) b.4 both, (subst (λ (n : ℕ). n < MOST_NODES) b.4 a.fits, b.1.0, b.1.1), b.2, b.3, b.5)
-
-after_kind_takes : (v : Version) (k : Kind) (bytes : List ℕ) (h : HeaderRecord) (rest : List ℕ) → IsBytes bytes → after_kind v k bytes ≡ Ok (h, rest)
-    → Takes bytes (byte h.from ++ (byte h.to ++ after_to_text h)) rest × IsHeader h × (k ≡ h.kind) × (v ≡ h.version)
-unfolding after_kind
-after_kind_takes v k bytes h rest fits e =
-    let a = step node_at byte (λ n. n < MOST_NODES) node_agrees bytes (λ f. after_from v k f.0 f.1) (h, rest) fits e in
-    let b = after_from_takes v k a.value a.rest h rest a.took.rest_fits a.then in
-    let both = Takes-then bytes (byte a.value) a.rest (byte h.to ++ after_to_text h) rest a.took b.0 in (
-      subst (λ (n : ℕ). Takes bytes (byte n ++ (byte h.to ++ after_to_text h)) rest) b.3 both,
-      record { from = subst (λ (n : ℕ). n < MOST_NODES) b.3 a.fits; to = b.1.0; number = b.1.1; body_len = b.1.2 },
-      b.2,
-      b.4,
-    )
-
-after_version_takes : (v : Version) (bytes : List ℕ) (h : HeaderRecord) (rest : List ℕ) → IsBytes bytes → after_version v bytes ≡ Ok (h, rest)
-    → Takes bytes (byte (numbered h.kind) ++ (byte h.from ++ (byte h.to ++ after_to_text h))) rest × IsHeader h × (v ≡ h.version)
-unfolding after_version
-after_version_takes v bytes h rest fits e =
-    let a = step kind_at (λ k. byte (numbered k)) (λ k. Unit {0}) kind_agrees bytes (λ k. after_kind v k.0 k.1) (h, rest) fits e in
-    let b = after_kind_takes v a.value a.rest h rest a.took.rest_fits a.then in
-    let both = Takes-then bytes (byte (numbered a.value)) a.rest (byte h.from ++ (byte h.to ++ after_to_text h)) rest a.took b.0 in
-    (subst (λ (k : Kind). Takes bytes (byte (numbered k) ++ (byte h.from ++ (byte h.to ++ after_to_text h))) rest) b.2 both, b.1, b.3)
-
-header_takes : (bytes : List ℕ) (h : HeaderRecord) (rest : List ℕ) → IsBytes bytes → header_at bytes ≡ Ok (h, rest) → Takes bytes (spelled_header h) rest
-    × IsHeader h
-header_takes bytes h rest fits e =
-    let a = step version_at (λ v. byte (version_number v)) (λ v. Unit {0}) version_agrees bytes (λ version. after_version version.0 version.1) (
-      h,
-      rest,
-    ) fits (sym (header_steps bytes) ∙ e) in
-    let b = after_version_takes a.value a.rest h rest a.took.rest_fits a.then in
-    let both = Takes-then bytes (byte (version_number a.value)) a.rest (byte (numbered h.kind)
-    ++ (byte h.from ++ (byte h.to ++ after_to_text h))) rest a.took b.0 in (
-      subst (λ (v : Version). Takes bytes (byte (version_number v)
-          ++ (byte (numbered h.kind) ++ (byte h.from ++ (byte h.to ++ after_to_text h)))) rest) b.2 both,
-      b.1,
-    )
-
-header_again : (h : HeaderRecord) (rest : List ℕ) → IsHeader h → header_at (spelled_header h ++ rest) ≡ Ok (h, rest)
+header_agrees : Agrees header_at spelled_header IsHeader
 unfolding header_at
-header_again h rest is =
-    let regrouped : spelled_header h ++ rest ≡ byte (version_number h.version)
-    ++ (byte (numbered h.kind) ++ (byte h.from ++ (byte h.to ++ (number w32 h.number ++ (number w32 h.body_len ++ (rest)))))) = simp append_assoc in
-    let a = version_agrees.again h.version (byte (numbered h.kind)
-    ++ (byte h.from ++ (byte h.to ++ (number w32 h.number ++ (number w32 h.body_len ++ (rest)))))) tt in
-    let b = kind_agrees.again h.kind (byte h.from ++ (byte h.to ++ (number w32 h.number ++ (number w32 h.body_len ++ (rest))))) tt in
-    let c = node_agrees.again h.from (byte h.to ++ (number w32 h.number ++ (number w32 h.body_len ++ (rest)))) is.from in
-    let d = node_agrees.again h.to (number w32 h.number ++ (number w32 h.body_len ++ (rest))) is.to in
-    let n = number32_agrees.again h.number (number w32 h.body_len ++ (rest)) is.number in
-    let l = body_len_agrees.again h.body_len rest is.body_len in
-    rw (regrouped, a, b, c, d, n, l) refl
+header_agrees =
+    Agrees-as header_at spelled_header FitFields IsHeader
+    (λ h f. record { from = f.1.1.0; to = f.1.1.1.0; number = f.1.1.1.1.0; body_len = f.1.1.1.1.1 })
+    (λ h is. (tt, (tt, (is.from, (is.to, (is.number, is.body_len))))))
+    (whole header_fields (λ r _. refl) (λ h. refl)
+    (then_fields version_agrees (λ v _. then_fields kind_agrees (λ k _. then_fields node_agrees (λ f _. then_fields node_agrees (λ t _.
+    then_fields number32_agrees (λ n _.
+    last_field (λ len. record { version = v; kind = k; from = f; to = t; number = n; body_len = len }) body_len_agrees)))))))
 
 header_long : (v : Version) (e : EnvelopeRecord) → length (header v runs_of e) ≡ HEADER_BYTES
 unfolding header byte number
@@ -450,7 +306,7 @@ envelope_takes bytes e fits h =
           b.0.0.number;
       message = message;
     })) e b.2 in
-    let t = header_takes bytes b.0.0 b.0.1 fits b.1 in
+    let t = header_agrees.takes bytes b.0.0 b.0.1 fits b.1 in
     let v : Version = b.0.0.version in
     let w = whole_body_takes v b.0.0.kind b.0.0.body_len b.0.1 c.0 t.0.rest_fits c.1 in
     let made : EnvelopeRecord = record { from = b.0.0.from; to = b.0.0.to; number = b.0.0.number; message = c.0 } in
@@ -475,7 +331,7 @@ plain_again v bytes e h =
     le-ltb (length bytes) HEADER_BYTES
     (omega (arith, ap length h.spelled, length-append (header v runs_of e) (body v runs_of e.message), header_long v e)) in
     let first : header_at bytes ≡ Ok (header_of v e, body v runs_of e.message) = ap header_at all
-    ∙ header_again (header_of v e) (body v runs_of e.message) (is_header v e h.fits h.short) in
+    ∙ header_agrees.again (header_of v e) (body v runs_of e.message) (is_header v e h.fits h.short) in
     let second = whole_body_again v e.message h.fits.message in
     rw (long, first, second) refl
 
@@ -489,7 +345,7 @@ front_of v a x m h =
     let all : a ++ x ≡ spelled_header (header_of v m) ++ (body v runs_of m.message ++ x) =
     ap (λ (t : List ℕ). t ++ x) (h.spelled ∙ ap (λ (t : List ℕ). t ++ body v runs_of m.message) (header_is v m))
     ∙ append_assoc (spelled_header (header_of v m)) (body v runs_of m.message) x in
-    ap header_at all ∙ header_again (header_of v m) (body v runs_of m.message ++ x) (is_header v m h.fits h.short)
+    ap header_at all ∙ header_agrees.again (header_of v m) (body v runs_of m.message ++ x) (is_header v m h.fits h.short)
 
 pub one_spelling : (v w : Version) (m n : EnvelopeRecord) (a b x y : List ℕ) → Spells v m a → Spells w n b → a ++ x ≡ b ++ y → (v ≡ w) × (a ≡ b) × (m ≡ n)
 one_spelling v w m n a b x y hm hn e =
@@ -540,7 +396,7 @@ module _ (v : Version) (e : EnvelopeRecord) where
             let rest : List ℕ = take (n - HEADER_BYTES) text in
             let late' : ltb (length (take n bytes)) HEADER_BYTES ≡ false = le-ltb (length (take n bytes)) HEADER_BYTES (omega (arith, len)) in
             let read : header_at (take n bytes) ≡ Ok (header_of v e, rest) = ap header_at (cut_after_header bytes n h late)
-            ∙ header_again (header_of v e) rest (is_header v e h.fits h.short) in
+            ∙ header_agrees.again (header_of v e) rest (is_header v e h.fits h.short) in
             let few : ltb (length rest) (length text) ≡ true = lt-ltb (length rest) (length text) (omega (arith, length-take (n - HEADER_BYTES) text)) in
             rw (late', read, few) refl
       ]

@@ -1,6 +1,6 @@
 -- The readers of the parts of several kinds agree with how the parts are spelled.
 use Rattle.std.proofs.Common.{◌≡◌, ◌∙◌, ℕ, zero, suc, ◌+◌, ◌<◌, ◌≤◌, Bool, true, false, not, ◌&&◌, ◌||◌, eqb, ltb, leb, List, ◌++◌}
-use Rattle.std.proofs.Common.{length, get_or, Option, Some, None, Ok, refl, sym, subst, append_assoc, arith}
+use Rattle.std.proofs.Common.{length, get_or, Option, Some, None, Ok, refl, sym, subst, arith}
 use Rattle.std.specs.Prelude.{All}
 use Rattle.std.specs.Int.{w16, w32}
 use Rattle.std.specs.List.{flat_map}
@@ -20,10 +20,11 @@ use Rattle.lrc_wire.specs.Ranges.{HasBits, IsTime, IsEpisode}
 use Rattle.lrc_wire.specs.Spelling.{byte, number, numbers, flag, time, pages}
 use Rattle.lrc_wire.specs.Reading.{byte_at, number_at, tested, is_after, elements_at, lock_at, node_at, episode_at, page_at}
 use Rattle.lrc_wire.specs.Reading.{flag_at, entry_at, entries_at, time_at, stamp_at, next_page_at, pages_at}
-use Rattle.lrc_wire.proofs.Bytes.{IsBytes, Takes, Takes-then}
-use Rattle.lrc_wire.proofs.Steps.{ok_is, tested_again}
+use Rattle.lrc_wire.proofs.Bytes.{IsBytes, Takes}
+use Rattle.lrc_wire.proofs.Steps.{ok_is}
 use Rattle.lrc_wire.proofs.Along.{Along, Ascends, Follow, along_at, along_from, All-from_along, along_from_all}
 use Rattle.lrc_wire.proofs.Along.{All-from_follow, AllPairs-from_follow, follow_from_pairs, lt-trans, few_below}
+use Rattle.lrc_wire.proofs.Sequences.{Agrees-counted}
 use Rattle.lrc_wire.proofs.Agrees.{Agrees, Agrees-as, Agrees-tested, step, byte_agrees, number16_agrees, number32_agrees, elements_agree}
 
 -- ---- fields of one number
@@ -149,68 +150,37 @@ is_time nodes entries test long bits =
       bits = bits;
     }
 
-time_takes : (bytes entries rest : List ℕ) → IsBytes bytes → time_at bytes ≡ Ok (entries, rest) → Takes bytes (time entries) rest × IsTime entries
-unfolding time_at time
-time_takes bytes entries rest fits e =
-    let counted = Agrees-tested byte_at byte (HasBits 8) (λ n. leb 1 n && leb n MOST_NODES) BadCount byte_agrees in
-    let a = step (λ bytes. tested (λ n. leb 1 n && leb n MOST_NODES) BadCount (byte_at bytes)) byte (λ n. HasBits 8 n
-    × ((leb 1 n && leb n MOST_NODES) ≡ true)) counted bytes (λ nodes. entries_at None nodes.0 nodes.1) (entries, rest) fits e in
-    let b = (entries_agree a.value).takes a.rest entries rest a.took.rest_fits a.then in (
-      subst (λ (n : ℕ). Takes bytes (byte n
-          ++ numbers w32 entries) rest) (sym b.1.0) (Takes-then bytes (byte a.value) a.rest (numbers w32 entries) rest a.took b.0),
-      is_time a.value entries a.fits.1 b.1.0 b.1.1,
-    )
-
-time_again : (entries rest : List ℕ) → IsTime entries → time_at (time entries ++ rest) ≡ Ok (entries, rest)
-unfolding time_at time
-time_again entries rest h =
-    let regrouped : (byte (length entries) ++ numbers w32 entries) ++ rest ≡ byte (length entries) ++ (numbers w32 entries ++ rest) =
-    append_assoc (byte (length entries)) (numbers w32 entries) rest in
-    let passes : (leb 1 (length entries) && leb (length entries) MOST_NODES) ≡ true =
-    and_from (leb 1 (length entries)) (leb (length entries) MOST_NODES) (le-leb 1 (length entries) h.some) (le-leb (length entries) MOST_NODES h.few) in
-    let counted : byte_at (byte (length entries) ++ (numbers w32 entries ++ rest)) ≡ Ok (length entries, numbers w32 entries ++ rest) =
-    byte_agrees.again (length entries) (numbers w32 entries ++ rest) (omega (arith, h.few)) in
-    let first : tested (λ n. leb 1 n && leb n MOST_NODES) BadCount (byte_at (byte (length entries)
-    ++ (numbers w32 entries ++ rest))) ≡ Ok (length entries, numbers w32 entries ++ rest) =
-    tested_again (λ n. leb 1 n && leb n MOST_NODES) BadCount (byte_at (byte (length entries)
-    ++ (numbers w32 entries ++ rest))) (length entries, numbers w32 entries ++ rest) counted passes in
-    rw (regrouped, first) ((entries_agree (length entries)).again entries rest (refl, h.bits))
-
 pub time_agrees : Agrees time_at time IsTime
-time_agrees = record { takes = time_takes; again = time_again }
+unfolding time_at time
+time_agrees =
+    Agrees-as _ _ (λ entries. (HasBits 8 (length entries) × ((leb 1 (length entries) && leb (length entries) MOST_NODES) ≡ true)) × All (HasBits 32) entries)
+    IsTime
+    (λ entries h. is_time (length entries) entries h.0.1 refl h.1)
+    (λ entries h. (
+      (
+        omega (arith, h.few),
+        and_from (leb 1 (length entries)) (leb (length entries) MOST_NODES) (le-leb 1 (length entries) h.some) (le-leb (length entries) MOST_NODES h.few),
+      ),
+      h.bits,
+    ))
+    (Agrees-counted (Agrees-tested byte_at byte (HasBits 8) (λ n. leb 1 n && leb n MOST_NODES) BadCount byte_agrees) (λ nodes _. entries_agree nodes))
 
 module _ (nodes own : ℕ) (few : nodes ≤ MOST_NODES) (within : own < nodes) where
-  stamp_takes : (bytes entries rest : List ℕ) → IsBytes bytes → stamp_at nodes own bytes ≡ Ok (entries, rest) → Takes bytes (time entries) rest
-      × IsStamp nodes own entries
-  unfolding stamp_at time
-  stamp_takes bytes entries rest fits e =
-      let a = step (λ bytes. tested (λ n. eqb n nodes) BadCount (byte_at bytes)) byte (λ n. HasBits 8 n
-      × (eqb n nodes ≡ true)) (Agrees-tested byte_at byte (HasBits 8) (λ n. eqb n nodes) BadCount byte_agrees) bytes
-      (λ count. entries_at (Some own) nodes count.1) (entries, rest) fits e in
-      let b = (stamp_entries_agree nodes own within).takes a.rest entries rest a.took.rest_fits a.then in
-      let same : a.value ≡ length entries = eqb-true a.value nodes a.fits.1 ∙ sym b.1.0 in (
-        subst (λ (n : ℕ). Takes bytes (byte n ++ numbers w32 entries) rest) same (Takes-then bytes (byte a.value) a.rest (numbers w32 entries) rest a.took b.0),
-        b.1,
-      )
-
-  stamp_again : (entries rest : List ℕ) → IsStamp nodes own entries → stamp_at nodes own (time entries ++ rest) ≡ Ok (entries, rest)
-  unfolding stamp_at time
-  stamp_again entries rest h =
-      let regrouped : (byte (length entries) ++ numbers w32 entries) ++ rest ≡ byte (length entries) ++ (numbers w32 entries ++ rest) =
-      append_assoc (byte (length entries)) (numbers w32 entries) rest in
-      let counted : byte_at (byte (length entries) ++ (numbers w32 entries ++ rest)) ≡ Ok (length entries, numbers w32 entries ++ rest) =
-      byte_agrees.again (length entries) (numbers w32 entries ++ rest) (omega (arith, h.0)) in
-      let first : tested (λ n. eqb n nodes) BadCount (byte_at (byte (length entries)
-      ++ (numbers w32 entries ++ rest))) ≡ Ok (length entries, numbers w32 entries ++ rest) =
-      tested_again (λ n. eqb n nodes) BadCount (byte_at (byte (length entries) ++ (numbers w32 entries ++ rest))) (
-        length entries,
-        numbers w32 entries
-            ++ rest,
-      ) counted (eq-eqb (length entries) nodes h.0) in
-      rw (regrouped, first) ((stamp_entries_agree nodes own within).again entries rest h)
+  -- as many entries as were counted
+  stamp_entries_counted : (n : ℕ) → HasBits 8 n × (eqb n nodes ≡ true)
+      → Agrees (entries_at (Some own) nodes) (numbers w32) (λ entries. (length entries ≡ n) × IsStamp nodes own entries)
+  stamp_entries_counted n counted =
+      let same = eqb-true n nodes counted.1 in
+      Agrees-as _ (numbers w32) (IsStamp nodes own) (λ entries. (length entries ≡ n) × IsStamp nodes own entries)
+      (λ entries h. (h.0 ∙ sym same, h)) (λ entries h. h.1) (stamp_entries_agree nodes own within)
 
   pub stamp_agrees : Agrees (stamp_at nodes own) time (IsStamp nodes own)
-  stamp_agrees = record { takes = stamp_takes; again = stamp_again }
+  unfolding stamp_at time
+  stamp_agrees =
+      Agrees-as _ _ (λ entries. (HasBits 8 (length entries) × (eqb (length entries) nodes ≡ true)) × IsStamp nodes own entries) (IsStamp nodes own)
+      (λ entries h. h.1)
+      (λ entries h. ((omega (arith, few, h.0), eq-eqb (length entries) nodes h.0), h))
+      (Agrees-counted (Agrees-tested byte_at byte (HasBits 8) (λ n. eqb n nodes) BadCount byte_agrees) stamp_entries_counted)
 
 -- ---- pages
 
@@ -246,25 +216,9 @@ module _ (v : Version) where
       ))
       (elements_agree (next_page_at v) (λ _ page. Some page) (number w16) (Ascends ltb (λ n. n) (λ n. n < pages_in v)) next_page_agrees count None)
 
-  pages_take : (bytes ps rest : List ℕ) → IsBytes bytes → pages_at v bytes ≡ Ok (ps, rest) → Takes bytes (pages ps) rest × ArePages v ps
-  unfolding pages_at pages
-  pages_take bytes ps rest fits e =
-      let a = step (number_at w16) (number w16) (HasBits 16) number16_agrees bytes
-      (λ count. elements_at (next_page_at v) (λ _ page. Some page) count.0 None count.1) (ps, rest) fits e in
-      let b = (elements_of_pages a.value).takes a.rest ps rest a.took.rest_fits a.then in (
-        subst (λ (n : ℕ). Takes bytes (number w16 n
-            ++ numbers w16 ps) rest) (sym b.1.0) (Takes-then bytes (number w16 a.value) a.rest (numbers w16 ps) rest a.took b.0),
-        b.1.1,
-      )
-
-  pages_again : (ps rest : List ℕ) → ArePages v ps → pages_at v (pages ps ++ rest) ≡ Ok (ps, rest)
-  unfolding pages_at pages
-  pages_again ps rest h =
-      let regrouped : (number w16 (length ps) ++ numbers w16 ps) ++ rest ≡ number w16 (length ps) ++ (numbers w16 ps ++ rest) =
-      append_assoc (number w16 (length ps)) (numbers w16 ps) rest in
-      let first : number_at w16 (number w16 (length ps) ++ (numbers w16 ps ++ rest)) ≡ Ok (length ps, numbers w16 ps ++ rest) =
-      number16_agrees.again (length ps) (numbers w16 ps ++ rest) (omega (arith, pages_few v ps h)) in
-      rw (regrouped, first) ((elements_of_pages (length ps)).again ps rest (refl, h))
-
   pub pages_agree : Agrees (pages_at v) pages (ArePages v)
-  pages_agree = record { takes = pages_take; again = pages_again }
+  unfolding pages_at pages
+  pages_agree =
+      Agrees-as _ _ (λ ps. HasBits 16 (length ps) × ArePages v ps) (ArePages v)
+      (λ ps h. h.1) (λ ps h. (omega (arith, pages_few v ps h), h))
+      (Agrees-counted number16_agrees (λ count _. elements_of_pages count))

@@ -4,6 +4,7 @@ pub mod Along
 pub mod Shapes
 pub mod Bytes
 pub mod Agrees
+mod Sequences
 pub mod Fields
 pub mod Intervals
 pub mod Listed

@@ -1,5 +1,5 @@
 -- The reader of indices agrees with how they are spelled.
-use Rattle.std.proofs.Common.{◌≡◌, ℕ, ◌≤◌, true, ltb, leb, List, ◌++◌, length, Option, Some, None, Ok, refl, sym, subst, append_assoc, arith}
+use Rattle.std.proofs.Common.{◌≡◌, ℕ, ◌≤◌, true, ltb, leb, List, length, Option, Some, None}
 use Rattle.std.specs.Prelude.{All}
 use Rattle.std.specs.Int.{w32}
 use Rattle.std.specs.List.{flat_map}
@@ -10,9 +10,9 @@ use Rattle.lrc_wire.specs.declared.fault.WireFault.TheVariants.{BadCount, NotAsc
 use Rattle.lrc_wire.specs.Ranges.{HasBits, FitIndices}
 use Rattle.lrc_wire.specs.Spelling.{number, numbers, indices}
 use Rattle.lrc_wire.specs.Reading.{number_at, tested, is_after, elements_at, count_at, next_index_at, indices_at}
-use Rattle.lrc_wire.proofs.Bytes.{IsBytes, Takes, Takes-then}
 use Rattle.lrc_wire.proofs.Along.{Ascends, Follow, All-from_follow, increasing_from_follow, follow_from_increasing}
-use Rattle.lrc_wire.proofs.Agrees.{Agrees, Agrees-as, Agrees-tested, step, number32_agrees, elements_agree}
+use Rattle.lrc_wire.proofs.Sequences.{Agrees-counted}
+use Rattle.lrc_wire.proofs.Agrees.{Agrees, Agrees-as, Agrees-tested, number32_agrees, elements_agree}
 
 -- an index, at least 1
 pub record IsIndex (index : ℕ) : Type 0 where
@@ -38,43 +38,28 @@ next_index_agrees before =
     Agrees-tested (λ bytes. tested (λ n. leb 1 n) BadCount (number_at w32 bytes)) (number w32) IsIndex (is_after ltb before) NotAscending index_agrees
 
 elements_of_indices : (count : ℕ)
-    → Agrees (elements_at next_index_at (λ _ index. Some index) count None) (numbers w32) (λ ns. (length ns ≡ count) × All IsIndex ns × IsStrictlyIncreasing ns)
+    → Agrees (elements_at next_index_at (λ _ index. Some index) count None) (numbers w32) (λ ns. (length ns ≡ count) × (All IsIndex ns × IsStrictlyIncreasing ns))
 unfolding numbers
 elements_of_indices count =
-    Agrees-as _ (flat_map (number w32)) (λ ns. (length ns ≡ count) × Follow ltb (λ n. n) IsIndex None ns) (λ ns. (length ns ≡ count) × All IsIndex ns
-    × IsStrictlyIncreasing ns)
-    (λ ns h. (h.0, All-from_follow ltb (λ n. n) IsIndex None ns h.1, increasing_from_follow IsIndex None ns h.1))
-    (λ ns h. (h.0, follow_from_increasing IsIndex ns h.1 h.2))
+    Agrees-as _ (flat_map (number w32)) (λ ns. (length ns ≡ count) × Follow ltb (λ n. n) IsIndex None ns) (λ ns. (length ns ≡ count)
+    × (All IsIndex ns × IsStrictlyIncreasing ns))
+    (λ ns h. (h.0, (All-from_follow ltb (λ n. n) IsIndex None ns h.1, increasing_from_follow IsIndex None ns h.1)))
+    (λ ns h. (h.0, follow_from_increasing IsIndex ns h.1.0 h.1.1))
     (elements_agree next_index_at (λ _ index. Some index) (number w32) (Ascends ltb (λ n. n) IsIndex) next_index_agrees count None)
 
-indices_take : (bytes ns rest : List ℕ) → IsBytes bytes → indices_at bytes ≡ Ok (ns, rest) → Takes bytes (indices ns) rest × FitIndices ns
-unfolding indices_at indices
-indices_take bytes ns rest fits e =
-    let a = step count_at (number w32) (λ n. HasBits 32 n
-    × (1 ≤ n)) count_agrees bytes (λ count. elements_at next_index_at (λ _ index. Some index) count.0 None count.1) (ns, rest) fits e in
-    let b = (elements_of_indices a.value).takes a.rest ns rest a.took.rest_fits a.then in (
-      subst (λ (n : ℕ). Takes bytes (number w32 n
-          ++ numbers w32 ns) rest) (sym b.1.0) (Takes-then bytes (number w32 a.value) a.rest (numbers w32 ns) rest a.took b.0),
-      record {
-        some = omega (arith, b.1.0, a.fits.1);
-        count = subst (HasBits 32) (sym b.1.0) a.fits.0;
-        are = record { begun = All-weaker IsIndex (λ n. 1 ≤ n) (λ n q. q.begun) ns b.1.1; ascending = b.1.2 };
-        bits = All-weaker IsIndex (HasBits 32) (λ n q. q.bits) ns b.1.1;
-      },
-    )
-
-indices_again : (ns rest : List ℕ) → FitIndices ns → indices_at (indices ns ++ rest) ≡ Ok (ns, rest)
-unfolding indices_at indices
-indices_again ns rest h =
-    let regrouped : (number w32 (length ns) ++ numbers w32 ns) ++ rest ≡ number w32 (length ns) ++ (numbers w32 ns ++ rest) =
-    append_assoc (number w32 (length ns)) (numbers w32 ns) rest in
-    let first = count_agrees.again (length ns) (numbers w32 ns ++ rest) (h.count, h.some) in
-    rw (regrouped, first)
-    ((elements_of_indices (length ns)).again ns rest (
-      refl,
-      (λ k d within. record { begun = h.are.begun k d within; bits = h.bits k d within }),
-      h.are.ascending,
-    ))
+-- indices as they are read
+abbrev CountedIndices : List ℕ → Type 0
+CountedIndices ns = (HasBits 32 (length ns) × (1 ≤ length ns)) × (All IsIndex ns × IsStrictlyIncreasing ns)
 
 pub indices_agree : Agrees indices_at indices FitIndices
-indices_agree = record { takes = indices_take; again = indices_again }
+unfolding indices_at indices
+indices_agree =
+    Agrees-as _ _ CountedIndices FitIndices
+    (λ ns h. record {
+      some = h.0.1;
+      count = h.0.0;
+      are = record { begun = All-weaker IsIndex (λ n. 1 ≤ n) (λ n q. q.begun) ns h.1.0; ascending = h.1.1 };
+      bits = All-weaker IsIndex (HasBits 32) (λ n q. q.bits) ns h.1.0;
+    })
+    (λ ns h. ((h.count, h.some), ((λ k d within. record { begun = h.are.begun k d within; bits = h.bits k d within }), h.are.ascending)))
+    (Agrees-counted count_agrees (λ count _. elements_of_indices count))

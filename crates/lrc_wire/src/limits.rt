@@ -4,10 +4,10 @@
 pub const MOST_LOCKS: u8 = 64;
 
 /// The largest number of nodes.
-pub const MOST_NODES: u8 = 16;
+pub const MOST_NODES: u8 = lrc_time::MOST_NODES as u8;
 
-/// The largest number of runs that the changes of a page are cut into.
-pub const MOST_RUNS: u16 = 128;
+/// The largest number of runs that the changes of a page are cut into. Between two of them at least one word is as it was.
+pub const MOST_RUNS: u16 = (lrc_page::MOST_PAGE_WORDS / 2) as u16;
 
 /// The largest number of bytes of a message's body.
 pub const MOST_BODY_BYTES: usize = 16_777_216;

@@ -9,3 +9,5 @@ mod rows;
 mod shell;
 #[cfg(test)]
 mod weaves;
+#[cfg(test)]
+mod worn;

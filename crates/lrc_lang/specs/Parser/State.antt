@@ -19,48 +19,48 @@ pub data Stage : Type 0 where
   nothing : Stage
 
 -- the stage, the two numbers once they have come, and the statements so far
-pub record State : Type 0 where
+pub record ParserState : Type 0 where
   pub stage : Stage
   pub words : ℕ
   pub locks : ℕ
   pub body : Body
 
-abbrev pub start : State
+abbrev pub start : ParserState
 start = record { stage = words; words = 1; locks = 0; body = body.start }
 
-abbrev pub at_words : State → Symbol → Option State
+abbrev pub at_words : ParserState → Symbol → Option ParserState
 at_words s (keyword Words) = Some (record s { stage = words_number })
 at_words s _ = None
 
-abbrev pub at_words_number : State → Symbol → Option State
+abbrev pub at_words_number : ParserState → Symbol → Option ParserState
 at_words_number s (number n) = Some (record s { stage = words_end; words = n })
 at_words_number s _ = None
 
-abbrev pub at_words_end : State → Symbol → Option State
+abbrev pub at_words_end : ParserState → Symbol → Option ParserState
 at_words_end s (sign Semicolon) = Some (record s { stage = locks })
 at_words_end s _ = None
 
-abbrev pub at_locks : State → Symbol → Option State
+abbrev pub at_locks : ParserState → Symbol → Option ParserState
 at_locks s (keyword Locks) = Some (record s { stage = locks_number })
 at_locks s _ = None
 
-abbrev pub at_locks_number : State → Symbol → Option State
+abbrev pub at_locks_number : ParserState → Symbol → Option ParserState
 at_locks_number s (number n) = Some (record s { stage = locks_end; locks = n })
 at_locks_number s _ = None
 
-abbrev pub at_locks_end : State → Symbol → Option State
+abbrev pub at_locks_end : ParserState → Symbol → Option ParserState
 at_locks_end s (sign Semicolon) = Some (record s { stage = statements })
 at_locks_end s _ = None
 
 -- the text ends behind these statements
-abbrev pub finished : State → Block → State
+abbrev pub finished : ParserState → Block → ParserState
 finished s whole = record s { stage = nothing; body = body.holding whole }
 
-abbrev pub in_statements : State → Symbol → Option State
+abbrev pub in_statements : ParserState → Symbol → Option ParserState
 in_statements s finish = if_some (whole_of s.body) (λ whole. Some (finished s whole))
 in_statements s symbol = if_some (body_with s.body symbol) (λ b. Some (record s { body = b }))
 
-abbrev pub moved : Stage → State → Symbol → Option State
+abbrev pub moved : Stage → ParserState → Symbol → Option ParserState
 moved words s symbol = at_words s symbol
 moved words_number s symbol = at_words_number s symbol
 moved words_end s symbol = at_words_end s symbol
@@ -71,9 +71,9 @@ moved statements s symbol = in_statements s symbol
 moved nothing s symbol = None
 
 -- the text with one more symbol, or None where it cannot stand there
-abbrev pub state_with : State → Symbol → Option State
+abbrev pub state_with : ParserState → Symbol → Option ParserState
 state_with s symbol = moved s.stage s symbol
 
 -- the program, once the text has ended
-abbrev pub program_in : State → ProgramTree
+abbrev pub program_in : ParserState → ProgramTree
 program_in s = record { words = s.words; locks = s.locks; statements = s.body.before }

@@ -9,11 +9,11 @@ use Rattle.lrc_cli.proofs.AnswerLemmas.{fault_up}
 use Rattle.lrc_cli.proofs.threads.answer_on_threads.Goals as goal
 
 -- a fault of a run on threads is the first, since the text is a program's
-threaded_fault : (run : RunOptions) (text : List ℕ) (fault : Fault) (program : Program) → IsTextOf text program → IsThreadedFault fault
+threaded_fault : (run : RunOptions) (text : List ℕ) (fault : Fault) (program : Program) → IsTextOf text program → IsThreadedFault program run fault
     → IsFault (Run run) text None fault
 threaded_fault run text (Text line kind) program is h = absurd h
 threaded_fault run text (Events line) program is h = absurd h
-threaded_fault run text Worn program is h = (program, is, tt)
+threaded_fault run text Worn program is h = (program, is, h)
 threaded_fault run text Mismatch program is h = (refl, (program, is))
 threaded_fault run text NoMemory program is h = tt
 

@@ -6,9 +6,9 @@ use Rattle.lrc_lang.proofs.parser.read_into.Goals as goal
 pub loop-kind-init : goal.loop-kind-init
 loop-kind-init c =
     rw (c.new-lexer.ensures.line, c.new-lexer.ensures.rest)
-    (IsRead-start c.args.text.now c.args.state.now c.nothing-limits.result
-    (IsBehind-start c.args.state.now c.nothing-limits.result c.requires.start c.nothing-limits.ensures.names c.nothing-limits.ensures.nested
-    c.nothing-limits.ensures.operators))
+    (IsRead-start c.args.text.now c.args.state.now c.empty-limits.result
+    (IsBehind-start c.args.state.now c.empty-limits.result c.requires.start c.empty-limits.ensures.names c.empty-limits.ensures.nested
+    c.empty-limits.ensures.operators))
 
 pub loop-kind-preserved : goal.loop-kind-preserved
 loop-kind-preserved c =

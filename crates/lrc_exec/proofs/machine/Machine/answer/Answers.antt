@@ -1,7 +1,7 @@
 -- Each answer leads to the place after the statement, or to where its condition leads.
-use Rattle.std.proofs.Common.{◌≡◌, ◌≤◌, length, sym, subst, arith}
+use Rattle.std.proofs.Common.{◌≡◌, ◌≤◌, length, refl, sym, subst, arith}
 use Rattle.lrc_exec.specs.Ask.{GoesOn}
-use Rattle.lrc_exec.proofs.Running.{next_of-end, running-at, next_within, chosen_within, assign_answered, read_answered}
+use Rattle.lrc_exec.proofs.Running.{next_of-end, running-at, value_there, lock_there, next_within, chosen_within, assign_answered, read_answered}
 use Rattle.lrc_exec.proofs.Running.{acquire_answered, release_answered, other_answered, if_answered, while_answered}
 use Rattle.lrc_exec.proofs.machine.Machine.answer.Goals as goal
 
@@ -10,6 +10,42 @@ pub returns-in_default : goal.returns-in_default
 returns-in_default c =
     let at_end : c.self.inside.place ≡ 0 = omega (arith, c.in_default.ensures) in
     absurd (subst GoesOn (next_of-end c.self.inside c.args.self.now c.self.view_is at_end) c.requires)
+
+-- what is evaluated has a value, and a lock is one of the program's
+pub number-number-requires-clause-value : goal.number-number-requires-clause-value
+number-number-requires-clause-value c =
+    value_there c.self.inside c.args.self.now c.index-self-index.result c.in-Some.index c.self.view_is c.self.invariant c.in-Some.ensures.0
+    c.in-Some.ensures.1 _ _ c.in-Assign.is refl c.requires
+
+pub number-number-requires-in-Acquire-clause-value : goal.number-number-requires-in-Acquire-clause-value
+number-number-requires-in-Acquire-clause-value c =
+    value_there c.self.inside c.args.self.now c.index-self-index.result c.in-Some.index c.self.view_is c.self.invariant c.in-Some.ensures.0
+    c.in-Some.ensures.1 _ _ c.in-Acquire.is refl c.requires
+
+pub number-number-requires-in-Release-clause-value : goal.number-number-requires-in-Release-clause-value
+number-number-requires-in-Release-clause-value c =
+    value_there c.self.inside c.args.self.now c.index-self-index.result c.in-Some.index c.self.view_is c.self.invariant c.in-Some.ensures.0
+    c.in-Some.ensures.1 _ _ c.in-Release.is refl c.requires
+
+pub number-number-requires-in-If-clause-value : goal.number-number-requires-in-If-clause-value
+number-number-requires-in-If-clause-value c =
+    value_there c.self.inside c.args.self.now c.index-self-index.result c.in-Some.index c.self.view_is c.self.invariant c.in-Some.ensures.0
+    c.in-Some.ensures.1 _ _ c.in-If.is refl c.requires
+
+pub number-number-requires-in-While-clause-value : goal.number-number-requires-in-While-clause-value
+number-number-requires-in-While-clause-value c =
+    value_there c.self.inside c.args.self.now c.index-self-index.result c.in-Some.index c.self.view_is c.self.invariant c.in-Some.ensures.0
+    c.in-Some.ensures.1 _ _ c.in-While.is refl c.requires
+
+pub set_held-requires : goal.set_held-requires
+set_held-requires c =
+    lock_there c.self.inside c.args.self.now c.index-self-index.result c.in-Some.index c.self.view_is c.self.invariant c.in-Some.ensures.0
+    c.in-Some.ensures.1 _ _ _ c.in-Acquire.is refl c.number-number-in-Acquire.ensures c.requires
+
+pub set_held-requires-in-Release : goal.set_held-requires-in-Release
+set_held-requires-in-Release c =
+    lock_there c.self.inside c.args.self.now c.index-self-index.result c.in-Some.index c.self.view_is c.self.invariant c.in-Some.ensures.0
+    c.in-Some.ensures.1 _ _ _ c.in-Release.is refl c.number-number-in-Release.ensures c.requires
 
 pub invariant_of-self : goal.invariant_of-self
 invariant_of-self c =

@@ -1,16 +1,17 @@
 -- Each arm keeps what the definition of the log says, one position further.
-use Rattle.std.proofs.Common.{◌≡◌, ℕ, ◌+◌, ◌<◌, inl, inr, length, get_or, sym, ◌∙◌, ap, arith}
+use Rattle.std.proofs.Common.{◌≡◌, ℕ, ◌+◌, ◌<◌, Bool, inl, inr, length, get_or, sym, subst, ◌∙◌, ap, arith}
 use Rattle.std.specs.Prelude.{true, false}
 use Rattle.std.proofs.lemmas.Bool.{false≢true}
 use Rattle.lrc_trace.specs.declared.act.Act.{Act}
-use Rattle.lrc_trace.specs.declared.act.Deed.TheVariants.{Quiet}
+use Rattle.lrc_trace.specs.declared.act.Deed.TheVariants.{Quiet, Write}
 use Rattle.lrc_trace.specs.Run.{Does}
 use Rattle.lrc_trace.specs.Interval.{closes, interval_at}
 use Rattle.lrc_trace.proofs.Positions.{Does-read, Does-node, Does-deed}
 use Rattle.lrc_judge.proofs.Keeping.{AreSegments-same, AreSegments-more}
 use Rattle.lrc_trace.proofs.Counts.{intervals_same, intervals_next, no_close}
 use Rattle.lrc_judge.proofs.segments.Log.note.Goals as goal
-use Rattle.lrc_judge.proofs.segments.Log.note.Goals.{After-from}
+use Rattle.lrc_judge.proofs.segments.Log.note.Goals.{After-from, in-Write, in_default-matches}
+use Rattle.lrc_judge.specs.Segments.{AccessesBy}
 
 -- the act at the position
 abbrev act_at : After-from → Act
@@ -34,23 +35,28 @@ reached_as_before c fails = intervals_same c.args.acts.now c.args.position c.fro
 pub returns-in_ok-add-in-Read : goal.returns-in_ok-add-in-Read
 returns-in_ok-add-in-Read c =
     let b = (goal.at.returns-in_ok-add-in-Read c).After-from in
-    let e = c.in-Read.is in
+    let run = c.args.acts.now in
+    let done : (is_write : Bool) → c.match-matches.matches ≡ is_write → AccessesBy is_write run c.args.position c.from.result c.in-Read.word
+    → AccessesBy c.match-matches.matches run c.args.position c.from.result c.in-Read.word =
+    λ is_write e. subst (λ k. AccessesBy k run c.args.position c.from.result c.in-Read.word) (sym e) in
+    let stands : (closes (act_at b).deed ≡ false) × AccessesBy c.match-matches.matches run c.args.position c.from.result c.in-Read.word =
+    elim c.in-Read.is [
+      | inl read ↦ elim c.match-matches.branch [
+        | in-Write w ↦ absurd (cc (read.1, w.in-Write.is, c.in-Read.deed-is))
+        | in_default-matches w ↦ (ap closes read.1, done false w.matches-is (read.0, Does-deed read.1 (here b)))
+      ]
+      | inr write ↦ elim c.match-matches.branch [
+        | in-Write w ↦ (ap closes write.1, done true w.matches-is (write.0, Does-deed write.1 (here b)))
+        | in_default-matches w ↦
+            let is : c.in-Read.deed ≡ Write c.in-Read.word write.0 = cc (write.1, c.in-Read.deed-is) in
+            absurd (w.in_default-matches.not-Write c.in-Read.word write.0 is)
+      ]
+    ] in
     record {
-      kept = AreSegments-more c.args.acts.now c.args.position c.from.result (act_at b).deed
-          (here b) c.args.self.now.segments.items c.add.new.segments.items _ false (sym c.from.ensures)
-          (c.in-Read.field-1, Does-deed e (here b)) (interval_is b) c.requires.log.kept c.in_ok-add-in-Read.ensures;
-      reached = reached_as_before b (ap closes e);
-    }
-
-pub returns-in_ok-add-in-Write : goal.returns-in_ok-add-in-Write
-returns-in_ok-add-in-Write c =
-    let b = (goal.at.returns-in_ok-add-in-Write c).After-from in
-    let e = c.in-Write.is in
-    record {
-      kept = AreSegments-more c.args.acts.now c.args.position c.from.result (act_at b).deed
-          (here b) c.args.self.now.segments.items c.add-in-Write.new.segments.items _ true (sym c.from.ensures)
-          (c.in-Write.field-1, Does-deed e (here b)) (interval_is b) c.requires.log.kept c.in_ok-add-in-Write.ensures;
-      reached = reached_as_before b (ap closes e);
+      kept = AreSegments-more run c.args.position c.from.result (act_at b).deed
+          (here b) c.args.self.now.segments.items c.add.new.segments.items _ c.match-matches.matches (sym c.from.ensures)
+          stands.1 (interval_is b) c.requires.log.kept c.in_ok-add-in-Read.ensures;
+      reached = reached_as_before b stands.0;
     }
 
 pub returns-in-Acquire : goal.returns-in-Acquire

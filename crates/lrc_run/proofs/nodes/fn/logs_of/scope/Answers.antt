@@ -37,5 +37,5 @@ joined-requires g c = record {
 
 pub returns : goal.returns
 returns g c =
-    all_logs c.captures.program.now c.captures.nodes c.captures.options.now (λ logs. logs.items) (λ log. log.items) c.in_ok-joined.field-0
-    c.all_of.result c.in_ok-joined.ensures c.all_of.ensures.all c.all_of.ensures.same
+    all_logs c.captures.program.now c.captures.nodes c.captures.options.now (λ logs. logs.items) (λ log. log.items) c.joined.result.logs c.of_all.result.logs
+    c.joined.result.failure c.of_all.result.failure c.of_all.ensures.none c.joined.ensures

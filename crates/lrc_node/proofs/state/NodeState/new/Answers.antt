@@ -1,6 +1,6 @@
 use Rattle.lrc_protocol.specs.Node.{OptionsRecord}
 use Rattle.lrc_node.proofs.States.{fresh_state}
-use Rattle.lrc_node.proofs.state.State.new.Goals as goal
+use Rattle.lrc_node.proofs.state.NodeState.new.Goals as goal
 
 pub invariant_of-result : goal.invariant_of-result
 invariant_of-result c =

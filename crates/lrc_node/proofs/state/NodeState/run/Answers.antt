@@ -10,7 +10,7 @@ use Rattle.lrc_node.specs.State.{seen_effect}
 use Rattle.lrc_node.specs.Text.{asked_in}
 use Rattle.lrc_node.proofs.Effects.{run_asked, run_none, begins_asked, begun_ready, can_begun, refuses_begun, refuses_sent}
 use Rattle.lrc_node.proofs.Turns.{fault_up}
-use Rattle.lrc_node.proofs.state.State.run.Goals as goal
+use Rattle.lrc_node.proofs.state.NodeState.run.Goals as goal
 
 pub returns-in_default-clause-refused : goal.returns-in_default-clause-refused
 returns-in_default-clause-refused c =

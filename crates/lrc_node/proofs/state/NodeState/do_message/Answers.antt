@@ -1,7 +1,7 @@
 use Rattle.std.proofs.Common.{sym, ◌∙◌, ap}
 use Rattle.lrc_wire.specs.Records.{DepartRecord}
 use Rattle.lrc_protocol.specs.Take.{take_effect, take_departure}
-use Rattle.lrc_node.proofs.state.State.do_message.Goals as goal
+use Rattle.lrc_node.proofs.state.NodeState.do_message.Goals as goal
 
 pub returns-in-Depart-clause-effect : goal.returns-in-Depart-clause-effect
 returns-in-Depart-clause-effect c =

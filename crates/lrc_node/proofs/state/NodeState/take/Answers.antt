@@ -7,7 +7,7 @@ use Rattle.lrc_protocol.specs.Turn.{Outcome, unexpected, take_turn, taking, turn
 use Rattle.lrc_node.specs.Taken.{RefusesTake, unawaited}
 use Rattle.lrc_node.specs.declared.fault.NodeFault.TheVariants.{Unexpected}
 use Rattle.lrc_node.proofs.Takes.{unaddressed, addressed, anew, refuses_anew, weaker}
-use Rattle.lrc_node.proofs.state.State.take.Goals as goal
+use Rattle.lrc_node.proofs.state.NodeState.take.Goals as goal
 
 pub returns-then-not-is_addressed-clause-refused : goal.returns-then-not-is_addressed-clause-refused
 returns-then-not-is_addressed-clause-refused c =

@@ -12,7 +12,7 @@ use Rattle.lrc_protocol.specs.Run.{reaches}
 use Rattle.lrc_node.specs.Seen.{node_of}
 use Rattle.lrc_node.specs.State.{AreFor}
 use Rattle.lrc_node.proofs.Misses.{lacking_of_page, requests_for, reaches_missing, access_met}
-use Rattle.lrc_node.proofs.state.State.reach.Goals as goal
+use Rattle.lrc_node.proofs.state.NodeState.reach.Goals as goal
 
 pub repair-requires-clause-of_page : goal.repair-requires-clause-of_page
 repair-requires-clause-of_page c =

@@ -1,6 +1,6 @@
 use Rattle.std.proofs.Common.{sym, ap, ◌∙◌}
 use Rattle.lrc_protocol.specs.Expected.{is_expected}
-use Rattle.lrc_node.proofs.state.State.expects.Goals as goal
+use Rattle.lrc_node.proofs.state.NodeState.expects.Goals as goal
 
 pub returns-in-LockRequest : goal.returns-in-LockRequest
 returns-in-LockRequest c = c.expects_request.ensures c.args.from ∙ ap (is_expected c.args.self.now c.args.from) (sym c.in-LockRequest.is)

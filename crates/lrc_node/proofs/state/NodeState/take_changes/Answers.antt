@@ -2,7 +2,7 @@ use Rattle.std.proofs.Common.{sym, subst}
 use Rattle.lrc_wire.specs.Records.{ChangesReplyRecord}
 use Rattle.lrc_memory.specs.Turns.{AreAwaited}
 use Rattle.lrc_protocol.specs.Node.{Node}
-use Rattle.lrc_node.proofs.state.State.take_changes.Goals as goal
+use Rattle.lrc_node.proofs.state.NodeState.take_changes.Goals as goal
 
 pub attach-requires : goal.attach-requires
 attach-requires c =

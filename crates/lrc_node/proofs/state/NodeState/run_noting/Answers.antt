@@ -7,7 +7,7 @@ use Rattle.lrc_node.specs.declared.fault.NodeFault.TheVariants.{NoMemory}
 use Rattle.lrc_node.specs.Effects.{RefusesRun, without_memory}
 use Rattle.lrc_node.proofs.CanRun.{can_run}
 use Rattle.lrc_node.proofs.Turns.{fault_up}
-use Rattle.lrc_node.proofs.state.State.run_noting.Goals as goal
+use Rattle.lrc_node.proofs.state.NodeState.run_noting.Goals as goal
 
 pub run-requires : goal.run-requires
 run-requires c = can_run c.args.self.now (traced_reached c.args.self.now c.args.trace.now c.requires)

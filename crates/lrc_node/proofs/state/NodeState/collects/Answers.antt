@@ -11,7 +11,7 @@ use Rattle.lrc_protocol.specs.Waits.{waits_or_goes_on}
 use Rattle.lrc_node.specs.Keeping.{CanClean}
 use Rattle.lrc_node.specs.State.{AreFor}
 use Rattle.lrc_node.proofs.Keeping.{kept_within, begins_clean, begins_for}
-use Rattle.lrc_node.proofs.state.State.collects.Goals as goal
+use Rattle.lrc_node.proofs.state.NodeState.collects.Goals as goal
 
 pub needs_to_keep-requires : goal.needs_to_keep-requires
 needs_to_keep-requires c =

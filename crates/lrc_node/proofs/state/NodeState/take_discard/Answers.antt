@@ -2,7 +2,7 @@ use Rattle.std.proofs.Common.{◌≡◌, ◌≤◌, length, sym, ◌∙◌, ap, 
 use Rattle.lrc_time.specs.Time.{entry}
 use Rattle.lrc_protocol.specs.Mail.{Collection, discard}
 use Rattle.lrc_protocol.specs.Node.{Node}
-use Rattle.lrc_node.proofs.state.State.take_discard.Goals as goal
+use Rattle.lrc_node.proofs.state.NodeState.take_discard.Goals as goal
 
 pub collect-requires-clause-time : goal.collect-requires-clause-time
 collect-requires-clause-time c =

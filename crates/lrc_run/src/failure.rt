@@ -1,0 +1,138 @@
+// The fault of a run in which a node failed.
+
+ghost use Rattle.std.specs.Prelude.{◌≡◌, ◌≤◌, List, length};
+ghost use Rattle.lrc_protocol.specs.declared.event.Event.{Event as AnyEvent};
+ghost use Rattle.lrc_world.specs.Report.{IsWornBy};
+ghost use Rattle.lrc_run.specs.Run.{IsLate};
+
+use crate::fault::RunFault;
+use crate::life::Failure;
+use crate::stop::Stop;
+use bytes::Bytes;
+use lrc_lang::program::Program;
+use lrc_node::{Entry, Input, Options, Turn};
+use lrc_post::{Mailbox, Wire};
+use lrc_protocol::Event;
+use lrc_weave::events_of;
+use lrc_wire::{WireFault, decode};
+use lrc_world::report::SimFault;
+use lrc_world::simulate::replay;
+use std::alloc::{AllocError, Global};
+
+/// The fault of a run whose first failure is this one. Where the node wore out, all turns are made once more as one run, with what
+/// wore it out behind them: the fault is `Worn` only where that run wears out too. It does, since the nodes made these turns.
+pub(crate) fn fault_of(
+    alloc: Global,
+    program: &Program,
+    nodes: u8,
+    options: &Options,
+    logs: Vec<Vec<Entry>>,
+    wires: &[Mailbox],
+    failure: Failure,
+) -> RunFault
+    ensures worn { result ≡ RunFault.Worn → (events : List AnyEvent) × IsWornBy program.now nodes options.now events }
+    ensures late { IsLate result }
+{
+    match failure.stop {
+        Stop::Worn => worn_out(alloc, program, nodes, options, logs, wires, failure.node),
+        Stop::Closed | Stop::NoMemory => RunFault::NoMemory,
+    }
+}
+
+// The fault of a run in which this node wore out.
+fn worn_out(
+    alloc: Global,
+    program: &Program,
+    nodes: u8,
+    options: &Options,
+    logs: Vec<Vec<Entry>>,
+    wires: &[Mailbox],
+    node: usize,
+) -> RunFault
+    ensures worn { result ≡ RunFault.Worn → (events : List AnyEvent) × IsWornBy program.now nodes options.now events }
+    ensures late { IsLate result }
+{
+    let Ok(events) = events_until(alloc, logs, wires, node) else {
+        return RunFault::NoMemory;
+    };
+    match replay(alloc, program, u32::from(nodes), options, events.as_slice()) {
+        Err(SimFault::Worn) => RunFault::Worn,
+        Err(SimFault::NoMemory) => RunFault::NoMemory,
+        // The nodes made these turns on their threads, so nothing else comes.
+        Ok(_) | Err(_) => RunFault::Mismatch,
+    }
+}
+
+// The events that make all turns, and behind them the one at which the node wore out.
+fn events_until(
+    alloc: Global,
+    mut logs: Vec<Vec<Entry>>,
+    wires: &[Mailbox],
+    node: usize,
+) -> Result<Vec<Event>, AllocError> {
+    if let Some(log) = logs.get_mut(node)
+        && let Some(mailbox) = wires.get(node)
+    {
+        let last = unfinished(alloc, log.as_slice(), mailbox)?;
+        log.push(last)?;
+    }
+    // There is at most one log for each node, so there are never more.
+    if logs.len() > 16 {
+        return Err(AllocError);
+    }
+    events_of(alloc, logs.as_slice())
+}
+
+// The turn that a node did not finish. It stands behind all others.
+fn unfinished(alloc: Global, log: &[Entry], mailbox: &Mailbox) -> Result<Entry, AllocError> {
+    Ok(Entry {
+        input: input_behind(alloc, log, mailbox.history())?,
+        stamp: u64::MAX,
+        turn: Turn {
+            act: None,
+            out: Vec::new(alloc),
+        },
+    })
+}
+
+// The input of that turn: the next message that the node took, or else it went on by itself.
+fn input_behind(alloc: Global, log: &[Entry], history: &[Wire]) -> Result<Input, AllocError> {
+    let Some(bytes) = next_taken(log, history) else {
+        return Ok(Input::Run);
+    };
+    match decode(alloc, bytes) {
+        Ok(envelope) => Ok(Input::Taken(envelope)),
+        Err(WireFault::NoMemory) => Err(AllocError),
+        Err(_fault) => Ok(Input::Run),
+    }
+}
+
+// The bytes of the first message that was taken according to a mailbox and not according to its owner's log.
+fn next_taken<'h>(log: &[Entry], history: &'h [Wire]) -> Option<&'h Bytes> {
+    let mut left = log.iter().filter(|entry| is_take(entry)).count();
+    for wire in history {
+        if let Wire::Took { place, .. } = wire {
+            if left == 0 {
+                return bytes_at(history, *place);
+            }
+            left -= 1;
+        }
+    }
+    None
+}
+
+// Whether a message was taken in a turn.
+fn is_take(entry: &Entry) -> bool {
+    match entry.input {
+        Input::Run => false,
+        Input::Taken(_) => true,
+    }
+}
+
+// The bytes of what was put at a place of a history.
+fn bytes_at(history: &[Wire], place: usize) -> Option<&Bytes> {
+    match history.get(place) {
+        Some(Wire::Put { bytes, .. }) => Some(bytes),
+        Some(Wire::Took { .. }) | None => None,
+    }
+}
