@@ -1,6 +1,7 @@
 //! Runs of a program whose nodes are on threads of their own, one for each node, with a post between them.
 #![tactic(auto)]
 
+mod coded;
 mod failure;
 mod fault;
 mod gate;

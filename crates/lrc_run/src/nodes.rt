@@ -6,6 +6,7 @@ ghost use Rattle.lrc_weave.specs.Logs.{AreLogs};
 ghost use Rattle.lrc_run.specs.Threads.{AreFirstLogs, AreOwedFrom};
 ghost use Rattle.lrc_run.specs.Worker.{IsLogOf};
 
+use crate::coded::Coded;
 use crate::gate::Gate;
 use crate::life::{Life, Lives, added, of_all};
 use crate::thread::on_thread;
@@ -30,17 +31,19 @@ impl<'p> Promise<Life> for LogOf<'p> {
     ghost kept_by = { λ p r. IfNone r.fault (IsLogOf (fresh_node p.program.now p.nodes p.options p.me) r.log.items) };
 }
 
-/// What is left of all nodes of a program: each lives on a thread of its own until the post is closed. Where one fails, or there is
-/// no memory for a thread, the post is closed at once.
-pub(crate) fn logs_of<G: Gate + Sync, R: Threads + Wait + Sync>(
+/// What is left of all nodes of a program: each lives on a thread of its own, over the one code of the program, until the post is
+/// closed. Where one fails, or there is no memory for a thread, the post is closed at once.
+pub(crate) fn logs_of<C: Coded + Sync, G: Gate + Sync, R: Threads + Wait + Sync>(
     rt: &R,
     alloc: Global,
     program: &Program,
+    code: &C,
     nodes: u8,
     options: &Options,
     post: &Post,
     gate: &G,
 ) -> Result<Lives, AllocError>
+    requires code { C.program_of code.now ≡ program.now }
     requires few { nodes ≤ 16 }
     ensures { IfOk result (λ lives. IfNone lives.failure
         (AreLogs program.now nodes options.now (map (λ log. log.items) lives.logs.items))) }
@@ -49,7 +52,7 @@ pub(crate) fn logs_of<G: Gate + Sync, R: Threads + Wait + Sync>(
         thread::scope_env(),
         rt,
         |scope| -> Result<Lives, AllocError>
-            requires { nodes ≤ 16 }
+            requires { (C.program_of code.now ≡ program.now) × (nodes ≤ 16) }
             ensures { IfOk result (λ lives. IfNone lives.failure
                 (AreLogs program.entry.now nodes options.entry.now (map (λ log. log.items) lives.logs.items))) }
         {
@@ -58,8 +61,8 @@ pub(crate) fn logs_of<G: Gate + Sync, R: Threads + Wait + Sync>(
             for me in 0..nodes {
                 let body = move || -> Life
                     requires { (me < nodes) × (nodes ≤ 16) }
-                    ensures { IfNone result.fault (IsLogOf (fresh_node program.entry.now nodes options.entry.now me) result.log.items) }
-                { on_thread(rt, alloc, program, nodes, options, post, gate, me) };
+                    ensures { IfNone result.fault (IsLogOf (fresh_node (C.program_of code.entry.now) nodes options.entry.now me) result.log.items) }
+                { on_thread(rt, alloc, code.code(), nodes, options, post, gate, me) };
                 let owed = LogOf {
                     program,
                     nodes,

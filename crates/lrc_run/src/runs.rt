@@ -19,6 +19,7 @@ use crate::failure::fault_of;
 use crate::fault::RunFault;
 use crate::gate::Gate;
 use crate::nodes::logs_of;
+use lrc_exec::code::Code;
 use lrc_lang::program::Program;
 use lrc_node::{Entry, Options};
 use lrc_post::{Mailbox, Post, Wires};
@@ -131,7 +132,8 @@ fn live<G: Gate + Sync, R: Threads + Wait + Sync>(
     ensures late { IfErr result IsLate }
 {
     let post = Post::new(alloc, nodes, picker)?;
-    let lives = logs_of(rt, alloc, program, nodes, options, &post, gate)?;
+    let code = Code::new(alloc, program)?;
+    let lives = logs_of(rt, alloc, program, &code, nodes, options, &post, gate)?;
     let wires = post.into_wires();
     match lives.failure {
         None => Ok((lives.logs, wires)),

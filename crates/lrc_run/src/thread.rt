@@ -12,7 +12,6 @@ use crate::mail::Line;
 use crate::stop::Stop;
 use crate::worker::work;
 use lrc_exec::code::Code;
-use lrc_lang::program::Program;
 use lrc_node::{Logged, Node, Options};
 use lrc_post::Post;
 use std::alloc::{AllocError, Global};
@@ -23,7 +22,7 @@ use std::sync::Wait;
 pub fn on_thread<G: Gate, R: Wait>(
     rt: &R,
     alloc: Global,
-    program: &Program,
+    code: &Code<'_>,
     nodes: u8,
     options: &Options,
     post: &Post,
@@ -32,9 +31,9 @@ pub fn on_thread<G: Gate, R: Wait>(
 ) -> Life
     requires here { me < nodes }
     requires few { nodes ≤ 16 }
-    ensures { IfNone result.fault (IsLogOf (fresh_node program.now nodes options.now me) result.log.items) }
+    ensures { IfNone result.fault (IsLogOf (fresh_node code.now nodes options.now me) result.log.items) }
 {
-    let life = coded(rt, alloc, program, nodes, options, post, gate, me);
+    let life = live(rt, alloc, code, nodes, options, post, gate, me);
     if life.fault.is_some() {
         post.close(rt);
     }
@@ -42,27 +41,6 @@ pub fn on_thread<G: Gate, R: Wait>(
 }
 
 // The same, but a node that fails leaves the post as it is.
-fn coded<G: Gate, R: Wait>(
-    rt: &R,
-    alloc: Global,
-    program: &Program,
-    nodes: u8,
-    options: &Options,
-    post: &Post,
-    gate: &G,
-    me: u8,
-) -> Life
-    requires here { me < nodes }
-    requires few { nodes ≤ 16 }
-    ensures { IfNone result.fault (IsLogOf (fresh_node program.now nodes options.now me) result.log.items) }
-{
-    let Ok(code) = Code::new(alloc, program) else {
-        return unborn(alloc);
-    };
-    live(rt, alloc, &code, nodes, options, post, gate, me)
-}
-
-// The same of a program whose code is there.
 fn live<G: Gate, R: Wait>(
     rt: &R,
     alloc: Global,
