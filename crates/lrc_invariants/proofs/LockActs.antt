@@ -86,15 +86,7 @@ module _ (nodes : ℕ) (acts : List Act) (times : List (List ℕ)) (timed : leng
 
   no_release : (d : Deed) → (d ≡ Release l → ⊥) → is_release l d ≡ false
   no_release (Release k) ne = ne_eqb k l (λ e. ne (ap (λ k. Release k) e))
-  no_release Quiet ne = refl
-  no_release (Print v) ne = refl
-  no_release (Read w v) ne = refl
-  no_release (Write w v) ne = refl
-  no_release (Acquire k) ne = refl
-  no_release Arrive ne = refl
-  no_release Depart ne = refl
-  no_release (Trap c) ne = refl
-  no_release End ne = refl
+  no_release _ ne = refl
 
   -- the time of the last release stays at an act that is none
   pub released-still : (deed : Option Deed) → (deed ≡ Some (Release l) → ⊥) → released (Acts' deed) (Times' deed) ≡ released acts times

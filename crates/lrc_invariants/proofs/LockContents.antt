@@ -105,13 +105,7 @@ other_sound nodes locks from to (ChangesRequest m) e = tt
 other_sound nodes locks from to (ChangesReply m) e = tt
 other_sound nodes locks from to (PageRequest page) e = tt
 other_sound nodes locks from to (PageReply m) e = tt
-other_sound nodes locks from to (LockRequest m) e = cc
-other_sound nodes locks from to (LockForward m) e = cc
-other_sound nodes locks from to (LockGrant m) e = cc
-other_sound nodes locks from to (Arrive m) e = cc
-other_sound nodes locks from to (Depart m) e = cc
-other_sound nodes locks from to (Clean episode) e = cc
-other_sound nodes locks from to (Discard episode) e = cc
+other_sound nodes locks from to _ e = cc
 
 others_sound : (nodes locks me : ℕ) (letters : List Letter) → AreOthers letters → SoundLetters nodes locks me letters
 others_sound nodes locks me [] h = tt

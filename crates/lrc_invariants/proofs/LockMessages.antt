@@ -107,13 +107,7 @@ others-silent l (ChangesRequest m) e = refl
 others-silent l (ChangesReply m) e = refl
 others-silent l (PageRequest page) e = refl
 others-silent l (PageReply m) e = refl
-others-silent l (LockRequest m) e = cc
-others-silent l (LockForward m) e = cc
-others-silent l (LockGrant m) e = cc
-others-silent l (Arrive m) e = cc
-others-silent l (Depart m) e = cc
-others-silent l (Clean episode) e = cc
-others-silent l (Discard episode) e = cc
+others-silent l _ e = cc
 
 pub all_others-silent : (l : ℕ) (letters : List Letter) → AreOthers letters → AllSilent l letters
 all_others-silent l [] h = tt

@@ -36,16 +36,11 @@ use Rattle.lrc_invariants.proofs.PresentTimes.{AtPresent, AllPresent, all-kept, 
 -- ---- by the kind of turn
 
 plain-rule : (node : ℕ) (last time : List ℕ) (value : ℕ) (next : Next) → is_plain next ≡ true → time ≡ last → FollowsRule node last (deed_of value next) time
-plain-rule node last time value (quiet t) is e = e
-plain-rule node last time value (prints v t) is e = e
-plain-rule node last time value (reads w t) is e = e
-plain-rule node last time value (writes w v t) is e = e
 plain-rule node last time value (acquires l t) is e = cc
 plain-rule node last time value (releases l t) is e = cc
 plain-rule node last time value (arrives t) is e = cc
 plain-rule node last time value (departs t) is e = cc
-plain-rule node last time value (traps c) is e = e
-plain-rule node last time value ends is e = e
+plain-rule node last time value _ is e = e
 
 none_is_some : (d : Deed) → None ≡ Some d → ⊥
 none_is_some d e = cc

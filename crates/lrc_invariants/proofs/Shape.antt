@@ -132,12 +132,7 @@ shape-kept p s e _ _ _ _ (grants lock time w k) h =
 shape-kept p s e _ _ _ _ (departing time w k) h = learns_so s p.locks time (k.counted ∙ e) h
 shape-kept p s e _ _ _ _ (collecting time w k same) h = learns_so s p.locks time (k.counted ∙ e) h
 shape-kept p s e _ _ _ _ (clean_at_once time w k same) h = learns_so s p.locks time (k.counted ∙ e) h
-shape-kept p s e _ _ _ _ (discarding collection w) h = h
-shape-kept p s e _ _ _ _ (accessing need w) h = h
-shape-kept p s e _ _ _ _ (still_misses before w) h = h
-shape-kept p s e _ _ _ _ (still_collects before had w same) h = h
-shape-kept p s e _ _ _ _ (cleaning before had w same) h = h
-shape-kept p s e _ _ _ _ rests h = h
+shape-kept p s e _ _ _ _ _ h = h
 
 -- of a node
 pub record NodeShape (s : Setting) (o : OptionsRecord) (l : Local) : Type 0 where
