@@ -4,7 +4,7 @@ use Rattle.std.specs.Prelude.{Option, Some, slice_get, option_map}
 use Rattle.lrc_lang.specs.declared.program.Program.{Program}
 use Rattle.lrc_trace.specs.declared.act.Act.{Act}
 use Rattle.lrc_trace.specs.declared.act.Deed.{Deed}
-use Rattle.lrc_exec.specs.Meaning.{Thread, Next, quiet, prints, reads, writes, acquires, releases, arrives, departs, traps, ends}
+use Rattle.lrc_exec.specs.Meaning.{Thread, Next, acquires, releases, arrives, departs}
 use Rattle.lrc_exec.specs.Plain.{start_of}
 use Rattle.lrc_theory.specs.Follows.{deeds_of}
 use Rattle.lrc_protocol.specs.declared.event.Event.{Event}

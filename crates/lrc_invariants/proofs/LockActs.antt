@@ -5,7 +5,7 @@ use Rattle.std.proofs.lemmas.Bool.{eq-eqb, ne_eqb}
 use Rattle.std.proofs.lemmas.List.{get_or_push, length_push}
 use Rattle.lrc_trace.specs.declared.act.Act.{Act}
 use Rattle.lrc_trace.specs.declared.act.Deed.{Deed}
-use Rattle.lrc_trace.specs.declared.act.Deed.TheVariants.{Quiet, Print, Read, Write, Acquire, Release, Arrive, Depart, Trap, End}
+use Rattle.lrc_trace.specs.declared.act.Deed.TheVariants.{Acquire, Release}
 use Rattle.lrc_trace.specs.Run.{Does, act_of}
 use Rattle.lrc_trace.specs.Synchronization.{Holds}
 use Rattle.lrc_trace.proofs.Positions.{Does-last, Does-deed, slice_get-seam}

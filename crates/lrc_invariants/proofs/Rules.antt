@@ -13,7 +13,7 @@ use Rattle.lrc_time.specs.Time.{joined}
 use Rattle.lrc_time.proofs.Times.{joined-none}
 use Rattle.lrc_clock.specs.Times.{time_at, raised, time_before}
 use Rattle.lrc_clock.proofs.Prefixes.{time_at-prefix, time_before-prefix}
-use Rattle.lrc_exec.specs.Meaning.{Setting, Thread, Next, quiet, prints, reads, writes, acquires, releases, arrives, departs, traps, ends}
+use Rattle.lrc_exec.specs.Meaning.{Setting, Thread, Next, acquires, releases, arrives, departs}
 use Rattle.lrc_exec.specs.Plain.{setting_of}
 use Rattle.lrc_protocol.specs.declared.event.Event.{Event}
 use Rattle.lrc_protocol.specs.Course.{Course, deed_of}

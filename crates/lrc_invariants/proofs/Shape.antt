@@ -26,7 +26,7 @@ use Rattle.lrc_protocol.specs.World.{World, run_of}
 use Rattle.lrc_protocol.specs.Follows.{turns_of}
 use Rattle.lrc_invariants.specs.Shape.{HasShape}
 use Rattle.lrc_invariants.proofs.Shift.{Part, part_of, Shift, plain, misses, takes, asks, releasing, arriving, manages, forwarding, grants, departing}
-use Rattle.lrc_invariants.proofs.Shift.{collecting, clean_at_once, discarding, accessing, still_misses, still_collects, cleaning, rests}
+use Rattle.lrc_invariants.proofs.Shift.{collecting, clean_at_once}
 use Rattle.lrc_invariants.proofs.Inputs.{KeptByShifts, at_each}
 
 -- ---- tokens

@@ -2,14 +2,14 @@
 use Rattle.std.proofs.Common.{◌≡◌, ℕ, ◌+◌, ◌<◌, ◌≤◌, ◌∙◌, Bool, true, false, not, ◌&&◌, cond, eqb, eqb-true, Option, None, Some}
 use Rattle.std.proofs.Common.{List, [], ◌∷◌, ◌++◌, length, get_or, map, take, reverse, refl, ap, sym, subst, arith}
 use Rattle.std.specs.List.{AllPairs, filter}
-use Rattle.std.proofs.lemmas.List.{get_or-map, get_or-take, get_or_default, length-take-le, take-map, take_all, reverse-append, append-nil, append_assoc, length-map}
+use Rattle.std.proofs.lemmas.List.{length-map, get_or-map, get_or-take, get_or_default, length-take-le, take-map, take_all, reverse-append, append-nil, append_assoc}
 use Rattle.lrc_time.specs.Time.{knows}
 use Rattle.lrc_store.specs.declared.key.Key.{Key}
 use Rattle.lrc_store.specs.Chains.{last_at}
 use Rattle.lrc_store.specs.Links.{page_named, is_unknown_on}
 use Rattle.lrc_store.specs.Lists.{knows_notice}
 use Rattle.lrc_store.proofs.NodeWalks.{filter_of_none}
-use Rattle.lrc_store.proofs.Chained.{Reaches, reaches, picked_more, last_at-map, reach, reach-taken}
+use Rattle.lrc_store.proofs.Chained.{Reaches, reaches, reach, reach-taken, picked_more, last_at-map}
 
 abbrev none : ℕ × Key
 none = (0, record { node = 0; index = 0; page = 0 })

@@ -1,12 +1,11 @@
-use Rattle.std.proofs.Common.{◌<◌, ◌≤◌, ◌∙◌, ◌++◌, ◌∷◌, [], ℕ, eqb, true, false, Option, Some, length, get_or, sym, ap, subst, arith, append-nil, Vec, Global}
+use Rattle.std.proofs.Common.{◌<◌, ◌∙◌, ◌++◌, ◌∷◌, [], ℕ, true, false, Some, length, sym, ap, arith, append-nil, Vec, Global}
 use Rattle.std.proofs.lemmas.List.{length-map}
 use Rattle.lrc_time.specs.Time.{knows}
 use Rattle.lrc_store.specs.declared.key.Key.{Key}
 use Rattle.lrc_store.specs.Links.{page_named}
-use Rattle.lrc_store.proofs.Chained.{reach, reach-taken}
-use Rattle.lrc_store.proofs.Walks.{IsWalked, walk_starts, walk_within, walk_goes_on, walk_ends, walk_at, walk_falls}
+use Rattle.lrc_store.proofs.Walks.{IsWalked, walk_starts, walk_at, walk_falls, walk_within, walk_goes_on, walk_ends}
 use Rattle.lrc_store.proofs.links.unknown_on.Goals as goal
-use Rattle.lrc_store.proofs.links.unknown_on.Goals.{In-Some, After-next-next, then-not-is_known+in_ok-push, else-not-is_known}
+use Rattle.lrc_store.proofs.links.unknown_on.Goals.{In-Some, then-not-is_known+in_ok-push, else-not-is_known}
 
 pub loop-next-init : goal.loop-next-init
 loop-next-init c =

@@ -1,10 +1,7 @@
-use Rattle.std.proofs.Common.{◌<◌, ◌≤◌, ◌∙◌, ◌++◌, ◌∷◌, [], ℕ, eqb, false, Option, Some, length, get_or, sym, ap, subst, arith}
-use Rattle.std.proofs.lemmas.List.{length-map}
+use Rattle.std.proofs.Common.{◌<◌, ◌∙◌, ◌++◌, ◌∷◌, [], ℕ, false, Some, length, sym, ap}
 use Rattle.lrc_time.specs.Time.{knows}
 use Rattle.lrc_store.specs.declared.key.Key.{Key}
-use Rattle.lrc_store.specs.Links.{page_named}
-use Rattle.lrc_store.proofs.Chained.{reach, reach-taken}
-use Rattle.lrc_store.proofs.Walks.{IsWalked, walk_starts, walk_within, walk_goes_on, walk_stops, walk_ends, walk_at, walk_falls}
+use Rattle.lrc_store.proofs.Walks.{IsWalked, walk_starts, walk_at, walk_falls, walk_within, walk_goes_on, walk_stops, walk_ends}
 use Rattle.lrc_store.proofs.links.unknown_until_known.Goals as goal
 use Rattle.lrc_store.proofs.links.unknown_until_known.Goals.{In-Some}
 

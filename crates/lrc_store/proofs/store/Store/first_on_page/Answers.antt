@@ -1,7 +1,5 @@
-use Rattle.std.proofs.Common.{◌≡◌, ℕ, List, length, ap, sym, ◌∙◌, arith}
-use Rattle.std.proofs.lemmas.List.{length-map}
-use Rattle.lrc_store.specs.declared.key.Key.{Key}
-use Rattle.lrc_store.specs.Lists.{first_on_page_of, head_of, notices_of}
+use Rattle.std.proofs.Common.{◌≡◌, ℕ, List, ap, sym, ◌∙◌, arith}
+use Rattle.lrc_store.specs.Lists.{first_on_page_of, head_of}
 use Rattle.lrc_store.specs.Store.{StoreRecord}
 use Rattle.lrc_store.proofs.Followed.{head_within}
 use Rattle.lrc_store.proofs.LinkedStores.{noted_pages, noted_long}

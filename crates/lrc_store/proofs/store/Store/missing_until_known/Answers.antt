@@ -1,15 +1,12 @@
-use Rattle.std.proofs.Common.{◌≡◌, map, ap, sym, subst, ◌∙◌, List}
-use Rattle.std.specs.List.{filter}
+use Rattle.std.proofs.Common.{◌≡◌, List, sym, subst}
 use Rattle.std.proofs.lemmas.Result.{IfOk-weaker}
-use Rattle.lrc_store.specs.Store.{StoreRecord, IsStore, intervals_of, is_missing, IsMissing, missing_of}
+use Rattle.lrc_store.specs.declared.key.Key.{Key}
 use Rattle.lrc_store.specs.Lists.{KnowsTheFirst}
-use Rattle.lrc_store.specs.Links.{ranked, is_unknown_on}
-use Rattle.lrc_store.proofs.LinkedStores.{unknown_is_missing, known_first}
-use Rattle.lrc_store.proofs.Ranks.{IsMissing-missing_of, IsMissing-only}
+use Rattle.lrc_store.specs.Store.{StoreRecord, IsMissing, missing_of}
+use Rattle.lrc_store.proofs.LinkedStores.{known_first}
+use Rattle.lrc_store.proofs.Missing.{ArePutInOrder, IsMissing-found}
 use Rattle.lrc_store.proofs.store.Store.missing_until_known.Goals as goal
 use Rattle.lrc_store.proofs.store.Store.missing_until_known.Goals.{After-keys_in_order}
-use Rattle.lrc_store.specs.declared.key.Key.{Key}
-use Rattle.lrc_store.proofs.Missing.{ArePutInOrder, IsMissing-found}
 
 -- what is put in order is what is missing
 found : (c : After-keys_in_order) (keys : List Key) → ArePutInOrder c.in_ok-found.found.items keys

@@ -1,10 +1,8 @@
-use Rattle.std.proofs.Common.{◌≡◌, ◌<◌, ◌∙◌, ◌+◌, Some, length, ap, sym, subst, arith}
-use Rattle.std.proofs.lemmas.List.{length-map}
+use Rattle.std.proofs.Common.{◌≡◌, ◌<◌, ◌∙◌, ◌+◌, Some, length, sym, subst, arith}
 use Rattle.std.proofs.lemmas.Option.{same_Some, slice_get_within}
-use Rattle.lrc_store.specs.declared.key.Key.{Key}
 use Rattle.lrc_store.specs.Lists.{key_at, notices_of}
 use Rattle.lrc_store.specs.Store.{StoreRecord}
-use Rattle.lrc_store.proofs.LinkedStores.{noted_pages, noted_long}
+use Rattle.lrc_store.proofs.LinkedStores.{noted_long}
 use Rattle.lrc_store.proofs.store.Store.next_in_interval.Goals as goal
 
 pub overflow_add-after : goal.overflow_add-after

@@ -1,7 +1,5 @@
-use Rattle.std.proofs.Common.{◌≡◌, ℕ, List, length, ap, sym, ◌∙◌, arith}
-use Rattle.std.proofs.lemmas.List.{length-map}
-use Rattle.lrc_store.specs.declared.key.Key.{Key}
-use Rattle.lrc_store.specs.Lists.{next_on_page_of, link_of, notices_of}
+use Rattle.std.proofs.Common.{◌≡◌, ℕ, List, ap, sym, ◌∙◌, arith}
+use Rattle.lrc_store.specs.Lists.{next_on_page_of, link_of}
 use Rattle.lrc_store.specs.Store.{StoreRecord}
 use Rattle.lrc_store.proofs.Followed.{link_within}
 use Rattle.lrc_store.proofs.LinkedStores.{noted_pages, noted_long}
