@@ -235,6 +235,14 @@ module _ (program : Program) (nodes : ℕ) (options : OptionsRecord) where
         (h.exclusive.timely.stand.each m x at_m).discards in
         discards_something x.node.mail.wait (omega (arith, some, so))
 
+    -- the episode of who waited for something stays
+    kept_old : (m episode : ℕ) → ((x : Logged) → slice_get world.nodes m ≡ Some x → episode ≡ x.node.barrier.episode)
+        → ((x : Logged) → slice_get world.nodes m ≡ Some x → x.node.mail.wait ≡ nothing → ⊥)
+        → (lm : Logged) → slice_get next.nodes m ≡ Some lm → episode ≡ lm.node.barrier.episode
+    kept_old m episode is waits lm at_m =
+        let b : Before m lm = before m lm at_m in
+        is b.old b.was ∙ sym (b.episode (waits b.old b.was))
+
     -- what is sent is from the node, and so is an arrival's or a Clean's node
     own_node : (e : EnvelopeRecord) → Contains entry.turn.out e → (lm : Logged) → slice_get next.nodes e.from ≡ Some lm → (e.from ≡ n) × (after ≡ lm)
     own_node e new lm at_from =
@@ -253,14 +261,11 @@ module _ (program : Program) (nodes : ℕ) (options : OptionsRecord) where
     arrive-kept e m there says =
         let moves : _ = mv program nodes options world flight n l after input entry at come i r r' h.exclusive in
         elim (in-now moves.o (pending world) entry.turn.out (pending next) e moves.goes there) [
-          | inl old ↦ (
-            (h.arrive e m old says).0,
-            λ lm at_from.
-                let b : Before e.from lm = before e.from lm at_from in
-                let some : 1 ≤ count_by (arrive_from e.from) (pending world) + kept_of old_manager e.from =
-                is_sent program nodes options world h.exclusive.timely.stand e m old says in
-                (h.arrive e m old says).1 b.old b.was ∙ sym (b.episode (gate_waits e.from b.old b.was (omega (arith, some)))),
-          )
+          | inl old ↦
+              let some : 1 ≤ count_by (arrive_from e.from) (pending world) + kept_of old_manager e.from =
+              is_sent program nodes options world h.exclusive.timely.stand e m old says in
+              let was : _ = h.arrive e m old says in
+              (was.0, kept_old e.from m.episode was.1 (λ x at_from. gate_waits e.from x at_from (omega (arith, some))))
           | inr new ↦
               let k : _ =
               arrive_letter (site_of l.node) moves.came after.node.mail.wait after.node.barrier moves.letters moves.bars
@@ -273,15 +278,12 @@ module _ (program : Program) (nodes : ℕ) (options : OptionsRecord) where
     clean-kept e episode there says =
         let moves : _ = mv program nodes options world flight n l after input entry at come i r r' h.exclusive in
         elim (in-now moves.o (pending world) entry.turn.out (pending next) e moves.goes there) [
-          | inl old ↦ (
-            (h.clean e episode old says).0,
-            λ lm at_from.
-                let b : Before e.from lm = before e.from lm at_from in
-                let some : 1 ≤ count_by (clean_from e.from) (pending world) =
-                counted_in (clean_from e.from) (pending world) e old
-                (and_from (says_clean e.message) (e.from == e.from) (ap says_clean says) (eq-eqb e.from e.from refl)) in
-                (h.clean e episode old says).1 b.old b.was ∙ sym (b.episode (word_waits e.from b.old b.was (omega (arith, some)))),
-          )
+          | inl old ↦
+              let some : 1 ≤ count_by (clean_from e.from) (pending world) =
+              counted_in (clean_from e.from) (pending world) e old
+              (and_from (says_clean e.message) (e.from == e.from) (ap says_clean says) (eq-eqb e.from e.from refl)) in
+              let was : _ = h.clean e episode old says in
+              (was.0, kept_old e.from episode was.1 (λ x at_from. word_waits e.from x at_from (omega (arith, some))))
           | inr new ↦
               let k : _ =
               clean_letter (site_of l.node) moves.came after.node.mail.wait after.node.barrier moves.letters moves.bars
@@ -293,7 +295,6 @@ module _ (program : Program) (nodes : ℕ) (options : OptionsRecord) where
         → slice_get next.nodes m ≡ Some lm → a.episode ≡ lm.node.barrier.episode
     kept-kept m a lm there at_m =
         let moves : _ = mv program nodes options world flight n l after input entry at come i r r' h.exclusive in
-        let b : Before m lm = before m lm at_m in
         elim (kept_before (site_of l.node) old_manager (is program nodes options world flight n l after input entry at come i r r' h.exclusive)
         moves.came moves.acts after.node.mail.wait after.node.locks after.node.barrier moves.letters moves.passes m a
         (ap (λ (x : ManagerRecord). slice_index_or x.arrivals m None)
@@ -301,7 +302,7 @@ module _ (program : Program) (nodes : ℕ) (options : OptionsRecord) where
           | inl old ↦
               let some : 1 ≤ count_by (arrive_from m) (pending world) + kept_of old_manager m =
               is_kept program nodes options world h.exclusive.timely.stand m a old in
-              h.kept m a b.old old b.was ∙ sym (b.episode (gate_waits m b.old b.was (omega (arith, some))))
+              kept_old m a.episode (λ x at_x. h.kept m a x old at_x) (λ x at_x. gate_waits m x at_x (omega (arith, some))) lm at_m
           | inr new ↦
               let c : Brought l.node.setting.me m (Arrive new.0) (pending world) =
               brought l.node.setting.me m (Arrive new.0) moves.came moves.o (pending world) entry.turn.out (pending next) new.1 moves.brings moves.goes in
@@ -309,8 +310,9 @@ module _ (program : Program) (nodes : ℕ) (options : OptionsRecord) where
               subst (λ k. 1 ≤ count_by (arrive_from k) (pending world) + kept_of old_manager k) c.from_is
               (is_sent program nodes options world h.exclusive.timely.stand c.envelope new.0 c.among c.message_is) in
               ap (λ (a : Arrival). a.episode) new.2
-              ∙ (h.arrive c.envelope new.0 c.among c.message_is).1 b.old (ap (slice_get world.nodes) c.from_is ∙ b.was)
-              ∙ sym (b.episode (gate_waits m b.old b.was (omega (arith, some))))
+              ∙ kept_old m (arrival_in new.0).episode
+              (λ x at_x. (h.arrive c.envelope new.0 c.among c.message_is).1 x (ap (slice_get world.nodes) c.from_is ∙ at_x))
+              (λ x at_x. gate_waits m x at_x (omega (arith, some))) lm at_m
         ]
 
     zero_node : is_some l.node.barrier.manager ≡ true → n ≡ 0
@@ -342,7 +344,6 @@ module _ (program : Program) (nodes : ℕ) (options : OptionsRecord) where
         let x : Arrival = told.2.0 in (
           sent_from l.node.setting.me entry.turn.out e moves.from new ∙ mine ∙ zero_node managed,
           λ lm at_to.
-              let b : Before e.to lm = before e.to lm at_to in
               told.2.2
               ∙ elim (get_set old_manager.arrivals from told.0 (arrival_in a) x told.2.1) [
                 | inl here ↦
@@ -354,14 +355,15 @@ module _ (program : Program) (nodes : ℕ) (options : OptionsRecord) where
                     subst (λ k. 1 ≤ count_by (arrive_from k) (pending world) + kept_of old_manager k) to_from
                     (is_sent program nodes options world h.exclusive.timely.stand c.envelope a c.among c.message_is) in
                     ap (λ (a : Arrival). a.episode) (sym here.1)
-                    ∙ (h.arrive c.envelope a c.among c.message_is).1 b.old (ap (slice_get world.nodes) to_from ∙ b.was)
-                    ∙ sym (b.episode (gate_waits e.to b.old b.was (omega (arith, some))))
+                    ∙ kept_old e.to (arrival_in a).episode
+                    (λ x at_x. (h.arrive c.envelope a c.among c.message_is).1 x (ap (slice_get world.nodes) to_from ∙ at_x))
+                    (λ x at_x. gate_waits e.to x at_x (omega (arith, some))) lm at_to
                 | inr there ↦
                     let kept : slice_index_or old_manager.arrivals e.to None ≡ Some x =
                     subst (λ k. slice_index_or old_manager.arrivals k None ≡ Some x) to_is there in
                     let some : 1 ≤ count_by (arrive_from e.to) (pending world) + kept_of old_manager e.to =
                     is_kept program nodes options world h.exclusive.timely.stand e.to x kept in
-                    h.kept e.to x b.old kept b.was ∙ sym (b.episode (gate_waits e.to b.old b.was (omega (arith, some))))
+                    kept_old e.to x.episode (λ y at_y. h.kept e.to x y kept at_y) (λ y at_y. gate_waits e.to y at_y (omega (arith, some))) lm at_to
               ],
         )
     depart-new e m new says (notes now from episode manager_is letters_is wait_is g) =
@@ -378,13 +380,10 @@ module _ (program : Program) (nodes : ℕ) (options : OptionsRecord) where
     depart-kept e m there says =
         let moves : _ = mv program nodes options world flight n l after input entry at come i r r' h.exclusive in
         elim (in-now moves.o (pending world) entry.turn.out (pending next) e moves.goes there) [
-          | inl old ↦ (
-            (h.depart e m old says).0,
-            λ lm at_to.
-                let b : Before e.to lm = before e.to lm at_to in
-                let some : 1 ≤ count_by (depart_to e.to) (pending world) = is_told program nodes options world e m old says in
-                (h.depart e m old says).1 b.old b.was ∙ sym (b.episode (gate_waits e.to b.old b.was (omega (arith, some)))),
-          )
+          | inl old ↦
+              let some : 1 ≤ count_by (depart_to e.to) (pending world) = is_told program nodes options world e m old says in
+              let was : _ = h.depart e m old says in
+              (was.0, kept_old e.to m.episode was.1 (λ x at_to. gate_waits e.to x at_to (omega (arith, some))))
           | inr new ↦ depart-new e m new says (kind program nodes options world flight n l after input entry at come i r r' h.exclusive)
         ]
 
@@ -429,15 +428,12 @@ module _ (program : Program) (nodes : ℕ) (options : OptionsRecord) where
     word-kept e k there says =
         let moves : _ = mv program nodes options world flight n l after input entry at come i r r' h.exclusive in
         elim (in-now moves.o (pending world) entry.turn.out (pending next) e moves.goes there) [
-          | inl old ↦ (
-            (h.word e k old says).0,
-            λ lm at_to.
-                let b : Before e.to lm = before e.to lm at_to in
-                let some : 1 ≤ count_by (discard_to e.to) (pending world) =
-                counted_in (discard_to e.to) (pending world) e old
-                (and_from (says_discard e.message) (e.to == e.to) (ap says_discard says) (eq-eqb e.to e.to refl)) in
-                (h.word e k old says).1 b.old b.was ∙ sym (b.episode (word_waits e.to b.old b.was (omega (arith, some)))),
-          )
+          | inl old ↦
+              let some : 1 ≤ count_by (discard_to e.to) (pending world) =
+              counted_in (discard_to e.to) (pending world) e old
+              (and_from (says_discard e.message) (e.to == e.to) (ap says_discard says) (eq-eqb e.to e.to refl)) in
+              let was : _ = h.word e k old says in
+              (was.0, kept_old e.to k was.1 (λ x at_to. word_waits e.to x at_to (omega (arith, some))))
           | inr new ↦ word-new e k there new says (kind program nodes options world flight n l after input entry at come i r r' h.exclusive)
         ]
 

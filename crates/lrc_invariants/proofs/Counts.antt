@@ -7,7 +7,7 @@ use Rattle.lrc_time.specs.Time.{entry, joined}
 use Rattle.lrc_time.proofs.Times.{entry-set_same, entry-joined}
 use Rattle.lrc_trace.specs.declared.act.Act.{Act}
 use Rattle.lrc_trace.specs.declared.act.Deed.{Deed}
-use Rattle.lrc_exec.specs.Meaning.{Thread, Next, quiet, prints, reads, writes, acquires, releases, arrives, departs, traps, ends, next_of}
+use Rattle.lrc_exec.specs.Meaning.{Thread, Next, reads, writes, acquires, releases, arrives, departs, next_of}
 use Rattle.lrc_protocol.specs.Course.{Course, going, trapped, ended, deed_of}
 use Rattle.lrc_protocol.specs.Mail.{Wait, nothing, grant, departure, access, upkeep, discard}
 use Rattle.lrc_protocol.specs.Locks.{Locks, next_time}
@@ -59,59 +59,28 @@ pub none_made : (test : Deed → Bool) (c after : Course) (deed : Option Deed) �
 none_made test c after deed r = ap (number test) r.deed_is
 
 pub lock_next : (o : Option Next) (lock : ℕ) → acquiring o ≡ Some lock → (after : Thread) × (o ≡ Some (acquires lock after))
-lock_next None lock e = cc
 lock_next (Some (acquires l t)) lock e = (t, ap (λ l. Some (acquires l t)) (same_Some l lock e))
-lock_next (Some (arrives t)) lock e = cc
-lock_next (Some (quiet t)) lock e = cc
-lock_next (Some (prints v t)) lock e = cc
-lock_next (Some (reads w t)) lock e = cc
-lock_next (Some (writes w v t)) lock e = cc
-lock_next (Some (releases l t)) lock e = cc
-lock_next (Some (departs t)) lock e = cc
-lock_next (Some (traps c)) lock e = cc
-lock_next (Some ends) lock e = cc
+lock_next _ lock e = cc
 
 pub departure_next : (o : Option Next) → is_departing o ≡ true → (after : Thread) × (o ≡ Some (departs after))
-departure_next None e = cc
 departure_next (Some (departs t)) e = (t, refl)
-departure_next (Some (acquires l t)) e = cc
-departure_next (Some (arrives t)) e = cc
-departure_next (Some (quiet t)) e = cc
-departure_next (Some (prints v t)) e = cc
-departure_next (Some (reads w t)) e = cc
-departure_next (Some (writes w v t)) e = cc
-departure_next (Some (releases l t)) e = cc
-departure_next (Some (traps c)) e = cc
-departure_next (Some ends) e = cc
+departure_next _ e = cc
 
 pub access_next : (o : Option Next) → is_access o ≡ true → (next : Next) × ((o ≡ Some next) × (is_plain next ≡ true))
-access_next None e = cc
 access_next (Some (reads w t)) e = (reads w t, (refl, refl))
 access_next (Some (writes w v t)) e = (writes w v t, (refl, refl))
-access_next (Some (departs t)) e = cc
-access_next (Some (acquires l t)) e = cc
-access_next (Some (arrives t)) e = cc
-access_next (Some (quiet t)) e = cc
-access_next (Some (prints v t)) e = cc
-access_next (Some (releases l t)) e = cc
-access_next (Some (traps c)) e = cc
-access_next (Some ends) e = cc
+access_next _ e = cc
 
 -- a test of deeds that synchronize
 pub record Synchronizing (test : Deed → Bool) : Type 0 where
   pub plain_number : (value : ℕ) (next : Next) → is_plain next ≡ true → number test (Some (deed_of value next)) ≡ 0
 
 closes-plain : (value : ℕ) (next : Next) → is_plain next ≡ true → number closes (Some (deed_of value next)) ≡ 0
-closes-plain value (quiet t) e = refl
-closes-plain value (prints v t) e = refl
-closes-plain value (reads w t) e = refl
-closes-plain value (writes w v t) e = refl
 closes-plain value (acquires l t) e = cc
 closes-plain value (releases l t) e = cc
 closes-plain value (arrives t) e = cc
 closes-plain value (departs t) e = cc
-closes-plain value (traps c) e = refl
-closes-plain value ends e = refl
+closes-plain value _ e = refl
 
 -- ---- the own entry
 

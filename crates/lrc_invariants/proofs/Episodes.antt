@@ -4,7 +4,7 @@ use Rattle.std.specs.Prelude.{Option, Some, slice_get, option_map}
 use Rattle.lrc_lang.specs.declared.program.Program.{Program}
 use Rattle.lrc_trace.specs.declared.act.Act.{Act}
 use Rattle.lrc_trace.specs.declared.act.Deed.{Deed}
-use Rattle.lrc_exec.specs.Meaning.{Thread, Next, quiet, prints, reads, writes, acquires, releases, arrives, departs, traps, ends}
+use Rattle.lrc_exec.specs.Meaning.{Thread, Next, acquires, releases, arrives, departs}
 use Rattle.lrc_exec.specs.Plain.{start_of}
 use Rattle.lrc_theory.specs.Follows.{deeds_of}
 use Rattle.lrc_protocol.specs.declared.event.Event.{Event}
@@ -26,28 +26,13 @@ use Rattle.lrc_invariants.proofs.Waiting.{NodeFits, node-fits, departs_arrived}
 use Rattle.lrc_invariants.proofs.Counts.{number, count_more, made, none_made, lock_next, departure_next, access_next}
 
 arrive-plain : (value : ℕ) (next : Next) → is_plain next ≡ true → number is_arrive (Some (deed_of value next)) ≡ 0
-arrive-plain value (quiet t) e = refl
-arrive-plain value (prints v t) e = refl
-arrive-plain value (reads w t) e = refl
-arrive-plain value (writes w v t) e = refl
-arrive-plain value (acquires l t) e = refl
-arrive-plain value (releases l t) e = refl
 arrive-plain value (arrives t) e = cc
 arrive-plain value (departs t) e = cc
-arrive-plain value (traps c) e = refl
-arrive-plain value ends e = refl
+arrive-plain value _ e = refl
 
 depart-plain : (value : ℕ) (next : Next) → is_plain next ≡ true → number is_depart (Some (deed_of value next)) ≡ 0
-depart-plain value (quiet t) e = refl
-depart-plain value (prints v t) e = refl
-depart-plain value (reads w t) e = refl
-depart-plain value (writes w v t) e = refl
-depart-plain value (acquires l t) e = refl
-depart-plain value (releases l t) e = refl
-depart-plain value (arrives t) e = refl
 depart-plain value (departs t) e = cc
-depart-plain value (traps c) e = refl
-depart-plain value ends e = refl
+depart-plain value _ e = refl
 
 -- what one turn adds: to the episode as many as it arrives, and it is inside as often as it has arrived and not departed
 pub record Steps (p : Part) (wait : Wait) (episode : ℕ) (deed : Option Deed) : Type 0 where

@@ -5,7 +5,7 @@ use Rattle.std.proofs.lemmas.Option.{same_Some, slice_get-get_or}
 use Rattle.lrc_lang.specs.declared.program.Program.{Program}
 use Rattle.lrc_trace.specs.declared.act.Act.{Act}
 use Rattle.lrc_trace.specs.declared.act.Deed.{Deed}
-use Rattle.lrc_trace.specs.declared.act.Deed.TheVariants.{Quiet, Print, Read, Write, Acquire, Release, Arrive, Depart, Trap, End}
+use Rattle.lrc_trace.specs.declared.act.Deed.TheVariants.{Acquire, Release, Arrive, Depart}
 use Rattle.lrc_trace.specs.Run.{Does, act_of, departs_before, arrives_before}
 use Rattle.lrc_trace.specs.Synchronization.{IsWellSynchronized}
 use Rattle.lrc_trace.proofs.Positions.{Does-within}
@@ -37,12 +37,7 @@ still_so node last time (Acquire l) h r = cc
 still_so node last time (Release l) h r = cc
 still_so node last time Arrive h r = cc
 still_so node last time Depart h r = cc
-still_so node last time Quiet h r = r
-still_so node last time (Print v) h r = r
-still_so node last time (Read w v) h r = r
-still_so node last time (Write w v) h r = r
-still_so node last time (Trap c) h r = r
-still_so node last time End h r = r
+still_so node last time _ h r = r
 
 pub keeping : (nodes : ℕ) (acts : List Act) (times : List (List ℕ)) → length times ≡ length acts
     → ((j node : ℕ) (deed : Deed) → Does acts j node deed → node < nodes) → AllFollow nodes acts times → KeepsLocks nodes acts times

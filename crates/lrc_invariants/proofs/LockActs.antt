@@ -5,7 +5,7 @@ use Rattle.std.proofs.lemmas.Bool.{eq-eqb, ne_eqb}
 use Rattle.std.proofs.lemmas.List.{get_or_push, length_push}
 use Rattle.lrc_trace.specs.declared.act.Act.{Act}
 use Rattle.lrc_trace.specs.declared.act.Deed.{Deed}
-use Rattle.lrc_trace.specs.declared.act.Deed.TheVariants.{Quiet, Print, Read, Write, Acquire, Release, Arrive, Depart, Trap, End}
+use Rattle.lrc_trace.specs.declared.act.Deed.TheVariants.{Acquire, Release}
 use Rattle.lrc_trace.specs.Run.{Does, act_of}
 use Rattle.lrc_trace.specs.Synchronization.{Holds}
 use Rattle.lrc_trace.proofs.Positions.{Does-last, Does-deed, slice_get-seam}
@@ -86,15 +86,7 @@ module _ (nodes : ℕ) (acts : List Act) (times : List (List ℕ)) (timed : leng
 
   no_release : (d : Deed) → (d ≡ Release l → ⊥) → is_release l d ≡ false
   no_release (Release k) ne = ne_eqb k l (λ e. ne (ap (λ k. Release k) e))
-  no_release Quiet ne = refl
-  no_release (Print v) ne = refl
-  no_release (Read w v) ne = refl
-  no_release (Write w v) ne = refl
-  no_release (Acquire k) ne = refl
-  no_release Arrive ne = refl
-  no_release Depart ne = refl
-  no_release (Trap c) ne = refl
-  no_release End ne = refl
+  no_release _ ne = refl
 
   -- the time of the last release stays at an act that is none
   pub released-still : (deed : Option Deed) → (deed ≡ Some (Release l) → ⊥) → released (Acts' deed) (Times' deed) ≡ released acts times

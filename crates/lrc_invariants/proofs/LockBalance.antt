@@ -68,71 +68,31 @@ module _ (me recent : ℕ) (k k' : Numbers) where
   module _ (one : is_node me me ≡ 1) where
     own : (from : ℕ) (brings : Saying) (to : ℕ) (sends : Saying) (recent' : ℕ) (s s' : LockState) → Passing me recent from brings to sends recent' s s'
         → Changes me me from brings to sends s s' k k' → Balanced me recent k s → Balanced me recent' k' s'
-    own from _ to _ _ s _ same c b =
-        let p = c.asked in let q = c.passed in let r = c.taking in let g = c.granted in let x = c.pointed in let y = b.stands in let z = b.points in
-        record { stands = omega (arith, p, q, r, g, x, y, z, one); points = omega (arith, p, q, r, g, x, y, z, one) }
-    own from _ to _ _ _ _ (takes kept) c b =
-        let p = c.asked in let q = c.passed in let r = c.taking in let g = c.granted in let x = c.pointed in let y = b.stands in let z = b.points in
-        record { stands = omega (arith, p, q, r, g, x, y, z, one); points = omega (arith, p, q, r, g, x, y, z, one) }
-    own from _ to _ _ _ _ requests c b =
-        let p = c.asked in let q = c.passed in let r = c.taking in let g = c.granted in let x = c.pointed in let y = b.stands in let z = b.points in
-        record { stands = omega (arith, p, q, r, g, x, y, z, one); points = omega (arith, p, q, r, g, x, y, z, one) }
-    own from _ to _ _ _ _ (keeps kept) c b =
-        let p = c.asked in let q = c.passed in let r = c.taking in let g = c.granted in let x = c.pointed in let y = b.stands in let z = b.points in
-        record { stands = omega (arith, p, q, r, g, x, y, z, one); points = omega (arith, p, q, r, g, x, y, z, one) }
-    own from _ _ _ _ _ _ (passes w) c b =
-        let p = c.asked in let q = c.passed in let r = c.taking in let g = c.granted in let x = c.pointed in let y = b.stands in let z = b.points in
-        record { stands = omega (arith, p, q, r, g, x, y, z, one); points = omega (arith, p, q, r, g, x, y, z, one) }
-    own _ _ _ _ _ s _ (manages from) c b =
-        let p = c.asked in let q = c.passed in let r = c.taking in let g = c.granted in let x = c.pointed in let y = b.stands in let z = b.points in
-        record { stands = omega (arith, p, q, r, g, x, y, z, one); points = omega (arith, p, q, r, g, x, y, z, one) }
-    own from _ to _ _ _ _ (notes_awaited w) c b =
-        let p = c.asked in let q = c.passed in let r = c.taking in let g = c.granted in let x = c.pointed in let y = b.stands in let z = b.points in
-        record { stands = omega (arith, p, q, r, g, x, y, z, one); points = omega (arith, p, q, r, g, x, y, z, one) }
-    own from _ to _ _ _ _ (notes_held w) c b =
-        let p = c.asked in let q = c.passed in let r = c.taking in let g = c.granted in let x = c.pointed in let y = b.stands in let z = b.points in
-        record { stands = omega (arith, p, q, r, g, x, y, z, one); points = omega (arith, p, q, r, g, x, y, z, one) }
-    own from _ _ _ _ _ _ (gives w kept) c b =
-        let p = c.asked in let q = c.passed in let r = c.taking in let g = c.granted in let x = c.pointed in let y = b.stands in let z = b.points in
-        record { stands = omega (arith, p, q, r, g, x, y, z, one); points = omega (arith, p, q, r, g, x, y, z, one) }
-    own from _ to _ _ _ _ (gets next) c b =
-        let p = c.asked in let q = c.passed in let r = c.taking in let g = c.granted in let x = c.pointed in let y = b.stands in let z = b.points in
-        record { stands = omega (arith, p, q, r, g, x, y, z, one); points = omega (arith, p, q, r, g, x, y, z, one) }
+    own from _ to _ _ s _ same c b = record { stands = omega arith; points = omega arith }
+    own from _ to _ _ _ _ (takes kept) c b = record { stands = omega arith; points = omega arith }
+    own from _ to _ _ _ _ requests c b = record { stands = omega arith; points = omega arith }
+    own from _ to _ _ _ _ (keeps kept) c b = record { stands = omega arith; points = omega arith }
+    own from _ _ _ _ _ _ (passes w) c b = record { stands = omega arith; points = omega arith }
+    own _ _ _ _ _ s _ (manages from) c b = record { stands = omega arith; points = omega arith }
+    own from _ to _ _ _ _ (notes_awaited w) c b = record { stands = omega arith; points = omega arith }
+    own from _ to _ _ _ _ (notes_held w) c b = record { stands = omega arith; points = omega arith }
+    own from _ _ _ _ _ _ (gives w kept) c b = record { stands = omega arith; points = omega arith }
+    own from _ to _ _ _ _ (gets next) c b = record { stands = omega arith; points = omega arith }
 
   -- at another
   module _ (n : ℕ) (none : is_node me n ≡ 0) (there : LockState) where
     other : (from : ℕ) (brings : Saying) (to : ℕ) (sends : Saying) (recent' : ℕ) (s s' : LockState) → Passing me recent from brings to sends recent' s s'
         → Changes me n from brings to sends s s' k k' → Balanced n recent k there → Balanced n recent' k' there
-    other from _ to _ _ s _ same c b =
-        let p = c.asked in let q = c.passed in let r = c.taking in let g = c.granted in let x = c.pointed in let y = b.stands in let z = b.points in
-        record { stands = omega (arith, p, q, r, g, x, y, z, none); points = omega (arith, p, q, r, g, x, y, z, none) }
-    other from _ to _ _ _ _ (takes kept) c b =
-        let p = c.asked in let q = c.passed in let r = c.taking in let g = c.granted in let x = c.pointed in let y = b.stands in let z = b.points in
-        record { stands = omega (arith, p, q, r, g, x, y, z, none); points = omega (arith, p, q, r, g, x, y, z, none) }
-    other from _ to _ _ _ _ requests c b =
-        let p = c.asked in let q = c.passed in let r = c.taking in let g = c.granted in let x = c.pointed in let y = b.stands in let z = b.points in
-        record { stands = omega (arith, p, q, r, g, x, y, z, none); points = omega (arith, p, q, r, g, x, y, z, none) }
-    other from _ to _ _ _ _ (keeps kept) c b =
-        let p = c.asked in let q = c.passed in let r = c.taking in let g = c.granted in let x = c.pointed in let y = b.stands in let z = b.points in
-        record { stands = omega (arith, p, q, r, g, x, y, z, none); points = omega (arith, p, q, r, g, x, y, z, none) }
-    other from _ _ _ _ _ _ (passes w) c b =
-        let p = c.asked in let q = c.passed in let r = c.taking in let g = c.granted in let x = c.pointed in let y = b.stands in let z = b.points in
-        record { stands = omega (arith, p, q, r, g, x, y, z, none); points = omega (arith, p, q, r, g, x, y, z, none) }
-    other _ _ _ _ _ s _ (manages from) c b =
-        let p = c.asked in let q = c.passed in let r = c.taking in let g = c.granted in let x = c.pointed in let y = b.stands in let z = b.points in
-        record { stands = omega (arith, p, q, r, g, x, y, z, none); points = omega (arith, p, q, r, g, x, y, z, none) }
-    other from _ to _ _ _ _ (notes_awaited w) c b =
-        let p = c.asked in let q = c.passed in let r = c.taking in let g = c.granted in let x = c.pointed in let y = b.stands in let z = b.points in
-        record { stands = omega (arith, p, q, r, g, x, y, z, none); points = omega (arith, p, q, r, g, x, y, z, none) }
-    other from _ to _ _ _ _ (notes_held w) c b =
-        let p = c.asked in let q = c.passed in let r = c.taking in let g = c.granted in let x = c.pointed in let y = b.stands in let z = b.points in
-        record { stands = omega (arith, p, q, r, g, x, y, z, none); points = omega (arith, p, q, r, g, x, y, z, none) }
-    other from _ _ _ _ _ _ (gives w kept) c b =
-        let p = c.asked in let q = c.passed in let r = c.taking in let g = c.granted in let x = c.pointed in let y = b.stands in let z = b.points in
-        record { stands = omega (arith, p, q, r, g, x, y, z, none); points = omega (arith, p, q, r, g, x, y, z, none) }
-    other from _ to _ _ _ _ (gets next) c b =
-        let p = c.asked in let q = c.passed in let r = c.taking in let g = c.granted in let x = c.pointed in let y = b.stands in let z = b.points in
-        record { stands = omega (arith, p, q, r, g, x, y, z, none); points = omega (arith, p, q, r, g, x, y, z, none) }
+    other from _ to _ _ s _ same c b = record { stands = omega arith; points = omega arith }
+    other from _ to _ _ _ _ (takes kept) c b = record { stands = omega arith; points = omega arith }
+    other from _ to _ _ _ _ requests c b = record { stands = omega arith; points = omega arith }
+    other from _ to _ _ _ _ (keeps kept) c b = record { stands = omega arith; points = omega arith }
+    other from _ _ _ _ _ _ (passes w) c b = record { stands = omega arith; points = omega arith }
+    other _ _ _ _ _ s _ (manages from) c b = record { stands = omega arith; points = omega arith }
+    other from _ to _ _ _ _ (notes_awaited w) c b = record { stands = omega arith; points = omega arith }
+    other from _ to _ _ _ _ (notes_held w) c b = record { stands = omega arith; points = omega arith }
+    other from _ _ _ _ _ _ (gives w kept) c b = record { stands = omega arith; points = omega arith }
+    other from _ to _ _ _ _ (gets next) c b = record { stands = omega arith; points = omega arith }
 
 pub balanced-own : (me recent : ℕ) (k k' : Numbers) (from : ℕ) (brings : Saying) (to : ℕ) (sends : Saying) (recent' : ℕ) (s s' : LockState)
     → Passing me recent from brings to sends recent' s s' → Changes me me from brings to sends s s' k k' → Balanced me recent k s → Balanced me recent' k' s'

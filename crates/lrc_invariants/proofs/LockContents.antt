@@ -7,7 +7,7 @@ use Rattle.std.proofs.lemmas.Option.{same_Some}
 use Rattle.lrc_time.specs.Time.{entry}
 use Rattle.lrc_wire.specs.Envelope.{EnvelopeRecord}
 use Rattle.lrc_wire.specs.declared.message.Message.{Message}
-use Rattle.lrc_wire.specs.declared.message.Message.TheVariants.{LockRequest, LockForward, LockGrant, Arrive, Depart, Clean, Discard}
+use Rattle.lrc_wire.specs.declared.message.Message.TheVariants.{LockRequest, LockForward, LockGrant}
 use Rattle.lrc_wire.specs.declared.message.Message.TheVariants.{ChangesRequest, ChangesReply, PageRequest, PageReply}
 use Rattle.lrc_barrier.specs.declared.departure.Departure.{Departure}
 use Rattle.lrc_lock.specs.declared.fault.LockFault.TheVariants.{NotMine}
@@ -105,13 +105,7 @@ other_sound nodes locks from to (ChangesRequest m) e = tt
 other_sound nodes locks from to (ChangesReply m) e = tt
 other_sound nodes locks from to (PageRequest page) e = tt
 other_sound nodes locks from to (PageReply m) e = tt
-other_sound nodes locks from to (LockRequest m) e = cc
-other_sound nodes locks from to (LockForward m) e = cc
-other_sound nodes locks from to (LockGrant m) e = cc
-other_sound nodes locks from to (Arrive m) e = cc
-other_sound nodes locks from to (Depart m) e = cc
-other_sound nodes locks from to (Clean episode) e = cc
-other_sound nodes locks from to (Discard episode) e = cc
+other_sound nodes locks from to _ e = cc
 
 others_sound : (nodes locks me : ℕ) (letters : List Letter) → AreOthers letters → SoundLetters nodes locks me letters
 others_sound nodes locks me [] h = tt

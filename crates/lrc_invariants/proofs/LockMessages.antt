@@ -3,7 +3,7 @@ use Rattle.std.proofs.Common.{◌≡◌, ℕ, ◌+◌, List, [], ◌∷◌, Bool
 use Rattle.std.specs.Prelude.{◌==◌, count_by, if◌then◌else◌}
 use Rattle.std.proofs.lemmas.Bool.{eq-eqb, ne_eqb}
 use Rattle.lrc_wire.specs.declared.message.Message.{Message}
-use Rattle.lrc_wire.specs.declared.message.Message.TheVariants.{LockRequest, LockForward, LockGrant, Arrive, Depart, Clean, Discard}
+use Rattle.lrc_wire.specs.declared.message.Message.TheVariants.{LockRequest, LockForward, LockGrant}
 use Rattle.lrc_wire.specs.declared.message.Message.TheVariants.{ChangesRequest, ChangesReply, PageRequest, PageReply}
 use Rattle.lrc_barrier.specs.declared.departure.Departure.{Departure}
 use Rattle.lrc_protocol.specs.Mail.{Letter}
@@ -107,13 +107,7 @@ others-silent l (ChangesRequest m) e = refl
 others-silent l (ChangesReply m) e = refl
 others-silent l (PageRequest page) e = refl
 others-silent l (PageReply m) e = refl
-others-silent l (LockRequest m) e = cc
-others-silent l (LockForward m) e = cc
-others-silent l (LockGrant m) e = cc
-others-silent l (Arrive m) e = cc
-others-silent l (Depart m) e = cc
-others-silent l (Clean episode) e = cc
-others-silent l (Discard episode) e = cc
+others-silent l _ e = cc
 
 pub all_others-silent : (l : ℕ) (letters : List Letter) → AreOthers letters → AllSilent l letters
 all_others-silent l [] h = tt

@@ -9,7 +9,7 @@ use Rattle.lrc_trace.specs.declared.act.Deed.{Deed}
 use Rattle.lrc_trace.specs.declared.act.Deed.TheVariants.{Acquire, Release}
 use Rattle.lrc_time.specs.Time.{entry, joined, Covers}
 use Rattle.lrc_time.proofs.Times.{covers-refl, covers-raised, covers-joined_first}
-use Rattle.lrc_exec.specs.Meaning.{Thread, Next, quiet, prints, reads, writes, acquires, releases, arrives, departs, traps, ends}
+use Rattle.lrc_exec.specs.Meaning.{Thread, Next, acquires, releases, arrives, departs}
 use Rattle.lrc_wire.specs.Records.{LockForwardRecord, LockGrantRecord}
 use Rattle.lrc_wire.specs.declared.message.Message.{Message}
 use Rattle.lrc_wire.specs.declared.message.Message.TheVariants.{LockRequest, LockForward, LockGrant, Arrive, Depart, Clean, Discard}
@@ -105,16 +105,11 @@ no_deed l deed e = record { acquire = λ is. none_some (sym e ∙ is); release =
     none_some is = cc
 
 plain_deed : (l value : ℕ) (next : Next) → is_plain next ≡ true → IsNeither l (Some (deed_of value next))
-plain_deed l value (quiet t) e = record { acquire = λ is. cc; release = λ is. cc }
-plain_deed l value (prints v t) e = record { acquire = λ is. cc; release = λ is. cc }
-plain_deed l value (reads w t) e = record { acquire = λ is. cc; release = λ is. cc }
-plain_deed l value (writes w v t) e = record { acquire = λ is. cc; release = λ is. cc }
 plain_deed l value (acquires k t) e = cc
 plain_deed l value (releases k t) e = cc
 plain_deed l value (arrives t) e = cc
 plain_deed l value (departs t) e = cc
-plain_deed l value (traps c) e = record { acquire = λ is. cc; release = λ is. cc }
-plain_deed l value ends e = record { acquire = λ is. cc; release = λ is. cc }
+plain_deed l value _ e = record { acquire = λ is. cc; release = λ is. cc }
 
 departs_deed : (l value : ℕ) (t : Thread) → IsNeither l (Some (deed_of value (departs t)))
 departs_deed l value t = record { acquire = λ is. cc; release = λ is. cc }
@@ -135,13 +130,7 @@ no_page_grant l (ChangesRequest m) e = refl
 no_page_grant l (ChangesReply m) e = refl
 no_page_grant l (PageRequest page) e = refl
 no_page_grant l (PageReply m) e = refl
-no_page_grant l (LockRequest m) e = cc
-no_page_grant l (LockForward m) e = cc
-no_page_grant l (LockGrant m) e = cc
-no_page_grant l (Arrive m) e = cc
-no_page_grant l (Depart m) e = cc
-no_page_grant l (Clean episode) e = cc
-no_page_grant l (Discard episode) e = cc
+no_page_grant l _ e = cc
 
 others-none : (l : ℕ) (letters : List Letter) → AreOthers letters → NoGrants l letters
 others-none l [] h = tt

@@ -13,7 +13,7 @@ use Rattle.lrc_time.specs.Time.{joined}
 use Rattle.lrc_time.proofs.Times.{joined-none}
 use Rattle.lrc_clock.specs.Times.{time_at, raised, time_before}
 use Rattle.lrc_clock.proofs.Prefixes.{time_at-prefix, time_before-prefix}
-use Rattle.lrc_exec.specs.Meaning.{Setting, Thread, Next, quiet, prints, reads, writes, acquires, releases, arrives, departs, traps, ends}
+use Rattle.lrc_exec.specs.Meaning.{Setting, Thread, Next, acquires, releases, arrives, departs}
 use Rattle.lrc_exec.specs.Plain.{setting_of}
 use Rattle.lrc_protocol.specs.declared.event.Event.{Event}
 use Rattle.lrc_protocol.specs.Course.{Course, deed_of}
@@ -36,16 +36,11 @@ use Rattle.lrc_invariants.proofs.PresentTimes.{AtPresent, AllPresent, all-kept, 
 -- ---- by the kind of turn
 
 plain-rule : (node : ℕ) (last time : List ℕ) (value : ℕ) (next : Next) → is_plain next ≡ true → time ≡ last → FollowsRule node last (deed_of value next) time
-plain-rule node last time value (quiet t) is e = e
-plain-rule node last time value (prints v t) is e = e
-plain-rule node last time value (reads w t) is e = e
-plain-rule node last time value (writes w v t) is e = e
 plain-rule node last time value (acquires l t) is e = cc
 plain-rule node last time value (releases l t) is e = cc
 plain-rule node last time value (arrives t) is e = cc
 plain-rule node last time value (departs t) is e = cc
-plain-rule node last time value (traps c) is e = e
-plain-rule node last time value ends is e = e
+plain-rule node last time value _ is e = e
 
 none_is_some : (d : Deed) → None ≡ Some d → ⊥
 none_is_some d e = cc

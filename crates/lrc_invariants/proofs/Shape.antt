@@ -26,7 +26,7 @@ use Rattle.lrc_protocol.specs.World.{World, run_of}
 use Rattle.lrc_protocol.specs.Follows.{turns_of}
 use Rattle.lrc_invariants.specs.Shape.{HasShape}
 use Rattle.lrc_invariants.proofs.Shift.{Part, part_of, Shift, plain, misses, takes, asks, releasing, arriving, manages, forwarding, grants, departing}
-use Rattle.lrc_invariants.proofs.Shift.{collecting, clean_at_once, discarding, accessing, still_misses, still_collects, cleaning, rests}
+use Rattle.lrc_invariants.proofs.Shift.{collecting, clean_at_once}
 use Rattle.lrc_invariants.proofs.Inputs.{KeptByShifts, at_each}
 
 -- ---- tokens
@@ -132,12 +132,7 @@ shape-kept p s e _ _ _ _ (grants lock time w k) h =
 shape-kept p s e _ _ _ _ (departing time w k) h = learns_so s p.locks time (k.counted ∙ e) h
 shape-kept p s e _ _ _ _ (collecting time w k same) h = learns_so s p.locks time (k.counted ∙ e) h
 shape-kept p s e _ _ _ _ (clean_at_once time w k same) h = learns_so s p.locks time (k.counted ∙ e) h
-shape-kept p s e _ _ _ _ (discarding collection w) h = h
-shape-kept p s e _ _ _ _ (accessing need w) h = h
-shape-kept p s e _ _ _ _ (still_misses before w) h = h
-shape-kept p s e _ _ _ _ (still_collects before had w same) h = h
-shape-kept p s e _ _ _ _ (cleaning before had w same) h = h
-shape-kept p s e _ _ _ _ rests h = h
+shape-kept p s e _ _ _ _ _ h = h
 
 -- of a node
 pub record NodeShape (s : Setting) (o : OptionsRecord) (l : Local) : Type 0 where

@@ -66,6 +66,21 @@ pub record Mute (me m : ℕ) (came : Came) : Type 0 where
   pub cleans : came_count (clean_test m) me came ≡ 0
   pub discards : came_count (discard_test m) me came ≡ 0
 
+-- what comes is counted, and nothing is sent
+counted_silent : (me m : ℕ) (came : Came) (letters : List Letter) → Silent me m letters
+    → Counted me m came letters (came_count (arrive_test m) me came) 0 (came_count (depart_test m) me came) 0
+    (came_count (clean_test m) me came) 0 (came_count (discard_test m) me came) 0
+counted_silent me m came letters s = record {
+  came_arrive = refl;
+  sent_arrive = s.arrives;
+  came_depart = refl;
+  sent_depart = s.departs;
+  came_clean = refl;
+  sent_clean = s.cleans;
+  came_discard = refl;
+  sent_discard = s.discards;
+}
+
 nothing_counted : (me m : ℕ) (came : Came) (letters : List Letter) → Mute me m came → Silent me m letters → Counted me m came letters 0 0 0 0 0 0 0 0
 nothing_counted me m came letters c s = record {
   came_arrive = c.arrives;
@@ -284,16 +299,7 @@ module _ (s : Site) (nodes : ℕ) (within : s.me < nodes) (manager : ManagerReco
         still wait s.barrier.episode
         (own_only (comes from (Depart m)) letters wait s.barrier.episode
         (λ k. 0) (λ k. 0) (λ k. k) (λ k. 0) (λ k. 0) (λ k. 0) (λ k. 0) (λ k. 0)
-        (λ k. record {
-          came_arrive = refl;
-          sent_arrive = (silent k).arrives;
-          came_depart = refl;
-          sent_depart = (silent k).departs;
-          came_clean = refl;
-          sent_clean = (silent k).cleans;
-          came_discard = refl;
-          sent_discard = (silent k).discards;
-        })
+        (λ k. counted_silent s.me k (comes from (Depart m)) letters (silent k))
         (omega arith) (omega (arith, d, d')) (omega (arith, x, x')) refl refl refl f)
 
     cleans-at : (came : Came) (episode : ℕ) (collection : Collection) (w : Wait) (cd : ℕ → ℕ) → cd 0 ≡ 0 → cd 1 ≡ awaits_depart w → awaits_word w ≡ 0
@@ -316,16 +322,7 @@ module _ (s : Site) (nodes : ℕ) (within : s.me < nodes) (manager : ManagerReco
         still nothing s.barrier.episode
         (own_only (comes from (Discard episode)) [] nothing s.barrier.episode
         (λ k. 0) (λ k. 0) (λ k. 0) (λ k. 0) (λ k. 0) (λ k. 0) (λ k. k) (λ k. 0)
-        (λ k. record {
-          came_arrive = refl;
-          sent_arrive = refl;
-          came_depart = refl;
-          sent_depart = refl;
-          came_clean = refl;
-          sent_clean = refl;
-          came_discard = refl;
-          sent_discard = refl;
-        })
+        (λ k. counted_silent s.me k (comes from (Discard episode)) [] (silent_none s.me k))
         (omega arith) (omega (arith, d)) (omega (arith, x)) refl refl refl f)
 
     -- the manager's turns
@@ -340,16 +337,7 @@ module _ (s : Site) (nodes : ℕ) (within : s.me < nodes) (manager : ManagerReco
           kept =
               noting (comes from (Arrive m)) [] (with_arrival manager from (arrival_in m))
               (λ k. cond (from == k) 1 0) (λ k. 0) (λ k. 0) (λ k. 0) (λ k. 0) (λ k. 0) (λ k. 0)
-              (λ k lt. record {
-                came_arrive = refl;
-                sent_arrive = refl;
-                came_depart = refl;
-                sent_depart = refl;
-                came_clean = refl;
-                sent_clean = refl;
-                came_discard = refl;
-                sent_discard = refl;
-              })
+              (λ k lt. counted_silent s.me k (comes from (Arrive m)) [] (silent_none s.me k))
               (λ k lt. let e : _ = more k in omega (arith, e)) (λ k lt. let e : _ = more k in omega (arith, e)) (λ k lt. refl) f;
         })
 
@@ -398,16 +386,7 @@ module _ (s : Site) (nodes : ℕ) (within : s.me < nodes) (manager : ManagerReco
           kept =
               noting (comes from (Clean episode)) [] (record manager { cleans = Some (slice_set g.cleans from true) })
               (λ k. 0) (λ k. 0) (λ k. 0) (λ k. cond (from == k) 1 0) (λ k. 0) (λ k. 0) (λ k. 0)
-              (λ k lt. record {
-                came_arrive = refl;
-                sent_arrive = refl;
-                came_depart = refl;
-                sent_depart = refl;
-                came_clean = refl;
-                sent_clean = refl;
-                came_discard = refl;
-                sent_discard = refl;
-              })
+              (λ k lt. counted_silent s.me k (comes from (Clean episode)) [] (silent_none s.me k))
               (λ k lt. omega arith) (λ k lt. omega arith) (λ k lt. let e : _ = more k in omega (arith, e)) f;
         })
 

@@ -4,7 +4,7 @@ use Rattle.std.specs.Prelude.{Option, Some, None, slice_set, slice_index_or}
 use Rattle.std.proofs.lemmas.Bool.{cases_eq}
 use Rattle.std.proofs.lemmas.List.{get_or-set_same, get_or-set_other, length-set}
 use Rattle.lrc_trace.specs.declared.act.Deed.{Deed}
-use Rattle.lrc_exec.specs.Meaning.{Setting, Thread, Next, quiet, prints, reads, writes, acquires, releases, arrives, departs, traps, ends, holds}
+use Rattle.lrc_exec.specs.Meaning.{Setting, Thread, Next, acquires, releases, arrives, departs, holds}
 use Rattle.lrc_lock.specs.declared.state.LockState.{LockState}
 use Rattle.lrc_lock.specs.declared.state.LockState.TheVariants.{Away, Awaited, Free, Held}
 use Rattle.lrc_lock.specs.Held.{HeldRecord, lock_at, is_held, with_lock, held_after, asked, released, released_at, forwarded, granted, granted_at}
@@ -39,16 +39,9 @@ drops_is : (s : Setting) (t after : Thread) (l : ℕ) → IsText s t → Drops t
 drops_is s t after l i g = record { setting = g.setting ∙ i.setting; places = ap length g.held ∙ length-set t.held l false ∙ i.places }
 
 goes_is : (s : Setting) (t after : Thread) (next : Next) → IsText s t → Goes t next after → IsText s after
-goes_is s t after (quiet a) i g = same_is s t after i g
-goes_is s t after (prints v a) i g = same_is s t after i g
-goes_is s t after (reads w a) i g = same_is s t after i g
-goes_is s t after (writes w v a) i g = same_is s t after i g
 goes_is s t after (acquires l a) i g = takes_is s t after l i g
 goes_is s t after (releases l a) i g = drops_is s t after l i g
-goes_is s t after (arrives a) i g = same_is s t after i g
-goes_is s t after (departs a) i g = same_is s t after i g
-goes_is s t after (traps c) i g = same_is s t after i g
-goes_is s t after ends i g = same_is s t after i g
+goes_is s t after _ i g = same_is s t after i g
 
 pub text-kept : (s : Setting) (b : Bool) (c after : Course) (deed : Option Deed) → Moved b c deed after → TextIs s c → TextIs s after
 text-kept s false c after deed m i t e = i t (sym m.course_is ∙ e)
@@ -94,16 +87,9 @@ agree_granted t after held l (Held successor) h e in_text in_held a = cc
 agree_granted t after held l (Free kept) h e in_text in_held a = cc
 
 plain_same : (t after : Thread) (next : Next) → is_plain next ≡ true → Goes t next after → Same t after
-plain_same t after (quiet a) e g = g
-plain_same t after (prints v a) e g = g
-plain_same t after (reads w a) e g = g
-plain_same t after (writes w v a) e g = g
 plain_same t after (acquires l a) e g = cc
 plain_same t after (releases l a) e g = cc
-plain_same t after (arrives a) e g = g
-plain_same t after (departs a) e g = g
-plain_same t after (traps c) e g = g
-plain_same t after ends e g = g
+plain_same t after _ e g = g
 
 -- a lock that a text acquires is one of the program
 pub acquired_below : (s : Setting) (c : Course) → TextIs s c → (lock : ℕ) → acquiring (next_in c) ≡ Some lock → lock < s.locks

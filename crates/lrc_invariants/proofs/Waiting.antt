@@ -79,16 +79,8 @@ first-leads t (s ∷ rest) e = statement-leads t s rest e
 -- ---- what a thread does next
 
 leads-departs : (next : Next) → Leads next → is_departing (Some next) ≡ false
-leads-departs (quiet t) h = refl
-leads-departs (prints v t) h = refl
-leads-departs (reads w t) h = refl
-leads-departs (writes w v t) h = refl
-leads-departs (acquires l t) h = refl
-leads-departs (releases l t) h = refl
-leads-departs (arrives t) h = refl
 leads-departs (departs t) h = absurd h
-leads-departs (traps c) h = refl
-leads-departs ends h = refl
+leads-departs _ h = refl
 
 departs_by : (t : Thread) (b : Bool) → t.arrived ≡ b
     → is_departing (Some (if b then departs (record t { arrived = false }) else first_act t t.rest)) ≡ b
@@ -130,55 +122,20 @@ after_act before after deed a = ap (λ c. is_departing (next_in c)) a.course_is 
 -- ---- acts that are no arrivals
 
 not_by_lock : (o : Option Next) (lock : ℕ) → acquiring o ≡ Some lock → is_arriving o ≡ false
-not_by_lock None lock e = refl
 not_by_lock (Some (arrives t)) lock e = cc
-not_by_lock (Some (quiet t)) lock e = refl
-not_by_lock (Some (prints v t)) lock e = refl
-not_by_lock (Some (reads w t)) lock e = refl
-not_by_lock (Some (writes w v t)) lock e = refl
-not_by_lock (Some (acquires l t)) lock e = refl
-not_by_lock (Some (releases l t)) lock e = refl
-not_by_lock (Some (departs t)) lock e = refl
-not_by_lock (Some (traps c)) lock e = refl
-not_by_lock (Some ends) lock e = refl
+not_by_lock _ lock e = refl
 
 not_by_departure : (o : Option Next) → is_departing o ≡ true → is_arriving o ≡ false
-not_by_departure None e = refl
 not_by_departure (Some (arrives t)) e = cc
-not_by_departure (Some (quiet t)) e = refl
-not_by_departure (Some (prints v t)) e = refl
-not_by_departure (Some (reads w t)) e = refl
-not_by_departure (Some (writes w v t)) e = refl
-not_by_departure (Some (acquires l t)) e = refl
-not_by_departure (Some (releases l t)) e = refl
-not_by_departure (Some (departs t)) e = refl
-not_by_departure (Some (traps c)) e = refl
-not_by_departure (Some ends) e = refl
+not_by_departure _ e = refl
 
 not_by_access : (o : Option Next) → is_access o ≡ true → is_arriving o ≡ false
-not_by_access None e = refl
 not_by_access (Some (arrives t)) e = cc
-not_by_access (Some (quiet t)) e = refl
-not_by_access (Some (prints v t)) e = refl
-not_by_access (Some (reads w t)) e = refl
-not_by_access (Some (writes w v t)) e = refl
-not_by_access (Some (acquires l t)) e = refl
-not_by_access (Some (releases l t)) e = refl
-not_by_access (Some (departs t)) e = refl
-not_by_access (Some (traps c)) e = refl
-not_by_access (Some ends) e = refl
+not_by_access _ e = refl
 
 plain_arrives : (next : Next) → is_plain next ≡ true → is_arriving (Some next) ≡ false
 plain_arrives (arrives t) e = cc
-plain_arrives (quiet t) e = refl
-plain_arrives (prints v t) e = refl
-plain_arrives (reads w t) e = refl
-plain_arrives (writes w v t) e = refl
-plain_arrives (acquires l t) e = refl
-plain_arrives (releases l t) e = refl
-plain_arrives (departs t) e = refl
-plain_arrives (traps c) e = refl
-plain_arrives ends e = refl
+plain_arrives _ e = refl
 
 -- ---- every turn
 

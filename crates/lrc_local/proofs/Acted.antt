@@ -2,7 +2,7 @@
 use Rattle.std.proofs.Common.{◌≡◌, ℕ, ◌<◌, List, [], ◌∷◌, ◌++◌, Bool, true, false, length, refl, sym, ap, subst, ◌∙◌, arith}
 use Rattle.std.specs.Prelude.{Option, Some, None, All, option_map, fold, map, nat_lt, if◌then◌else◌}
 use Rattle.std.specs.List.{list_all}
-use Rattle.std.proofs.lemmas.Bool.{and_parts, eqb-true}
+use Rattle.std.proofs.lemmas.Bool.{and_parts}
 use Rattle.std.proofs.lemmas.Option.{same_Some}
 use Rattle.std.proofs.lemmas.List.Elements.{All-head}
 use Rattle.lrc_trace.specs.declared.act.Act.{Act}
@@ -26,7 +26,7 @@ use Rattle.lrc_protocol.specs.Copy.{Copy, valid, written, invalid, absent, is_re
 use Rattle.lrc_protocol.specs.Memory.{Memory, copy_at, base_at, with_word, with_keepers, kept_pages, collected_at}
 use Rattle.lrc_protocol.specs.Fetch.{Base, Need, need_of, is_met, mended, with_changes, with_page}
 use Rattle.lrc_protocol.specs.Mail.{numbered, Letter, Wait, nothing, grant, departure, access, upkeep, discard}
-use Rattle.lrc_protocol.specs.Mail.{collection_of, needs_of, is_idle, awaits_grant, awaits_departure, MOST_NUMBER}
+use Rattle.lrc_protocol.specs.Mail.{collection_of, needs_of, is_idle, MOST_NUMBER}
 use Rattle.lrc_protocol.specs.Course.{Course, going, trapped, ended}
 use Rattle.lrc_protocol.specs.Locks.{next_time}
 use Rattle.lrc_protocol.specs.Barrier.{clean_step}
@@ -51,6 +51,7 @@ use Rattle.lrc_local.proofs.Quiet.{learned-none}
 use Rattle.lrc_local.proofs.Needed.{changed_page, sent_page}
 use Rattle.lrc_local.proofs.Replies.{is-mended}
 use Rattle.lrc_local.proofs.Opened.{puts-made, closes-made, learns-made, discards-made, mends-made, cleans-made}
+use Rattle.lrc_invariants.proofs.Shift.{awaits_lock, awaits_leave}
 
 -- what is known of a node before its turn
 pub record Known (node : Node) : Type 0 where
@@ -293,22 +294,6 @@ module _ (ws : List (ℕ × ℕ)) where
       (λ yes. either (list_all is_met needs) _ _ (λ met. cleans-made size needs kept keeping.memory ws none learned_so) (λ unmet. learned_so))
       (λ no. leaves-made [] (waiting nothing knowing) departure (subst (λ w. FixesNext w (next_in node.course)) e known.fits) (λ next x. x)
       (λ x. refl) learned_so)
-
-  awaits_lock : (lock : ℕ) (w : Wait) → awaits_grant lock w ≡ true → w ≡ grant lock
-  awaits_lock lock (grant awaited) e = ap grant (eqb-true awaited lock e)
-  awaits_lock lock nothing e = cc
-  awaits_lock lock departure e = cc
-  awaits_lock lock (access need) e = cc
-  awaits_lock lock (upkeep collection needs) e = cc
-  awaits_lock lock (discard collection) e = cc
-
-  awaits_leave : (w : Wait) → awaits_departure w ≡ true → w ≡ departure
-  awaits_leave departure e = refl
-  awaits_leave nothing e = cc
-  awaits_leave (grant lock) e = cc
-  awaits_leave (access need) e = cc
-  awaits_leave (upkeep collection needs) e = cc
-  awaits_leave (discard collection) e = cc
 
   grant-made : (node : Node) (lock : ℕ) (time : List ℕ) (intervals : List IntervalRecord) → Known node → node.mail.wait ≡ grant lock → Made node
       → After (take_grant node lock time intervals)

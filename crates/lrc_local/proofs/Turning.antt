@@ -23,7 +23,7 @@ use Rattle.lrc_protocol.specs.Copy.{is_readable}
 use Rattle.lrc_protocol.specs.Memory.{copy_at, base_at, with_word, with_interval, learned, with_keepers, collected_at}
 use Rattle.lrc_protocol.specs.Fetch.{Need, need_of, is_met, mended, with_changes, with_page}
 use Rattle.lrc_protocol.specs.Mail.{numbered, Letter, Wait, nothing, grant, departure, access, upkeep, discard, Collection}
-use Rattle.lrc_protocol.specs.Mail.{collection_of, needs_of, is_idle, awaits_grant, awaits_departure, MOST_NUMBER}
+use Rattle.lrc_protocol.specs.Mail.{collection_of, needs_of, is_idle, MOST_NUMBER}
 use Rattle.lrc_protocol.specs.Course.{Course, going, trapped, ended}
 use Rattle.lrc_protocol.specs.Locks.{next_time}
 use Rattle.lrc_protocol.specs.Barrier.{arrive_step, clean_step}
@@ -48,6 +48,7 @@ use Rattle.lrc_local.proofs.Change.{manages as manages_change, moves as moves_ch
 use Rattle.lrc_local.proofs.Change.{learns as learns_change, resumes as resumes_change, begins as begins_change, cleans as cleans_change}
 use Rattle.lrc_local.proofs.Change.{discards as discards_change, misses as misses_change, mends as mends_change, gets_changes as gets_changes_change}
 use Rattle.lrc_local.proofs.Change.{gets_page as gets_page_change}
+use Rattle.lrc_invariants.proofs.Shift.{awaits_lock, awaits_leave}
 
 -- ---- words
 
@@ -297,22 +298,6 @@ module _ (came : Came) (node : Node) where
       (λ yes. goes_on-at _ (with_memory informed (with_keepers informed.memory)) _ (begins time intervals w c n b))
       (λ no. acts-at [] _ refl (begun (learns time intervals (ap is_open w) n b)))
 
-awaits_lock : (lock : ℕ) (w : Wait) → awaits_grant lock w ≡ true → is_open w ≡ true
-awaits_lock lock (grant awaited) e = refl
-awaits_lock lock nothing e = cc
-awaits_lock lock departure e = cc
-awaits_lock lock (access need) e = cc
-awaits_lock lock (upkeep collection needs) e = cc
-awaits_lock lock (discard collection) e = cc
-
-awaits_leave : (w : Wait) → awaits_departure w ≡ true → w ≡ departure
-awaits_leave departure e = refl
-awaits_leave nothing e = cc
-awaits_leave (grant lock) e = cc
-awaits_leave (access need) e = cc
-awaits_leave (upkeep collection needs) e = cc
-awaits_leave (discard collection) e = cc
-
 -- an expected message, its number taken
 take-at : (bare : Node) (e : EnvelopeRecord) (from : ℕ) (message : Message) → is_expected bare from message ≡ true
     → At (comes from message) (taking bare e) (take_effect (taking bare e) from message).node
@@ -322,7 +307,7 @@ take-at bare e from (LockGrant m) x =
     let outer : _ = and_parts _ _ x in
     let inner : _ = and_parts _ _ outer.0 in
     acts-at _ (taking bare e) [] _ refl
-    (begun (learns m.time m.intervals (awaits_lock m.lock bare.mail.wait inner.1) (news (taking bare e) m.time m.intervals outer.1)
+    (begun (learns m.time m.intervals (ap is_open (awaits_lock m.lock bare.mail.wait inner.1)) (news (taking bare e) m.time m.intervals outer.1)
     (record { from = from; message = LockGrant m; came_is = refl; told = refl })))
 take-at bare e from (Arrive m) x = arrival-at _ (taking bare e) from _ _ refl
 take-at bare e from (Depart m) x =

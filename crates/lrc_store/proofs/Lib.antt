@@ -8,6 +8,7 @@ pub mod KnownFirst
 pub mod LinkedStores
 pub mod ListPlaces
 pub mod Lookups
+pub mod Missing
 pub mod Newer
 pub mod NodeWalks
 pub mod Orders

@@ -290,6 +290,14 @@ noted_pages store by_node by_page notices linked =
     ∙ sym (map-map (λ (notice : ℕ × Key). notice.1) (λ (key : Key). key.page) notices)
     ∙ ap (map (λ (key : Key). key.page)) (noted_keys store by_node by_page notices linked)
 
+-- as many as there are notices
+pub noted_long : (store now : StoreRecord) (by_node : NodesRecord) (by_page : ChainsRecord) (notices : List (ℕ × Key))
+    → IsLinkedUp store by_node by_page notices → store ≡ now → length by_page.keys ≡ length (notices_of now)
+noted_long store now by_node by_page notices linked same =
+    ap length (noted_pages store by_node by_page notices linked)
+    ∙ length-map (notices_of store) (λ (key : Key). key.page)
+    ∙ ap (λ (s : StoreRecord). length (notices_of s)) same
+
 -- the key of a notice
 pub key_at-noted : (store : StoreRecord) (by_node : NodesRecord) (by_page : ChainsRecord) (notices : List (ℕ × Key)) (at : ℕ)
     → IsLinkedUp store by_node by_page notices → key_at store at ≡ option_map (λ notice. notice.1) (slice_get notices at)

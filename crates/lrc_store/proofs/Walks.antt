@@ -2,14 +2,14 @@
 use Rattle.std.proofs.Common.{◌≡◌, ℕ, ◌+◌, ◌<◌, ◌≤◌, ◌∙◌, Bool, true, false, not, ◌&&◌, cond, eqb, eqb-true, Option, None, Some}
 use Rattle.std.proofs.Common.{List, [], ◌∷◌, ◌++◌, length, get_or, map, take, reverse, refl, ap, sym, subst, arith}
 use Rattle.std.specs.List.{AllPairs, filter}
-use Rattle.std.proofs.lemmas.List.{get_or-map, get_or-take, get_or_default, length-take-le, take-map, take_all, reverse-append, append-nil, append_assoc}
+use Rattle.std.proofs.lemmas.List.{length-map, get_or-map, get_or-take, get_or_default, length-take-le, take-map, take_all, reverse-append, append-nil, append_assoc}
 use Rattle.lrc_time.specs.Time.{knows}
 use Rattle.lrc_store.specs.declared.key.Key.{Key}
 use Rattle.lrc_store.specs.Chains.{last_at}
 use Rattle.lrc_store.specs.Links.{page_named, is_unknown_on}
 use Rattle.lrc_store.specs.Lists.{knows_notice}
 use Rattle.lrc_store.proofs.NodeWalks.{filter_of_none}
-use Rattle.lrc_store.proofs.Chained.{Reaches, reaches, picked_more, last_at-map}
+use Rattle.lrc_store.proofs.Chained.{Reaches, reaches, reach, reach-taken, picked_more, last_at-map}
 
 abbrev none : ℕ × Key
 none = (0, record { node = 0; index = 0; page = 0 })
@@ -28,9 +28,8 @@ module _ (page : ℕ) (since : List ℕ) (notices : List (ℕ × Key)) where
       × Reaches on_page (is_unknown_on page since) notices bound next
       × (filter (is_unknown_on page since) notices ≡ filter (is_unknown_on page since) (take bound notices) ++ reverse found)
 
-  pub walk_starts : (keys : List ℕ) (next : Option ℕ) → keys ≡ map page_named notices
-      → next ≡ last_at (λ other. eqb other page) keys → IsWalked next []
-  walk_starts keys next linked is =
+  starts : (keys : List ℕ) (next : Option ℕ) → keys ≡ map page_named notices → next ≡ last_at (λ other. eqb other page) keys → IsWalked next []
+  starts keys next linked is =
       let whole : take (length notices) notices ≡ notices = take_all (length notices) notices (omega arith) in
       let first : next ≡ last_at on_page (take (length notices) notices) =
       is ∙ ap (last_at (λ other. eqb other page)) linked ∙ last_at-map (λ other. eqb other page) page_named notices
@@ -42,6 +41,23 @@ module _ (page : ℕ) (since : List ℕ) (notices : List (ℕ × Key)) where
         sym (append-nil (filter (is_unknown_on page since) notices))
             ∙ ap (λ (l : List (ℕ × Key)). filter (is_unknown_on page since) l ++ []) (sym whole),
       )
+
+  pub walk_starts : (keys : List ℕ) (next : Option ℕ) (found : List (ℕ × Key)) → found ≡ [] → keys ≡ map page_named notices
+      → next ≡ last_at (λ other. eqb other page) keys → IsWalked next found
+  walk_starts keys next found nothing linked is = subst (IsWalked next) (sym nothing) (starts keys next linked is)
+
+  -- at an entry
+  pub walk_at : (at : ℕ) (spot : Option ℕ) (found : List (ℕ × Key)) → spot ≡ Some at → IsWalked spot found → IsWalked (Some at) found
+  walk_at at spot found is walked = subst (λ (next : Option ℕ). IsWalked next found) is walked
+
+  -- every step goes to an entry before
+  pub walk_falls : (at : ℕ) (spot next : Option ℕ) (keys : List ℕ) → spot ≡ Some at → at < length notices → keys ≡ map page_named notices
+      → next ≡ last_at (λ other. eqb other (get_or keys at 0)) (take at keys) → reach next < reach spot
+  walk_falls at spot next keys is within linked is_next =
+      let long : at ≤ length keys = omega (arith, within, ap length linked, length-map notices page_named) in
+      let falls : reach (last_at (λ other. eqb other (get_or keys at 0)) (take at keys)) ≤ at =
+      reach-taken (λ other. eqb other (get_or keys at 0)) keys 0 at long in
+      omega (arith, falls, ap reach is_next, ap reach is)
 
   pub walk_within : (at : ℕ) (found : List (ℕ × Key)) → IsWalked (Some at) found → at < length notices
   walk_within at found walked = omega (arith, walked.2.0, walked.1)
@@ -118,6 +134,9 @@ module _ (page : ℕ) (since : List ℕ) (notices : List (ℕ × Key)) where
       ∙ older at k d first within less (here at found walked d) known (on_page (get_or notices k d)) refl) in
       (at, omega (arith, within), all_known, gathered at found found true walked d known (sym (append-nil found)))
 
-  pub walk_ends : (found : List (ℕ × Key)) → IsWalked None found → filter (is_unknown_on page since) notices ≡ reverse found
-  walk_ends found walked =
-      walked.3 ∙ ap (λ (l : List (ℕ × Key)). l ++ reverse found) walked.2
+  -- what is turned round at the end is what the time does not know
+  pub walk_ends : (spot : Option ℕ) (found all : List (ℕ × Key)) → spot ≡ None → IsWalked spot found → all ≡ reverse found
+      → all ≡ filter (is_unknown_on page since) notices
+  walk_ends spot found all is walked turned =
+      let ended : IsWalked None found = subst (λ (next : Option ℕ). IsWalked next found) is walked in
+      turned ∙ ap (λ (l : List (ℕ × Key)). l ++ reverse found) (sym ended.2) ∙ sym ended.3

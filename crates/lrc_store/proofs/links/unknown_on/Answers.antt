@@ -1,22 +1,21 @@
-use Rattle.std.proofs.Common.{◌<◌, ◌≤◌, ◌∙◌, ◌++◌, ◌∷◌, [], ℕ, eqb, true, false, Option, Some, length, get_or, sym, ap, subst, arith, append-nil, Vec, Global}
+use Rattle.std.proofs.Common.{◌<◌, ◌∙◌, ◌++◌, ◌∷◌, [], ℕ, true, false, Some, length, sym, ap, arith, append-nil, Vec, Global}
 use Rattle.std.proofs.lemmas.List.{length-map}
 use Rattle.lrc_time.specs.Time.{knows}
 use Rattle.lrc_store.specs.declared.key.Key.{Key}
 use Rattle.lrc_store.specs.Links.{page_named}
-use Rattle.lrc_store.proofs.Chained.{reach, reach-taken}
-use Rattle.lrc_store.proofs.Walks.{IsWalked, walk_starts, walk_within, walk_goes_on, walk_ends}
+use Rattle.lrc_store.proofs.Walks.{IsWalked, walk_starts, walk_at, walk_falls, walk_within, walk_goes_on, walk_ends}
 use Rattle.lrc_store.proofs.links.unknown_on.Goals as goal
-use Rattle.lrc_store.proofs.links.unknown_on.Goals.{In-Some, After-next-next, then-not-is_known+in_ok-push, else-not-is_known}
+use Rattle.lrc_store.proofs.links.unknown_on.Goals.{In-Some, then-not-is_known+in_ok-push, else-not-is_known}
 
 pub loop-next-init : goal.loop-next-init
 loop-next-init c =
-    subst (IsWalked c.args.page c.args.since.now c.args.arena.now.notices c.first-next.result) (sym c.new-found.ensures.items)
-    (walk_starts c.args.page c.args.since.now c.args.arena.now.notices c.args.by_page.now.keys c.first-next.result c.requires.linked c.first-next.ensures)
+    walk_starts c.args.page c.args.since.now c.args.arena.now.notices c.args.by_page.now.keys c.first-next.result _
+    c.new-found.ensures.items c.requires.linked c.first-next.ensures
 
 -- the walk as it stands in the loop
 here : (c : In-Some) → IsWalked c.args.page c.args.since.now c.args.arena.now.notices (Some c.in-Some.at) c.loop-next.found.items
 here c =
-    subst (λ (next : Option ℕ). IsWalked c.args.page c.args.since.now c.args.arena.now.notices next c.loop-next.found.items) c.in-Some.is c.loop-next.invariant
+    walk_at c.args.page c.args.since.now c.args.arena.now.notices c.in-Some.at _ c.loop-next.found.items c.in-Some.is c.loop-next.invariant
 
 within : (c : In-Some) → c.in-Some.at < length c.args.arena.now.notices
 within c = walk_within c.args.page c.args.since.now c.args.arena.now.notices c.in-Some.at c.loop-next.found.items (here c)
@@ -53,18 +52,9 @@ loop-next-preserved c =
 
 pub loop-next-smaller : goal.loop-next-smaller
 loop-next-smaller c =
-    let at = c.in-Some.at in
-    let keys = c.args.by_page.now.keys in
-    let inside = within (goal.at.loop-next-smaller c).In-Some in
-    let falls = reach-taken (λ other. eqb other (get_or keys at 0)) keys 0 at
-    (omega (arith, inside, ap length c.requires.linked, length-map c.args.arena.now.notices page_named)) in
-    let next : reach c.next-next.result ≤ at =
-    subst (λ (n : Option ℕ). reach n ≤ at) (sym c.next-next.ensures) falls in
-    subst (λ (n : Option ℕ). reach c.next-next.result < reach n) (sym c.in-Some.is) (omega (arith, next))
+    walk_falls c.args.page c.args.since.now c.args.arena.now.notices c.in-Some.at _ c.next-next.result c.args.by_page.now.keys c.in-Some.is
+    (within (goal.at.loop-next-smaller c).In-Some) c.requires.linked c.next-next.ensures
 
 pub returns : goal.returns
 returns c =
-    let ended = walk_ends c.args.page c.args.since.now c.args.arena.now.notices c.loop-next.found.items
-    (subst (λ (next : Option ℕ). IsWalked c.args.page c.args.since.now c.args.arena.now.notices next c.loop-next.found.items)
-    c.in_default.is c.loop-next.invariant) in
-    c.reverse.ensures.items ∙ sym ended
+    walk_ends c.args.page c.args.since.now c.args.arena.now.notices _ c.loop-next.found.items _ c.in_default.is c.loop-next.invariant c.reverse.ensures.items

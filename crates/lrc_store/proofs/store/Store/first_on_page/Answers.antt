@@ -1,10 +1,8 @@
-use Rattle.std.proofs.Common.{◌≡◌, ℕ, List, length, ap, sym, ◌∙◌, arith}
-use Rattle.std.proofs.lemmas.List.{length-map}
-use Rattle.lrc_store.specs.declared.key.Key.{Key}
-use Rattle.lrc_store.specs.Lists.{first_on_page_of, head_of, notices_of}
+use Rattle.std.proofs.Common.{◌≡◌, ℕ, List, ap, sym, ◌∙◌, arith}
+use Rattle.lrc_store.specs.Lists.{first_on_page_of, head_of}
 use Rattle.lrc_store.specs.Store.{StoreRecord}
 use Rattle.lrc_store.proofs.Followed.{head_within}
-use Rattle.lrc_store.proofs.LinkedStores.{noted_pages}
+use Rattle.lrc_store.proofs.LinkedStores.{noted_pages, noted_long}
 use Rattle.lrc_store.proofs.store.Store.first_on_page.Goals as goal
 use Rattle.lrc_store.proofs.store.Store.first_on_page.Goals.{After-first}
 
@@ -27,12 +25,6 @@ returns-clause-first c = sym c.in_ok-place.was ∙ first (goal.at.returns-clause
 pub returns-clause-in_use : goal.returns-clause-in_use
 returns-clause-in_use c = λ at is.
     let store : StoreRecord = record { pages = c.self.inside.pages; last = c.self.inside.last; entries = c.self.inside.arena.entries } in
-    let linked = noted_pages store c.self.inside.by_node c.self.inside.by_page c.self.inside.arena.notices c.self.invariant in
+    let long = noted_long store c.args.self.now c.self.inside.by_node c.self.inside.by_page c.self.inside.arena.notices c.self.invariant c.self.view_is in
     let within = head_within c.self.inside.by_page.keys c.args.page at (sym c.first.ensures ∙ c.in_ok-place.was ∙ is) in
-    omega (
-      arith,
-      within,
-      ap length linked,
-      length-map (notices_of store) (λ (key : Key). key.page),
-      ap (λ (s : StoreRecord). length (notices_of s)) c.self.view_is,
-    )
+    omega (arith, within, long)

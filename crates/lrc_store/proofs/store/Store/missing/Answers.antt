@@ -1,38 +1,25 @@
-use Rattle.std.proofs.Common.{◌≡◌, map, ap, subst, ◌∙◌}
-use Rattle.std.specs.List.{filter}
+use Rattle.std.proofs.Common.{◌≡◌, List}
 use Rattle.std.proofs.lemmas.Result.{IfOk-weaker}
-use Rattle.lrc_store.specs.Store.{StoreRecord, IsStore, intervals_of, is_missing}
-use Rattle.lrc_store.specs.Links.{ranked, is_unknown_on}
-use Rattle.lrc_store.proofs.LinkedStores.{unknown_is_missing}
-use Rattle.lrc_store.proofs.Ranks.{IsMissing-missing_of, IsMissing-only}
+use Rattle.lrc_store.specs.declared.key.Key.{Key}
+use Rattle.lrc_store.specs.Store.{StoreRecord, IsMissing, missing_of}
+use Rattle.lrc_store.proofs.Missing.{ArePutInOrder, IsMissing-found}
 use Rattle.lrc_store.proofs.store.Store.missing.Goals as goal
 use Rattle.lrc_store.proofs.store.Store.missing.Goals.{After-keys_in_order}
 
 -- what is put in order is what is missing
-kept : (c : After-keys_in_order)
-    → c.in_ok-found.found.items ≡ map (ranked c.args.page) (filter (is_missing c.args.page c.args.since.now) (intervals_of c.args.self.now))
-kept c =
-    let page = c.args.page in
-    let since = c.args.since.now in
+found : (c : After-keys_in_order) (keys : List Key) → ArePutInOrder c.in_ok-found.found.items keys
+    → IsMissing c.args.self.now c.args.page c.args.since.now keys × (keys ≡ missing_of c.args.self.now c.args.page c.args.since.now)
+found c keys =
     let store : StoreRecord = record { pages = c.self.inside.pages; last = c.self.inside.last; entries = c.self.inside.arena.entries } in
-    c.in_ok-found.ensures ∙ ap (filter (is_unknown_on page since)) c.self.invariant.noted
-    ∙ unknown_is_missing page since (intervals_of store) c.self.invariant.intervals
-    ∙ ap (λ (s : StoreRecord). map (ranked page) (filter (is_missing page since) (intervals_of s))) c.self.view_is
+    IsMissing-found store c.args.self.now c.self.inside.by_node c.self.inside.by_page c.self.inside.arena.notices c.args.page c.args.since.now
+    c.in_ok-found.found.items keys c.self.invariant c.self.view_is c.in_ok-found.ensures
 
 pub returns-clause-missing : goal.returns-clause-missing
 returns-clause-missing c =
     let a = (goal.at.returns-clause-missing c).After-keys_in_order in
-    let sound : IsStore a.args.self.now = subst IsStore a.self.view_is a.self.invariant.sound in
-    IfOk-weaker a.keys_in_order.result _ _
-    (λ keys found. found a.args.self.now a.args.page a.args.since.now sound (kept a))
-    a.keys_in_order.ensures
+    IfOk-weaker a.keys_in_order.result _ _ (λ keys ordered. (found a keys.items ordered).0) a.keys_in_order.ensures
 
 pub returns-clause-value : goal.returns-clause-value
 returns-clause-value c =
     let a = (goal.at.returns-clause-value c).After-keys_in_order in
-    let sound : IsStore a.args.self.now = subst IsStore a.self.view_is a.self.invariant.sound in
-    IfOk-weaker a.keys_in_order.result _ _
-    (λ keys found.
-    IsMissing-only a.args.self.now a.args.page a.args.since.now _ _
-    (found a.args.self.now a.args.page a.args.since.now sound (kept a)) (IsMissing-missing_of a.args.self.now a.args.page a.args.since.now sound))
-    a.keys_in_order.ensures
+    IfOk-weaker a.keys_in_order.result _ _ (λ keys ordered. (found a keys.items ordered).1) a.keys_in_order.ensures

@@ -1,25 +1,15 @@
-use Rattle.std.proofs.Common.{◌≡◌, ◌<◌, ◌∙◌, ◌+◌, Some, length, ap, sym, subst, arith}
-use Rattle.std.proofs.lemmas.List.{length-map}
+use Rattle.std.proofs.Common.{◌≡◌, ◌<◌, ◌∙◌, ◌+◌, Some, length, sym, subst, arith}
 use Rattle.std.proofs.lemmas.Option.{same_Some, slice_get_within}
-use Rattle.lrc_store.specs.declared.key.Key.{Key}
 use Rattle.lrc_store.specs.Lists.{key_at, notices_of}
 use Rattle.lrc_store.specs.Store.{StoreRecord}
-use Rattle.lrc_store.proofs.LinkedStores.{noted_pages}
+use Rattle.lrc_store.proofs.LinkedStores.{noted_long}
 use Rattle.lrc_store.proofs.store.Store.next_in_interval.Goals as goal
 
 pub overflow_add-after : goal.overflow_add-after
 overflow_add-after c =
     let store : StoreRecord = record { pages = c.self.inside.pages; last = c.self.inside.last; entries = c.self.inside.arena.entries } in
-    let linked = noted_pages store c.self.inside.by_node c.self.inside.by_page c.self.inside.arena.notices c.self.invariant in
-    omega (
-      arith,
-      ap length linked,
-      length-map (notices_of store) (λ (key : Key). key.page),
-      ap (λ (s : StoreRecord). length (notices_of s)) c.self.view_is,
-      c.requires,
-      c.at.view_is,
-      c.len-few.ensures.few,
-    )
+    let long = noted_long store c.args.self.now c.self.inside.by_node c.self.inside.by_page c.self.inside.arena.notices c.self.invariant c.self.view_is in
+    omega (arith, long, c.requires, c.at.view_is, c.len-few.ensures.few)
 
 pub returns-then-is_of_one_with-clause-in_use : goal.returns-then-is_of_one_with-clause-in_use
 returns-then-is_of_one_with-clause-in_use c = λ notice is.

@@ -1,25 +1,16 @@
-use Rattle.std.proofs.Common.{◌≡◌, ℕ, List, length, ap, sym, ◌∙◌, arith}
-use Rattle.std.proofs.lemmas.List.{length-map}
-use Rattle.lrc_store.specs.declared.key.Key.{Key}
-use Rattle.lrc_store.specs.Lists.{next_on_page_of, link_of, notices_of}
+use Rattle.std.proofs.Common.{◌≡◌, ℕ, List, ap, sym, ◌∙◌, arith}
+use Rattle.lrc_store.specs.Lists.{next_on_page_of, link_of}
 use Rattle.lrc_store.specs.Store.{StoreRecord}
 use Rattle.lrc_store.proofs.Followed.{link_within}
-use Rattle.lrc_store.proofs.LinkedStores.{noted_pages}
+use Rattle.lrc_store.proofs.LinkedStores.{noted_pages, noted_long}
 use Rattle.lrc_store.proofs.store.Store.next_on_page.Goals as goal
 use Rattle.lrc_store.proofs.store.Store.next_on_page.Goals.{After-next}
 
 pub next-requires : goal.next-requires
 next-requires c =
     let store : StoreRecord = record { pages = c.self.inside.pages; last = c.self.inside.last; entries = c.self.inside.arena.entries } in
-    let linked = noted_pages store c.self.inside.by_node c.self.inside.by_page c.self.inside.arena.notices c.self.invariant in
-    omega (
-      arith,
-      ap length linked,
-      length-map (notices_of store) (λ (key : Key). key.page),
-      ap (λ (s : StoreRecord). length (notices_of s)) c.self.view_is,
-      c.requires,
-      c.at.view_is,
-    )
+    let long = noted_long store c.args.self.now c.self.inside.by_node c.self.inside.by_page c.self.inside.arena.notices c.self.invariant c.self.view_is in
+    omega (arith, long, c.requires, c.at.view_is)
 
 -- the next of the page's list
 next : (c : After-next) → c.next.result ≡ next_on_page_of c.args.self.now c.args.at
@@ -41,15 +32,7 @@ returns-clause-next c = sym c.in_ok-place.was ∙ next (goal.at.returns-clause-n
 pub returns-clause-in_use : goal.returns-clause-in_use
 returns-clause-in_use c = λ earlier is.
     let store : StoreRecord = record { pages = c.self.inside.pages; last = c.self.inside.last; entries = c.self.inside.arena.entries } in
-    let linked = noted_pages store c.self.inside.by_node c.self.inside.by_page c.self.inside.arena.notices c.self.invariant in
-    let less = link_within c.self.inside.by_page.keys c.at.inside.place earlier
-    (omega (
-      arith,
-      ap length linked,
-      length-map (notices_of store) (λ (key : Key). key.page),
-      ap (λ (s : StoreRecord). length (notices_of s)) c.self.view_is,
-      c.requires,
-      c.at.view_is,
-    ))
+    let long = noted_long store c.args.self.now c.self.inside.by_node c.self.inside.by_page c.self.inside.arena.notices c.self.invariant c.self.view_is in
+    let less = link_within c.self.inside.by_page.keys c.at.inside.place earlier (omega (arith, long, c.requires, c.at.view_is))
     (sym c.next.ensures ∙ c.in_ok-place.was ∙ is) in
     omega (arith, less, c.at.view_is)
