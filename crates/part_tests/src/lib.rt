@@ -14,6 +14,10 @@ mod execution;
 #[cfg(test)]
 mod language;
 #[cfg(test)]
+mod large_messages;
+#[cfg(test)]
+mod large_stores;
+#[cfg(test)]
 mod locks;
 #[cfg(test)]
 mod messages;
