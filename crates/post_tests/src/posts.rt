@@ -182,10 +182,19 @@ fn polled_in_order<R: Wait>(rt: &R, post: &Post) -> Result<u64, PostFault> {
     Ok(10_000)
 }
 
+/// The stamps from 1 on, so many.
+fn stamps_upto(alloc: Global, count: u64) -> Result<Vec<u64>, AllocError> {
+    let mut stamps = Vec::new(alloc);
+    for before in 0..count {
+        stamps.push(before + 1)?;
+    }
+    Ok(stamps)
+}
+
 #[test]
 fn post_keeps_three_thousand_parcels(rt: HostRuntime) -> Result<(), Fail> {
     let post = Post::new(rt.alloc(), 16, Picker::Oldest)?;
-    let stamps = (1..=3_000u64).collect::<Vec<u64>>(rt.alloc())?;
+    let stamps = stamps_upto(rt.alloc(), 3_000)?;
     let refused = put_stamps(&rt, rt.alloc(), &post, &stamps)?;
     let given = polled_in_order(&rt, &post)?;
     assert!(rt; (refused, given) == (None, 3_000));

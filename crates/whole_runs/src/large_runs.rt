@@ -8,49 +8,70 @@ use std::alloc::{AllocError, Global};
 use std::sync::Wait;
 use std::thread::Threads;
 
-/// How many nodes run a text, how many values each of them prints, the least of them, and the text. Each value is one more
+/// A program of so many nodes that all come to its end, in one way. Each prints so many values, from `first` on each one more
 /// than the one before it.
-type Case = (Nodes, u32, u64, &'static [u8]);
+#[derive(Clone, Copy)]
+struct Case {
+    nodes: Nodes,
+    collect: Collect,
+    order: Picker,
+    size: Size,
+    prints: u32,
+    first: u64,
+    text: &'static [u8],
+}
 
 const CASES: [Case; 4] = [
     // six hundred intervals of one node, of which three hundred changed a page
-    (
-        Nodes { count: 3 },
-        1,
-        300,
-        b"words 1; locks 1; if me == 0 { while x < 300 { acquire 0; [0] = x + 1; release 0; x = x + 1; } } barrier; y = [0]; print y;",
-    ),
+    Case {
+        nodes: Nodes { count: 3 },
+        collect: Collect { count: 0 },
+        order: Picker::Newest,
+        size: Size::Words64,
+        prints: 1,
+        first: 300,
+        text: b"words 1; locks 1; if me == 0 { while x < 300 { acquire 0; [0] = x + 1; release 0; x = x + 1; } } barrier; y = [0]; print y;",
+    },
     // two nodes write to every page of 64 words, and each reads what the other wrote: the numbers below 1,024
-    (
-        Nodes { count: 2 },
-        1,
-        523_776,
-        b"words 65536; locks 0; while x < 1024 { [x * 64 + me] = x; x = x + 1; } barrier; x = 0;
+    Case {
+        nodes: Nodes { count: 2 },
+        collect: Collect { count: 1 },
+        order: Picker::Oldest,
+        size: Size::Words64,
+        prints: 1,
+        first: 523_776,
+        text: b"words 65536; locks 0; while x < 1024 { [x * 64 + me] = x; x = x + 1; } barrier; x = 0;
     while x < 1024 { y = [x * 64 + 1 - me]; z = z + y; x = x + 1; } print z;",
-    ),
-    // sixteen nodes take each of 64 locks, and under each add their number to a word of its own
-    (
-        Nodes { count: 16 },
-        1,
-        7_680,
-        b"words 64; locks 64; while x < 64 { acquire x; y = [x]; [x] = y + me; release x; x = x + 1; } barrier; x = 0;
-    while x < 64 { y = [x]; z = z + y; x = x + 1; } print z;",
-    ),
-    // each of sixteen nodes prints two hundred numbers, with a barrier after each
-    (
-        Nodes { count: 16 },
-        200,
-        1_000,
-        b"words 1; locks 0; while x < 200 { print 1000 + x; barrier; x = x + 1; }",
-    ),
+    },
+    // sixteen nodes take each of the last eight locks, and under each add their number to a word of its own
+    Case {
+        nodes: Nodes { count: 16 },
+        collect: Collect { count: 0 },
+        order: Picker::Twice,
+        size: Size::Words256,
+        prints: 1,
+        first: 960,
+        text: b"words 8; locks 64; while x < 8 { acquire 56 + x; y = [x]; [x] = y + me; release 56 + x; x = x + 1; } barrier; x = 0;
+    while x < 8 { y = [x]; z = z + y; x = x + 1; } print z;",
+    },
+    // each of sixteen nodes prints two hundred numbers, with a barrier after every twenty
+    Case {
+        nodes: Nodes { count: 16 },
+        collect: Collect { count: 20 },
+        order: Picker::Oldest,
+        size: Size::Words64,
+        prints: 200,
+        first: 1_000,
+        text: b"words 1; locks 0; while x < 200 { print 1000 + x; x = x + 1; if x % 20 == 0 { barrier; } }",
+    },
 ];
 
 /// What the nodes of a case print.
 fn printed(alloc: Global, case: Case) -> Result<Vec<u8>, AllocError> {
     let mut out = Vec::new(alloc);
-    for node in 0..case.0.count {
-        for value in 0..case.1 {
-            let number = case.2.wrapping_add(u64::from(value));
+    for node in 0..case.nodes.count {
+        for value in 0..case.prints {
+            let number = case.first.wrapping_add(u64::from(value));
             let line = format!(in alloc; "node {node} prints {number}\n")?;
             out.extend_from_slice(line.as_bytes())?;
         }
@@ -61,29 +82,22 @@ fn printed(alloc: Global, case: Case) -> Result<Vec<u8>, AllocError> {
 }
 
 /// The options of a case.
-fn options_of(case: Case, collect: Collect, order: Picker, size: Size) -> RunOptions<'static> {
+fn options_of(case: Case) -> RunOptions<'static> {
     RunOptions {
-        nodes: case.0,
-        collect,
-        order,
-        size,
+        nodes: case.nodes,
+        collect: case.collect,
+        order: case.order,
+        size: case.size,
         ..ON_ONE_NODE
     }
 }
 
-/// Whether a case prints what it has to on the plain machine, without collections, and with rare and frequent ones.
+/// Whether a case prints what it has to on the plain machine and by messages.
 fn is_printed(alloc: Global, case: Case) -> Result<bool, AllocError> {
     let out = printed(alloc, case)?;
-    let seldom = options_of(case, Collect { count: 0 }, Picker::Oldest, Size::Words64);
-    let rare = options_of(case, Collect { count: 500 }, Picker::Twice, Size::Words256);
-    let often = options_of(case, Collect { count: 1 }, Picker::Newest, Size::Words64);
-    let rounds = in_rounds(alloc, case.0, ALL_STEPS, case.3).prints(&out, 0);
-    Ok(
-        rounds
-            && simulated(alloc, seldom, case.3).prints(&out, 0)
-            && simulated(alloc, rare, case.3).prints(&out, 0)
-            && simulated(alloc, often, case.3).prints(&out, 0),
-    )
+    let rounds = in_rounds(alloc, case.nodes, ALL_STEPS, case.text);
+    let driven = simulated(alloc, options_of(case), case.text);
+    Ok(rounds.prints(&out, 0) && driven.prints(&out, 0))
 }
 
 #[test]
@@ -100,12 +114,7 @@ fn is_printed_on_threads<R: Threads + Wait + Sync + AllocGlobal>(
     case: Case,
 ) -> Result<bool, AllocError> {
     let out = printed(rt.alloc(), case)?;
-    let seldom = options_of(case, Collect { count: 0 }, Picker::Oldest, Size::Words64);
-    let often = options_of(case, Collect { count: 1 }, Picker::Twice, Size::Words64);
-    Ok(
-        on_threads(rt, seldom, case.3).prints(&out, 0)
-            && on_threads(rt, often, case.3).prints(&out, 0),
-    )
+    Ok(on_threads(rt, options_of(case), case.text).prints(&out, 0))
 }
 
 #[test]
