@@ -4,15 +4,7 @@
 #[cfg(test)]
 mod barriers;
 #[cfg(test)]
-mod clocks;
-#[cfg(test)]
 mod copies;
-#[cfg(test)]
-mod detector;
-#[cfg(test)]
-mod execution;
-#[cfg(test)]
-mod language;
 #[cfg(test)]
 mod large_messages;
 #[cfg(test)]
@@ -25,10 +17,6 @@ mod messages;
 mod pages;
 #[cfg(test)]
 mod protocol;
-#[cfg(test)]
-mod races;
-#[cfg(test)]
-mod runs;
 #[cfg(test)]
 mod stores;
 #[cfg(test)]
