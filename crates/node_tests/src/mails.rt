@@ -75,6 +75,41 @@ fn takes_numbers_in_any_order(rt: HostRuntime) -> Result<(), Fail> {
     Ok(())
 }
 
+/// Takes every second one of the numbers below 4,000 from node 1, from the first or the second on.
+fn take_half(mail: &mut Mail, from: u32) -> Result<(), AllocError>
+    requires nodes { length mail.old.taken ≡ 2 }
+    requires from { from < 2 }
+    ensures { length mail.new.taken ≡ 2 }
+{
+    for half in 0..2_000u32 {
+        take(mail, half * 2 + from)?;
+    }
+    Ok(())
+}
+
+/// How many of the numbers below 5,000 were taken from node 1.
+fn count_taken(mail: &Mail) -> u32
+    requires { 1 < length mail.now.taken }
+{
+    let mut count: u32 = 0;
+    for number in 0..5_000u32 {
+        if mail.was_taken(1, number) {
+            count = count.saturating_add(1);
+        }
+    }
+    count
+}
+
+#[test]
+fn takes_thousands_of_numbers_with_gaps(rt: HostRuntime) -> Result<(), Fail> {
+    let mut mail = Mail::new(rt.alloc(), 2)?;
+    take_half(&mut mail, 1)?;
+    let before = count_taken(&mail);
+    take_half(&mut mail, 0)?;
+    assert!(rt; (before, count_taken(&mail)) == (2_000, 4_000));
+    Ok(())
+}
+
 /// A letter for a node.
 fn letter(to: u8) -> Letter
     ensures { result.to ≡ to }

@@ -4,15 +4,11 @@
 #[cfg(test)]
 mod barriers;
 #[cfg(test)]
-mod clocks;
-#[cfg(test)]
 mod copies;
 #[cfg(test)]
-mod detector;
+mod large_messages;
 #[cfg(test)]
-mod execution;
-#[cfg(test)]
-mod language;
+mod large_stores;
 #[cfg(test)]
 mod locks;
 #[cfg(test)]
@@ -21,10 +17,6 @@ mod messages;
 mod pages;
 #[cfg(test)]
 mod protocol;
-#[cfg(test)]
-mod races;
-#[cfg(test)]
-mod runs;
 #[cfg(test)]
 mod stores;
 #[cfg(test)]

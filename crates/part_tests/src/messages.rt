@@ -67,7 +67,7 @@ fn read(alloc: Global, bytes: &[u8]) -> Result<Envelope, WireFault> {
 }
 
 /// What reading the bytes and writing them again gives.
-fn rewritten(alloc: Global, bytes: &[u8]) -> Result<Bytes, Fail> {
+pub fn rewritten(alloc: Global, bytes: &[u8]) -> Result<Bytes, Fail> {
     let envelope = read(alloc, bytes)?;
     Ok(encode(alloc, &envelope)?)
 }

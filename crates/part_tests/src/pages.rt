@@ -187,11 +187,24 @@ fn put(pages: &mut Pages, page: u16) -> Result<(), AllocError> {
     Ok(())
 }
 
+/// All pages, from the first to the last.
+fn every_page_in_order(alloc: Global) -> Result<Pages, AllocError> {
+    let mut pages = Pages::empty(alloc);
+    for page in 0..1024u16 {
+        if pages.as_slice().last().is_none_or(|last| *last < page) {
+            pages.push(page)?;
+        }
+    }
+    Ok(pages)
+}
+
 #[test]
 fn puts_pages_at_their_places(rt: HostRuntime) -> Result<(), Fail> {
-    let mut pages = every_page(rt.alloc())?;
-    assert!(rt; pages.len() == 1024);
-    assert!(rt; pages.as_slice().first() == Some(&0));
-    assert!(rt; pages.as_slice().last() == Some(&1023));
+    let pages = every_page(rt.alloc())?;
+    assert!(rt; pages.as_slice().iter().copied().eq(0..1024u16));
+    let pushed = every_page_in_order(rt.alloc())?;
+    assert!(rt; pushed == pages);
+    let second = pushed.duplicate()?;
+    assert!(rt; second == pages);
     Ok(())
 }

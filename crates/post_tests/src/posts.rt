@@ -172,6 +172,39 @@ fn post_refuses_once_closed(rt: HostRuntime) -> Result<(), Fail> {
     Ok(())
 }
 
+/// How many parcels node 1 polls whose stamps are 1, 2, 3 and so on.
+fn polled_in_order<R: Wait>(rt: &R, post: &Post) -> Result<u64, PostFault> {
+    for before in 0..10_000u64 {
+        if polled(rt, post)? != before + 1 {
+            return Ok(before);
+        }
+    }
+    Ok(10_000)
+}
+
+/// The stamps from 1 on, so many.
+fn stamps_upto(alloc: Global, count: u64) -> Result<Vec<u64>, AllocError> {
+    let mut stamps = Vec::new(alloc);
+    for before in 0..count {
+        stamps.push(before + 1)?;
+    }
+    Ok(stamps)
+}
+
+#[test]
+fn post_keeps_three_thousand_parcels(rt: HostRuntime) -> Result<(), Fail> {
+    let post = Post::new(rt.alloc(), 16, Picker::Oldest)?;
+    let stamps = stamps_upto(rt.alloc(), 3_000)?;
+    let refused = put_stamps(&rt, rt.alloc(), &post, &stamps)?;
+    let given = polled_in_order(&rt, &post)?;
+    assert!(rt; (refused, given) == (None, 3_000));
+    let wires = post.into_wires();
+    let mailboxes = wires.mailboxes();
+    assert!(rt; mailboxes.len() == 16);
+    assert!(rt; mailboxes[1].history().len() == 6_000);
+    Ok(())
+}
+
 /// A node puts five hundred parcels for node 1, one in each call, and then waits for a parcel of its own, which never comes.
 fn put_many<R: Wait>(rt: &R, alloc: Global, post: &Post, me: u8) -> Result<bool, AllocError> {
     for _ in 0..500u64 {

@@ -8,6 +8,8 @@ mod faults;
 #[cfg(test)]
 mod given_events;
 #[cfg(test)]
+mod large_runs;
+#[cfg(test)]
 mod one_node;
 #[cfg(test)]
 mod plain;

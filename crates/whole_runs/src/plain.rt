@@ -76,6 +76,8 @@ fn a_loop_runs_out_of_steps(rt: HostRuntime) {
     let text = b"words 1; locks 0; while 1 { x = x + 1; }";
     let run = in_rounds(rt.alloc(), Nodes { count: 1 }, Steps { count: 3 }, text);
     assert!(rt; run.prints(b"node 0 unfinished\n", 4));
+    let longest = in_rounds(rt.alloc(), Nodes { count: 1 }, ALL_STEPS, text);
+    assert!(rt; longest.prints(b"node 0 unfinished\n", 4));
 }
 
 #[test]

@@ -177,14 +177,14 @@ fn expressions_have_their_trees(rt: HostRuntime) {
 
 #[test]
 fn statements_have_their_trees(rt: HostRuntime) {
-    let text = b"words 4096;\tlocks 64; # every construct \xff\r
+    let text = b"words 65536;\tlocks 64; # every construct \xff\r
         x = 1; y = [x]; [y] = x + 2; acquire 0; release 63; barrier; print me;
         if x == 1 { print 1; } else { if y { } else { barrier; } print 2; }
         if x { print 3; } while x < nodes { x = x + 1; if 0 { while 1 { } } }";
     let wanted = b"{p0 = 1;p1 reads p0;write p1, (+ p0 2);acquire 0;release 63;barrier;print me;\
         if (== p0 1){print 1;}{if p1{}{barrier;};print 2;};\
         if p0{print 3;}{};while (< p0 nodes){p0 = (+ p0 1);if 0{while 1{};}{};};}";
-    assert!(rt; reads_as(rt.alloc(), text, (4096, 64), wanted) == Ok(true));
+    assert!(rt; reads_as(rt.alloc(), text, (65_536, 64), wanted) == Ok(true));
 }
 
 // The fault of a text, if it has one.
@@ -282,7 +282,7 @@ fn an_expression_has_256_operators(rt: HostRuntime) {
     let print = b"words 1; locks 0;\nprint 0";
     let found = [
         of_parts(rt.alloc(), print, b" + (1 * 2)", 128, b";"),
-        of_parts(rt.alloc(), print, b" + (1 * 2)", 129, b";"),
+        of_parts(rt.alloc(), print, b" + 1", 257, b";"),
         of_parts(rt.alloc(), OPEN, b"[1 + 1] = 2 + 2;", 129, b""),
     ];
     assert!(rt; found == [Ok(None), Ok(on_line(2, FaultKind::OverLimit)), Ok(None)]);

@@ -139,28 +139,29 @@ fn a_barrier_joins_times(rt: HostRuntime) {
     assert!(rt; times_agree(rt.alloc(), &acts, 3) == Ok(true));
 }
 
-// Sixteen nodes take one lock in turn, four times each.
-fn turns_of_sixteen(alloc: Global) -> Result<Vec<Act>, AllocError> {
+// Sixteen nodes take one lock in turn, so many turns in all.
+fn turns_of_sixteen(alloc: Global, turns: u16) -> Result<Vec<Act>, AllocError> {
     let mut acts = Vec::new(alloc);
-    for turn in 0..64u8 {
-        acts.push(act(turn % 16, Deed::Acquire(63)))?;
-        acts.push(act(turn % 16, Deed::Read(4095, 0)))?;
-        acts.push(act(turn % 16, Deed::Release(63)))?;
+    for turn in 0..turns {
+        let node = (turn % 16) as u8;
+        acts.push(act(node, Deed::Acquire(63)))?;
+        acts.push(act(node, Deed::Read(65_535, 0)))?;
+        acts.push(act(node, Deed::Release(63)))?;
     }
     Ok(acts)
 }
 
 fn the_last_has_all(alloc: Global) -> Result<bool, AllocError> {
-    let acts = turns_of_sixteen(alloc)?;
-    has_time(alloc, &acts, 16, 191, &[8; 16])
+    let acts = turns_of_sixteen(alloc, 320)?;
+    has_time(alloc, &acts, 16, 959, &[40; 16])
 }
 
 fn all_turns_agree(alloc: Global) -> Result<bool, AllocError> {
-    let acts = turns_of_sixteen(alloc)?;
+    let acts = turns_of_sixteen(alloc, 64)?;
     times_agree(alloc, &acts, 16)
 }
 
-// After the last release every node has closed eight intervals, and the last node knows all.
+// After the last release every node has closed forty intervals, and the last node knows all.
 #[test]
 fn a_long_run_has_times(rt: HostRuntime) {
     assert!(rt; the_last_has_all(rt.alloc()) == Ok(true));

@@ -118,16 +118,26 @@ fn counts_to_sixteen(alloc: Global) -> Result<bool, AllocError> {
     Ok((0..16u8).all(|node| acts.contains(&act(node, Deed::Print(16)))))
 }
 
-// Whether the nodes of the acts that sixteen nodes make in rounds lead the plain machine to the same acts.
-fn is_led_by_its_rounds(alloc: Global) -> Result<bool, AllocError> {
-    let acts = rounds_of(alloc, COUNTER, 16, 1_000_000)?;
-    let program = program_of(alloc, COUNTER)?;
+const HUNDRED_TURNS: &[u8] =
+    b"words 65536; locks 64; while i < 100 { acquire 63; x = [65535]; [65535] = x + 1; release 63; i = i + 1; }
+    barrier; x = [65535]; print x;";
+
+// How many acts sixteen nodes make in rounds, each with a hundred turns, if the nodes of these acts lead the plain machine
+// to the same acts, and each of them prints the number of all turns.
+fn led_by_rounds(alloc: Global) -> Result<Option<usize>, AllocError> {
+    let acts = rounds_of(alloc, HUNDRED_TURNS, 16, 1_000_000)?;
+    let program = program_of(alloc, HUNDRED_TURNS)?;
     let mut order = Vec::new(alloc);
     for act in acts.iter() {
         order.push(usize::from(act.node))?;
     }
     let led = plain_run(alloc, &program, 16, &order)?;
-    Ok(acts.len() > 100 && led.as_deref() == Some(acts.as_slice()))
+    let all = (0..16u8).all(|node| acts.contains(&act(node, Deed::Print(1_600))));
+    Ok(if all && led.as_deref() == Some(acts.as_slice()) {
+        Some(acts.len())
+    } else {
+        None
+    })
 }
 
 // Whether these acts are among those of the traps.
@@ -143,7 +153,8 @@ fn each_node_counts(rt: HostRuntime) {
 
 #[test]
 fn a_long_order_leads_the_plain_machine(rt: HostRuntime) {
-    assert!(rt; is_led_by_its_rounds(rt.alloc()) == Ok(true));
+    // 101 conditions, 100 times five statements, then Arrive, Depart, Read, Print and End
+    assert!(rt; led_by_rounds(rt.alloc()) == Ok(Some(16 * 606)));
 }
 
 #[test]

@@ -273,7 +273,7 @@ fn faults_of_synchronization(rt: HostRuntime) {
 // A long run: sixteen nodes in turn write, read and print under the lock with the largest number.
 fn long_run(alloc: Global) -> Result<Vec<Act>, AllocError> {
     let mut acts = Vec::new(alloc);
-    for turn in 0..64u64 {
+    for turn in 0..250u64 {
         let node = (turn % 16) as u8;
         acts.push(act(node, Deed::Acquire(63)))?;
         acts.push(act(node, Deed::Read(4095, turn)))?;
@@ -286,7 +286,7 @@ fn long_run(alloc: Global) -> Result<Vec<Act>, AllocError> {
 // The same run without its locks.
 fn without_locks(alloc: Global) -> Result<Vec<Act>, AllocError> {
     let mut acts = Vec::new(alloc);
-    for turn in 0..64u64 {
+    for turn in 0..500u64 {
         let node = (turn % 16) as u8;
         acts.push(act(node, Deed::Read(4095, turn)))?;
         acts.push(act(node, Deed::Write(4095, turn + 1)))?;
@@ -296,6 +296,12 @@ fn without_locks(alloc: Global) -> Result<Vec<Act>, AllocError> {
 
 fn a_long_run_is_judged(alloc: Global) -> Result<bool, AllocError> {
     is_found(alloc, &long_run(alloc)?, sound(16, &[]))
+}
+
+// Whether the first act of the long run happens before the last one, and not the other way round.
+fn the_ends_are_ordered(alloc: Global) -> Result<bool, AllocError> {
+    let acts = long_run(alloc)?;
+    Ok(is_before(alloc, &acts, 0, 999)? && !is_before(alloc, &acts, 999, 0)?)
 }
 
 // How many pairs of nodes race in the run without locks.
@@ -309,6 +315,8 @@ fn racing_pairs(alloc: Global) -> Result<usize, AllocError> {
 
 #[test]
 fn long_runs_are_judged(rt: HostRuntime) {
+    assert!(rt; are_in_range(&[act(15, Deed::End)]) && !are_in_range(&[act(16, Deed::End)]));
     assert!(rt; a_long_run_is_judged(rt.alloc()) == Ok(true));
+    assert!(rt; the_ends_are_ordered(rt.alloc()) == Ok(true));
     assert!(rt; racing_pairs(rt.alloc()) == Ok(120));
 }

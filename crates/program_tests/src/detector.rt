@@ -384,12 +384,18 @@ fn deed_of(chosen: Choice, holder: Option<u8>, in_turn: bool) -> Option<Deed> {
     }
 }
 
-// A run of steps chosen from a first number, in which nodes access words only with the lock, or at will.
-fn chosen_run(alloc: Global, first: u64, nodes: u8, in_turn: bool) -> Result<Vec<Act>, AllocError> {
+// A run of so many steps chosen from a first number, in which nodes access words only with the lock, or at will.
+fn chosen_run(
+    alloc: Global,
+    first: u64,
+    nodes: u8,
+    in_turn: bool,
+    steps: u32,
+) -> Result<Vec<Act>, AllocError> {
     let mut acts = Vec::new(alloc);
     let mut state = first;
     let mut holder = None;
-    for _ in 0..120u32 {
+    for _ in 0..steps {
         state = next(state);
         let chosen = choose(state, nodes);
         if chosen.kind == 7 && chosen.place == 0 {
@@ -415,7 +421,7 @@ fn agreed_in_all(alloc: Global, in_turn: bool) -> Result<Option<usize>, AllocErr
     let mut sum: usize = 0;
     for first in 0..20u64 {
         let nodes = (first % 4) as u8 + 2;
-        let acts = chosen_run(alloc, first, nodes, in_turn)?;
+        let acts = chosen_run(alloc, first, nodes, in_turn, 120)?;
         match agreed(alloc, &acts, nodes)? {
             Some(found) => sum = sum.saturating_add(found),
             None => return Ok(None),
@@ -434,7 +440,15 @@ fn chosen_runs_agree(alloc: Global) -> Result<bool, AllocError> {
     Ok(at_will > 100 && in_turn == 0)
 }
 
+// The same for a run of sixteen nodes with hundreds of acts.
+fn a_long_run_agrees(alloc: Global) -> Result<bool, AllocError> {
+    let acts = chosen_run(alloc, 3, 16, false, 400)?;
+    let found = agreed(alloc, &acts, 16)?;
+    Ok(acts.len() > 600 && found.is_some_and(|count| count > 100))
+}
+
 #[test]
 fn the_detector_and_the_judge_agree_on_chosen_runs(rt: HostRuntime) {
     assert!(rt; chosen_runs_agree(rt.alloc()) == Ok(true));
+    assert!(rt; a_long_run_agrees(rt.alloc()) == Ok(true));
 }

@@ -1,0 +1,15 @@
+//! Tests alone: texts and their programs, their acts, and what is said of acts: their order, times and races.
+#![tactic(auto)]
+
+#[cfg(test)]
+mod clocks;
+#[cfg(test)]
+mod detector;
+#[cfg(test)]
+mod execution;
+#[cfg(test)]
+mod language;
+#[cfg(test)]
+mod races;
+#[cfg(test)]
+mod runs;
