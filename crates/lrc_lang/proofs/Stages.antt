@@ -32,7 +32,8 @@ IsBehindSymbol _ stage = IsOther stage
 stage_same : {s t : ParserState} (P : Stage → Type 0) → Some s ≡ Some t → P s.stage → P t.stage
 stage_same P q h = subst (λ s. P s.stage) (some_same q) h
 
-finished_stage : (s : ParserState) (found : Option Block) {t : ParserState} → if_some found (λ whole. Some (state.finished s whole)) ≡ Some t → t.stage ≡ nothing
+finished_stage : (s : ParserState) (found : Option Block) {t : ParserState}
+    → if_some found (λ whole. Some (state.finished s whole)) ≡ Some t → t.stage ≡ nothing
 finished_stage s None q = absurd (none_some q)
 finished_stage s (Some whole) q = stage_same (λ stage. stage ≡ nothing) q refl
 
@@ -56,13 +57,15 @@ no_body : (s : ParserState) (found : Option Body) {t : ParserState} → found �
 no_body s None e q = none_some q
 no_body s (Some b) e q = none_some (sym e)
 
-behind_statements : (s : ParserState) (symbol : Symbol) {t : ParserState} → s.stage ≡ statements → state.in_statements s symbol ≡ Some t → IsBehindSymbol symbol t.stage
+behind_statements : (s : ParserState) (symbol : Symbol) {t : ParserState} → s.stage ≡ statements
+    → state.in_statements s symbol ≡ Some t → IsBehindSymbol symbol t.stage
 behind_statements s finish e q = subst IsOther (sym (finished_stage s (whole_of s.body) q)) tt
 behind_statements s (keyword Words) e q = absurd (no_body s (body_with s.body (keyword Words)) (foreign_refused s.body foreign.words) q)
 behind_statements s (keyword Locks) e q = absurd (no_body s (body_with s.body (keyword Locks)) (foreign_refused s.body foreign.locks) q)
 behind_statements s symbol e q = other_stage s (body_with s.body symbol) e q
 
-behind_at : (s : ParserState) (stage : Stage) (symbol : Symbol) {t : ParserState} → s.stage ≡ stage → state.moved stage s symbol ≡ Some t → IsBehindSymbol symbol t.stage
+behind_at : (s : ParserState) (stage : Stage) (symbol : Symbol) {t : ParserState} → s.stage ≡ stage
+    → state.moved stage s symbol ≡ Some t → IsBehindSymbol symbol t.stage
 behind_at s words (keyword Words) e q = stage_same (IsBehindSymbol (keyword Words)) q refl
 behind_at s words_number (number n) e q = stage_same IsOther q tt
 behind_at s words_end (sign signs.Semicolon) e q = stage_same IsOther q tt
@@ -176,7 +179,8 @@ over_words s n e = (_, ap (λ stage. state.moved stage s (number n)) e)
 over_locks : (s : ParserState) (n : ℕ) → s.stage ≡ locks_number → (t : ParserState) × (state_with s (number n) ≡ Some t)
 over_locks s n e = (_, ap (λ stage. state.moved stage s (number n)) e)
 
-number_taken : (s : ParserState) (stage : Stage) (n : ℕ) → s.stage ≡ stage → IsOutOfRange stage (number n) → (t : ParserState) × (state_with s (number n) ≡ Some t)
+number_taken : (s : ParserState) (stage : Stage) (n : ℕ) → s.stage ≡ stage → IsOutOfRange stage (number n) → (t : ParserState)
+    × (state_with s (number n) ≡ Some t)
 number_taken s words_number n e o = over_words s n e
 number_taken s locks_number n e o = over_locks s n e
 number_taken s _ n e o = absurd o

@@ -2,7 +2,8 @@
 use Rattle.std.proofs.Common.{◌≡◌, ℕ, ◌+◌, ◌<◌, ◌≤◌, ◌∙◌, Bool, true, false, not, ◌&&◌, cond, eqb, eqb-true, Option, None, Some}
 use Rattle.std.proofs.Common.{List, [], ◌∷◌, ◌++◌, length, get_or, map, take, reverse, refl, ap, sym, subst, arith}
 use Rattle.std.specs.List.{AllPairs, filter}
-use Rattle.std.proofs.lemmas.List.{length-map, get_or-map, get_or-take, get_or_default, length-take-le, take-map, take_all, reverse-append, append-nil, append_assoc}
+use Rattle.std.proofs.lemmas.List.{length-map, get_or-map, get_or-take, get_or_default, length-take-le}
+use Rattle.std.proofs.lemmas.List.{take-map, take_all, reverse-append, append-nil, append_assoc}
 use Rattle.lrc_time.specs.Time.{knows}
 use Rattle.lrc_store.specs.declared.key.Key.{Key}
 use Rattle.lrc_store.specs.Chains.{last_at}

@@ -65,7 +65,8 @@ news_from v entries xs h = (
 news_agrees : (v : Version) → Agrees (news_at v) news_text (FitNewsRecord v)
 unfolding news_at news
 news_agrees v =
-    Agrees-as (news_at v) news_text (λ n. (h : IsTime n.time) × (HasBits 32 (length n.intervals) × AreBeside v (length n.time) h.few n.intervals)) (FitNewsRecord v)
+    Agrees-as (news_at v) news_text (λ n. (h : IsTime n.time)
+    × (HasBits 32 (length n.intervals) × AreBeside v (length n.time) h.few n.intervals)) (FitNewsRecord v)
     (λ n h. news_is v n.time n.intervals h.0 h.1)
     (λ n h. (h.begins, news_from v n.time n.intervals h))
     (whole (λ (n : NewsRecord). (n.time, n.intervals)) (λ r _. refl) (λ n. refl)
@@ -221,7 +222,8 @@ body_takes v kinds.LockRequest bytes message rest fits e =
     as_takes v (λ m. LockRequest m) kinds.LockRequest lock_request_at spelled_lock_request Is_lock_request lock_request_agrees (λ m. refl) (λ m h. h)
     (λ m. refl) bytes message rest fits e
 body_takes v kinds.LockForward bytes message rest fits e =
-    as_takes v (λ m. LockForward m) kinds.LockForward lock_forward_at spelled_lock_forward Is_lock_forward lock_forward_agrees (λ m. refl) (λ m h. (h.0, h.1.0, h.1.1))
+    as_takes v (λ m. LockForward m) kinds.LockForward lock_forward_at spelled_lock_forward Is_lock_forward lock_forward_agrees
+    (λ m. refl) (λ m h. (h.0, h.1.0, h.1.1))
     (λ m. refl) bytes message rest fits e
 body_takes v kinds.LockGrant bytes message rest fits e =
     as_takes v (λ m. LockGrant m) kinds.LockGrant (lock_grant_at v) spelled_lock_grant (Is_lock_grant v) (lock_grant_agrees v) (λ m. refl) (λ m h. h)

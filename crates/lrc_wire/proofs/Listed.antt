@@ -38,7 +38,8 @@ next_index_agrees before =
     Agrees-tested (λ bytes. tested (λ n. leb 1 n) BadCount (number_at w32 bytes)) (number w32) IsIndex (is_after ltb before) NotAscending index_agrees
 
 elements_of_indices : (count : ℕ)
-    → Agrees (elements_at next_index_at (λ _ index. Some index) count None) (numbers w32) (λ ns. (length ns ≡ count) × (All IsIndex ns × IsStrictlyIncreasing ns))
+    → Agrees (elements_at next_index_at (λ _ index. Some index) count None) (numbers w32)
+    (λ ns. (length ns ≡ count) × (All IsIndex ns × IsStrictlyIncreasing ns))
 unfolding numbers
 elements_of_indices count =
     Agrees-as _ (flat_map (number w32)) (λ ns. (length ns ≡ count) × Follow ltb (λ n. n) IsIndex None ns) (λ ns. (length ns ≡ count)
