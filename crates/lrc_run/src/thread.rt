@@ -68,7 +68,7 @@ fn live<G: Gate, R: Wait>(
 
 // What a node leaves.
 fn ended(node: Logged<'_>, fault: Option<Stop>) -> Life
-    ensures log { result.log.items ≡ node.logged.log }
+    ensures log { result.log.items ≡ node.entry.logged.log }
     ensures fault { result.fault ≡ fault }
 {
     let (log, _trace) = node.into_parts();
