@@ -17,3 +17,6 @@ n = [3];
 [3] = n + 1;
 [me] = 0;
 print waits;
+barrier;
+n = [3];
+print n;
