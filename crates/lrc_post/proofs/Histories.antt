@@ -203,7 +203,7 @@ next_is_put owner picker history flight place kept next =
     (due_put (slice_get history place) _ (next_in_flight owner picker history flight place kept next).1)
 
 -- the put that a take names
-place_in : ℕ → Wire → ℕ
+abbrev place_in : ℕ → Wire → ℕ
 place_in other (Put from to stamp bytes) = other
 place_in other (Took me put) = put
 

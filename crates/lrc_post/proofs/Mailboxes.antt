@@ -2,6 +2,7 @@
 use Rattle.std.proofs.Common.{◌≡◌, ℕ, ◌+◌, ◌<◌, ◌∙◌, List, [], ◌∷◌, ◌++◌, length, sym, ap, subst, ⊎_elim, arith, length-append}
 use Rattle.std.specs.Prelude.{slice_get}
 use Rattle.std.proofs.lemmas.Bool.{cases_eq}
+use Rattle.std.proofs.lemmas.List.Elements.{All-push}
 use Rattle.std.proofs.lemmas.Option.{slice_get_within, same_Some}
 use Rattle.lrc_wire.specs.declared.picker.Picker.{Picker}
 use Rattle.lrc_post.specs.Wires.{IsLegal, IsTakenBy}
@@ -41,7 +42,7 @@ wires_push n before after more is count kept owner legal taken_so = (
 -- one more of the same picker
 of_more : (picker : Picker) (mailboxes : List MailboxRecord) (more : MailboxRecord) → AreOf picker mailboxes → more.picker ≡ picker
     → AreOf picker (mailboxes ++ more ∷ [])
-of_more picker mailboxes more before is = All-snoc (λ (m : MailboxRecord). m.picker ≡ picker) mailboxes more before is
+of_more picker mailboxes more before is = All-push (λ (m : MailboxRecord). m.picker ≡ picker) mailboxes more before is
 
 pub of_push : {picker : Picker} (before after : List MailboxRecord) (more : MailboxRecord) → after ≡ before ++ more ∷ []
     → AreOf picker before → more.picker ≡ picker → AreOf picker after
