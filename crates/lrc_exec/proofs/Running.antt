@@ -15,6 +15,7 @@ use Rattle.lrc_exec.specs.declared.machine.Machine.TheInside.{Inside}
 use Rattle.lrc_exec.specs.Meaning.{Thread, Next, or_trap, if_below, value_in, traps, block, holds, then_does}
 use Rattle.lrc_exec.specs.Meaning.{then_keeps, then_holds, chosen, act_of, first_act, next_of, ends}
 use Rattle.lrc_exec.specs.Ask.{GoesOn, done, answered}
+use Rattle.lrc_exec.specs.Condition.{first_is_met, condition_holds}
 use Rattle.lrc_exec.specs.Flat.{rest_at, where_it_holds, where_it_fails, IsSound}
 use Rattle.lrc_exec.specs.Running.{thread_of, IsRunning}
 use Rattle.lrc_exec.proofs.Flat.{if_made, while_made, rest_at-end, rest_at-instruction}
@@ -23,6 +24,11 @@ use Rattle.lrc_exec.proofs.Flat.{if_made, while_made, rest_at-end, rest_at-instr
 pub next_of-end : (m : Inside) (thread : Thread) → thread_of m ≡ thread → m.place ≡ 0 → next_of thread ≡ ends
 next_of-end m thread view at_end =
     ap next_of (sym view) ∙ ap (first_act (thread_of m)) (ap (rest_at m.code.now) at_end ∙ rest_at-end m.code.now)
+
+-- and has no condition to evaluate
+pub condition_holds-end : (m : Inside) (thread : Thread) → thread_of m ≡ thread → m.place ≡ 0 → condition_holds thread ≡ false
+condition_holds-end m thread view at_end =
+    ap condition_holds (sym view) ∙ ap (first_is_met (thread_of m)) (ap (rest_at m.code.now) at_end ∙ rest_at-end m.code.now)
 
 -- where a thread goes on, there was a value
 or_trap_done : (value : ℕ) (thread : Thread) (o : Option ℕ) (go : ℕ → Next) (after : ℕ → Thread)
@@ -198,6 +204,17 @@ module _ (m : Inside) (thread : Thread) (d : Instruction) (k : ℕ) (view : thre
       ap next_of (sym view)
       ∙ ap (first_act (thread_of m)) (ap (rest_at m.code.now) place_is ∙ rest_at-instruction m.code.now k (get_or m.code.now k d) at_index sound_at.next_below)
       ∙ ap (λ t. act_of t s rest) view
+
+  -- whether its condition holds
+  pub condition_holds-at : condition_holds thread
+      ≡ first_is_met thread ((get_or m.code.now k d).statement.now ∷ rest_at m.code.now (get_or m.code.now k d).next)
+  condition_holds-at =
+      let place_is : m.place ≡ k + 1 = omega arith in
+      let all = (get_or m.code.now k d).statement.now ∷ rest_at m.code.now (get_or m.code.now k d).next in
+      ap condition_holds (sym view)
+      ∙ ap (first_is_met (thread_of m)) (ap (rest_at m.code.now) place_is
+      ∙ rest_at-instruction m.code.now k (get_or m.code.now k d) at_index sound_at.next_below)
+      ∙ ap (λ t. first_is_met t all) view
 
   -- where the answer leads
   pub answered-at : (value : ℕ) (s : Statement) (after : Thread) → (get_or m.code.now k d).statement.now ≡ s → GoesOn (next_of thread)

@@ -1,4 +1,5 @@
 pub mod Ask
+pub mod Condition
 pub mod Flat
 pub mod Meaning
 pub mod Plain

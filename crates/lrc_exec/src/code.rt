@@ -89,6 +89,13 @@ impl<'p> Code<'p> {
         self.program.locks()
     }
 
+    /// The program.
+    pub fn program(&self) -> &'p Program
+        ensures { result.now ≡ self.now }
+    {
+        self.program
+    }
+
     // The instructions, and the place where the text begins.
     pub(crate) fn parts(&self) -> (&[Instruction<'p>], usize)
         ensures { IsCodeOf result.0.now result.1 self.now.statements.items }

@@ -1,12 +1,13 @@
 // What a thread asks for, and the machine that runs its code.
 
-ghost use Rattle.std.specs.Prelude.{◌≡◌, ◌<◌, ◌≤◌, false, List, if◌then◌else◌, nat_lt, ok_or, slice_set, IsSome, Some};
+ghost use Rattle.std.specs.Prelude.{◌≡◌, ◌<◌, ◌≤◌, ◌∷◌, false, List, if◌then◌else◌, nat_lt, ok_or, slice_set, IsSome, Some};
 ghost use Rattle.lrc_lang.specs.declared.program.Statement.{Statement};
 ghost use Rattle.lrc_lang.specs.Sizes.{names_in_expression, names_in_statement};
 ghost use Rattle.lrc_lang.specs.Statements.{expression_of, statement_of};
 ghost use Rattle.lrc_exec.specs.Meaning.{act_of, next_of, value_in};
 ghost use Rattle.lrc_exec.specs.Plain.{start_of};
 ghost use Rattle.lrc_exec.specs.Ask.{ask_of, answered, ask_or_trap, TakesAnswer, steps_of as steps_taken};
+ghost use Rattle.lrc_exec.specs.Condition.{condition_holds, first_is_met};
 
 use crate::code::{Code, Instruction};
 use crate::value::evaluate;
@@ -136,6 +137,32 @@ impl<'c> Machine<'c> {
         match self.wish(self.code[index].statement) {
             Ok(ask) => ask,
             Err(cause) => Ask::Trap(cause),
+        }
+    }
+
+    /// Whether the condition holds that the thread evaluates next. Where it evaluates none, it does not.
+    pub fn condition_holds(&self) -> bool
+        ensures { result ≡ condition_holds self.now }
+    {
+        let Some(index) = self.place.checked_sub(1) else {
+            return false;
+        };
+        self.is_met(self.code[index].statement)
+    }
+
+    // Whether the condition of a statement holds.
+    fn is_met(&self, statement: &Statement) -> bool
+        requires { names_in_statement (statement_of statement.now) ≤ 32 }
+        ensures { (rest : List Statement) → result ≡ first_is_met self.now (statement.now ∷ rest) }
+    {
+        match statement {
+            Statement::If(condition, ..) | Statement::While(condition, _) => {
+                match self.value(condition) {
+                    Ok(value) => value != 0,
+                    Err(_) => false,
+                }
+            }
+            _ => false,
         }
     }
 

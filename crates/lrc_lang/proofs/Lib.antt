@@ -1,3 +1,4 @@
+pub mod Beginnings
 pub mod Behind
 pub mod Expressions
 pub mod Foreign

@@ -3,6 +3,7 @@ pub mod Faults
 pub mod Grammar
 pub mod Lexemes
 pub mod Lexer
+pub mod Lines
 pub mod Parser
 pub mod Sizes
 pub mod Statements

@@ -6,6 +6,7 @@ pub mod fault;
 pub mod lexemes;
 mod lexer;
 mod limits;
+pub mod lines;
 mod parser;
 mod partial;
 pub mod program;
