@@ -57,7 +57,8 @@ deed_meant words (Acquire l) h = ap meaning h.whole ∙ ap (λ (v : ℕ). Acquir
 deed_meant words (Release l) h = ap meaning h.whole ∙ ap (λ (v : ℕ). Release v) (sym h.says.value)
 deed_meant words Arrive h = ap meaning h
 deed_meant words Depart h = ap meaning h
-deed_meant words (Trap cause) h = ap meaning h.whole ∙ ap (λ (number : ℕ). Trap (cause_of number)) (sym h.says.value) ∙ ap (λ (c : Cause). Trap c) (cause_again cause)
+deed_meant words (Trap cause) h =
+    ap meaning h.whole ∙ ap (λ (number : ℕ). Trap (cause_of number)) (sym h.says.value) ∙ ap (λ (c : Cause). Trap c) (cause_again cause)
 deed_meant words End h = ap meaning h
 
 abbrev act_meant : List (List ℕ) → Act

@@ -177,8 +177,10 @@ deed_signless Quiet h = free_of is_sign (codes "quiet") refl
 deed_signless (Print v) h = free_append is_sign (codes "print ") (decimal v) (free_of is_sign (codes "print ") refl) (signless_number v h)
 deed_signless (Read w v) h = two_signless (codes "read ") (free_of is_sign (codes "read ") refl) w v (omega (arith, h.0)) h.1
 deed_signless (Write w v) h = two_signless (codes "write ") (free_of is_sign (codes "write ") refl) w v (omega (arith, h.0)) h.1
-deed_signless (Acquire l) h = free_append is_sign (codes "acquire ") (decimal l) (free_of is_sign (codes "acquire ") refl) (signless_number l (omega (arith, h)))
-deed_signless (Release l) h = free_append is_sign (codes "release ") (decimal l) (free_of is_sign (codes "release ") refl) (signless_number l (omega (arith, h)))
+deed_signless (Acquire l) h = free_append is_sign (codes "acquire ") (decimal l) (free_of is_sign (codes "acquire ") refl)
+    (signless_number l (omega (arith, h)))
+deed_signless (Release l) h = free_append is_sign (codes "release ") (decimal l) (free_of is_sign (codes "release ") refl)
+    (signless_number l (omega (arith, h)))
 deed_signless Arrive h = free_of is_sign (codes "arrive") refl
 deed_signless Depart h = free_of is_sign (codes "depart") refl
 deed_signless (Trap cause) h = free_append is_sign (codes "trap ") (decimal (cause_number cause)) (free_of is_sign (codes "trap ") refl)

@@ -9,7 +9,8 @@ use Rattle.lrc_acts.specs.ActsText.{IsNumber}
 use Rattle.lrc_acts.proofs.numbers.value_of.Goals as goal
 
 -- a number that is too large with one digit more is too large with all
-too_large : (digits : List ℕ) (i n : ℕ) → i < length digits → n ≡ digits_value 10 (take i digits) → 18446744073709551616 ≤ n * 10 + digit_value (get_or digits i 0)
+too_large : (digits : List ℕ) (i n : ℕ) → i < length digits → n ≡ digits_value 10 (take i digits)
+    → 18446744073709551616 ≤ n * 10 + digit_value (get_or digits i 0)
     → (number : ℕ) → ¬ IsNumber digits 18446744073709551615 number
 too_large digits i n lt is large number h =
     absurd (omega (arith, digits_value_more 10 digits i lt, digits_value-take-le 10 digits (i + 1) (omega arith), h.value, h.small))

@@ -8,7 +8,8 @@ use Rattle.lrc_acts.proofs.words.place_of_blank.Goals as goal
 pub returns-clause-place : goal.returns-clause-place
 returns-clause-place c =
     let bytes = c.args.text.now in
-    let at = position_from_yields_List is_blank _ _ c.position.result c.position.ensures.ran (YieldsList-from_slice bytes cc) (λ x b q k. search (rules, tests)) in
+    let at = position_from_yields_List is_blank _ _ c.position.result c.position.ensures.ran (YieldsList-from_slice bytes cc)
+    (λ x b q k. search (rules, tests)) in
     c.unwrap_or.ensures ∙ ap (λ found. unwrap_or found (length bytes)) at ∙ found_or_len _ _ (position-le is_blank bytes)
 
 pub returns-clause-bound : goal.returns-clause-bound
