@@ -8,3 +8,7 @@ pub mod Keeping
 pub mod Naming
 pub mod Ascending
 mod Touching
+mod LastWritten
+mod Additions
+mod Entering
+mod Searching

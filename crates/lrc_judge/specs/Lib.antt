@@ -1,5 +1,9 @@
+pub mod Adding
+pub mod InOrder
+pub mod Lanes
 pub mod Log
 pub mod Order
+pub mod Pairs
 pub mod Past
 pub mod Races
 pub mod Reading

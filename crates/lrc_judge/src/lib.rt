@@ -10,9 +10,13 @@ use lrc_time::MOST_NODES;
 use lrc_trace::act::Act;
 
 mod accesses;
+mod entries;
 pub mod first;
+pub mod in_order;
+mod lanes;
 pub mod laws;
 pub mod order;
+pub mod pairs;
 mod past;
 pub mod races;
 mod reach;
