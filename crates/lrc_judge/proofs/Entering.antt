@@ -45,7 +45,7 @@ module _ (run : List Act) (told : Told) (n node : ℕ) (deed : Deed) (here : Doe
   entered-more lane zs some pushed = below-more (IsEntryAt run told) xs ys zs n adds
       (adds-iff ys zs (λ e. e ≡ entry lane n) (IsEntryAt run told n)
       (λ e same. subst (λ x. IsEntryAt run told n x) (sym same)
-          (record { at = refl; is = record { node = node; deed = deed; does = here; lane_is = some } }))
+      (record { at = refl; is = record { node = node; deed = deed; does = here; lane_is = some } }))
       (λ e i.
       let is = i.is in
       let nodes : is.node ≡ node = Does-one_node is.does here in

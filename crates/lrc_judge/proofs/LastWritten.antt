@@ -64,4 +64,3 @@ IsMemory-next run n node word value memory after here updates old = λ w.
           let kept = last-same run n w _ (λ v (p, d). let both : Write word value ≡ Write w v = Does-one_deed here d in other (cc)) (old w) in
           subst (λ o. IsLastWritten run (n + 1) w (option_map_or (λ x. x) o 0)) (sym is) kept
     ]
-

@@ -11,4 +11,8 @@ mod Touching
 mod LastWritten
 mod Additions
 mod Entering
+mod Crossing
+mod PairOrder
+mod LatestWrites
+mod Allowed
 mod Searching

@@ -1,12 +1,12 @@
 -- Lemmas on entries in order.
 use Rattle.std.proofs.Common.{◌≡◌, ℕ, zero, suc, ◌+◌, ◌-◌, ◌<◌, ◌≤◌, ◌⊎◌, ◌++◌, List, [], ◌∷◌, length, get_or, inl, inr, refl, sym, subst, ◌∙◌, ap, arith}
-use Rattle.std.specs.Prelude.{Bool, true, false, Contains, Some, slice_get}
+use Rattle.std.specs.Prelude.{◌&&◌, ◌==◌, not, Bool, true, false, Contains, Some, slice_get}
 use Rattle.std.specs.Ordering.{nat_cmp, ordering_then}
 use Rattle.std.specs.Cmp.{IsTotalOrder}
 use Rattle.std.specs.List.Sorted.{IsStrictlySortedBy, IsPartitionedBy, IsPartitionPoint}
 use Rattle.std.specs.declared.cmp.Ordering.{Ordering}
 use Rattle.std.specs.declared.cmp.Ordering.TheVariants.{Less, Equal, Greater}
-use Rattle.std.proofs.lemmas.Bool.{cases_order, cases_lt, cases_eq, false≢true, lt-ltb, le-ltb, ne_eqb, eq-eqb}
+use Rattle.std.proofs.lemmas.Bool.{cases_Bool, cases_order, cases_lt, cases_eq, and_parts, and_from, false≢true, lt-ltb, le-ltb, ne_eqb, eq-eqb, eqb-true}
 use Rattle.std.proofs.lemmas.Cmp.{nat_cmp_total, on_total, then_total}
 use Rattle.std.proofs.lemmas.List.{get_or_default}
 use Rattle.std.proofs.lemmas.Option.{slice_get_within, slice_get-get_or, get_or_from_slice_get, same_Some}
@@ -114,6 +114,26 @@ entry_same x y h =
     let p : x.position ≡ y.position = nat_equal x.position y.position positions in
     let e : ◌≡◌ {A = Entry} (record { lane = x.lane; position = x.position }) (record { lane = y.lane; position = y.position }) = cc in e
 
+-- what the test says whether two lanes differ
+abbrev lane_eq : Lane → Lane → Bool
+lane_eq a b = (a.word == b.word) && ((a.value == b.value) && (a.node == b.node))
+
+pub lane_agrees : (a b : Lane) → false ≡ not (lane_eq a b) → a ≡ b
+lane_agrees a b h =
+    let both : lane_eq a b ≡ true = elim (cases_Bool (lane_eq a b)) [ inl yes' ↦ yes' | inr other ↦ absurd (false≢true (h ∙ ap not other)) ] in
+    let (words, rest) = and_parts (a.word == b.word) _ both in
+    let (values, nodes) = and_parts (a.value == b.value) _ rest in
+    let w : a.word ≡ b.word = eqb-true a.word b.word words in
+    let v : a.value ≡ b.value = eqb-true a.value b.value values in
+    let n : a.node ≡ b.node = eqb-true a.node b.node nodes in
+    let e : ◌≡◌ {A = Lane} (record { word = a.word; value = a.value; node = a.node }) (record { word = b.word; value = b.value; node = b.node }) = cc in e
+
+pub lane_differs : (a b : Lane) → true ≡ not (lane_eq a b) → a ≡ b → ⊥
+lane_differs a b h same =
+    let both : lane_eq a b ≡ true = and_from (a.word == b.word) _ (eq-eqb a.word b.word (ap (λ (l : Lane). l.word) same))
+    (and_from (a.value == b.value) _ (eq-eqb a.value b.value (ap (λ (l : Lane). l.value) same)) (eq-eqb a.node b.node (ap (λ (l : Lane). l.node) same))) in
+    false≢true (sym (h ∙ ap not both))
+
 -- ---- entries in order
 
 rising : (entries : List Entry) → IsStrictlySortedBy entry_cmp entries → (i j : ℕ) (d : Entry) → i < j → j < length entries
@@ -149,9 +169,9 @@ module _ (run : List Act) (these : Lane → ℕ → Type 0) (entries : List Entr
   earlier_too lane position x y has_x has_y less h =
       elim (entry_less x y less) [
         | inl lanes ↦ from_earlier (lane_cmp x.lane lane) _ (elim (earlier_or (lane_cmp y.lane lane) _ h) [
-            | inl below ↦ lane_total.trans x.lane y.lane lane lanes below
-            | inr (equal, _) ↦ subst (λ l. lane_cmp x.lane l ≡ Less) (lane_same y.lane lane equal) lanes
-          ])
+          | inl below ↦ lane_total.trans x.lane y.lane lane lanes below
+          | inr (equal, _) ↦ subst (λ l. lane_cmp x.lane l ≡ Less) (lane_same y.lane lane equal) lanes
+        ])
         | inr (same, lower) ↦
             elim (earlier_or (lane_cmp y.lane lane) _ h) [
               | inl below ↦ from_earlier (lane_cmp x.lane lane) _ (subst (λ l. lane_cmp l lane ≡ Less) (sym same) below)

@@ -13,7 +13,7 @@ use Rattle.lrc_judge.specs.declared.lanes.Entry.{Entry}
 use Rattle.lrc_judge.specs.declared.order.Order.{Order}
 use Rattle.lrc_judge.specs.declared.lanes.Pair.{Pair}
 use Rattle.lrc_judge.specs.declared.entries.Told.{Told}
-use Rattle.lrc_judge.specs.declared.entries.Told.TheVariants.{Accesses, Values}
+use Rattle.lrc_judge.specs.declared.entries.Told.TheVariants.{EachAccess, EachValue}
 use Rattle.lrc_judge.specs.Order.{is_before}
 
 -- by words, then by values, then by nodes
@@ -63,12 +63,12 @@ pub record IsOfLane (entries : List Entry) (order : Order) (lane : Lane) (positi
 
 -- what tells the lanes of a word and node apart
 abbrev pub told_value : Told → ℕ → ℕ
-told_value Values value = value
+told_value EachValue value = value
 told_value _ value = 0
 
 -- the lane of a read, which is listed among the accesses alone
 abbrev pub read_lane : Told → ℕ → ℕ → Option Lane
-read_lane Accesses node word = Some (record { word = word; value = 0; node = node })
+read_lane EachAccess node word = Some (record { word = word; value = 0; node = node })
 read_lane _ node word = None
 
 -- the lane of an act of this node: every access of a word, every write, or every write of a value

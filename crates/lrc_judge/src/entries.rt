@@ -10,11 +10,11 @@ use std::alloc::{AllocError, Global};
 #[derive(Clone, Copy, PartialEq, Eq)]
 pub enum Told {
     /// Reads and writes, by word and node.
-    Accesses,
+    EachAccess,
     /// Writes, by word and node.
-    Writes,
+    EachWrite,
     /// Writes, by word, value and node.
-    Values,
+    EachValue,
 }
 
 // The lane of the act, if it is listed.
@@ -24,7 +24,7 @@ fn lane_of(told: Told, act: Act) -> Option<Lane>
     let node = act.node;
     match act.deed {
         Deed::Read(word, _) => match told {
-            Told::Accesses => Some(Lane {
+            Told::EachAccess => Some(Lane {
                 word,
                 value: 0,
                 node,
@@ -33,7 +33,7 @@ fn lane_of(told: Told, act: Act) -> Option<Lane>
         },
         Deed::Write(word, written) => {
             let value = match told {
-                Told::Values => written,
+                Told::EachValue => written,
                 _ => 0,
             };
             Some(Lane { word, value, node })

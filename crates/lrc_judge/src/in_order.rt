@@ -29,10 +29,7 @@ fn last_written(memory: &BTreeMap<u32, u64>, word: u32) -> u64
 }
 
 /// The first read of a run that does not give what the last write before it wrote. It takes one pass over the acts.
-pub fn first_out_of_order(
-    alloc: Global,
-    acts: &[Act],
-) -> Result<Option<OutOfOrder>, AllocError>
+pub fn first_out_of_order(alloc: Global, acts: &[Act]) -> Result<Option<OutOfOrder>, AllocError>
     ensures { IfOk result (λ first. MatchOption first (ReadsInOrder acts.now) (IsFirstOutOfOrder acts.now)) }
 {
     let mut memory = BTreeMap::new(alloc);

@@ -60,12 +60,7 @@ fn first_beyond(entries: &[Entry], order: &Order, lane: Lane, position: usize) -
 }
 
 /// The last position of a lane that is before this position.
-pub fn last_before(
-    entries: &[Entry],
-    order: &Order,
-    lane: Lane,
-    position: usize,
-) -> Option<usize>
+pub fn last_before(entries: &[Entry], order: &Order, lane: Lane, position: usize) -> Option<usize>
     requires { AreSearchable order.now entries.now }
     ensures { MatchOption result ((k : ℕ) → Contains entries.now (entry lane k) → ¬ IsTrue (is_before order.now k position))
         (IsLastOfLane entries.now order.now lane position) }

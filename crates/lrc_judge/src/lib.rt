@@ -14,6 +14,7 @@ mod entries;
 pub mod first;
 pub mod in_order;
 mod lanes;
+mod latest;
 pub mod laws;
 pub mod order;
 pub mod pairs;
@@ -24,6 +25,7 @@ pub mod reading;
 mod segments;
 pub mod synchronization;
 mod touched;
+mod written;
 
 /// How many nodes a run has at most.
 pub const NODES: usize = MOST_NODES;

@@ -7,7 +7,8 @@ ghost use Rattle.lrc_judge.specs.Pairs.{AreRacingPairs, IsCrossing, IsOfOthers};
 
 use crate::NODES;
 use crate::entries::{Told, entries_of};
-use crate::lanes::{Entry, Lane, Pair, add_unordered};
+pub use crate::lanes::Pair;
+use crate::lanes::{Entry, Lane, add_unordered};
 use crate::order::{Order, happens_before};
 use lrc_trace::act::Act;
 use std::alloc::{AllocError, Global};
@@ -61,11 +62,11 @@ pub fn racing_pairs(alloc: Global, acts: &[Act]) -> Result<Vec<Pair>, AllocError
     ensures { IfOk result (λ pairs. AreRacingPairs acts.now pairs.items) }
 {
     let order = happens_before(alloc, acts)?;
-    let accesses = entries_of(alloc, acts, Told::Accesses)?;
-    let writes = entries_of(alloc, acts, Told::Writes)?;
+    let accesses = entries_of(alloc, acts, Told::EachAccess)?;
+    let writes = entries_of(alloc, acts, Told::EachWrite)?;
     let mut pairs = Vec::new(alloc);
-    add_crossing(&mut pairs, &order, &accesses, &writes)?;
-    add_crossing(&mut pairs, &order, &writes, &accesses)?;
+    add_crossing(&mut pairs, &order, accesses.as_slice(), writes.as_slice())?;
+    add_crossing(&mut pairs, &order, writes.as_slice(), accesses.as_slice())?;
     pairs.sort_unstable();
     pairs.dedup();
     Ok(pairs)

@@ -47,13 +47,13 @@ loop-position-preserved c =
                 ];
           }
       | in_default w ↦ record {
-          memory = rw w.memory-is (IsMemory-same run n c.loop-position.memory (λ word v (p, d). w.in_default.not-Write word v (Does-one_deed here d)) c.loop-position.invariant.memory);
-          reads = λ j word v lt (p, r).
-              elim (cases_eq j n) [
-                | inl same ↦ absurd (w.in_default.not-Read word v (Does-one_deed here (subst (λ k. Does run k p (Read word v)) same r)))
-                | inr other ↦ old j word v (omega arith) (p, r)
-              ];
-        }
+        memory = rw w.memory-is (IsMemory-same run n c.loop-position.memory (λ word v (p, d). w.in_default.not-Write word v (Does-one_deed here d)) c.loop-position.invariant.memory);
+        reads = λ j word v lt (p, r).
+            elim (cases_eq j n) [
+              | inl same ↦ absurd (w.in_default.not-Read word v (Does-one_deed here (subst (λ k. Does run k p (Read word v)) same r)))
+              | inr other ↦ old j word v (omega arith) (p, r)
+            ];
+      }
     ]
 
 pub returns : goal.returns

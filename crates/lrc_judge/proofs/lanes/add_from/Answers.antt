@@ -4,11 +4,11 @@ use Rattle.std.specs.Prelude.{Some, slice_get}
 use Rattle.std.proofs.lemmas.Option.{slice_get_within, slice_get-get_or, same_Some}
 use Rattle.lrc_judge.specs.declared.lanes.Entry.{Entry}
 use Rattle.lrc_judge.specs.Lanes.{entry}
-use Rattle.lrc_judge.proofs.Searching.{found-none, found-more, found-all}
+use Rattle.lrc_judge.proofs.Searching.{lane_agrees, lane_differs, found-more, found-all}
 use Rattle.lrc_judge.proofs.lanes.add_from.Goals as goal
 use Rattle.lrc_judge.proofs.lanes.add_from.Goals.{then-ne-via-then-ne, then-ne-via-else-ne+then-position-found}
 
-nothing : Entry
+abbrev nothing : Entry
 nothing = record { lane = record { word = 0; value = 0; node = 0 }; position = 0 }
 
 pub loop-at-preserved : goal.loop-at-preserved
@@ -18,7 +18,7 @@ loop-at-preserved c =
     let at = c.loop-at.at in
     let from = c.loop-at.invariant.from in
     let x : Entry = get_or entries at nothing in
-    let on : x.lane ≡ lane = c.if-ne.ensures in
+    let on : x.lane ≡ lane = lane_agrees x.lane lane c.if-ne.ensures in
     let is : x ≡ entry lane x.position = subst (λ l. x ≡ entry l x.position) on refl in
     let within : at < length entries = omega arith in
     record {
@@ -40,7 +40,7 @@ returns-then-ne c = λ order searchable point.
     (λ x is on lower.
     let same : x ≡ found = same_Some x found (sym is ∙ there) in
     elim c.then-ne.branch [
-      | then-ne-via-then-ne w ↦ w.if-ne.ensures (subst (λ (e : Entry). e.lane ≡ lane) same on)
+      | then-ne-via-then-ne w ↦ lane_differs found.lane lane w.if-ne.ensures (subst (λ (e : Entry). e.lane ≡ lane) same on)
       | then-ne-via-else-ne+then-position-found w ↦
           let lower' : found.position < c.args.position = subst (λ (e : Entry). e.position < c.args.position) same lower in
           let le = w.if-position-found.true in

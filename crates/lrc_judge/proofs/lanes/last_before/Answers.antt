@@ -2,10 +2,10 @@
 use Rattle.std.proofs.Common.{◌≡◌, ◌-◌, get_or, arith}
 use Rattle.std.proofs.lemmas.List.{get_or_default}
 use Rattle.lrc_judge.specs.declared.lanes.Entry.{Entry}
-use Rattle.lrc_judge.proofs.Searching.{none_if_apart, last_of_lane}
+use Rattle.lrc_judge.proofs.Searching.{lane_agrees, lane_differs, none_if_apart, last_of_lane}
 use Rattle.lrc_judge.proofs.lanes.last_before.Goals as goal
 
-nothing : Entry
+abbrev nothing : Entry
 nothing = record { lane = record { word = 0; value = 0; node = 0 }; position = 0 }
 
 pub returns-then-ne : goal.returns-then-ne
@@ -15,7 +15,7 @@ returns-then-ne c =
     let x : Entry = get_or entries (beyond - 1) nothing in
     let bound = c.first_beyond-beyond.ensures.bound in
     none_if_apart entries c.args.order.now c.args.lane c.args.position beyond c.requires.in_order c.first_beyond-beyond.ensures.point
-    (omega arith) bound x (get_or_default entries (beyond - 1) nothing x (omega arith)) (λ same. c.if-ne.ensures same)
+    (omega arith) bound x (get_or_default entries (beyond - 1) nothing x (omega arith)) (lane_differs x.lane c.args.lane c.if-ne.ensures)
 
 pub returns : goal.returns
 returns c =
@@ -24,4 +24,4 @@ returns c =
     let x : Entry = get_or entries (beyond - 1) nothing in
     let bound = c.first_beyond-beyond.ensures.bound in
     last_of_lane entries c.args.order.now c.args.lane c.args.position beyond c.requires.in_order c.first_beyond-beyond.ensures.point
-    (omega arith) bound x (get_or_default entries (beyond - 1) nothing x (omega arith)) c.if-ne.ensures
+    (omega arith) bound x (get_or_default entries (beyond - 1) nothing x (omega arith)) (lane_agrees x.lane c.args.lane c.if-ne.ensures)
