@@ -1,0 +1,9 @@
+pub mod Effects
+pub mod Reduced
+pub mod Reducing
+pub mod Meetings
+pub mod Spots
+pub mod Same
+pub mod Searching
+pub mod Pairs
+pub mod Exploring

@@ -1,0 +1,3 @@
+pub mod Meeting
+pub mod States
+pub mod Search
