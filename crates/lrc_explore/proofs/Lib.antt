@@ -4,6 +4,8 @@ pub mod Reducing
 pub mod Meetings
 pub mod Spots
 pub mod Same
-pub mod Searching
 pub mod Pairs
+pub mod Standing
+pub mod Searching
+pub mod Counting
 pub mod Exploring

@@ -39,7 +39,7 @@ same_to run position node d e does kind =
     ∙ sym (map-append _ (take position run) (act_of node e ∷ []))
 
 -- an access stands in the run
-pub access_within : {run : List Act} {j q word : ℕ} → Accesses run j q word → j < length run
+access_within : {run : List Act} {j q word : ℕ} → Accesses run j q word → j < length run
 access_within (inl (v, does)) = Does-within does
 access_within (inr (v, does)) = Does-within does
 
