@@ -5,7 +5,7 @@ use Rattle.std.proofs.lemmas.List.{get_or-replicate, length-replicate, length-se
 use Rattle.std.proofs.lemmas.List.Sums.{count_by-le-length}
 use Rattle.lrc_trace.specs.declared.act.Act.{Act}
 use Rattle.lrc_trace.specs.declared.act.Deed.{Deed}
-use Rattle.lrc_trace.specs.Run.{Does, count_of}
+use Rattle.lrc_trace.specs.Run.{count_of}
 use Rattle.lrc_trace.proofs.Counts.{counts_next, counts_same}
 use Rattle.lrc_trace.proofs.Positions.{Does-read}
 use Rattle.lrc_show.specs.Tally.{Tallies, noted}
