@@ -1,6 +1,6 @@
 -- The pairs between lists of entries, and the races that they are.
 use Rattle.std.proofs.Common.{◌≡◌, ℕ, ◌+◌, ◌<◌, ◌≤◌, ◌⊎◌, ◌++◌, List, [], ◌∷◌, length, get_or, take, inl, inr, refl, sym, subst, ◌∙◌, ap, arith}
-use Rattle.std.specs.Prelude.{◌≢◌, ◌↔◌, true, false, Option, Some, None, All, Contains}
+use Rattle.std.specs.Prelude.{◌≢◌, ◌↔◌, false, Some, All, Contains}
 use Rattle.std.proofs.lemmas.Bool.{cases_eq, cases_Bool, false≢true}
 use Rattle.std.proofs.lemmas.List.{take_more, take_all}
 use Rattle.std.proofs.lemmas.List.Elements.{Contains-push, Contains-push_cases, Contains-append_left}
@@ -9,7 +9,7 @@ use Rattle.lrc_trace.specs.declared.act.Deed.{Deed}
 use Rattle.lrc_trace.specs.declared.act.Deed.TheVariants.{Quiet, Print, Read, Write, Acquire, Release, Arrive, Depart, Trap, End}
 use Rattle.lrc_trace.specs.Run.{Does}
 use Rattle.lrc_trace.specs.Order.{HappensBefore}
-use Rattle.lrc_trace.specs.Conflict.{Accesses, Writes, ConflictAt, Races}
+use Rattle.lrc_trace.specs.Conflict.{Accesses, Writes, Races}
 use Rattle.lrc_trace.proofs.Positions.{Does-within, Does-node, Does-read, Does-one_node}
 use Rattle.lrc_judge.specs.declared.TheConstants.{NODES}
 use Rattle.lrc_judge.specs.declared.lanes.Lane.{Lane}
@@ -20,7 +20,7 @@ use Rattle.lrc_judge.specs.declared.entries.Told.TheVariants.{EachAccess, EachWr
 use Rattle.lrc_judge.specs.declared.order.Order.{Order}
 use Rattle.lrc_judge.specs.Order.{is_before, IsOrderOf}
 use Rattle.lrc_judge.specs.Adding.{Adds}
-use Rattle.lrc_judge.specs.Lanes.{entry, lane_of, told_value, IsEntry, AreEntries, IsOfLane}
+use Rattle.lrc_judge.specs.Lanes.{entry, lane_of, IsEntry, AreEntries, IsOfLane}
 use Rattle.lrc_judge.specs.Pairs.{word_lane, IsOfOthers, IsCrossing}
 use Rattle.lrc_judge.proofs.Additions.{adds-same, adds-iff, adds-both}
 
@@ -170,9 +170,11 @@ module _ (run : List Act) (order : Order) (is : IsOrderOf run order) where
     pairs_race pair = (
       λ h.
           elim h [
-            | inl c ↦ crossing_races (IsEntry run EachAccess) (IsEntry run EachWrite) accesses writes all some (λ l i e. entry_accesses e) (λ l i e. entry_accesses e)
+            | inl c ↦ crossing_races (IsEntry run EachAccess) (IsEntry run EachWrite) accesses writes all some
+                (λ l i e. entry_accesses e) (λ l i e. entry_accesses e)
                 (λ l o i j a b. inr (entry_writes b)) pair c
-            | inr c ↦ crossing_races (IsEntry run EachWrite) (IsEntry run EachAccess) writes accesses some all (λ l i e. entry_accesses e) (λ l i e. entry_accesses e)
+            | inr c ↦ crossing_races (IsEntry run EachWrite) (IsEntry run EachAccess) writes accesses some all
+                (λ l i e. entry_accesses e) (λ l i e. entry_accesses e)
                 (λ l o i j a b. inl (entry_writes a)) pair c
           ],
       λ r.
@@ -223,7 +225,8 @@ module _ (among : List Entry) (order : Order) (from : List Entry) where
   pub crossing-none : (xs : List Pair) → Adds xs xs (IsCrossing (take 0 from) among order)
   crossing-none xs = adds-same xs _ (λ p c. let (k, lt, is) = c.there in absurd (omega arith))
 
-  pub crossing-all : (xs ys : List Pair) (n : ℕ) → length from ≤ n → Adds xs ys (IsCrossing (take n from) among order) → Adds xs ys (IsCrossing from among order)
+  pub crossing-all : (xs ys : List Pair) (n : ℕ) → length from ≤ n → Adds xs ys (IsCrossing (take n from) among order)
+      → Adds xs ys (IsCrossing from among order)
   crossing-all xs ys n long adds = subst (λ es. Adds xs ys (IsCrossing es among order)) (take_all n from long) adds
 
   pub crossing-more : (xs ys zs : List Pair) (i : ℕ) (e : Entry) → i < length from → e ≡ get_or from i e
@@ -238,6 +241,11 @@ module _ (among : List Entry) (order : Order) (from : List Entry) where
         | inr same ↦ inr (subst (λ (x : Entry). IsOfOthers among order x.lane.word x.lane.node NODES x.position p) (sym same) c.others)
       ])
       (λ p h. elim h [
-        | inl c ↦ record { e = c.e; there = subst (λ es. Contains es c.e) (sym more) (Contains-append_left (take i from) (e ∷ []) c.e c.there); others = c.others }
+        | inl c ↦ record {
+          e = c.e;
+          there = subst (λ es. Contains es c.e) (sym more)
+              (Contains-append_left (take i from) (e ∷ []) c.e c.there);
+          others = c.others;
+        }
         | inr o ↦ record { e = e; there = subst (λ es. Contains es e) (sym more) (Contains-push (take i from) e); others = o }
       ]) first second

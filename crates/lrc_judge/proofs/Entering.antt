@@ -1,7 +1,7 @@
 -- The entries of a run, position by position, sorted, and without equal neighbours.
-use Rattle.std.proofs.Common.{◌≡◌, ℕ, ◌+◌, ◌<◌, ◌≤◌, ◌++◌, List, [], ◌∷◌, length, get_or, inl, inr, refl, sym, subst, ◌∙◌, ap, arith}
-use Rattle.std.specs.Prelude.{◌↔◌, ◌&&◌, ◌==◌, Bool, true, Option, Some, None, Contains}
-use Rattle.std.specs.Ordering.{is_eq, eq_by_cmp}
+use Rattle.std.proofs.Common.{◌≡◌, ℕ, ◌+◌, ◌≤◌, ◌++◌, List, [], ◌∷◌, length, inl, inr, refl, sym, subst, ◌∙◌, arith}
+use Rattle.std.specs.Prelude.{◌↔◌, ◌&&◌, ◌==◌, Bool, true, Some, None, Contains}
+use Rattle.std.specs.Ordering.{eq_by_cmp}
 use Rattle.std.specs.Cmp.{IsEquivalence, eq_by_cmp_equiv}
 use Rattle.std.specs.List.{dedup}
 use Rattle.std.specs.List.Sorted.{IsSorted, IsStrictlySortedBy, IsPermutation}
@@ -10,17 +10,16 @@ use Rattle.std.proofs.lemmas.List.Kept.{IsStrictlySortedBy-dedup, Contains-dedup
 use Rattle.std.proofs.lemmas.List.Sorted.{Contains-permutation, IsPermutation-sym}
 use Rattle.lrc_trace.specs.declared.act.Act.{Act}
 use Rattle.lrc_trace.specs.declared.act.Deed.{Deed}
-use Rattle.lrc_trace.specs.declared.act.Deed.TheVariants.{Quiet}
 use Rattle.lrc_trace.specs.Run.{Does}
-use Rattle.lrc_trace.proofs.Positions.{Does-read, Does-within, Does-one_node, Does-one_deed}
+use Rattle.lrc_trace.proofs.Positions.{Does-within, Does-one_node, Does-one_deed}
 use Rattle.lrc_judge.specs.declared.lanes.Lane.{Lane}
 use Rattle.lrc_judge.specs.declared.lanes.Entry.{Entry}
 use Rattle.lrc_judge.specs.declared.entries.Told.{Told}
 use Rattle.lrc_judge.specs.Adding.{Adds}
-use Rattle.lrc_judge.specs.Lanes.{lane_cmp, entry_cmp, entry, lane_of, IsEntry, AreEntries}
+use Rattle.lrc_judge.specs.Lanes.{entry_cmp, entry, lane_of, IsEntry, AreEntries}
 use Rattle.lrc_judge.proofs.Ascending.{is_eq-then, is_eq-nat}
 use Rattle.lrc_judge.proofs.Additions.{IsBelow, adds-same, adds-iff, adds-push, below-more}
-use Rattle.lrc_judge.proofs.Searching.{entry_total, entry_same}
+use Rattle.lrc_judge.proofs.Searching.{entry_total}
 
 -- the entry is that of the position
 pub record IsEntryAt (run : List Act) (told : Told) (k : ℕ) (e : Entry) : Type 0 where
@@ -84,10 +83,12 @@ entry_eq-exact a b h =
     let v : a.lane.value ≡ b.lane.value = eqb-true a.lane.value b.lane.value values in
     let n : a.lane.node ≡ b.lane.node = eqb-true a.lane.node b.lane.node nodes in
     let p : a.position ≡ b.position = eqb-true a.position b.position positions in
-    let l : ◌≡◌ {A = Lane} (record { word = a.lane.word; value = a.lane.value; node = a.lane.node }) (record { word = b.lane.word; value = b.lane.value; node = b.lane.node }) = cc in
+    let l : ◌≡◌ {A = Lane} (record { word = a.lane.word; value = a.lane.value; node = a.lane.node })
+    (record { word = b.lane.word; value = b.lane.value; node = b.lane.node }) = cc in
     let e : ◌≡◌ {A = Entry} (record { lane = a.lane; position = a.position }) (record { lane = b.lane; position = b.position }) = cc in e
 
-module _ (xs sorted unique : List Entry) (permutation : IsPermutation xs sorted) (in_order : IsSorted entry_cmp sorted) (is : unique ≡ dedup entry_eq sorted) where
+module _ (xs sorted unique : List Entry) (permutation : IsPermutation xs sorted) (in_order : IsSorted entry_cmp sorted)
+    (is : unique ≡ dedup entry_eq sorted) where
   unique-contains : (e : Entry) → Contains unique e ↔ Contains xs e
   unique-contains e = (
     λ h. Contains-permutation sorted xs e (IsPermutation-sym xs sorted permutation)

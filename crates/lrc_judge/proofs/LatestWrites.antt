@@ -1,6 +1,6 @@
 -- The writes to a word that happen before a position, lane by lane, and whether they are ordered.
-use Rattle.std.proofs.Common.{◌≡◌, ℕ, ◌+◌, ◌<◌, ◌≤◌, ◌⊎◌, ◌++◌, List, [], ◌∷◌, length, get_or, inl, inr, refl, sym, subst, ◌∙◌, ap, arith}
-use Rattle.std.specs.Prelude.{◌↔◌, ◌&&◌, ◌||◌, ◌==◌, Bool, true, false, IsTrue, Option, Some, None, MatchBool, MatchOption, All, Contains, max, slice_get}
+use Rattle.std.proofs.Common.{◌≡◌, ℕ, ◌+◌, ◌<◌, ◌⊎◌, ◌++◌, List, [], ◌∷◌, length, get_or, inl, inr, refl, sym, subst, ◌∙◌, arith}
+use Rattle.std.specs.Prelude.{◌↔◌, ◌&&◌, Bool, true, false, IsTrue, Option, Some, None, MatchBool, MatchOption, All, Contains, max, slice_get}
 use Rattle.std.proofs.lemmas.Bool.{cases_eq, cases_lt, and_parts, and_from, false≢true}
 use Rattle.std.proofs.lemmas.Option.{slice_get-get_or, get_or_from_slice_get}
 use Rattle.lrc_trace.specs.declared.act.Act.{Act}
@@ -8,22 +8,20 @@ use Rattle.lrc_trace.specs.declared.act.Deed.{Deed}
 use Rattle.lrc_trace.specs.declared.act.Deed.TheVariants.{Quiet, Print, Read, Write, Acquire, Release, Arrive, Depart, Trap, End}
 use Rattle.lrc_trace.specs.Run.{Does, IsDone}
 use Rattle.lrc_trace.specs.Order.{HappensBefore, base, program}
-use Rattle.lrc_trace.specs.Conflict.{Writes}
-use Rattle.lrc_trace.specs.Reading.{WrittenBefore, IsSomeWrite, AreOrdered, IsLastWrite, IsLatest, MayRead}
+use Rattle.lrc_trace.specs.Reading.{WrittenBefore, AreOrdered, MayRead}
 use Rattle.lrc_trace.proofs.Positions.{slice_get-front, slice_get-seam, Does-read, Does-within, Does-one_node, Does-one_deed}
 use Rattle.lrc_trace.proofs.HappensBefore.{forward, transitive}
 use Rattle.lrc_judge.specs.declared.TheConstants.{NODES}
 use Rattle.lrc_judge.specs.declared.lanes.Lane.{Lane}
-use Rattle.lrc_judge.specs.declared.lanes.Entry.{Entry}
-use Rattle.lrc_judge.specs.declared.entries.Told.TheVariants.{EachWrite, EachValue}
+use Rattle.lrc_judge.specs.declared.entries.Told.TheVariants.{EachValue}
 use Rattle.lrc_judge.specs.declared.written.Written.{Written}
-use Rattle.lrc_judge.specs.Order.{is_before, IsOrderOf}
-use Rattle.lrc_judge.specs.Lanes.{entry, lane_of, IsEntry, AreEntries, IsLastOfLane}
+use Rattle.lrc_judge.specs.Order.{is_before}
+use Rattle.lrc_judge.specs.Lanes.{entry, lane_of, IsLastOfLane}
 use Rattle.lrc_judge.specs.Pairs.{word_lane}
 use Rattle.lrc_judge.specs.Written.{IsWrittenOf, IsWriteBelow, IsLatestBelow, IsValueBelow, AllLead, AreFlags}
 use Rattle.lrc_judge.specs.Latest.{later_of}
 use Rattle.lrc_judge.specs.Reading.{Misreads}
-use Rattle.lrc_judge.proofs.Crossing.{entry_does, entry_writes, write_listed, listed_node}
+use Rattle.lrc_judge.proofs.Crossing.{entry_does, entry_writes, write_listed}
 
 -- ---- one node more
 
@@ -264,7 +262,8 @@ module _ (run : List Act) (written : Written) (are : IsWrittenOf run written) (i
         },
   )
 
-  pub may_unordered : (value : ℕ) → (AreOrdered run position word → ⊥) → ((value ≡ 0) ⊎ IsValueBelow written word value NODES position) ↔ MayRead run position word value
+  pub may_unordered : (value : ℕ) → (AreOrdered run position word → ⊥)
+      → ((value ≡ 0) ⊎ IsValueBelow written word value NODES position) ↔ MayRead run position word value
   may_unordered value unordered = (
     λ h. record {
       weak = elim h [ inl nothing ↦ inl nothing | inr b ↦ inr ((value_below value).0 b) ];

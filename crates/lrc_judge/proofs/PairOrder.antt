@@ -1,7 +1,7 @@
 -- What sorting pairs and taking out equal neighbours leaves.
-use Rattle.std.proofs.Common.{◌≡◌, ◌∙◌, List, refl, sym, subst}
+use Rattle.std.proofs.Common.{◌≡◌, ◌∙◌, List, sym, subst}
 use Rattle.std.specs.Prelude.{◌↔◌, ◌&&◌, ◌==◌, Bool, true, Contains}
-use Rattle.std.specs.Ordering.{nat_cmp, ordering_then, eq_by_cmp}
+use Rattle.std.specs.Ordering.{eq_by_cmp}
 use Rattle.std.specs.Cmp.{IsTotalOrder, IsEquivalence, eq_by_cmp_equiv}
 use Rattle.std.specs.List.{dedup}
 use Rattle.std.specs.List.Sorted.{IsSorted, IsStrictlySortedBy, IsPermutation}

@@ -3,7 +3,7 @@ use Rattle.std.proofs.Common.{◌≡◌, ℕ, zero, suc, ◌+◌, ◌-◌, ◌<�
 use Rattle.std.specs.Prelude.{◌&&◌, ◌==◌, not, Bool, true, false, Contains, Some, slice_get}
 use Rattle.std.specs.Ordering.{nat_cmp, ordering_then}
 use Rattle.std.specs.Cmp.{IsTotalOrder}
-use Rattle.std.specs.List.Sorted.{IsStrictlySortedBy, IsPartitionedBy, IsPartitionPoint}
+use Rattle.std.specs.List.Sorted.{IsStrictlySortedBy, IsPartitionPoint}
 use Rattle.std.specs.declared.cmp.Ordering.{Ordering}
 use Rattle.std.specs.declared.cmp.Ordering.TheVariants.{Less, Equal, Greater}
 use Rattle.std.proofs.lemmas.Bool.{cases_Bool, cases_order, cases_lt, cases_eq, and_parts, and_from, false≢true, lt-ltb, le-ltb, ne_eqb, eq-eqb, eqb-true}
@@ -308,7 +308,8 @@ module _ (entries : List Entry) (lane : Lane) (position beyond : ℕ) where
       (λ p f.
       elim (cases_eq f.index at) [
         | inl same ↦
-            let there : Some (entry lane p.earlier) ≡ Some (entry lane earlier) = sym (subst (λ k. slice_get entries k ≡ Some (entry lane p.earlier)) same f.is) ∙ is in
+            let there : Some (entry lane p.earlier) ≡ Some (entry lane earlier) =
+            sym (subst (λ k. slice_get entries k ≡ Some (entry lane p.earlier)) same f.is) ∙ is in
             let e : p.earlier ≡ earlier = ap (λ (x : Entry). x.position) (same_Some (entry lane p.earlier) (entry lane earlier) there) in
             inr (pair_same p position earlier f.later e)
         | inr other ↦

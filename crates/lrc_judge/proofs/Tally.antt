@@ -1,5 +1,5 @@
 -- What the writes to a word so far say of a read.
-use Rattle.std.proofs.Common.{◌≡◌, ℕ, zero, suc, add-one, length, ◌+◌, ◌<◌, ◌≤◌, ◌⊎◌, List, inl, inr, refl, sym, subst, ◌∙◌, ap, arith}
+use Rattle.std.proofs.Common.{◌≡◌, ℕ, zero, suc, add-one, length, ◌+◌, ◌<◌, ◌⊎◌, List, inl, inr, refl, sym, subst, ◌∙◌, ap, arith}
 use Rattle.std.specs.Prelude.{◌↔◌, ◌||◌, ◌&&◌, ◌==◌, Option, Some, None, Bool, true, false, not, IsTrue}
 use Rattle.std.specs.Option.{option_map_or}
 use Rattle.std.proofs.lemmas.Bool.{cases_eq, cases_lt, cases_Bool, false≢true, eqb-true, eq-eqb, and_parts, and_from, or_cases, or_left, or_right}

@@ -5,8 +5,6 @@ use Rattle.lrc_trace.specs.declared.act.Deed.TheVariants.{Write}
 use Rattle.lrc_trace.specs.Run.{IsDone}
 use Rattle.lrc_trace.specs.Reading.{AreOrdered}
 use Rattle.lrc_judge.specs.declared.entries.Told.TheVariants.{EachWrite, EachValue}
-use Rattle.lrc_judge.specs.declared.lanes.Entry.{Entry}
-use Rattle.lrc_judge.specs.declared.order.Order.{Order}
 use Rattle.lrc_judge.specs.declared.written.Written.{Written}
 use Rattle.lrc_judge.specs.Order.{is_before, IsOrderOf}
 use Rattle.lrc_judge.specs.Lanes.{AreEntries, AreSearchable, IsEntry, entry}

@@ -1,5 +1,5 @@
 -- One position more, and all of them, sorted and without equal neighbours.
-use Rattle.std.proofs.Common.{◌≡◌, [], List, get_or, refl, sym, ◌∙◌, arith}
+use Rattle.std.proofs.Common.{◌≡◌, [], get_or, refl, sym, ◌∙◌, arith}
 use Rattle.std.specs.Prelude.{Option, Some, None}
 use Rattle.std.proofs.lemmas.List.Filters.{dedup_is}
 use Rattle.lrc_trace.specs.declared.act.Act.{Act}

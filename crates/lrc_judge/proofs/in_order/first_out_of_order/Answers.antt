@@ -1,11 +1,10 @@
 -- One position more, and the whole run.
-use Rattle.std.proofs.Common.{◌≡◌, ℕ, ◌+◌, ◌<◌, inl, inr, sym, subst, ◌∙◌, get_or, arith}
+use Rattle.std.proofs.Common.{◌≡◌, inl, inr, subst, get_or, arith}
 use Rattle.std.proofs.lemmas.Bool.{cases_eq}
 use Rattle.lrc_trace.specs.declared.act.Act.{Act}
 use Rattle.lrc_trace.specs.declared.act.Deed.TheVariants.{Quiet, Read, Write}
-use Rattle.lrc_trace.specs.Run.{Does, IsDone}
+use Rattle.lrc_trace.specs.Run.{Does}
 use Rattle.lrc_trace.proofs.Positions.{Does-read, Does-deed, Does-one_deed, Does-within}
-use Rattle.lrc_judge.specs.InOrder.{IsLastWritten}
 use Rattle.lrc_judge.proofs.LastWritten.{IsMemory-same, IsMemory-next}
 use Rattle.lrc_judge.proofs.in_order.first_out_of_order.Goals as goal
 use Rattle.lrc_judge.proofs.in_order.first_out_of_order.Goals.{in-Read+else-value-last_written, in-Write+in_ok-insert-in-Write, in_default}
@@ -22,7 +21,8 @@ loop-position-preserved c =
       | in-Read+else-value-last_written w ↦
           let read : Does run n node (Read w.in-Read.word w.in-Read.value) = Does-deed w.in-Read.is here in
           record {
-            memory = rw w.memory-is (IsMemory-same run n c.loop-position.memory (λ word v (p, d). let e = Does-one_deed read d in let never : ⊥ = cc in never) c.loop-position.invariant.memory);
+            memory = rw w.memory-is (IsMemory-same run n c.loop-position.memory
+                (λ word v (p, d). let e = Does-one_deed read d in let never : ⊥ = cc in never) c.loop-position.invariant.memory);
             reads = λ j word v lt (p, r).
                 elim (cases_eq j n) [
                   | inl same ↦
@@ -47,7 +47,8 @@ loop-position-preserved c =
                 ];
           }
       | in_default w ↦ record {
-        memory = rw w.memory-is (IsMemory-same run n c.loop-position.memory (λ word v (p, d). w.in_default.not-Write word v (Does-one_deed here d)) c.loop-position.invariant.memory);
+        memory = rw w.memory-is (IsMemory-same run n c.loop-position.memory
+            (λ word v (p, d). w.in_default.not-Write word v (Does-one_deed here d)) c.loop-position.invariant.memory);
         reads = λ j word v lt (p, r).
             elim (cases_eq j n) [
               | inl same ↦ absurd (w.in_default.not-Read word v (Does-one_deed here (subst (λ k. Does run k p (Read word v)) same r)))

@@ -1,5 +1,5 @@
 -- The entry before the first one beyond is the last of its lane, or there is none.
-use Rattle.std.proofs.Common.{◌≡◌, ◌-◌, get_or, arith}
+use Rattle.std.proofs.Common.{◌-◌, get_or, arith}
 use Rattle.std.proofs.lemmas.List.{get_or_default}
 use Rattle.lrc_judge.specs.declared.lanes.Entry.{Entry}
 use Rattle.lrc_judge.proofs.Searching.{lane_agrees, lane_differs, none_if_apart, last_of_lane}

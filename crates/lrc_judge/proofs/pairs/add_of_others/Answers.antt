@@ -1,5 +1,5 @@
 -- One node more, and all of them.
-use Rattle.std.proofs.Common.{◌≡◌, ℕ, subst, sym, ◌∙◌, arith}
+use Rattle.std.proofs.Common.{◌≡◌, subst, sym, ◌∙◌, arith}
 use Rattle.lrc_judge.specs.declared.TheConstants.{NODES}
 use Rattle.lrc_judge.specs.Adding.{Adds}
 use Rattle.lrc_judge.specs.Pairs.{IsOfOthers}

@@ -1,6 +1,5 @@
 -- The pairs between accesses and writes are those that race, and stay so when they are sorted and each is kept once.
-use Rattle.std.proofs.Common.{◌≡◌, [], List, inl, inr, sym, subst, arith}
-use Rattle.std.specs.Prelude.{Contains}
+use Rattle.std.proofs.Common.{[], List, inl, inr, sym, subst, arith}
 use Rattle.std.proofs.lemmas.List.Filters.{dedup_is}
 use Rattle.lrc_judge.specs.declared.entries.Told.TheVariants.{EachAccess, EachWrite}
 use Rattle.lrc_judge.specs.declared.lanes.Entry.{Entry}

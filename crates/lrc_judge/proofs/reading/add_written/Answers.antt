@@ -1,8 +1,6 @@
 -- 0, one position more, and all before the read.
 use Rattle.std.proofs.Common.{◌≡◌, sym, subst, ◌∙◌, arith}
 use Rattle.std.proofs.lemmas.Bool.{false≢true}
-use Rattle.lrc_trace.specs.declared.act.Deed.TheVariants.{Write}
-use Rattle.lrc_trace.specs.Run.{IsDone}
 use Rattle.lrc_trace.specs.Reading.{WrittenBefore}
 use Rattle.lrc_judge.specs.Adding.{Adds}
 use Rattle.lrc_judge.proofs.Allowed.{IsWrittenBy, written-zero, written-same, written-more, written-all}
@@ -41,4 +39,5 @@ pub returns : goal.returns
 returns c =
     let at : c.loop-earlier.earlier ≡ c.args.position = omega arith in
     written-all c.args.acts.now c.args.position c.args.word c.args.values.now.items c.loop-earlier.values.items
-    (subst (λ n. Adds c.args.values.now.items c.loop-earlier.values.items (IsWrittenBy c.args.acts.now c.args.position c.args.word n)) at c.loop-earlier.invariant)
+    (subst (λ n. Adds c.args.values.now.items c.loop-earlier.values.items (IsWrittenBy c.args.acts.now c.args.position c.args.word n))
+    at c.loop-earlier.invariant)

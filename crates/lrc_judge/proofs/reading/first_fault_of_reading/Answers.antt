@@ -1,5 +1,5 @@
 -- One position more, and the whole run.
-use Rattle.std.proofs.Common.{◌≡◌, ℕ, ◌+◌, length, inl, inr, sym, subst, ◌∙◌, ap, arith}
+use Rattle.std.proofs.Common.{◌+◌, length, inl, inr, sym, subst, ◌∙◌, ap, arith}
 use Rattle.std.proofs.lemmas.Bool.{cases_eq}
 use Rattle.std.proofs.lemmas.List.{length_push}
 use Rattle.lrc_trace.specs.declared.act.Deed.TheVariants.{Read}

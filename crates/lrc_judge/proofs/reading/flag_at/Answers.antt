@@ -1,5 +1,5 @@
 -- The flag of a write; another act has none.
-use Rattle.std.proofs.Common.{◌≡◌, ℕ, subst, get_or}
+use Rattle.std.proofs.Common.{◌≡◌, subst}
 use Rattle.std.specs.Prelude.{◌↔◌, true}
 use Rattle.lrc_trace.specs.declared.act.Act.{Act}
 use Rattle.lrc_trace.specs.declared.act.Deed.TheVariants.{Quiet, Write}

@@ -1,7 +1,6 @@
 -- A read is judged; of another act nothing is asked.
-use Rattle.std.proofs.Common.{◌≡◌, ℕ}
 use Rattle.lrc_trace.specs.declared.act.Act.{Act}
-use Rattle.lrc_trace.specs.declared.act.Deed.TheVariants.{Quiet, Read}
+use Rattle.lrc_trace.specs.declared.act.Deed.TheVariants.{Quiet}
 use Rattle.lrc_trace.proofs.Positions.{Does-read, Does-deed, Does-one_deed}
 use Rattle.lrc_judge.proofs.LatestWrites.{judged}
 use Rattle.lrc_judge.proofs.reading.is_allowed.Goals as goal

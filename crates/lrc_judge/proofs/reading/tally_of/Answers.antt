@@ -1,6 +1,6 @@
 -- One position more, and all before the read.
 use Rattle.std.proofs.Common.{◌≡◌, sym, subst, ◌∙◌, arith}
-use Rattle.std.specs.Prelude.{true, None, ◌||◌, ◌==◌, Bool}
+use Rattle.std.specs.Prelude.{true, ◌||◌, ◌==◌}
 use Rattle.std.proofs.lemmas.Bool.{false≢true}
 use Rattle.lrc_trace.specs.declared.act.Deed.TheVariants.{Write}
 use Rattle.lrc_trace.specs.Run.{IsDone}

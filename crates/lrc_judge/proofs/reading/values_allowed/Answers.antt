@@ -1,6 +1,6 @@
 -- One value where the writes are ordered, else all; sorted, and each kept once.
-use Rattle.std.proofs.Common.{◌≡◌, ℕ, [], List, eqb, inl, inr, sym, subst, ◌∙◌}
-use Rattle.std.specs.Prelude.{◌↔◌, Bool, false, true, Contains}
+use Rattle.std.proofs.Common.{◌≡◌, ℕ, eqb, inl, inr, sym, ◌∙◌}
+use Rattle.std.specs.Prelude.{◌↔◌, false, true, Contains}
 use Rattle.std.proofs.lemmas.Bool.{cases_Bool}
 use Rattle.std.proofs.lemmas.List.Filters.{dedup_is}
 use Rattle.lrc_trace.specs.Reading.{IsSomeWrite, MayRead}

@@ -1,6 +1,6 @@
 -- What a read may give, by the last write or by any.
-use Rattle.std.proofs.Common.{◌≡◌, ℕ, refl, sym, ◌∙◌, inl, inr, arith}
-use Rattle.std.specs.Prelude.{Bool, false, true, not}
+use Rattle.std.proofs.Common.{◌≡◌, sym, ◌∙◌, inl, inr, arith}
+use Rattle.std.specs.Prelude.{false, true}
 use Rattle.std.proofs.lemmas.Bool.{cases_Bool, false≢true, eqb-true, eq-eqb}
 use Rattle.lrc_judge.proofs.LatestWrites.{may_unordered, may_none, may_latest}
 use Rattle.lrc_judge.proofs.written.Written.allows.Goals as goal

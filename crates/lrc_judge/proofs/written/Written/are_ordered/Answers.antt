@@ -1,6 +1,6 @@
 -- By the flag of the last write, and whether it leads.
-use Rattle.std.proofs.Common.{◌≡◌, ℕ, refl, sym, subst, ◌∙◌, get_or, inl, inr}
-use Rattle.std.specs.Prelude.{◌&&◌, Bool, false, true}
+use Rattle.std.proofs.Common.{◌≡◌, refl, sym, ◌∙◌, get_or, inl, inr}
+use Rattle.std.specs.Prelude.{false, true}
 use Rattle.std.proofs.lemmas.Bool.{cases_Bool, false≢true}
 use Rattle.lrc_judge.proofs.LatestWrites.{latest_written, ordered_none, ordered_flag, ordered_iff}
 use Rattle.lrc_judge.proofs.written.Written.are_ordered.Goals as goal

@@ -9,7 +9,9 @@ use Rattle.lrc_judge.specs.Pairs.{word_lane}
 use Rattle.lrc_judge.specs.Written.{AllLead}
 use Rattle.lrc_judge.proofs.LatestWrites.{lead_none, lead_more}
 use Rattle.lrc_judge.proofs.written.Written.leads.Goals as goal
-use Rattle.lrc_judge.proofs.written.Written.leads.Goals.{in-Some+else-found-latest, else-found-latest-via-then-found-latest+else-not-is_before, else-found-latest-via-else-found-latest, in_default}
+use Rattle.lrc_judge.proofs.written.Written.leads.Goals.{in-Some+else-found-latest, in_default}
+use Rattle.lrc_judge.proofs.written.Written.leads.Goals.{else-found-latest-via-then-found-latest+else-not-is_before}
+use Rattle.lrc_judge.proofs.written.Written.leads.Goals.{else-found-latest-via-else-found-latest}
 
 pub loop-node-preserved : goal.loop-node-preserved
 loop-node-preserved c = λ run are.
