@@ -27,6 +27,11 @@ IsVerdict program nodes (RaceFree None) = HasNoRace program nodes × NeverStuck 
 IsVerdict program nodes (RaceFree (Some order)) = HasNoRace program nodes × GetsStuck program nodes order.items
 IsVerdict program nodes (Racy order) = LeadsToRace program nodes order.items
 
+-- the answer is that no order races
+abbrev pub FindsNoRace : Verdict → Type 0
+FindsNoRace (RaceFree stuck) = Unit {0}
+FindsNoRace (Racy order) = ⊥
+
 -- there are 1 to 16 nodes
 abbrev pub AreNodes : ℕ → Type 0
 AreNodes nodes = (1 ≤ nodes) × (nodes ≤ 16)
