@@ -6,12 +6,14 @@ use Rattle.lrc_lang.specs.Tree.{program_of}
 use Rattle.lrc_lang.specs.declared.program.Program.{Program}
 use Rattle.lrc_trace.specs.declared.act.Act.{Act}
 use Rattle.lrc_judge.specs.Races.{AreNamedRaces}
+use Rattle.lrc_post.specs.Mailbox.{MailboxRecord}
 use Rattle.lrc_protocol.specs.declared.event.Event.{Event}
 use Rattle.lrc_protocol.specs.Node.{OptionsRecord}
 use Rattle.lrc_world.specs.Ends.{ends_of}
 use Rattle.lrc_world.specs.Report.{AreAll, IsReportOf, IsWornBy}
+use Rattle.lrc_world.specs.Rounds.{AreRounds, RoundsWearOut}
 use Rattle.lrc_world.specs.declared.report.Report.{Report}
-use Rattle.lrc_run.specs.Run.{IsWovenReport}
+use Rattle.lrc_run.specs.Run.{AreWiresOf, IsWovenReport}
 use Rattle.lrc_report.specs.EventsText.{Reads}
 use Rattle.lrc_report.specs.ReportText.{report_text, run_status_of, run_text, status_of, whole_text}
 use Rattle.lrc_cli.specs.declared.answer.Printout.{Printout}
@@ -36,12 +38,14 @@ abbrev pub IsPrintoutOfActs : ℕ → List Act → List ℕ → ℕ → Type 0
 IsPrintoutOfActs nodes acts out status =
     (out ≡ report_text acts (ends_of nodes acts)) × (status ≡ status_of (ends_of nodes acts))
 
--- no node is ready and no message is in flight after these events, unless there are 100,000,000, of which there are no more
+-- The events are those of the program's run in rounds, by the order that was asked for. No node is ready and no message is in flight
+-- after them, unless there are 100,000,000, of which there are no more.
 pub record IsDriven (program : Program) (run : RunOptions) (events : List Event) : Type 0 where
+  pub rounds : AreRounds program run.nodes.count (options_of run) run.order events
   pub few : length events ≤ 100000000
   pub over : length events < 100000000 → AreAll program run.nodes.count (options_of run) events
 
--- the events of a run are those that a text names; without one, some after which nothing is left to do
+-- the events of a run are those that a text names; without one, those of its rounds
 abbrev pub ArePlayed : Program → RunOptions → Option (List ℕ) → List Event → Type 0
 ArePlayed program run (Some events_text) events = Reads events_text (Ok events)
 ArePlayed program run None events = IsDriven program run events
@@ -52,10 +56,12 @@ IsRunOf program run events_text report = (events : List Event) × ArePlayed prog
     × IsReportOf program run.nodes.count (options_of run) events report
     × AreNamedRaces report.acts.items report.races.items
 
--- what a run on threads answers: the report of the events that its nodes' turns make, with the races that its acts name
+-- What a run on threads answers: the report of the events that its nodes' turns make, with the races that its acts name. Its messages
+-- went through mailboxes, of which each take was of the parcel that the order names.
 abbrev pub IsThreadedRunOf : Program → RunOptions → Report → Type 0
 IsThreadedRunOf program run report = IsWovenReport program run.nodes.count (options_of run) report
     × AreNamedRaces report.acts.items report.races.items
+    × ((wires : List MailboxRecord) × AreWiresOf run.nodes.count run.order report wires)
 
 -- the text and the status are those of this report
 abbrev pub IsPrintoutOf : Report → List ℕ → ℕ → Type 0
@@ -86,10 +92,13 @@ abbrev pub HasBadEvent : Option (List ℕ) → ℕ → Type 0
 HasBadEvent None line = ⊥
 HasBadEvent (Some events_text) line = Reads events_text (Err (BadEvent line))
 
--- A number or a message becomes too large at one of the events of the run. With no text of events, those are the events of some run
--- of the program.
+-- a number or a message becomes too large at one of the events of some run of the program
+abbrev pub IsWornOnThreads : Program → RunOptions → Type 0
+IsWornOnThreads program run = (events : List Event) × IsWornBy program run.nodes.count (options_of run) events
+
+-- the same at one of the events that a text names, or, with no such text, of the rounds
 abbrev pub IsWornRun : Program → RunOptions → Option (List ℕ) → Type 0
-IsWornRun program run None = (events : List Event) × IsWornBy program run.nodes.count (options_of run) events
+IsWornRun program run None = RoundsWearOut program run.nodes.count (options_of run) run.order
 IsWornRun program run (Some events_text) =
     (events : List Event) × Reads events_text (Ok events) × IsWornBy program run.nodes.count (options_of run) events
 
@@ -105,7 +114,7 @@ IsRunFault program run events_text NoMemory = Unit {0}
 abbrev pub IsThreadedFault : Program → RunOptions → Fault → Type 0
 IsThreadedFault program run (Text line kind) = ⊥
 IsThreadedFault program run (Events line) = ⊥
-IsThreadedFault program run Worn = IsWornRun program run None
+IsThreadedFault program run Worn = IsWornOnThreads program run
 IsThreadedFault program run Mismatch = Unit {0}
 IsThreadedFault program run NoMemory = Unit {0}
 
@@ -114,7 +123,7 @@ abbrev pub IsWornChoice : Choice → Program → Option (List ℕ) → Type 0
 IsWornChoice (Check file) program events_text = ⊥
 IsWornChoice (Plain run) program events_text = ⊥
 IsWornChoice (Simulate run) program events_text = IsWornRun program run.options events_text
-IsWornChoice (Run run) program events_text = IsWornRun program run None
+IsWornChoice (Run run) program events_text = IsWornOnThreads program run
 
 -- The first fault: of the text, then of the events, then of the run. Memory may run out at any time. Only nodes on threads can have
 -- logs that differ from what went through the post.
