@@ -1,5 +1,6 @@
 -- How often nodes have arrived, by how many states were found; and states that orders lead to, by how they were found.
-use Rattle.std.proofs.Common.{◌≡◌, ℕ, zero, suc, ◌+◌, ◌<◌, ◌≤◌, List, [], ◌∷◌, ◌++◌, Bool, true, false, inl, inr, length, refl, sym, subst, ◌∙◌, ap, arith, replicate}
+use Rattle.std.proofs.Common.{◌≡◌, ℕ, zero, suc, ◌+◌, ◌<◌, ◌≤◌, List, [], ◌∷◌, ◌++◌, Bool, true, false, inl, inr}
+use Rattle.std.proofs.Common.{length, refl, sym, subst, ◌∙◌, ap, arith, replicate}
 use Rattle.std.specs.Prelude.{Option, Some, None, slice_get, slice_index, slice_set, if◌then◌else◌}
 use Rattle.std.proofs.lemmas.Bool.{cases_lt, cases_eq}
 use Rattle.std.proofs.lemmas.List.{get_or-set_same, get_or-set_other, get_or_past, length-set, length_push}
@@ -80,7 +81,8 @@ module _ (machine after : Plain) (node k : ℕ) (d : Deed) where
   counts_deed ends is = counts_after End (with_thread machine node None) is (omega arith)
 
   step_counts : plain_step machine node ≡ Some (d, after) → Counts after
-  step_counts is = option_and_then_some (λ t. deed_of machine node (next_of t)) (thread_in machine node) (d, after) is (λ t at made. counts_deed (next_of t) made)
+  step_counts is =
+      option_and_then_some (λ t. deed_of machine node (next_of t)) (thread_in machine node) (d, after) is (λ t at made. counts_deed (next_of t) made)
 
 -- at the start nobody has arrived
 zero_at : (n k : ℕ) → slice_index (replicate n 0) k ≡ 0
@@ -102,7 +104,8 @@ counted_first flat place start keys are is k s at node =
 pub counted_there : (flat : Flat) (states : List State) (state : State) (place node : ℕ) → AreCounted states → Stands flat states place (plain_at flat state)
     → slice_index state.arrivals.items node ≤ place
 counted_there flat states state place node counted there =
-    let same : slice_index there.state.arrivals.items node ≡ slice_index state.arrivals.items node = ap (λ (m : Plain). slice_index m.arrivals node) there.same in
+    let same : slice_index there.state.arrivals.items node ≡ slice_index state.arrivals.items node =
+    ap (λ (m : Plain). slice_index m.arrivals node) there.same in
     let few = counted place there.state there.there node in
     omega arith
 
@@ -129,7 +132,8 @@ counted_more flat old new state origin counted steps keys k s at node = elim (ca
 ]
 
 -- some order leads to each state that was found
-module _ (program : Program) (flat : Flat) (found : Found) (sound : IsFound flat found) (start : Stands flat found.states.keys 0 (plain_start program flat.nodes)) where
+module _ (program : Program) (flat : Flat) (found : Found) (sound : IsFound flat found)
+    (start : Stands flat found.states.keys 0 (plain_start program flat.nodes)) where
   reached_below : (bound k : ℕ) (state : State) → k < bound → slice_get found.states.keys k ≡ Some state → IsReached program flat.nodes (plain_at flat state)
   reached_below zero k state lt at = absurd (omega arith)
   reached_below (suc bound) k state lt at = elim (cases_eq k 0) [

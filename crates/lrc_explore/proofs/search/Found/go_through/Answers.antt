@@ -14,11 +14,13 @@ loop-place-preserved c =
     let lt : place < length old.states.keys = omega (arith, c.loop-place-test.true, c.len.ensures.len) in
     elim c.match-branch-2.branch [
       | in-Stuck w ↦
-          going_stuck flat first old new place c.loop-place.stuck c.loop-place.invariant c.in_ok-p.ensures.found c.in_ok-p.ensures.counted c.in_ok-p.ensures.grows lt
+          going_stuck flat first old new place c.loop-place.stuck c.loop-place.invariant c.in_ok-p.ensures.found
+          c.in_ok-p.ensures.counted c.in_ok-p.ensures.grows lt
           c.match-branch-2.stuck (w.stuck-is ∙ w.or-stuck.ensures) (subst (IsVisit flat new.states.keys place) w.in-Stuck.is c.in_ok-p.ensures.visit)
       | in-Past w ↦
           subst (Going flat first new (place + 1)) (sym w.stuck-is)
-          (going_past flat first old new place c.loop-place.stuck c.loop-place.invariant c.in_ok-p.ensures.found c.in_ok-p.ensures.counted c.in_ok-p.ensures.grows lt
+          (going_past flat first old new place c.loop-place.stuck c.loop-place.invariant c.in_ok-p.ensures.found
+          c.in_ok-p.ensures.counted c.in_ok-p.ensures.grows lt
           (subst (IsVisit flat new.states.keys place) w.in-Past.is c.in_ok-p.ensures.visit))
     ]
 
