@@ -1,14 +1,14 @@
 -- The races that pairs of first accesses name.
-use Rattle.std.proofs.Common.{◌≡◌, ℕ, ◌<◌, ◌≤◌, ◌⊎◌, ◌++◌, List, [], ◌∷◌, length, inl, inr, refl, sym, subst, ◌∙◌, ap, arith}
-use Rattle.std.specs.Prelude.{◌≢◌, ◌↔◌, All, Contains, slice_index}
-use Rattle.std.proofs.lemmas.Bool.{cases_order, cases_eq, cases_lt, lt-ltb, le-ltb}
+use Rattle.std.proofs.Common.{◌≡◌, ℕ, ◌<◌, ◌⊎◌, ◌++◌, List, [], ◌∷◌, length, inl, inr, refl, sym, subst, ◌∙◌, arith}
+use Rattle.std.specs.Prelude.{All, Contains, slice_index}
+use Rattle.std.proofs.lemmas.Bool.{cases_order, lt-ltb, le-ltb}
 use Rattle.lrc_trace.specs.declared.act.Act.{Act}
 use Rattle.lrc_trace.specs.declared.act.Deed.{Deed}
 use Rattle.lrc_trace.specs.declared.act.Deed.TheVariants.{Read, Write}
 use Rattle.lrc_trace.specs.declared.race.Race.{Race}
 use Rattle.lrc_trace.specs.Run.{Does}
 use Rattle.lrc_trace.specs.Order.{HappensBefore}
-use Rattle.lrc_trace.specs.Conflict.{Accesses, Writes, ConflictAt, Races}
+use Rattle.lrc_trace.specs.Conflict.{Accesses, ConflictAt, Races}
 use Rattle.lrc_trace.specs.Interval.{interval_at, Names, IsNamedRace}
 use Rattle.lrc_trace.proofs.Positions.{Does-read, Does-one_node, Does-one_deed, Does-within}
 use Rattle.lrc_trace.proofs.HappensBefore.{forward}
@@ -23,9 +23,9 @@ use Rattle.lrc_judge.specs.declared.order.Order.{Order}
 use Rattle.lrc_judge.specs.Order.{IsOrderOf}
 use Rattle.lrc_judge.specs.Adding.{Adds}
 use Rattle.lrc_judge.specs.Firsts.{AreIntervals, AreFirstEntries}
-use Rattle.lrc_judge.specs.Lanes.{entry, IsEntry, AreEntries, AreSearchable}
+use Rattle.lrc_judge.specs.Lanes.{entry, AreEntries, AreSearchable}
 use Rattle.lrc_judge.specs.Pairs.{word_lane, IsCrossing}
-use Rattle.lrc_judge.specs.Races.{word_of, race_of_places, IsNameOf, AreRacePairs}
+use Rattle.lrc_judge.specs.Races.{word_of, race_of_places, IsNameOf}
 use Rattle.lrc_judge.proofs.Additions.{adds-iff, adds-push}
 use Rattle.lrc_judge.proofs.Searching.{searchable}
 use Rattle.lrc_judge.proofs.Crossing.{entry_does, entry_accesses, entry_writes, access_listed, write_listed, crossing_races, races_crossing}
@@ -184,7 +184,8 @@ module _ (run : List Act) (intervals : List ℕ) (are : AreIntervals run (length
               (pair, (crossing, inl names))
           | inr (inr upper) ↦
               let pair : Pair = record { later = i; earlier = j } in
-              let r : Races run j i = record { earlier = upper; conflict = (race.node_b, race.node_a, race.word, ConflictAt-symmetric c); unordered = not_ji } in
+              let r : Races run j i =
+              record { earlier = upper; conflict = (race.node_b, race.node_a, race.word, ConflictAt-symmetric c); unordered = not_ji } in
               let names : Names run race i j = record { ascending = ascending; conflict = c; races = inr r; interval_a = ia; interval_b = ib } in
               let crossing = one pair (races_crossing run order is (In these) (In those) these those are others pair race.node_b race.node_a race.word
               (node_below c.second) (λ e. c.apart (sym e)) at_i at_j upper not_ji) in

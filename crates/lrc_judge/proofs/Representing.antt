@@ -1,6 +1,6 @@
 -- The first accesses of intervals stand for the others.
-use Rattle.std.proofs.Common.{◌≡◌, ℕ, zero, suc, add-one, ◌+◌, ◌-◌, ◌<◌, ◌≤◌, ◌⊎◌, ◌++◌, List, [], ◌∷◌, length, get_or, inl, inr, refl, sym, subst, ◌∙◌, ap, arith}
-use Rattle.std.specs.Prelude.{◌≢◌, ◌↔◌, ◌&&◌, ◌==◌, not, Bool, true, false, Some, All, Contains, slice_get, slice_index}
+use Rattle.std.proofs.Common.{◌≡◌, ℕ, zero, suc, ◌+◌, ◌<◌, ◌≤◌, ◌⊎◌, ◌++◌, List, [], ◌∷◌, length, get_or, inl, inr, refl, sym, subst, ◌∙◌, ap, arith}
+use Rattle.std.specs.Prelude.{◌≢◌, not, true, Some, Contains, slice_get, slice_index}
 use Rattle.std.specs.List.Sorted.{IsStrictlySortedBy}
 use Rattle.std.specs.declared.cmp.Ordering.TheVariants.{Less}
 use Rattle.std.proofs.lemmas.Bool.{cases_eq, cases_lt, cases_Bool}
@@ -9,16 +9,15 @@ use Rattle.std.proofs.lemmas.Option.{slice_get_within, slice_get-get_or, get_or_
 use Rattle.std.proofs.lemmas.Map.Keys.{Less-from_sorted, sorted_from_all_adjacent}
 use Rattle.lrc_trace.specs.declared.act.Act.{Act}
 use Rattle.lrc_trace.specs.declared.act.Deed.{Deed}
-use Rattle.lrc_trace.specs.declared.act.Deed.TheVariants.{Read, Write, Release, Arrive, Acquire, Depart}
+use Rattle.lrc_trace.specs.declared.act.Deed.TheVariants.{Read, Write, Release, Arrive}
 use Rattle.lrc_trace.specs.Run.{Does}
 use Rattle.lrc_trace.specs.Order.{Precedes, program, lock, barrier, HappensBefore, base, further}
-use Rattle.lrc_trace.specs.Conflict.{Accesses, Writes}
+use Rattle.lrc_trace.specs.Conflict.{Accesses}
 use Rattle.lrc_trace.specs.Interval.{closes, interval_at}
-use Rattle.lrc_trace.proofs.Positions.{slice_get-front, slice_get-seam, Does-one_node, Does-one_deed, Does-within}
-use Rattle.lrc_trace.proofs.HappensBefore.{forward, transitive}
+use Rattle.lrc_trace.proofs.Positions.{slice_get-front, slice_get-seam, Does-one_node, Does-one_deed}
+use Rattle.lrc_trace.proofs.HappensBefore.{forward}
 use Rattle.lrc_trace.proofs.Intervals.{same_then_none}
 use Rattle.lrc_judge.specs.declared.entries.Told.{Told}
-use Rattle.lrc_judge.specs.declared.lanes.Lane.{Lane}
 use Rattle.lrc_judge.specs.declared.lanes.Entry.{Entry}
 use Rattle.lrc_judge.specs.Adding.{Adds}
 use Rattle.lrc_judge.specs.Firsts.{AreIntervals, AreAlike, IsFirstAt, AreFirsts, AreFirstEntries}
@@ -203,14 +202,17 @@ module _ (run : List Act) (a b p v w : ℕ) (first : Accesses run a p v) (second
       absurd (access_deed first Arrive (subst (λ n. Does run a n Arrive) (Does-one_node does_a here) does_a) refl)
   leaves k (further {j = j} h step) = onward j k (forward h) (leaves j h) step
     where
-      onward : (j k : ℕ) → a < j → ((d : Deed) × Does run j p d) ⊎ HappensBefore run b j → Precedes run j k → ((d : Deed) × Does run k p d) ⊎ HappensBefore run b k
+      onward : (j k : ℕ) → a < j → ((d : Deed) × Does run j p d) ⊎ HappensBefore run b j → Precedes run j k
+          → ((d : Deed) × Does run k p d) ⊎ HappensBefore run b k
       onward j k after (inr before) step = inr (further before step)
       onward j k after (inl (d, does)) (program {node = q} {b = e} below does_j does_k) =
           inl (e, subst (λ n. Does run k n e) (Does-one_node does_j does) does_k)
       onward j k after (inl (d, does)) (lock {p = q} {l = l} below does_j does_k) =
-          inr (further (closes_after j (Release l) after (subst (λ n. Does run j n (Release l)) (Does-one_node does_j does) does_j) refl) (lock below does_j does_k))
+          inr (further (closes_after j (Release l) after (subst (λ n. Does run j n (Release l)) (Does-one_node does_j does) does_j) refl)
+          (lock below does_j does_k))
       onward j k after (inl (d, does)) (barrier {p = q} below does_j does_k count) =
-          inr (further (closes_after j Arrive after (subst (λ n. Does run j n Arrive) (Does-one_node does_j does) does_j) refl) (barrier below does_j does_k count))
+          inr (further (closes_after j Arrive after (subst (λ n. Does run j n Arrive) (Does-one_node does_j does) does_j) refl)
+          (barrier below does_j does_k count))
 
 -- of accesses of two nodes, earlier ones in the same intervals are unordered where these are
 pub unordered_too : (run : List Act) (i i' j j' p q v w x y : ℕ) → p ≢ q → Accesses run i p v → Accesses run i' p w → Accesses run j q x → Accesses run j' q y

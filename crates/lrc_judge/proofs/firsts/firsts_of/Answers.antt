@@ -1,5 +1,5 @@
 -- One index further, and all of them.
-use Rattle.std.proofs.Common.{◌≡◌, get_or, arith}
+use Rattle.std.proofs.Common.{get_or, arith}
 use Rattle.std.proofs.lemmas.Option.{slice_get-get_or}
 use Rattle.lrc_judge.specs.declared.lanes.Entry.{Entry}
 use Rattle.lrc_judge.proofs.Representing.{firsts-same, firsts-more, rising-more, firsts-all}

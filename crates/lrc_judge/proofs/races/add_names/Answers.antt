@@ -1,5 +1,5 @@
 -- One pair more.
-use Rattle.std.proofs.Common.{◌≡◌, get_or, ap, ◌∙◌, arith}
+use Rattle.std.proofs.Common.{get_or, ap, ◌∙◌}
 use Rattle.std.proofs.lemmas.List.{get_or_default}
 use Rattle.std.specs.Prelude.{slice_index}
 use Rattle.lrc_trace.specs.declared.act.Act.{Act}
@@ -23,7 +23,8 @@ loop-pair-preserved c =
     let pair : Pair = get_or pairs i nothing in
     let first : Act = get_or run pair.earlier quiet in
     let second : Act = get_or run pair.later quiet in
-    let is = c.race_of_places.ensures ∙ ap (λ w. race_of_places w first.node (slice_index intervals pair.earlier) second.node (slice_index intervals pair.later))
+    let is = c.race_of_places.ensures
+    ∙ ap (λ w. race_of_places w first.node (slice_index intervals pair.earlier) second.node (slice_index intervals pair.later))
     c.word_of-word.ensures in
     some-more pairs (IsNameOf run intervals) c.args.races.now.items c.loop-pair.races.items c.push.new.self.items i pair within
     (get_or_default pairs i nothing pair within) c.loop-pair.invariant

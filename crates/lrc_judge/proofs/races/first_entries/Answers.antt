@@ -1,5 +1,5 @@
 -- The first of the entries of the run.
-use Rattle.std.proofs.Common.{◌≡◌, ℕ, ◌<◌, List, length, get_or, sym, subst, arith}
+use Rattle.std.proofs.Common.{ℕ, ◌<◌, List, length, get_or, sym, subst, arith}
 use Rattle.lrc_trace.proofs.Positions.{Does-within}
 use Rattle.lrc_judge.specs.declared.lanes.Entry.{Entry}
 use Rattle.lrc_judge.specs.Firsts.{AreFirsts}

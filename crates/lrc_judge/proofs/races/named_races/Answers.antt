@@ -1,5 +1,5 @@
 -- The names of the pairs are those of the run, and stay so when they are sorted and each is kept once.
-use Rattle.std.proofs.Common.{◌≡◌, ℕ, ◌<◌, [], List, length, get_or, inl, inr, sym, subst, ◌∙◌, arith}
+use Rattle.std.proofs.Common.{ℕ, ◌<◌, [], List, length, get_or, inl, inr, sym, subst, arith}
 use Rattle.std.proofs.lemmas.List.{get_or_default}
 use Rattle.std.proofs.lemmas.List.Filters.{dedup_is}
 use Rattle.lrc_trace.specs.declared.race.Race.{Race}

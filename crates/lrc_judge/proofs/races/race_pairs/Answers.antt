@@ -1,5 +1,5 @@
 -- The pairs between first accesses and first writes race, and every race that the run names is of one.
-use Rattle.std.proofs.Common.{◌≡◌, [], List, inl, inr, sym, subst, ⊎_elim, arith}
+use Rattle.std.proofs.Common.{[], List, inl, inr, sym, subst, arith}
 use Rattle.std.specs.Prelude.{Contains}
 use Rattle.lrc_judge.specs.declared.entries.Told.TheVariants.{EachAccess, EachWrite}
 use Rattle.lrc_judge.specs.declared.lanes.Entry.{Entry}
@@ -11,7 +11,8 @@ use Rattle.lrc_judge.proofs.races.race_pairs.Goals as goal
 
 pub add_crossing-requires : goal.add_crossing-requires
 add_crossing-requires c = subst (λ l. AreSearchable c.in_ok-order.order l) (sym c.as_slice-2.ensures.value)
-    (firsts_searchable c.args.acts.now EachWrite c.args.intervals.now c.in_ok-writes.writes.items c.in_ok-order.order c.in_ok-writes.ensures c.in_ok-order.ensures)
+    (firsts_searchable c.args.acts.now EachWrite c.args.intervals.now c.in_ok-writes.writes.items c.in_ok-order.order c.in_ok-writes.ensures
+    c.in_ok-order.ensures)
 
 pub add_crossing-requires-2 : goal.add_crossing-requires-2
 add_crossing-requires-2 c = subst (λ l. AreSearchable c.in_ok-order.order l) (sym c.as_slice-4.ensures.value)
@@ -36,8 +37,8 @@ returns c =
     (subst (λ (ys : List Entry). Adds some found (IsCrossing c.as_slice-3.result.now ys order)) c.as_slice-4.ensures.value
     c.in_ok-add_crossing-2.ensures) in
     record {
-      sound = λ pair h. pairs_sound run intervals c.requires.intervals order c.in_ok-order.ensures accesses writes c.in_ok-accesses.ensures c.in_ok-writes.ensures
-          c.requires.nodes pair (elim ((second.exact pair).0 h) [
+      sound = λ pair h. pairs_sound run intervals c.requires.intervals order c.in_ok-order.ensures accesses writes c.in_ok-accesses.ensures
+          c.in_ok-writes.ensures c.requires.nodes pair (elim ((second.exact pair).0 h) [
             | inr two ↦ inr two
             | inl before ↦ elim ((first.exact pair).0 before) [ inl (k, lt, _) ↦ absurd (omega arith) | inr one ↦ inl one ]
           ]);
