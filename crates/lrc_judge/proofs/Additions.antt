@@ -1,9 +1,10 @@
 -- What a list gains, step by step.
-use Rattle.std.proofs.Common.{ℕ, ◌≡◌, ◌+◌, ◌<◌, ◌⊎◌, ◌++◌, ◌∷◌, [], inl, inr, List, sym, subst, ⊎_elim, arith}
+use Rattle.std.proofs.Common.{ℕ, ◌≡◌, ◌+◌, ◌<◌, ◌≤◌, ◌⊎◌, ◌++◌, ◌∷◌, [], ◌∙◌, inl, inr, List, length, get_or, take, ap, sym, subst, ⊎_elim, arith}
 use Rattle.std.specs.Prelude.{Contains}
 use Rattle.std.proofs.lemmas.Bool.{cases_eq}
+use Rattle.std.proofs.lemmas.List.{take_more, take_all}
 use Rattle.std.proofs.lemmas.List.Elements.{Contains-push, Contains-push_cases, Contains-append_left}
-use Rattle.lrc_judge.specs.Adding.{Adds}
+use Rattle.lrc_judge.specs.Adding.{Adds, IsOfSome}
 
 module _ {X : Type 0} where
   pub adds-same : (xs : List X) (P : X → Type 0) → ((x : X) → P x → ⊥) → Adds xs xs P
@@ -47,6 +48,29 @@ module _ {X : Type 0} where
           h),
     );
   }
+
+-- What is gained for each element of a list.
+module _ {E X : Type 0} (list : List E) (IsOf : E → X → Type 0) where
+  pub some-none : (xs : List X) → Adds xs xs (IsOfSome (take 0 list) IsOf)
+  some-none xs = adds-same xs (IsOfSome (take 0 list) IsOf) (λ x (e, (k, lt, is), so). absurd (omega arith))
+
+  pub some-all : (xs ys : List X) (n : ℕ) → length list ≤ n → Adds xs ys (IsOfSome (take n list) IsOf) → Adds xs ys (IsOfSome list IsOf)
+  some-all xs ys n long adds = subst (λ es. Adds xs ys (IsOfSome es IsOf)) (take_all n list long) adds
+
+  pub some-more : (xs ys zs : List X) (i : ℕ) (e : E) → i < length list → e ≡ get_or list i e
+      → Adds xs ys (IsOfSome (take i list) IsOf) → Adds ys zs (IsOf e) → Adds xs zs (IsOfSome (take (i + 1) list) IsOf)
+  some-more xs ys zs i e within is first second =
+      let more : take (i + 1) list ≡ take i list ++ e ∷ [] =
+      take_more list i e within ∙ ap (λ y. take i list ++ y ∷ []) (sym is) in
+      adds-both xs ys zs (IsOfSome (take i list) IsOf) (IsOf e) (IsOfSome (take (i + 1) list) IsOf)
+      (λ x (f, there, so).
+      ⊎_elim (λ old. inl (f, old, so)) (λ same. inr (subst (λ g. IsOf g x) (sym same) so))
+      (Contains-push_cases (take i list) e f (subst (λ es. Contains es f) more there)))
+      (λ x h.
+      ⊎_elim
+      (λ (f, there, so). (f, subst (λ es. Contains es f) (sym more) (Contains-append_left (take i list) (e ∷ []) f there), so))
+      (λ so. (e, subst (λ es. Contains es e) (sym more) (Contains-push (take i list) e), so)) h)
+      first second
 
 -- What is gained for each number below a bound.
 module _ {X : Type 0} (IsOf : ℕ → X → Type 0) where

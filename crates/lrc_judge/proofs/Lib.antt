@@ -5,13 +5,14 @@ pub mod Rows
 pub mod Breaking
 pub mod Tally
 pub mod Keeping
-pub mod Naming
+mod Naming
 pub mod Ascending
 mod Touching
 mod LastWritten
 mod Additions
 mod Entering
 mod Crossing
+mod Representing
 mod PairOrder
 mod LatestWrites
 mod Allowed

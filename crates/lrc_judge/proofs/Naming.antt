@@ -1,259 +1,254 @@
--- The races of segments, and those that the run names.
-use Rattle.std.proofs.Common.{◌≡◌, ◌≢◌, ℕ, ◌+◌, ◌<◌, ◌≤◌, ◌⊎◌, List, [], ◌∷◌, ◌++◌, length, get_or, take, inl, inr, refl, sym, subst, ◌∙◌, ap, arith}
-use Rattle.std.specs.Prelude.{◌↔◌, ◌||◌, not, Bool, true, false, Contains}
-use Rattle.std.specs.List.{list_any}
-use Rattle.std.proofs.lemmas.Bool.{cases_order, false≢true, and_parts, and_from, or_cases, or_right, not-true, not_from_false, false_from_ne_true}
-use Rattle.std.proofs.lemmas.List.{take_more, take_all}
-use Rattle.std.proofs.lemmas.List.Elements.{Contains-push, Contains-push_cases, Contains-append_left}
-use Rattle.std.proofs.lemmas.List.Folds.{Any-from_list_any}
+-- The races that pairs of first accesses name.
+use Rattle.std.proofs.Common.{◌≡◌, ℕ, ◌<◌, ◌⊎◌, ◌++◌, List, [], ◌∷◌, length, inl, inr, refl, sym, subst, ◌∙◌, arith}
+use Rattle.std.specs.Prelude.{All, Contains, slice_index}
+use Rattle.std.proofs.lemmas.Bool.{cases_order, lt-ltb, le-ltb}
 use Rattle.lrc_trace.specs.declared.act.Act.{Act}
+use Rattle.lrc_trace.specs.declared.act.Deed.{Deed}
+use Rattle.lrc_trace.specs.declared.act.Deed.TheVariants.{Read, Write}
 use Rattle.lrc_trace.specs.declared.race.Race.{Race}
-use Rattle.lrc_trace.specs.Conflict.{Writes, Accesses, ConflictAt, Races}
-use Rattle.lrc_trace.specs.Interval.{Names, IsNamedRace}
-use Rattle.lrc_trace.proofs.Positions.{Does-one_node, Does-within}
+use Rattle.lrc_trace.specs.Run.{Does}
+use Rattle.lrc_trace.specs.Order.{HappensBefore}
+use Rattle.lrc_trace.specs.Conflict.{Accesses, ConflictAt, Races}
+use Rattle.lrc_trace.specs.Interval.{interval_at, Names, IsNamedRace}
+use Rattle.lrc_trace.proofs.Positions.{Does-read, Does-one_node, Does-one_deed, Does-within}
 use Rattle.lrc_trace.proofs.HappensBefore.{forward}
 use Rattle.lrc_trace.proofs.Conflicts.{ConflictAt-symmetric}
+use Rattle.lrc_judge.specs.declared.TheConstants.{NODES}
+use Rattle.lrc_judge.specs.declared.lanes.Lane.{Lane}
+use Rattle.lrc_judge.specs.declared.lanes.Entry.{Entry}
+use Rattle.lrc_judge.specs.declared.lanes.Pair.{Pair}
+use Rattle.lrc_judge.specs.declared.entries.Told.{Told}
+use Rattle.lrc_judge.specs.declared.entries.Told.TheVariants.{EachAccess, EachWrite}
 use Rattle.lrc_judge.specs.declared.order.Order.{Order}
-use Rattle.lrc_judge.specs.declared.segments.AccessPlace.{AccessPlace}
-use Rattle.lrc_judge.specs.declared.segments.Access.{Access}
-use Rattle.lrc_judge.specs.declared.segments.Segment.{Segment}
-use Rattle.lrc_judge.specs.Order.{is_before, IsOrderOf}
-use Rattle.lrc_judge.specs.Segments.{AccessesBy, AreSegments}
-use Rattle.lrc_judge.specs.Races.{is_clash, AreRacing, name_of, IsRaceWith, AddsRaces, IsRaceAmong, AreRacesAmong}
-use Rattle.lrc_judge.proofs.Keeping.{Contains-pushed}
+use Rattle.lrc_judge.specs.Order.{IsOrderOf}
+use Rattle.lrc_judge.specs.Adding.{Adds}
+use Rattle.lrc_judge.specs.Firsts.{AreIntervals, AreFirstEntries}
+use Rattle.lrc_judge.specs.Lanes.{entry, AreEntries, AreSearchable}
+use Rattle.lrc_judge.specs.Pairs.{word_lane, IsCrossing}
+use Rattle.lrc_judge.specs.Races.{word_of, race_of_places, IsNameOf}
+use Rattle.lrc_judge.proofs.Additions.{adds-iff, adds-push}
+use Rattle.lrc_judge.proofs.Searching.{searchable}
+use Rattle.lrc_judge.proofs.Crossing.{entry_does, entry_accesses, entry_writes, access_listed, write_listed, crossing_races, races_crossing}
+use Rattle.lrc_judge.proofs.Representing.{access_does, unordered_too}
 
--- what two nested tests found
-pub clashing : (order : Order) (xs ys : List Access) → list_any (λ x. list_any (λ y. is_clash order x y) ys) xs ≡ true
-    → (x : Access) × (y : Access) × Contains xs x × Contains ys y × (is_clash order x y ≡ true)
-clashing order xs ys found =
-    let (i, x, lt, at, inner) = Any-from_list_any (λ x. list_any (λ y. is_clash order x y) ys) xs found in
-    let (j, y, lt', at', clash) = Any-from_list_any (λ y. is_clash order x y) ys inner in
-    (x, y, (i, lt, at), (j, lt', at'), clash)
+-- ---- what a race of two places is named
 
--- The races with the first segments, and with one more.
-module _ (order : Order) (a : Segment) (segments : List Segment) (before : List Race) where
-  pub AddsRaces-none : AddsRaces order a (take 0 segments) before before
-  AddsRaces-none = record { exact = λ race. (λ h. inl h, λ h. elim h [ inl old ↦ old | inr (b, (k, lt, e), _, _) ↦ absurd (omega arith) ]) }
+race_same : (race : Race) (word a b i j : ℕ) → race.word ≡ word → race.node_a ≡ a → race.node_b ≡ b → race.interval_a ≡ i → race.interval_b ≡ j
+    → race ≡ record { word = word; node_a = a; node_b = b; interval_a = i; interval_b = j }
+race_same race word a b i j w p q x y =
+    let e : ◌≡◌ {A = Race} (record {
+      word = race.word;
+      node_a = race.node_a;
+      node_b = race.node_b;
+      interval_a = race.interval_a;
+      interval_b = race.interval_b;
+    }) (record { word = word; node_a = a; node_b = b; interval_a = i; interval_b = j }) = cc in e
 
-  pub AddsRaces-all : (n : ℕ) (after : List Race) → length segments ≤ n → AddsRaces order a (take n segments) before after
-      → AddsRaces order a segments before after
-  AddsRaces-all n after long h = subst (λ xs. AddsRaces order a xs before after) (take_all n segments long) h
+named_lower : (word p i q j : ℕ) → p < q → race_of_places word p i q j ≡ record { word = word; node_a = p; node_b = q; interval_a = i; interval_b = j }
+named_lower word p i q j lt = rw (lt-ltb p q lt) refl
 
-  module _ (i : ℕ) (b : Segment) (within : i < length segments) (is : b ≡ get_or segments i b) (after : List Race)
-      (old : AddsRaces order a (take i segments) before after) where
-    more : take (i + 1) segments ≡ take i segments ++ b ∷ []
-    more = take_more segments i b within ∙ ap (λ x. take i segments ++ x ∷ []) (sym is)
+named_upper : (word p i q j : ℕ) → q < p → race_of_places word p i q j ≡ record { word = word; node_a = q; node_b = p; interval_a = j; interval_b = i }
+named_upper word p i q j lt = rw (le-ltb p q (omega arith)) refl
 
-    -- the races with the segments so far are those with one segment more, or the race of that one
-    IsRaceWith-more : (race : Race) → IsRaceWith order a (take (i + 1) segments) race
-        ↔ (IsRaceWith order a (take i segments) race ⊎ (AreRacing order a b × (race ≡ name_of a b)))
-    IsRaceWith-more race = (
-      λ (s, there, r, e).
-          elim (Contains-push_cases (take i segments) b s (subst (λ xs. Contains xs s) more there)) [
-            | inl earlier ↦ inl (s, earlier, r, e)
-            | inr same ↦ inr (subst (λ x. AreRacing order a x) (sym same) r, e ∙ ap (λ x. name_of a x) (sym same))
-          ],
-      λ h.
-          elim h [
-            | inl (s, there, r, e) ↦ (s, subst (λ xs. Contains xs s) (sym more) (Contains-append_left (take i segments) (b ∷ []) s there), r, e)
-            | inr (r, e) ↦ (b, subst (λ xs. Contains xs b) (sym more) (Contains-push (take i segments) b), r, e)
-          ],
-    )
+word_is : (run : List Act) (i p w : ℕ) → Accesses run i p w → (q : ℕ) (d : Deed) → Does run i q d → word_of d ≡ w
+word_is run i p w (inl (v, h)) q d does = let e : Read w v ≡ d = Does-one_deed h does in rw (← e) refl
+word_is run i p w (inr (v, h)) q d does = let e : Write w v ≡ d = Does-one_deed h does in rw (← e) refl
 
-    pub AddsRaces-same : (AreRacing order a b → ⊥) → AddsRaces order a (take (i + 1) segments) before after
-    AddsRaces-same none = record {
-      exact = λ race. (
-        λ h. elim ((old.exact race).0 h) [ inl x ↦ inl x | inr x ↦ inr ((IsRaceWith-more race).1 (inl x)) ],
-        λ h.
-            elim h [
-              | inl x ↦ (old.exact race).1 (inl x)
-              | inr x ↦ elim ((IsRaceWith-more race).0 x) [ inl y ↦ (old.exact race).1 (inr y) | inr (r, _) ↦ absurd (none r) ]
-            ],
-      );
-    }
+accesses_within : {run : List Act} {i p w : ℕ} → Accesses run i p w → i < length run
+accesses_within a = Does-within (access_does a).1
 
-    pub AddsRaces-more : (found : Race) (longer : List Race) → AreRacing order a b → found ≡ name_of a b
-        → longer ≡ after ++ found ∷ [] → AddsRaces order a (take (i + 1) segments) before longer
-    AddsRaces-more found longer r named e = record {
-      exact = λ race. (
-        λ h.
-            elim ((Contains-pushed after longer found e race).0 h) [
-              | inl x ↦ elim ((old.exact race).0 x) [ inl y ↦ inl y | inr y ↦ inr ((IsRaceWith-more race).1 (inl y)) ]
-              | inr same ↦ inr ((IsRaceWith-more race).1 (inr (r, same ∙ named)))
-            ],
-        λ h. (Contains-pushed after longer found e race).1 (elim h [
-          | inl x ↦ inl ((old.exact race).1 (inl x))
-          | inr x ↦ elim ((IsRaceWith-more race).0 x) [ inl y ↦ inl ((old.exact race).1 (inr y)) | inr (_, same) ↦ inr (same ∙ sym named) ]
-        ]),
-      );
-    }
+module _ (run : List Act) (intervals : List ℕ) (are : AreIntervals run (length run) intervals) where
+  interval_is : {i p w : ℕ} → Accesses run i p w → slice_index intervals i ≡ interval_at run p i
+  interval_is {i} {p} a = let (d, does) = access_does a in are.each i p d (Does-within does) does
 
--- the list has the races of the first segments with all of them
-pub record HasRaces (order : Order) (firsts segments : List Segment) (races : List Race) : Type 0 where
-  pub exact : (race : Race) → Contains races race ↔ ((a : Segment) × Contains firsts a × IsRaceWith order a segments race)
-
-module _ (order : Order) (segments : List Segment) where
-  pub HasRaces-none : HasRaces order (take 0 segments) segments []
-  HasRaces-none = record { exact = λ race. (λ (k, lt, e). absurd (omega arith), λ (a, (k, lt, e), r). absurd (omega arith)) }
-
-  pub HasRaces-more : (i : ℕ) (a : Segment) → i < length segments → a ≡ get_or segments i a → (before after : List Race)
-      → HasRaces order (take i segments) segments before → AddsRaces order a segments before after → HasRaces order (take (i + 1) segments) segments after
-  HasRaces-more i a within is before after old adds =
-      let more : take (i + 1) segments ≡ take i segments ++ a ∷ [] = take_more segments i a within ∙ ap (λ x. take i segments ++ x ∷ []) (sym is) in
-      record {
-        exact = λ race. (
-          λ h.
-              elim ((adds.exact race).0 h) [
-                | inl earlier ↦ let (s, there, r) = (old.exact race).0 earlier in
-                    (s, subst (λ xs. Contains xs s) (sym more) (Contains-append_left (take i segments) (a ∷ []) s there), r)
-                | inr r ↦ (a, subst (λ xs. Contains xs a) (sym more) (Contains-push (take i segments) a), r)
-              ],
-          λ (s, there, r). (adds.exact race).1 (elim (Contains-push_cases (take i segments) a s (subst (λ xs. Contains xs s) more there)) [
-            | inl earlier ↦ inl ((old.exact race).1 (s, earlier, r))
-            | inr same ↦ inr (subst (λ x. IsRaceWith order x segments race) (sym same) r)
-          ]),
-        );
-      }
-
-  pub HasRaces-all : (n : ℕ) (races : List Race) → length segments ≤ n → HasRaces order (take n segments) segments races → AreRacesAmong order segments races
-  HasRaces-all n races long h =
-      let all = take_all n segments long in
-      record {
-        exact = λ race. (
-          λ there.
-              let (a, first, (b, second, r, e)) = (h.exact race).0 there in
-              record { a = a; b = b; first = subst (λ xs. Contains xs a) all first; second = second; racing = r; named = e },
-          λ r. (h.exact race).1 (r.a, subst (λ xs. Contains xs r.a) (sym all) r.first, (r.b, r.second, r.racing, r.named)),
-        );
-      }
-
--- what access stands there, whether it writes or reads
-Accesses-kind : {run : List Act} {i p word : ℕ} → Accesses run i p word → (w : Bool) × AccessesBy w run i p word
-Accesses-kind (inl reads) = (false, reads)
-Accesses-kind (inr writes) = (true, writes)
-
-kind-Accesses : {run : List Act} {i p word : ℕ} (w : Bool) → AccessesBy w run i p word → Accesses run i p word
-kind-Accesses true h = inr h
-kind-Accesses false h = inl h
-
-kind-Writes : {run : List Act} {i p word : ℕ} (w : Bool) → w ≡ true → AccessesBy w run i p word → Writes run i p word
-kind-Writes true e h = h
-kind-Writes false e h = absurd (false≢true e)
-
-AccessesBy-node : (run : List Act) (i p q x y : ℕ) (v w : Bool) → AccessesBy v run i p x → AccessesBy w run i q y → p ≡ q
-AccessesBy-node run i p q x y true true (_, a) (_, b) = Does-one_node a b
-AccessesBy-node run i p q x y true false (_, a) (_, b) = Does-one_node a b
-AccessesBy-node run i p q x y false true (_, a) (_, b) = Does-one_node a b
-AccessesBy-node run i p q x y false false (_, a) (_, b) = Does-one_node a b
-
-AccessesBy-within : (run : List Act) (i p x : ℕ) (w : Bool) → AccessesBy w run i p x → i < length run
-AccessesBy-within run i p x true (_, a) = Does-within a
-AccessesBy-within run i p x false (_, a) = Does-within a
-
--- the race of two places
-abbrev name_at : AccessPlace → AccessPlace → Race
-name_at p q = record { word = p.word; node_a = p.node; node_b = q.node; interval_a = p.interval; interval_b = q.interval }
-
-module _ (run : List Act) (order : Order) (is : IsOrderOf run order) (segments : List Segment) (all : AreSegments run (length run) segments) where
-  -- two accesses that clash race, the one way round or the other
-  clash-Races : (i j p q word : ℕ) → p ≢ q → ConflictAt run i p j q word → is_before order i j ≡ false
-      → is_before order j i ≡ false → (i ≡ j → ⊥) → Races run i j ⊎ Races run j i
-  clash-Races i j p q word apart conflict forth back other =
-      elim (cases_order i j) [
-        | inl same ↦ absurd (other same)
-        | inr (inl before) ↦ inl (record { earlier = before; conflict = (p, q, word, conflict); unordered = λ h. false≢true (sym forth ∙ (is i j).1 h) })
-        | inr (inr after) ↦ inr (record {
-          earlier = after;
-          conflict = (q, p, word, ConflictAt-symmetric conflict);
-          unordered =
-              λ h. false≢true (sym back ∙ (is j i).1 h);
-        })
+  -- the name of a racing pair is one of the run
+  pub name_is : (pair : Pair) (race : Race) → Races run pair.earlier pair.later → IsNameOf run intervals pair race → IsNamedRace run race
+  name_is pair race r name =
+      let i = pair.earlier in
+      let j = pair.later in
+      let (p, q, word, c) = r.conflict in
+      let (a, does_i) = access_does c.first in
+      let (b, does_j) = access_does c.second in
+      let nodes_p : name.p ≡ p = Does-one_node name.first does_i in
+      let nodes_q : name.q ≡ q = Does-one_node name.second does_j in
+      let words : word_of name.b ≡ word = word_is run j q word c.second name.q name.b name.second in
+      let ints_i = interval_is c.first in
+      let ints_j = interval_is c.second in
+      let is : race ≡ race_of_places word p (interval_at run p i) q (interval_at run q j) =
+      name.is ∙ rw (nodes_p, nodes_q, words, ints_i, ints_j) refl in
+      elim (cases_order p q) [
+        | inl same ↦ absurd (c.apart same)
+        | inr (inl lower) ↦
+            let e = is ∙ named_lower word p (interval_at run p i) q (interval_at run q j) lower in
+            subst (λ x. IsNamedRace run x) (sym e) (i, j, record { ascending = lower; conflict = c; races = inl r; interval_a = refl; interval_b = refl })
+        | inr (inr upper) ↦
+            let e = is ∙ named_upper word p (interval_at run p i) q (interval_at run q j) upper in
+            subst (λ x. IsNamedRace run x) (sym e) (
+              j,
+              i,
+              record {
+                ascending = upper;
+                conflict = ConflictAt-symmetric c;
+                races = inr r;
+                interval_a = refl;
+                interval_b = refl;
+              },
+            )
       ]
 
-  -- what races among the segments is a race that the run names
-  pub among-named : (race : Race) → IsRaceAmong order segments race → IsNamedRace run race
-  among-named race among =
-      let a = among.a in
-      let b = among.b in
-      let r = among.racing in
-      let x = r.x in
-      let y = r.y in
-      let ax = ((all.exact a.place x).0 (record { segment = a; there = among.first; has = r.first; at = refl })).1 in
-      let ay = ((all.exact b.place y).0 (record { segment = b; there = among.second; has = r.second; at = refl })).1 in
-      let stands : AccessesBy y.is_write run y.position b.place.node a.place.word =
-      subst (λ m. AccessesBy y.is_write run y.position b.place.node m) (sym r.word) ay.stands in
-      let lower = r.ascending in
-      let (writes, unordered) = and_parts (x.is_write || y.is_write) _ r.clash in
-      let (forth, back) = and_parts (not (is_before order x.position y.position)) _ unordered in
-      let conflict : ConflictAt run x.position a.place.node y.position b.place.node a.place.word = record {
-        apart = λ e. omega arith;
-        first = kind-Accesses x.is_write ax.stands;
-        second = kind-Accesses y.is_write stands;
-        writes = elim (or_cases x.is_write y.is_write writes) [
-          | inl e ↦ inl (kind-Writes x.is_write e ax.stands)
-          | inr e ↦ inr (kind-Writes y.is_write e stands)
-        ];
-      } in
-      let other : x.position ≡ y.position → ⊥ = λ e.
-      let nodes = AccessesBy-node run y.position a.place.node b.place.node a.place.word a.place.word x.is_write y.is_write
-      (subst (λ m. AccessesBy x.is_write run m a.place.node a.place.word) e ax.stands) stands in
-      omega arith in
-      let names : Names run (name_of a b) x.position y.position = record {
-        ascending = lower;
-        conflict = conflict;
-        races = clash-Races x.position y.position a.place.node b.place.node a.place.word conflict.apart conflict (not-true _ forth) (not-true _ back) other;
-        interval_a = ax.interval;
-        interval_b = ay.interval;
-      } in
-      subst (λ m. IsNamedRace run m) (sym among.named) (x.position, y.position, names)
+  -- a race that a pair's positions name is the pair's name
+  pub is_name : (pair : Pair) (race : Race) → Names run race pair.earlier pair.later ⊎ Names run race pair.later pair.earlier → IsNameOf run intervals pair race
+  is_name pair race (inl n) =
+      let (a, does_i) = access_does n.conflict.first in
+      let (b, does_j) = access_does n.conflict.second in
+      let words = word_is run pair.later race.node_b race.word n.conflict.second race.node_b b does_j in
+      record {
+        p = race.node_a;
+        q = race.node_b;
+        a = a;
+        b = b;
+        first = does_i;
+        second = does_j;
+        is = race_same race (word_of b) race.node_a race.node_b (slice_index intervals pair.earlier) (slice_index intervals pair.later) (sym words) refl refl
+            (n.interval_a ∙ sym (interval_is n.conflict.first)) (n.interval_b ∙ sym (interval_is n.conflict.second))
+            ∙ sym (named_lower (word_of b) race.node_a (slice_index intervals pair.earlier) race.node_b (slice_index intervals pair.later) n.ascending);
+      }
+  is_name pair race (inr n) =
+      let (a, does_j) = access_does n.conflict.first in
+      let (b, does_i) = access_does n.conflict.second in
+      let words = word_is run pair.later race.node_a race.word n.conflict.first race.node_a a does_j in
+      record {
+        p = race.node_b;
+        q = race.node_a;
+        a = b;
+        b = a;
+        first = does_i;
+        second = does_j;
+        is = race_same race (word_of a) race.node_a race.node_b (slice_index intervals pair.later) (slice_index intervals pair.earlier) (sym words) refl refl
+            (n.interval_a ∙ sym (interval_is n.conflict.first)) (n.interval_b ∙ sym (interval_is n.conflict.second))
+            ∙ sym (named_upper (word_of a) race.node_b (slice_index intervals pair.earlier) race.node_a (slice_index intervals pair.later) n.ascending);
+      }
 
-  module _ (race : Race) (i j : ℕ) (names : Names run race i j) where
-    -- neither happens before the other
-    apart_forth : is_before order i j ≡ false
-    apart_forth = false_from_ne_true _ (λ e. let h = (is i j).0 e in
-        elim names.races [ inl r ↦ r.unordered h | inr r ↦ let lt = forward h in let gt = r.earlier in omega arith ])
+  -- ---- the pairs of first accesses
 
-    apart_back : is_before order j i ≡ false
-    apart_back = false_from_ne_true _ (λ e. let h = (is j i).0 e in
-        elim names.races [ inl r ↦ let lt = forward h in let gt = r.earlier in omega arith | inr r ↦ r.unordered h ])
+  abbrev In : List Entry → Lane → ℕ → Type 0
+  In list lane i = Contains list (entry lane i)
 
-    -- the accesses, of these kinds, are kept, and clash
-    of_kinds : (v w : Bool) → AccessesBy v run i race.node_a race.word → AccessesBy w run j race.node_b race.word
-        → (v || w) ≡ true → IsRaceAmong order segments race
-    of_kinds v w hx hy writes =
-        let p : AccessPlace = record { word = race.word; node = race.node_a; interval = race.interval_a } in
-        let q : AccessPlace = record { word = race.word; node = race.node_b; interval = race.interval_b } in
-        let x : Access = record { position = i; is_write = v } in
-        let y : Access = record { position = j; is_write = w } in
-        let kx = (all.exact p x).1 (AccessesBy-within run i race.node_a race.word v hx, record { stands = hx; interval = names.interval_a }) in
-        let ky = (all.exact q y).1 (AccessesBy-within run j race.node_b race.word w hy, record { stands = hy; interval = names.interval_b }) in
-        let nodes_a = ap (λ (m : AccessPlace). m.node) kx.at in
-        let nodes_b = ap (λ (m : AccessPlace). m.node) ky.at in
-        let lower = names.ascending in
-        record {
-          a = kx.segment;
-          b = ky.segment;
-          first = kx.there;
-          second = ky.there;
-          racing = record {
-            word = ap (λ (m : AccessPlace). m.word) kx.at ∙ sym (ap (λ (m : AccessPlace). m.word) ky.at);
-            ascending = omega arith;
-            x = x;
-            y = y;
-            first = kx.has;
-            second = ky.has;
-            clash = and_from (v || w) _ writes (and_from (not (is_before order i j)) _ (not_from_false _ apart_forth) (not_from_false _ apart_back));
-          };
-          named = sym (ap (λ m. name_at m ky.segment.place) kx.at ∙ ap (λ m. name_at p m) ky.at);
-        }
+  module _ (order : Order) (is : IsOrderOf run order) (accesses writes : List Entry) (all : AreFirstEntries run EachAccess intervals accesses)
+      (some : AreFirstEntries run EachWrite intervals writes) (in_range : All (λ (act : Act). act.node < NODES) run) where
+    all_entries : AreEntries (In accesses) accesses
+    all_entries = record { in_order = all.in_order; exact = λ lane i. (λ h. h, λ h. h) }
 
-    pub named_among : IsRaceAmong order segments race
-    named_among =
-        elim names.conflict.writes [
-          | inl wx ↦ let (w, hy) = Accesses-kind names.conflict.second in of_kinds true w wx hy refl
-          | inr wy ↦ let (v, hx) = Accesses-kind names.conflict.first in of_kinds v true hx wy (or_right v true refl)
+    some_entries : AreEntries (In writes) writes
+    some_entries = record { in_order = some.in_order; exact = λ lane i. (λ h. h, λ h. h) }
+
+    pub pairs_sound : (pair : Pair) → IsCrossing accesses writes order pair ⊎ IsCrossing writes accesses order pair → Races run pair.earlier pair.later
+    pairs_sound pair (inl c) = crossing_races run order is (In accesses) (In writes) accesses writes all_entries some_entries
+        (λ l i h. entry_accesses (all.sound l i h)) (λ l i h. entry_accesses (some.sound l i h)) (λ l o i j a b. inr (entry_writes (some.sound o j b))) pair c
+    pairs_sound pair (inr c) = crossing_races run order is (In writes) (In accesses) writes accesses some_entries all_entries
+        (λ l i h. entry_accesses (some.sound l i h)) (λ l i h. entry_accesses (all.sound l i h)) (λ l o i j a b. inl (entry_writes (some.sound l i a))) pair c
+
+    node_below : {i p w : ℕ} → Accesses run i p w → p < NODES
+    node_below {i} {p} a =
+        let (d, does) = access_does a in
+        let within = Does-within does in
+        let act : Act = record { node = p; deed = d } in
+        let here = Does-one_node (Does-read run i act within) does in
+        let below = in_range i act within in
+        omega (arith, here, below)
+
+    abbrev IsPairFor : Race → Pair → Type 0
+    IsPairFor race pair = (IsCrossing accesses writes order pair ⊎ IsCrossing writes accesses order pair)
+        × (Names run race pair.earlier pair.later ⊎ Names run race pair.later pair.earlier)
+
+    -- of the first accesses i of node_a and j of node_b, of which this one writes
+    paired : (race : Race) (these those : List Entry) → AreEntries (In these) these → AreEntries (In those) those
+        → ((pair : Pair) → IsCrossing these those order pair → IsCrossing accesses writes order pair ⊎ IsCrossing writes accesses order pair)
+        → ((pair : Pair) → IsCrossing those these order pair → IsCrossing accesses writes order pair ⊎ IsCrossing writes accesses order pair)
+        → (i j : ℕ) → race.node_a < race.node_b → ConflictAt run i race.node_a j race.node_b race.word
+        → In these (word_lane race.word race.node_a) i → In those (word_lane race.word race.node_b) j
+        → (HappensBefore run i j → ⊥) → (HappensBefore run j i → ⊥)
+        → race.interval_a ≡ interval_at run race.node_a i → race.interval_b ≡ interval_at run race.node_b j → (pair : Pair) × IsPairFor race pair
+    paired race these those are others one two i j ascending c at_i at_j not_ij not_ji ia ib =
+        elim (cases_order i j) [
+          | inl same ↦
+              let (a, does_i) = access_does c.first in
+              let (b, does_j) = access_does c.second in
+              absurd (c.apart (Does-one_node (subst (λ m. Does run m race.node_a a) same does_i) does_j))
+          | inr (inl lower) ↦
+              let pair : Pair = record { later = j; earlier = i } in
+              let r : Races run i j = record { earlier = lower; conflict = (race.node_a, race.node_b, race.word, c); unordered = not_ij } in
+              let names : Names run race i j = record { ascending = ascending; conflict = c; races = inl r; interval_a = ia; interval_b = ib } in
+              let crossing = two pair (races_crossing run order is (In those) (In these) those these others are pair race.node_a race.node_b race.word
+              (node_below c.first) c.apart at_j at_i lower not_ij) in
+              (pair, (crossing, inl names))
+          | inr (inr upper) ↦
+              let pair : Pair = record { later = i; earlier = j } in
+              let r : Races run j i =
+              record { earlier = upper; conflict = (race.node_b, race.node_a, race.word, ConflictAt-symmetric c); unordered = not_ji } in
+              let names : Names run race i j = record { ascending = ascending; conflict = c; races = inr r; interval_a = ia; interval_b = ib } in
+              let crossing = one pair (races_crossing run order is (In these) (In those) these those are others pair race.node_b race.node_a race.word
+              (node_below c.second) (λ e. c.apart (sym e)) at_i at_j upper not_ji) in
+              (pair, (crossing, inr names))
         ]
 
-  -- a race that the run names is one among the segments
-  pub named-among : (race : Race) → IsNamedRace run race → IsRaceAmong order segments race
-  named-among race (i, j, names) = named_among race i j names
+    pub pairs_complete : (race : Race) → IsNamedRace run race → (pair : Pair) × IsPairFor race pair
+    pairs_complete race (i, j, n) =
+        let c = n.conflict in
+        let p = race.node_a in
+        let q = race.node_b in
+        let word = race.word in
+        let neither : (HappensBefore run i j → ⊥) × (HappensBefore run j i → ⊥) = elim n.races [
+          | inl r ↦ (r.unordered, λ h. let lt = forward h in let lt' = r.earlier in omega arith)
+          | inr r ↦ (λ h. let lt = forward h in let lt' = r.earlier in omega arith, r.unordered)
+        ] in
+        elim c.writes [
+          | inl w ↦
+              let (i', at_i, le_i, ints_i) = some.complete (word_lane word p) i (write_listed w) in
+              let (j', at_j, le_j, ints_j) = all.complete (word_lane word q) j (access_listed c.second) in
+              let writes_i = entry_writes (some.sound (word_lane word p) i' at_i) in
+              let first : Accesses run i' p word = inr writes_i in
+              let second : Accesses run j' q word = entry_accesses (all.sound (word_lane word q) j' at_j) in
+              let same_i = sym (interval_is first) ∙ ints_i ∙ interval_is c.first in
+              let same_j = sym (interval_is second) ∙ ints_j ∙ interval_is c.second in
+              paired race writes accesses some_entries all_entries (λ pair h. inr h) (λ pair h. inl h) i' j' n.ascending
+              (record { apart = c.apart; first = first; second = second; writes = inl writes_i }) at_i at_j
+              (unordered_too run i i' j j' p q word word word word c.apart c.first first c.second second le_i same_i le_j neither.0)
+              (unordered_too run j j' i i' q p word word word word (λ e. c.apart (sym e)) c.second second c.first first le_j same_j le_i neither.1)
+              (n.interval_a ∙ sym same_i) (n.interval_b ∙ sym same_j)
+          | inr w ↦
+              let (i', at_i, le_i, ints_i) = all.complete (word_lane word p) i (access_listed c.first) in
+              let (j', at_j, le_j, ints_j) = some.complete (word_lane word q) j (write_listed w) in
+              let writes_j = entry_writes (some.sound (word_lane word q) j' at_j) in
+              let first : Accesses run i' p word = entry_accesses (all.sound (word_lane word p) i' at_i) in
+              let second : Accesses run j' q word = inr writes_j in
+              let same_i = sym (interval_is first) ∙ ints_i ∙ interval_is c.first in
+              let same_j = sym (interval_is second) ∙ ints_j ∙ interval_is c.second in
+              paired race accesses writes all_entries some_entries (λ pair h. inl h) (λ pair h. inr h) i' j' n.ascending
+              (record { apart = c.apart; first = first; second = second; writes = inr writes_j }) at_i at_j
+              (unordered_too run i i' j j' p q word word word word c.apart c.first first c.second second le_i same_i le_j neither.0)
+              (unordered_too run j j' i i' q p word word word word (λ e. c.apart (sym e)) c.second second c.first first le_j same_j le_i neither.1)
+              (n.interval_a ∙ sym same_i) (n.interval_b ∙ sym same_j)
+        ]
+
+-- ---- step by step
+
+pub firsts_searchable : (run : List Act) (told : Told) (intervals : List ℕ) (firsts : List Entry) (order : Order) → AreFirstEntries run told intervals firsts
+    → IsOrderOf run order → AreSearchable order firsts
+firsts_searchable run told intervals firsts order are is =
+    searchable run (λ lane i. Contains firsts (entry lane i)) firsts order
+    (record { in_order = are.in_order; exact = λ lane i. (λ h. h, λ h. h) }) (λ l i h. entry_does (are.sound l i h)) is
+
+-- one pair's name
+pub names-push : (run : List Act) (intervals : List ℕ) (pair : Pair) (p q : ℕ) (a b : Deed) (xs ys : List Race) (race : Race) → Does run pair.earlier p a
+    → Does run pair.later q b → race ≡ race_of_places (word_of b) p (slice_index intervals pair.earlier) q (slice_index intervals pair.later)
+    → ys ≡ xs ++ race ∷ [] → Adds xs ys (IsNameOf run intervals pair)
+names-push run intervals pair p q a b xs ys race first second is pushed =
+    adds-iff xs ys (λ x. x ≡ race) (IsNameOf run intervals pair)
+    (λ x same. record { p = p; q = q; a = a; b = b; first = first; second = second; is = same ∙ is })
+    (λ x name.
+    let nodes_p : name.p ≡ p = Does-one_node name.first first in
+    let nodes_q : name.q ≡ q = Does-one_node name.second second in
+    let deeds : name.b ≡ b = Does-one_deed name.second second in
+    name.is ∙ rw (nodes_p, nodes_q, deeds) (sym is))
+    (adds-push xs ys race pushed)

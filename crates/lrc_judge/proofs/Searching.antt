@@ -95,12 +95,12 @@ pub lane_refl : (a : Lane) → lane_cmp a a ≡ Equal
 lane_refl a = then_from _ _ (compared_same a.word a.word refl)
     (then_from _ _ (compared_same a.value a.value refl) (compared_same a.node a.node refl))
 
-lane_irreflexive : (a b : Lane) → lane_cmp a b ≡ Less → a ≡ b → ⊥
+pub lane_irreflexive : (a b : Lane) → lane_cmp a b ≡ Less → a ≡ b → ⊥
 lane_irreflexive a b less same =
     let equal : lane_cmp a b ≡ Equal = subst (λ l. lane_cmp a l ≡ Equal) same (lane_refl a) in
     less_equal (sym less ∙ equal)
 
-entry_less : (x y : Entry) → entry_cmp x y ≡ Less → (lane_cmp x.lane y.lane ≡ Less) ⊎ ((x.lane ≡ y.lane) × (x.position < y.position))
+pub entry_less : (x y : Entry) → entry_cmp x y ≡ Less → (lane_cmp x.lane y.lane ≡ Less) ⊎ ((x.lane ≡ y.lane) × (x.position < y.position))
 entry_less x y h =
     elim (then_less (lane_cmp x.lane y.lane) (nat_cmp x.position y.position) h) [
       | inl less ↦ inl less
@@ -115,7 +115,7 @@ entry_same x y h =
     let e : ◌≡◌ {A = Entry} (record { lane = x.lane; position = x.position }) (record { lane = y.lane; position = y.position }) = cc in e
 
 -- what the test says whether two lanes differ
-abbrev lane_eq : Lane → Lane → Bool
+abbrev pub lane_eq : Lane → Lane → Bool
 lane_eq a b = (a.word == b.word) && ((a.value == b.value) && (a.node == b.node))
 
 pub lane_agrees : (a b : Lane) → false ≡ not (lane_eq a b) → a ≡ b
@@ -159,7 +159,7 @@ on_lane order lane position e same =
     let equal : lane_cmp e.lane lane ≡ Equal = subst (λ l. lane_cmp l lane ≡ Equal) (sym same) (lane_refl lane) in rw equal refl
 
 -- the entry at an index, with what stands there by another default
-contained_at : (entries : List Entry) (i : ℕ) (d : Entry) → i < length entries → Contains entries (get_or entries i d)
+pub contained_at : (entries : List Entry) (i : ℕ) (d : Entry) → i < length entries → Contains entries (get_or entries i d)
 contained_at entries i d within = (i, within, get_or_default entries i (get_or entries i d) d within)
 
 module _ (run : List Act) (these : Lane → ℕ → Type 0) (entries : List Entry) (order : Order) (are : AreEntries these entries)

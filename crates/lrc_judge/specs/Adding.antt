@@ -4,3 +4,7 @@ use Rattle.std.specs.Prelude.{◌↔◌, ◌⊎◌, List, Contains}
 -- the list after has what the list before has and what is so, and no more
 pub record Adds {X : Type 0} (before after : List X) (IsSo : X → Type 0) : Type 0 where
   pub exact : (x : X) → Contains after x ↔ (Contains before x ⊎ IsSo x)
+
+-- it is so of one of the list
+abbrev pub IsOfSome : {E X : Type 0} → List E → (E → X → Type 0) → X → Type 0
+IsOfSome {E} list IsOf x = (e : E) × Contains list e × IsOf e x

@@ -1,9 +1,9 @@
 pub mod Adding
 pub mod Allowed
+pub mod Firsts
 pub mod InOrder
 pub mod Lanes
 pub mod Latest
-pub mod Log
 pub mod Order
 pub mod Pairs
 pub mod Past

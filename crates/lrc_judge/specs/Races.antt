@@ -1,15 +1,16 @@
 -- The races that a run names, as a list.
-use Rattle.std.specs.Prelude.{◌≡◌, ◌<◌, ◌↔◌, ◌⊎◌, ◌&&◌, ◌||◌, not, Bool, IsTrue, List, Contains}
+use Rattle.std.specs.Prelude.{◌≡◌, ℕ, ◌↔◌, ◌⊎◌, if◌then◌else◌, nat_lt, List, Contains, slice_index}
 use Rattle.std.specs.Ordering.{nat_cmp, ordering_then}
 use Rattle.std.specs.List.Sorted.{IsStrictlySortedBy}
 use Rattle.std.specs.declared.cmp.Ordering.{Ordering}
 use Rattle.lrc_trace.specs.declared.act.Act.{Act}
+use Rattle.lrc_trace.specs.declared.act.Deed.{Deed}
+use Rattle.lrc_trace.specs.declared.act.Deed.TheVariants.{Read, Write}
 use Rattle.lrc_trace.specs.declared.race.Race.{Race}
-use Rattle.lrc_trace.specs.Interval.{IsNamedRace}
-use Rattle.lrc_judge.specs.declared.order.Order.{Order}
-use Rattle.lrc_judge.specs.declared.segments.Access.{Access}
-use Rattle.lrc_judge.specs.declared.segments.Segment.{Segment}
-use Rattle.lrc_judge.specs.Order.{is_before}
+use Rattle.lrc_trace.specs.Run.{Does}
+use Rattle.lrc_trace.specs.Conflict.{Races}
+use Rattle.lrc_trace.specs.Interval.{IsNamedRace, Names}
+use Rattle.lrc_judge.specs.declared.lanes.Pair.{Pair}
 
 -- races by word, then by nodes, then by intervals
 abbrev pub race_cmp : Race → Race → Ordering
@@ -23,48 +24,30 @@ pub record AreNamedRaces (run : List Act) (races : List Race) : Type 0 where
   pub ascending : IsStrictlySortedBy race_cmp races
   pub exact : (race : Race) → Contains races race ↔ IsNamedRace run race
 
--- whether one of the two accesses writes, and neither happens before the other
-abbrev pub is_clash : Order → Access → Access → Bool
-is_clash order x y = (x.is_write || y.is_write)
-    && (not (is_before order x.position y.position) && not (is_before order y.position x.position))
+-- the word of an access
+abbrev pub word_of : Deed → ℕ
+word_of (Read word value) = word
+word_of (Write word value) = word
+word_of _ = 0
 
--- the segments are of one word, the first of the lower node, and an access of the one clashes with one of the other
-pub record AreRacing (order : Order) (a b : Segment) : Type 0 where
-  pub word : a.place.word ≡ b.place.word
-  pub ascending : a.place.node < b.place.node
-  pub x : Access
-  pub y : Access
-  pub first : Contains a.accesses.items x
-  pub second : Contains b.accesses.items y
-  pub clash : IsTrue (is_clash order x y)
+-- the race of accesses of two nodes in these intervals, the lower node first
+abbrev pub race_of_places : ℕ → ℕ → ℕ → ℕ → ℕ → Race
+race_of_places word p i q j = if nat_lt p q
+    then record { word = word; node_a = p; node_b = q; interval_a = i; interval_b = j }
+    else record { word = word; node_a = q; node_b = p; interval_a = j; interval_b = i }
 
--- what a race of theirs is named
-abbrev pub name_of : Segment → Segment → Race
-name_of a b = record {
-  word = a.place.word;
-  node_a = a.place.node;
-  node_b = b.place.node;
-  interval_a = a.place.interval;
-  interval_b = b.place.interval;
-}
+-- the race is that of the acts at the two positions
+pub record IsNameOf (run : List Act) (intervals : List ℕ) (pair : Pair) (race : Race) : Type 0 where
+  pub p : ℕ
+  pub q : ℕ
+  pub a : Deed
+  pub b : Deed
+  pub first : Does run pair.earlier p a
+  pub second : Does run pair.later q b
+  pub is : race ≡ race_of_places (word_of b) p (slice_index intervals pair.earlier) q (slice_index intervals pair.later)
 
--- the race is one of the first segment with some of the others
-abbrev pub IsRaceWith : Order → Segment → List Segment → Race → Type 0
-IsRaceWith order a segments race = (b : Segment) × Contains segments b × AreRacing order a b × (race ≡ name_of a b)
-
--- the list after has the races before, and those of the segment with the others
-pub record AddsRaces (order : Order) (a : Segment) (segments : List Segment) (before after : List Race) : Type 0 where
-  pub exact : (race : Race) → Contains after race ↔ (Contains before race ⊎ IsRaceWith order a segments race)
-
--- the race is one of two of the segments
-pub record IsRaceAmong (order : Order) (segments : List Segment) (race : Race) : Type 0 where
-  pub a : Segment
-  pub b : Segment
-  pub first : Contains segments a
-  pub second : Contains segments b
-  pub racing : AreRacing order a b
-  pub named : race ≡ name_of a b
-
--- the list has exactly these races
-pub record AreRacesAmong (order : Order) (segments : List Segment) (races : List Race) : Type 0 where
-  pub exact : (race : Race) → Contains races race ↔ IsRaceAmong order segments race
+-- each pair races, and of each race that the run names there is a pair that it names
+pub record AreRacePairs (run : List Act) (pairs : List Pair) : Type 0 where
+  pub sound : (pair : Pair) → Contains pairs pair → Races run pair.earlier pair.later
+  pub complete : (race : Race) → IsNamedRace run race
+      → (pair : Pair) × Contains pairs pair × (Names run race pair.earlier pair.later ⊎ Names run race pair.later pair.earlier)

@@ -1,95 +1,115 @@
 // The races that a run names.
-ghost use Rattle.std.specs.Prelude.{◌≡◌, ℕ, ◌<◌, ◌≤◌, ◌↔◌, ◌⊎◌, All, Contains, IsTrue, IfOk, OnOk, MatchOption, length};
-ghost use Rattle.std.specs.List.{list_any};
-ghost use Rattle.lrc_trace.specs.declared.race.Race.{Race};
-ghost use Rattle.lrc_judge.specs.Races.{AreNamedRaces, is_clash, AreRacing, name_of, AddsRaces, AreRacesAmong};
+ghost use Rattle.std.specs.Prelude.{◌≡◌, ◌<◌, All, IfOk, OnOk, length};
+ghost use Rattle.lrc_judge.specs.declared.TheConstants.{NODES};
+ghost use Rattle.lrc_judge.specs.Adding.{Adds, IsOfSome};
+ghost use Rattle.lrc_judge.specs.Firsts.{AreFirstEntries, AreIntervals};
+ghost use Rattle.lrc_judge.specs.Races.{AreNamedRaces, AreRacePairs, IsNameOf, race_of_places, word_of};
 
 use crate::NODES;
-use crate::order::{Order, happens_before};
-use crate::segments::{Access, Segment, segments_of};
-use lrc_trace::act::Act;
+use crate::entries::{Told, entries_of};
+use crate::firsts::{firsts_of, intervals_of};
+use crate::lanes::{Entry, Pair};
+use crate::order::happens_before;
+use crate::pairs::add_crossing;
+use lrc_trace::act::{Act, Deed};
 use lrc_trace::race::Race;
 use std::alloc::{AllocError, Global};
 
-/// Whether one of the accesses writes, and neither happens before the other.
-fn clash(order: &Order, x: Access, y: Access) -> bool
-    ensures { result ≡ is_clash order.now x y }
+// The word of an access; of another deed 0.
+fn word_of(deed: Deed) -> u32
+    ensures { result ≡ word_of deed }
 {
-    (x.is_write || y.is_write)
-        && !order.is_before(x.position, y.position)
-        && !order.is_before(y.position, x.position)
-}
-
-/// Whether the access clashes with one of the others.
-fn clashes(order: &Order, x: Access, others: &[Access]) -> bool
-    ensures { result ≡ list_any (λ y. is_clash order.now x y) others.now }
-{
-    others.iter().any(|y| clash(order, x, *y))
-}
-
-/// Whether an access of the one list clashes with an access of the other.
-fn any_clash(order: &Order, a: &[Access], b: &[Access]) -> bool
-    ensures { result ≡ list_any (λ x. list_any (λ y. is_clash order.now x y) b.now) a.now }
-{
-    a.iter().any(|x| clashes(order, *x, b))
-}
-
-/// The race of two segments, the first of the lower node.
-fn race_of(order: &Order, a: &Segment, b: &Segment) -> Option<Race>
-    ensures { MatchOption result (¬ AreRacing order.now a.now b.now)
-        (λ race. AreRacing order.now a.now b.now × (race ≡ name_of a.now b.now)) }
-{
-    if a.place.word == b.place.word
-        && a.place.node < b.place.node
-        && any_clash(order, &a.accesses, &b.accesses)
-    {
-        return Some(Race {
-            word: a.place.word,
-            node_a: a.place.node,
-            node_b: b.place.node,
-            interval_a: a.place.interval,
-            interval_b: b.place.interval,
-        });
+    match deed {
+        Deed::Read(word, _) | Deed::Write(word, _) => word,
+        _ => 0,
     }
-    None
 }
 
-/// Adds the races of a segment with the others.
-fn add_races(
-    races: &mut Vec<Race>,
-    order: &Order,
-    a: &Segment,
-    segments: &[Segment],
-) -> Result<(), AllocError>
-    ensures { OnOk result (AddsRaces order.now a.now segments.now races.old.items races.new.items) }
+// The race of accesses of two nodes in these intervals, the lower node first.
+fn race_of_places(word: u32, p: u8, i: u64, q: u8, j: u64) -> Race
+    ensures { result ≡ race_of_places word p i q j }
 {
-    for b in segments {
-        if let Some(race) = race_of(order, a, b) {
-            races.push(race)?;
+    if p < q {
+        Race {
+            word,
+            node_a: p,
+            node_b: q,
+            interval_a: i,
+            interval_b: j,
         }
+    } else {
+        Race {
+            word,
+            node_a: q,
+            node_b: p,
+            interval_a: j,
+            interval_b: i,
+        }
+    }
+}
+
+// Of the accesses, or of the writes, of a node to a word the first of each interval.
+fn first_entries(
+    alloc: Global,
+    acts: &[Act],
+    told: Told,
+    intervals: &[u64],
+) -> Result<Vec<Entry>, AllocError>
+    requires { length intervals.now ≡ length acts.now }
+    ensures { IfOk result (λ firsts. AreFirstEntries acts.now told intervals.now firsts.items) }
+{
+    let entries = entries_of(alloc, acts, told)?;
+    let firsts = firsts_of(alloc, entries.as_slice(), intervals)?;
+    Ok(firsts)
+}
+
+// Pairs that race, among them one for each race that the run names: those of the first accesses of intervals.
+fn race_pairs(alloc: Global, acts: &[Act], intervals: &[u64]) -> Result<Vec<Pair>, AllocError>
+    requires nodes { All (λ act. act.node < NODES) acts.now }
+    requires intervals { AreIntervals acts.now (length acts.now) intervals.now }
+    ensures { IfOk result (λ pairs. AreRacePairs acts.now pairs.items) }
+{
+    let order = happens_before(alloc, acts)?;
+    let accesses = first_entries(alloc, acts, Told::EachAccess, intervals)?;
+    let writes = first_entries(alloc, acts, Told::EachWrite, intervals)?;
+    let mut pairs = Vec::new(alloc);
+    add_crossing(&mut pairs, &order, accesses.as_slice(), writes.as_slice())?;
+    add_crossing(&mut pairs, &order, writes.as_slice(), accesses.as_slice())?;
+    Ok(pairs)
+}
+
+// Adds the races of the acts at these pairs of positions.
+fn add_names(
+    races: &mut Vec<Race>,
+    acts: &[Act],
+    intervals: &[u64],
+    pairs: &[Pair],
+) -> Result<(), AllocError>
+    requires earlier { All (λ pair. pair.earlier < length acts.now) pairs.now }
+    requires later { All (λ pair. pair.later < length acts.now) pairs.now }
+    requires long { length intervals.now ≡ length acts.now }
+    ensures { OnOk result (Adds races.old.items races.new.items (IsOfSome pairs.now (IsNameOf acts.now intervals.now))) }
+{
+    for pair in pairs {
+        let first = acts[pair.earlier];
+        let second = acts[pair.later];
+        let i = intervals[pair.earlier];
+        let j = intervals[pair.later];
+        let word = word_of(second.deed);
+        races.push(race_of_places(word, first.node, i, second.node, j))?;
     }
     Ok(())
 }
 
-/// The races of any two of the segments.
-fn races_among(alloc: Global, order: &Order, segments: &[Segment]) -> Result<Vec<Race>, AllocError>
-    ensures { IfOk result (λ races. AreRacesAmong order.now segments.now races.items) }
-{
-    let mut races = Vec::new(alloc);
-    for a in segments {
-        add_races(&mut races, order, a, segments)?;
-    }
-    Ok(races)
-}
-
-/// The races that a run names, ascending, each once.
+/// The races that a run names, ascending, each once. It costs little more than the acts, times the nodes, and the races.
 pub fn named_races(alloc: Global, acts: &[Act]) -> Result<Vec<Race>, AllocError>
     requires { All (λ act. act.node < NODES) acts.now }
     ensures { IfOk result (λ races. AreNamedRaces acts.now races.items) }
 {
-    let order = happens_before(alloc, acts)?;
-    let segments = segments_of(alloc, acts)?;
-    let mut races = races_among(alloc, &order, &segments)?;
+    let intervals = intervals_of(alloc, acts)?;
+    let pairs = race_pairs(alloc, acts, intervals.as_slice())?;
+    let mut races = Vec::new(alloc);
+    add_names(&mut races, acts, intervals.as_slice(), pairs.as_slice())?;
     races.sort_unstable();
     races.dedup();
     Ok(races)
