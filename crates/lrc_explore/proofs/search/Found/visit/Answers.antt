@@ -10,7 +10,7 @@ returns-in-Some-clause-visit c =
     let flat = c.args.flat.now in
     let there = copy_stands flat c.args.self.now.states.keys c.as_slice.result.now c.args.place c.index-as_slice-place.result c.in_ok-state.state
     c.as_slice.ensures.keys c.requires.within c.index-as_slice-place.is c.in_ok-state.ensures in
-    (plain_at flat c.in_ok-state.state, there, c.in-Some.ensures)
+    (plain_at flat c.in_ok-state.state, there, c.in-Some.ensures.1)
 
 pub expand-requires-clause-there : goal.expand-requires-clause-there
 expand-requires-clause-there c =
