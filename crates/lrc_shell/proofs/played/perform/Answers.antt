@@ -1,0 +1,5 @@
+use Rattle.std.proofs.Common.{option_map}
+use Rattle.lrc_shell.proofs.played.perform.Goals as goal
+
+pub returns : goal.returns
+returns g c = c.tell.ensures c.args.choice.now c.args.text.now (option_map (λ e. e.now) c.args.events) c.answer_of-answered.ensures

@@ -1,0 +1,14 @@
+use Rattle.std.proofs.Common.{refl, subst, sym}
+use Rattle.lrc_words.specs.declared.choice.ChooseFault.{ChooseFault}
+use Rattle.lrc_shell.specs.Plays.{IsRefusal}
+use Rattle.lrc_shell.proofs.refusal.refuse.Goals as goal
+
+pub returns-in-BadNumber : goal.returns-in-BadNumber
+returns-in-BadNumber g c =
+    subst (λ (fault : ChooseFault). IsRefusal fault (g.E.Write.contents c.args.err.now) (g.E.Write.contents c.tell_line.new.err) 2)
+    (sym c.in-BadNumber.is) (c.tell_line.ensures, refl)
+
+pub returns-in-NoMemory : goal.returns-in-NoMemory
+returns-in-NoMemory g c =
+    subst (λ (fault : ChooseFault). IsRefusal fault (g.E.Write.contents c.args.err.now) (g.E.Write.contents c.tell_line-in-NoMemory.new.err) 1)
+    (sym c.in-NoMemory.is) (c.tell_line-in-NoMemory.ensures, refl)

@@ -1,0 +1,83 @@
+-- What the program does with its words and the files that they name.
+use Rattle.std.specs.Prelude.{◌≡◌, ◌≢◌, ◌⊎◌, ℕ, List, Option, None, Some, Ok, Err, codes}
+use Rattle.std.specs.Io.KnownBytes.{Appends, Keeps}
+use Rattle.std.specs.declared.io.ErrorKind.{ErrorKind}
+use Rattle.std.specs.declared.io.ErrorKind.TheVariants.{OutOfMemory}
+use Rattle.clap.specs.Words.{Text}
+use Rattle.lrc_words.specs.CommandLine.{Chooses}
+use Rattle.lrc_words.specs.Files.{events_of, file_of}
+use Rattle.lrc_words.specs.declared.choice.Choice.{Choice}
+use Rattle.lrc_words.specs.declared.choice.ChooseFault.{ChooseFault}
+use Rattle.lrc_words.specs.declared.choice.ChooseFault.TheVariants.{BadNumber, NoMemory, Usage}
+use Rattle.lrc_report.specs.Output.{AppendsFront}
+use Rattle.lrc_cli.specs.Performance.{Performs}
+use Rattle.lrc_shell.specs.Known.{IsCause, IsFront, Known}
+
+-- of a text of a program one byte more than the longest has is read, and of a text of events too
+abbrev pub text_read : ℕ
+text_read = 65537
+
+abbrev pub events_read : ℕ
+events_read = 16777217
+
+-- what is read of the program's text; the path `-` is standard input
+abbrev pub IsTextRead : Known → List ℕ → List ℕ → Type 0
+IsTextRead known path text = ((path ≡ codes "-") × IsFront text_read known.input text)
+    ⊎ ((path ≢ codes "-") × IsFront text_read (known.files path) text)
+
+-- what is read of the events, where a file of them is named
+abbrev pub AreEventsRead : Known → Option (List ℕ) → Option (List ℕ) → Type 0
+AreEventsRead known None None = Unit {0}
+AreEventsRead known (Some path) (Some text) = IsFront events_read (known.files path) text
+AreEventsRead known _ _ = ⊥
+
+-- a file that is named cannot be read, for this
+abbrev pub IsTextCause : Known → List ℕ → ErrorKind → Type 0
+IsTextCause known path kind = ((path ≡ codes "-") × IsCause known.input kind)
+    ⊎ ((path ≢ codes "-") × IsCause (known.files path) kind)
+
+abbrev pub IsEventsCause : Known → Option (List ℕ) → ErrorKind → Type 0
+IsEventsCause known None kind = ⊥
+IsEventsCause known (Some path) kind = IsCause (known.files path) kind
+
+-- a line is written, or a front of it
+abbrev pub IsTold : Option (List ℕ) → Option (List ℕ) → List ℕ → Type 0
+IsTold old new line = Appends old new line ⊎ AppendsFront old new line
+
+-- the line where a file cannot be read
+abbrev pub read_line : ErrorKind → List ℕ
+read_line OutOfMemory = codes "treadmarks: out of memory\n"
+read_line _ = codes "treadmarks: cannot read file\n"
+
+-- the line and the status where the arguments cannot be read
+abbrev pub argument_line : ErrorKind → List ℕ
+argument_line OutOfMemory = codes "treadmarks: out of memory\n"
+argument_line _ = codes "error: invalid UTF-8 was detected in one or more arguments\n"
+
+abbrev pub argument_status : ErrorKind → ℕ
+argument_status OutOfMemory = 1
+argument_status _ = 2
+
+-- What is said where the words are no choice, by what `err` has before and after, and the status: a text of usage, that a
+-- number is out of range, or that memory ran out.
+abbrev pub IsRefusal : ChooseFault → Option (List ℕ) → Option (List ℕ) → ℕ → Type 0
+IsRefusal (Usage error) err err' status = status ≡ 2
+IsRefusal BadNumber err err' status = IsTold err err' (codes "treadmarks: number out of range\n") × (status ≡ 2)
+IsRefusal NoMemory err err' status = IsTold err err' (codes "treadmarks: out of memory\n") × (status ≡ 1)
+
+-- What comes of a choice, by what `out` and `err` have before and after:
+pub data IsPlayed (known : Known) (choice : Choice) (out out' err err' : Option (List ℕ)) (status : ℕ) : Type 0 where
+  -- a file that it names cannot be read,
+  unread : (kind : ErrorKind) → IsTextCause known (file_of choice) kind ⊎ IsEventsCause known (events_of choice) kind
+      → IsTold err err' (read_line kind) → Keeps out out' → status ≡ 1 → IsPlayed known choice out out' err err' status
+  -- or it is answered, with what was read.
+  performed : (text : List ℕ) (events : Option (List ℕ)) → IsTextRead known (file_of choice) text
+      → AreEventsRead known (events_of choice) events → Performs choice text events out out' err err' status
+      → IsPlayed known choice out out' err err' status
+
+-- What comes of the words: they are no choice, and nothing is printed, or what comes of the choice.
+pub data Plays (known : Known) (words : List Text) (out out' err err' : Option (List ℕ)) (status : ℕ) : Type 0 where
+  refused : (fault : ChooseFault) → Chooses words (Err fault) → IsRefusal fault err err' status → Keeps out out'
+      → Plays known words out out' err err' status
+  played : (choice : Choice) → Chooses words (Ok choice) → IsPlayed known choice out out' err err' status
+      → Plays known words out out' err err' status

@@ -1,0 +1,13 @@
+//! The program `treadmarks` over its words, files and outputs: reads its words and the files that they name, does what they
+//! ask for, and gives the exit status.
+#![tactic(auto)]
+
+mod played;
+mod progress;
+mod refusal;
+mod sources;
+
+pub use played::play;
+pub use progress::Watch;
+pub use refusal::refuse_arguments;
+pub use sources::{Sources, System, read_up_to};

@@ -1,0 +1,218 @@
+// From the words to the exit status.
+
+ghost use Rattle.std.specs.Prelude.{◌≡◌, IfErr, IfOk, drop, is_some, map, option_map};
+ghost use Rattle.std.specs.IoError.{error_kind};
+ghost use Rattle.lrc_cli.specs.Answer.{Answers};
+ghost use Rattle.lrc_cli.specs.Performance.{Performs};
+ghost use Rattle.lrc_words.specs.CommandLine.{words_meant};
+ghost use Rattle.lrc_words.specs.Files.{events_of, file_of, names_events};
+ghost use Rattle.lrc_shell.specs.Plays.{AreEventsRead, IsEventsCause, IsPlayed, IsTextCause, IsTextRead, Plays};
+
+use crate::progress::Watch;
+use crate::refusal::{refuse, refuse_file};
+use crate::sources::Sources;
+use lrc_cli::answer::Printout;
+use lrc_cli::fault::Fault;
+use lrc_cli::{answer_any, tell};
+use lrc_words::choice::Choice;
+use lrc_words::choose;
+use std::alloc::Global;
+use std::convert::AsStr;
+use std::io::{Eprint, Write};
+use std::sync::Wait;
+use std::thread::Threads;
+use std::time::Clock;
+use std::{io, thread};
+
+/// One byte more than the longest text of a program has: a longer one is cut there, and is still too long.
+const TEXT_READ: u64 = lrc_lang::MOST_BYTES as u64 + 1;
+
+const _: () = prove!(TEXT_READ > lrc_lang::MOST_BYTES as u64);
+
+/// One byte more than the longest text of events has: a longer one is cut there, and is still too long.
+const EVENTS_READ: u64 = lrc_report::events::MOST_BYTES as u64 + 1;
+
+const _: () = prove!(EVENTS_READ > lrc_report::events::MOST_BYTES as u64);
+
+/// Does what the arguments of the program ask for, the first of which is its name, and gives the exit status. What it prints
+/// goes to `out`, and each fault to `err`. Where it is watched, a line on standard error says that a run takes long.
+pub fn play<R, S: AsStr, F: Sources, W: Write, E: Write>(
+    rt: &R,
+    arguments: &[S],
+    sources: &F,
+    watched: bool,
+    out: &mut W,
+    err: &mut E,
+) -> u8
+where
+    R: Threads + Wait + Sync + Clock + Eprint + AllocGlobal,
+    ensures { Plays (F.known sources.now) (words_meant (map S.text (drop 1 arguments.now)))
+        (W.contents out.old) (W.contents out.new) (E.contents err.old) (E.contents err.new) result }
+{
+    match choose(rt.alloc(), words_of(arguments)) {
+        Ok(choice) => play_choice(rt, &choice, sources, watched, out, err),
+        Err(fault) => refuse(&fault, err),
+    }
+}
+
+// What follows the program's name.
+fn words_of<S>(arguments: &[S]) -> &[S]
+    ensures { result.now ≡ drop 1 arguments.now }
+{
+    match arguments.split_first() {
+        Some((_name, words)) => words,
+        None => arguments,
+    }
+}
+
+// Reads what a choice names and does it.
+fn play_choice<R, F: Sources, W: Write, E: Write>(
+    rt: &R,
+    choice: &Choice<'_>,
+    sources: &F,
+    watched: bool,
+    out: &mut W,
+    err: &mut E,
+) -> u8
+where
+    R: Threads + Wait + Sync + Clock + Eprint + AllocGlobal,
+    ensures { IsPlayed (F.known sources.now) choice.now
+        (W.contents out.old) (W.contents out.new) (E.contents err.old) (E.contents err.new) result }
+{
+    match read_text(rt.alloc(), sources, choice) {
+        Ok(text) => play_text(rt, choice, &text, sources, watched, out, err),
+        Err(error) => refuse_file(&error, err),
+    }
+}
+
+// Reads the events that a choice names, and does it with the text of its FILE.
+fn play_text<R, F: Sources, W: Write, E: Write>(
+    rt: &R,
+    choice: &Choice<'_>,
+    text: &[u8],
+    sources: &F,
+    watched: bool,
+    out: &mut W,
+    err: &mut E,
+) -> u8
+where
+    R: Threads + Wait + Sync + Clock + Eprint + AllocGlobal,
+    ensures { IsTextRead (F.known sources.now) (file_of choice.now) text.now → IsPlayed (F.known sources.now) choice.now
+        (W.contents out.old) (W.contents out.new) (E.contents err.old) (E.contents err.new) result }
+{
+    match read_events(rt.alloc(), sources, choice) {
+        Ok(events) => perform(rt, choice, text, events.as_deref(), watched, out, err),
+        Err(error) => refuse_file(&error, err),
+    }
+}
+
+// Answers a choice, and writes the answer.
+fn perform<R, W: Write, E: Write>(
+    rt: &R,
+    choice: &Choice<'_>,
+    text: &[u8],
+    events: Option<&[u8]>,
+    watched: bool,
+    out: &mut W,
+    err: &mut E,
+) -> u8
+where
+    R: Threads + Wait + Sync + Clock + Eprint + AllocGlobal,
+    requires { is_some events ≡ names_events choice.now }
+    ensures { Performs choice.now text.now (option_map (λ e. e.now) events.entry)
+        (W.contents out.old) (W.contents out.new) (E.contents err.old) (E.contents err.new) result }
+{
+    let answered = answer_of(rt, choice, text, events, watched);
+    tell(rt.alloc(), answered, out, err)
+}
+
+// Answers a choice. Where that is watched and takes long, a line on standard error says that it goes on.
+fn answer_of<R>(
+    rt: &R,
+    choice: &Choice<'_>,
+    text: &[u8],
+    events: Option<&[u8]>,
+    watched: bool,
+) -> Result<Printout, Fault>
+where
+    R: Threads + Wait + Sync + Clock + Eprint + AllocGlobal,
+    requires { is_some events ≡ names_events choice.now }
+    ensures { Answers choice.now text.now (option_map (λ e. e.now) events.entry) result }
+{
+    if watched {
+        answer_watched(rt, choice, text, events)
+    } else {
+        answer_any(rt, rt.alloc(), choice, text, events)
+    }
+}
+
+// Answers a choice. Where that takes long, a line on standard error says that it goes on, if a thread can be started for it.
+// Once there is an answer, no such line comes any more.
+fn answer_watched<R>(
+    rt: &R,
+    choice: &Choice<'_>,
+    text: &[u8],
+    events: Option<&[u8]>,
+) -> Result<Printout, Fault>
+where
+    R: Threads + Wait + Sync + Clock + Eprint + AllocGlobal,
+    requires { is_some events ≡ names_events choice.now }
+    ensures { Answers choice.now text.now (option_map (λ e. e.now) events.entry) result }
+{
+    let watch = Watch::new();
+    let shared = &watch;
+    let watched = || shared.tell(rt);
+    let answering = || -> Result<Printout, Fault>
+        requires { is_some events ≡ names_events choice.now }
+        ensures { Answers choice.entry.now text.entry.now (option_map (λ e. e.now) events.entry) result }
+    { answer_then_end(rt, shared, choice, text, events) };
+    let (_late, answered) = thread::join(rt, watched, answering);
+    answered
+}
+
+// Answers a choice, and says that this is over.
+fn answer_then_end<R>(
+    rt: &R,
+    watch: &Watch,
+    choice: &Choice<'_>,
+    text: &[u8],
+    events: Option<&[u8]>,
+) -> Result<Printout, Fault>
+where
+    R: Threads + Wait + Sync + AllocGlobal,
+    requires { is_some events ≡ names_events choice.now }
+    ensures { Answers choice.now text.now (option_map (λ e. e.now) events.entry) result }
+{
+    let answered = answer_any(rt, rt.alloc(), choice, text, events);
+    watch.end(rt);
+    answered
+}
+
+// Reads the program's text. The path `-` is standard input.
+fn read_text<F: Sources>(alloc: Global, sources: &F, choice: &Choice<'_>) -> io::Result<Vec<u8>>
+    ensures ok { IfOk result (λ text. IsTextRead (F.known sources.now) (file_of choice.now) text.items) }
+    ensures err { IfErr result (λ error. IsTextCause (F.known sources.now) (file_of choice.now) (error_kind error)) }
+{
+    let path = choice.file();
+    if path == "-" {
+        sources.input(alloc, TEXT_READ)
+    } else {
+        sources.file(alloc, path, TEXT_READ)
+    }
+}
+
+// Reads the text of the events, where a choice names one.
+fn read_events<F: Sources>(
+    alloc: Global,
+    sources: &F,
+    choice: &Choice<'_>,
+) -> io::Result<Option<Vec<u8>>>
+    ensures named { IfOk result (λ events. is_some events ≡ names_events choice.now) }
+    ensures ok { IfOk result (λ events. AreEventsRead (F.known sources.now) (events_of choice.now) (option_map (λ e. e.items) events)) }
+    ensures err { IfErr result (λ error. IsEventsCause (F.known sources.now) (events_of choice.now) (error_kind error)) }
+{
+    match choice.events() {
+        Some(path) => Ok(Some(sources.file(alloc, path, EVENTS_READ)?)),
+        None => Ok(None),
+    }
+}
