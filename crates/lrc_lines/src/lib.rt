@@ -1,0 +1,6 @@
+//! The lines of the acts of a run: on which line of the text the statement stands that an act is of.
+#![tactic(auto)]
+
+pub mod laws;
+pub mod walk;
+mod way;
