@@ -3,10 +3,11 @@
 #![tactic(auto)]
 
 ghost use Rattle.std.specs.Prelude.{◌≡◌, IfOk, is_some};
-ghost use Rattle.lrc_cli.specs.Answer.{names_events};
+ghost use Rattle.lrc_words.specs.Files.{names_events};
 
-use lrc_cli::choice::Choice;
-use lrc_cli::{choose, execute};
+use lrc_cli::execute;
+use lrc_words::choice::Choice;
+use lrc_words::choose;
 use std::alloc::{AllocError, Global};
 use std::fs::Files;
 use std::process::ExitCode;

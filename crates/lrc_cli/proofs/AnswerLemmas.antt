@@ -1,9 +1,9 @@
 -- What is answered to a choice: what is printed, or a fault.
 use Rattle.std.proofs.Common.{◌≡◌, ℕ, List, Option, Result, Ok, Err, IfErr, IfOk, IsErrAnd, sym, subst}
 use Rattle.lrc_cli.specs.Answer.{Answers, IsFault, Prints}
-use Rattle.lrc_cli.specs.ReportText.{whole_text}
+use Rattle.lrc_report.specs.ReportText.{whole_text}
 use Rattle.lrc_cli.specs.declared.answer.Printout.{Printout}
-use Rattle.lrc_cli.specs.declared.choice.Choice.{Choice}
+use Rattle.lrc_words.specs.declared.choice.Choice.{Choice}
 use Rattle.lrc_cli.specs.declared.fault.Fault.{Fault}
 
 -- what holds of what is printed and of the fault, in one

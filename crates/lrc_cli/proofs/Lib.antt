@@ -1,5 +1,1 @@
 pub mod AnswerLemmas
-pub mod RowLemmas
-pub mod TakenLemmas
-pub mod TextLemmas
-pub mod WriteLemmas

@@ -1,5 +1,5 @@
 -- What the program answers to a choice: a text that it prints and its status, or the first fault.
-use Rattle.std.specs.Prelude.{◌≡◌, ◌<◌, ◌≤◌, ℕ, Bool, false, true, List, length, Option, None, Some, Result, Ok, Err, codes, is_some, option_map}
+use Rattle.std.specs.Prelude.{◌≡◌, ◌<◌, ◌≤◌, ℕ, true, List, length, Option, None, Some, Result, Ok, Err, codes}
 use Rattle.lrc_exec.specs.Rounds.{AreActsOfRounds}
 use Rattle.lrc_lang.specs.Faults.{HasFirstFault, IsText}
 use Rattle.lrc_lang.specs.Tree.{program_of}
@@ -12,39 +12,16 @@ use Rattle.lrc_world.specs.Ends.{ends_of}
 use Rattle.lrc_world.specs.Report.{AreAll, IsReportOf, IsWornBy}
 use Rattle.lrc_world.specs.declared.report.Report.{Report}
 use Rattle.lrc_run.specs.Run.{IsWovenReport}
-use Rattle.lrc_cli.specs.EventsText.{Reads}
-use Rattle.lrc_cli.specs.ReportText.{report_text, run_status_of, run_text, status_of, whole_text}
+use Rattle.lrc_report.specs.EventsText.{Reads}
+use Rattle.lrc_report.specs.ReportText.{report_text, run_status_of, run_text, status_of, whole_text}
 use Rattle.lrc_cli.specs.declared.answer.Printout.{Printout}
-use Rattle.lrc_cli.specs.declared.choice.Choice.{Choice}
-use Rattle.lrc_cli.specs.declared.choice.Choice.TheVariants.{Check, Plain, Simulate, Run}
-use Rattle.lrc_cli.specs.declared.choice.RunOptions.{RunOptions}
-use Rattle.lrc_cli.specs.declared.events.EventsFault.TheVariants.{BadEvent}
+use Rattle.lrc_words.specs.Files.{starts_threads}
+use Rattle.lrc_words.specs.declared.choice.Choice.{Choice}
+use Rattle.lrc_words.specs.declared.choice.Choice.TheVariants.{Check, Plain, Simulate, Run}
+use Rattle.lrc_words.specs.declared.choice.RunOptions.{RunOptions}
+use Rattle.lrc_report.specs.declared.events.EventsFault.TheVariants.{BadEvent}
 use Rattle.lrc_cli.specs.declared.fault.Fault.{Fault}
 use Rattle.lrc_cli.specs.declared.fault.Fault.TheVariants.{Text, Events, Worn, Mismatch, NoMemory}
-
--- the file of the program's text
-abbrev pub file_of : Choice → List ℕ
-file_of (Check file) = file.now
-file_of (Plain run) = run.file.now
-file_of (Simulate run) = run.options.file.now
-file_of (Run run) = run.file.now
-
--- the file of the events, where the choice names one
-abbrev pub events_of : Choice → Option (List ℕ)
-events_of (Check file) = None
-events_of (Plain run) = None
-events_of (Simulate run) = option_map (λ path. path.now) run.events
-events_of (Run run) = None
-
-abbrev pub names_events : Choice → Bool
-names_events choice = is_some (events_of choice)
-
--- the choice is the command `run`
-abbrev pub starts_threads : Choice → Bool
-starts_threads (Check file) = false
-starts_threads (Plain run) = false
-starts_threads (Simulate run) = false
-starts_threads (Run run) = true
 
 -- the text is this program's
 abbrev pub IsTextOf : List ℕ → Program → Type 0

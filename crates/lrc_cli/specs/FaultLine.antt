@@ -7,9 +7,9 @@ use Rattle.lrc_world.specs.declared.report.SimFault.{SimFault}
 use Rattle.lrc_world.specs.declared.report.SimFault.TheVariants.{Worn}
 use Rattle.lrc_run.specs.declared.fault.RunFault.{RunFault}
 use Rattle.lrc_run.specs.declared.fault.RunFault.TheVariants as threads
-use Rattle.lrc_cli.specs.declared.events.EventsFault.{EventsFault}
-use Rattle.lrc_cli.specs.declared.events.EventsFault.TheVariants.{BadEvent}
-use Rattle.lrc_cli.specs.declared.events.EventsFault.TheVariants as events_faults
+use Rattle.lrc_report.specs.declared.events.EventsFault.{EventsFault}
+use Rattle.lrc_report.specs.declared.events.EventsFault.TheVariants.{BadEvent}
+use Rattle.lrc_report.specs.declared.events.EventsFault.TheVariants as events_faults
 use Rattle.lrc_cli.specs.declared.fault.Fault.{Fault}
 use Rattle.lrc_cli.specs.declared.fault.Fault.TheVariants as faults
 

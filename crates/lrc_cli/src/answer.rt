@@ -1,19 +1,20 @@
 // What the program answers to a choice, before anything is written.
 
 ghost use Rattle.std.specs.Prelude.{◌≡◌, IfErr, IfOk, None, Some, false, is_some, option_map};
-ghost use Rattle.lrc_cli.specs.Answer.{IsFault, IsPrintoutOfRounds, IsRunFault, IsRunOf, Prints, names_events, options_of, starts_threads};
-ghost use Rattle.lrc_cli.specs.ReportText.{report_text, run_status_of, run_text, status_of, whole_text};
+ghost use Rattle.lrc_cli.specs.Answer.{IsFault, IsPrintoutOfRounds, IsRunFault, IsRunOf, Prints, options_of};
+ghost use Rattle.lrc_words.specs.Files.{names_events, starts_threads};
+ghost use Rattle.lrc_report.specs.ReportText.{report_text, run_status_of, run_text, status_of, whole_text};
 ghost use Rattle.lrc_cli.specs.declared.fault.Fault.TheVariants.{NoMemory};
 
-use crate::choice::{Choice, PlainRun, RunOptions};
-use crate::events::events_of;
 use crate::fault::{Fault, fault_of_run};
-use crate::report::{report_parts, run_parts, status_after, status_after_run};
 use lrc_exec::rounds::plain_rounds;
 use lrc_lang::parse;
 use lrc_lang::program::Program;
 use lrc_node::{End, Options};
+use lrc_report::events::events_of;
+use lrc_report::report::{report_parts, run_parts, status_after, status_after_run};
 use lrc_trace::act::Act;
+use lrc_words::choice::{Choice, PlainRun, RunOptions};
 use lrc_world::ends::ends;
 use lrc_world::report::Report;
 use lrc_world::simulate::{drive, simulate};

@@ -5,8 +5,8 @@ ghost use Rattle.std.specs.String.{string_bytes};
 ghost use Rattle.lrc_cli.specs.FaultLine.{fault_line, fault_of_events, fault_of_run, fault_of_text, fault_of_threads, fault_words, kind_words};
 ghost use Rattle.lrc_cli.specs.declared.fault.Fault.TheVariants.{NoMemory};
 
-use crate::events::EventsFault;
 use lrc_lang::fault::{FaultKind, ParseFault};
+use lrc_report::events::EventsFault;
 use lrc_run::RunFault;
 use lrc_world::report::SimFault;
 use std::alloc::{AllocError, AllocFailed, Global};

@@ -1,16 +1,9 @@
-//! The command line of `treadmarks`: what its words ask for, the events of a run as a text, and what a run prints.
+//! What the program `treadmarks` answers to a choice, and where it writes that.
 #![tactic(auto)]
 
 pub mod answer;
-pub mod choice;
-mod command_line;
-pub mod events;
 pub mod fault;
-mod files;
-mod output;
 mod performance;
-pub mod report;
 mod threads;
 
-pub use command_line::choose;
-pub use performance::{execute, perform};
+pub use performance::{answer_any, execute, perform, tell};

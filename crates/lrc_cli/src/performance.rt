@@ -1,18 +1,19 @@
 // Doing what the words ask for, over any two writers.
 
 ghost use Rattle.std.specs.Prelude.{◌≡◌, ◌⊎◌, ℕ, List, Option, false, is_some, option_map};
-ghost use Rattle.lrc_cli.specs.Answer.{Answers, names_events, starts_threads};
+ghost use Rattle.lrc_cli.specs.Answer.{Answers};
+ghost use Rattle.lrc_words.specs.Files.{names_events, starts_threads};
 ghost use Rattle.lrc_cli.specs.FaultLine.{fault_line};
 ghost use Rattle.lrc_cli.specs.Performance.{IsWritten, Performs};
-ghost use Rattle.lrc_cli.specs.ReportText.{whole_text};
-ghost use Rattle.lrc_cli.specs.declared.choice.Choice.{Choice as AnyChoice};
+ghost use Rattle.lrc_report.specs.ReportText.{whole_text};
+ghost use Rattle.lrc_words.specs.declared.choice.Choice.{Choice as AnyChoice};
 ghost use Rattle.lrc_cli.specs.declared.fault.Fault.TheVariants.{NoMemory};
 
 use crate::answer::{Printout, answer};
-use crate::choice::Choice;
 use crate::fault::{Fault, NO_MEMORY_LINE, line_of};
-use crate::output::{Output, put, put_parts};
 use crate::threads::answer_on_threads;
+use lrc_report::output::{Output, put, put_parts};
+use lrc_words::choice::Choice;
 use std::alloc::Global;
 use std::io::Write;
 use std::sync::Wait;
@@ -53,19 +54,31 @@ pub fn execute<R: Threads + Wait + Sync, W: Write, E: Write>(
     ensures { Performs choice.now text.now (option_map (λ e. e.now) events.entry)
         (W.contents out.old) (W.contents out.new) (E.contents err.old) (E.contents err.new) result }
 {
+    tell(alloc, answer_any(rt, alloc, choice, text, events), out, err)
+}
+
+/// Answers any choice, on threads where it asks for them, with the text of its FILE, and that of its events where it names
+/// them. Nothing is written.
+pub fn answer_any<R: Threads + Wait + Sync>(
+    rt: &R,
+    alloc: Global,
+    choice: &Choice<'_>,
+    text: &[u8],
+    events: Option<&[u8]>,
+) -> Result<Printout, Fault>
+    requires { is_some events ≡ names_events choice.now }
+    ensures { Answers choice.now text.now (option_map (λ e. e.now) events.entry) result }
+{
     match choice {
-        Choice::Run(options) => {
-            let answered = answer_on_threads(rt, alloc, options, text);
-            tell(alloc, answered, out, err)
-        }
+        Choice::Run(options) => answer_on_threads(rt, alloc, options, text),
         Choice::Check(_) | Choice::Plain(_) | Choice::Simulate(_) => {
-            perform(alloc, choice, text, events, out, err)
+            answer(alloc, choice, text, events)
         }
     }
 }
 
-// Prints what was answered to a choice, or the line of its fault.
-fn tell<W: Write, E: Write>(
+/// Writes what was answered to a choice, or the line of its fault, as [`perform`] does, and gives the status.
+pub fn tell<W: Write, E: Write>(
     alloc: Global,
     answered: Result<Printout, Fault>,
     out: &mut W,

@@ -2,15 +2,15 @@
 
 ghost use Rattle.std.specs.Prelude.{IfErr, IfOk, None};
 ghost use Rattle.lrc_cli.specs.Answer.{IsFault, IsThreadedFault, IsThreadedRunOf, Prints};
-ghost use Rattle.lrc_cli.specs.ReportText.{whole_text};
-ghost use Rattle.lrc_cli.specs.declared.choice.Choice.TheVariants.{Run};
+ghost use Rattle.lrc_report.specs.ReportText.{whole_text};
+ghost use Rattle.lrc_words.specs.declared.choice.Choice.TheVariants.{Run};
 
 use crate::answer::{Printout, options_of, printout_of_run};
-use crate::choice::RunOptions;
 use crate::fault::{Fault, fault_of_threads};
 use lrc_lang::parse;
 use lrc_lang::program::Program;
 use lrc_run::run;
+use lrc_words::choice::RunOptions;
 use lrc_world::report::Report;
 use std::alloc::Global;
 use std::sync::Wait;

@@ -192,7 +192,7 @@ module _ (m : Inside) (thread : Thread) (d : Instruction) (k : ℕ) (view : thre
   at_index : slice_get m.code.now k ≡ Some (get_or m.code.now k d)
   at_index = slice_get-get_or m.code.now k d (omega (arith, running.within))
 
-  sound_at : IsSound m.code.now k (get_or m.code.now k d)
+  pub sound_at : IsSound m.code.now k (get_or m.code.now k d)
   sound_at = running.sound k (get_or m.code.now k d) (omega arith) at_index
 
   -- its thread's next act is that of the instruction's statement

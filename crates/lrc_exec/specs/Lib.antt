@@ -7,3 +7,4 @@ pub mod PlainCode
 pub mod Rounds
 pub mod RoundsCode
 pub mod Running
+pub mod Spots

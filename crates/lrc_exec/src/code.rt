@@ -11,7 +11,7 @@ use std::marker::Model;
 /// One instruction: a statement of the program, and the places where a thread goes on. A place is the number of an
 /// instruction, counted from 1 in the order in which they stand; place 0 is the end of the text.
 #[derive(Clone, Copy)]
-pub(crate) struct Instruction<'p> {
+pub struct Instruction<'p> {
     /// The statement that begins here.
     pub statement: &'p Statement,
     /// The place after the statement.
@@ -23,8 +23,8 @@ pub(crate) struct Instruction<'p> {
 }
 
 impl Instruction<'_> {
-    // Where a condition of this value leads.
-    pub(crate) fn chosen(&self, value: u64) -> usize
+    /// Where a condition of this value leads.
+    pub fn chosen(&self, value: u64) -> usize
         ensures { result ≡ chosen value self.now.then self.now.otherwise }
     {
         if value == 0 {
@@ -96,8 +96,8 @@ impl<'p> Code<'p> {
         self.program
     }
 
-    // The instructions, and the place where the text begins.
-    pub(crate) fn parts(&self) -> (&[Instruction<'p>], usize)
+    /// The instructions, and the place where the text begins.
+    pub fn parts(&self) -> (&[Instruction<'p>], usize)
         ensures { IsCodeOf result.0.now result.1 self.now.statements.items }
     {
         (&self.instructions, self.start)

@@ -7,4 +7,5 @@ pub mod laws;
 pub mod machine;
 pub mod plain;
 pub mod rounds;
-mod value;
+pub mod spot;
+pub mod value;

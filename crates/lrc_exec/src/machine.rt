@@ -1,15 +1,17 @@
 // What a thread asks for, and the machine that runs its code.
 
-ghost use Rattle.std.specs.Prelude.{◌≡◌, ◌<◌, ◌≤◌, ◌∷◌, false, List, if◌then◌else◌, nat_lt, ok_or, slice_set, IsSome, Some};
+ghost use Rattle.std.specs.Prelude.{◌≡◌, ◌<◌, ◌≤◌, ◌∷◌, false, length, List, if◌then◌else◌, nat_lt, ok_or, slice_set, IsSome, Some};
 ghost use Rattle.lrc_lang.specs.declared.program.Statement.{Statement};
 ghost use Rattle.lrc_lang.specs.Sizes.{names_in_expression, names_in_statement};
 ghost use Rattle.lrc_lang.specs.Statements.{expression_of, statement_of};
 ghost use Rattle.lrc_exec.specs.Meaning.{act_of, next_of, value_in};
 ghost use Rattle.lrc_exec.specs.Plain.{start_of};
+ghost use Rattle.lrc_exec.specs.Spots.{thread_at, IsFlat};
 ghost use Rattle.lrc_exec.specs.Ask.{ask_of, answered, ask_or_trap, TakesAnswer, steps_of as steps_taken};
 ghost use Rattle.lrc_exec.specs.Condition.{condition_holds, first_is_met};
 
 use crate::code::{Code, Instruction};
+use crate::spot::{Flat, Spot};
 use crate::value::evaluate;
 use lrc_lang::program::{Expression, Statement};
 use lrc_trace::act::{Cause, Deed};
@@ -123,6 +125,24 @@ impl<'c> Machine<'c> {
             place,
             privates: [0; 32],
             held: [false; 64],
+        }
+    }
+
+    /// A node that stands at a place of flat code, and is at no barrier.
+    pub fn at(flat: &Flat<'c>, spot: &Spot) -> Machine<'c>
+        requires flat { IsFlat flat.now }
+        requires within { spot.now.place ≤ length flat.now.code.now }
+        ensures { result ≡ thread_at flat.now spot.now }
+    {
+        Machine {
+            code: flat.code,
+            words: flat.words,
+            locks: flat.locks,
+            me: spot.me,
+            nodes: flat.nodes,
+            place: spot.place,
+            privates: spot.privates,
+            held: spot.held,
         }
     }
 
@@ -294,7 +314,7 @@ impl<'c> Machine<'c> {
 }
 
 // Sets a private name.
-fn set_name(privates: &mut [u64; 32], name: u8, value: u64)
+pub(crate) fn set_name(privates: &mut [u64; 32], name: u8, value: u64)
     requires { name < 32 }
     ensures { privates.new ≡ slice_set privates.old name value }
 {
@@ -302,7 +322,7 @@ fn set_name(privates: &mut [u64; 32], name: u8, value: u64)
 }
 
 // Holds a lock from now on, or no longer.
-fn set_held(locks: &mut [bool; 64], lock: u64, held: bool)
+pub(crate) fn set_held(locks: &mut [bool; 64], lock: u64, held: bool)
     requires { lock < 64 }
     ensures { locks.new ≡ slice_set locks.old lock held }
 {

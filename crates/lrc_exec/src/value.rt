@@ -27,8 +27,8 @@ fn apply(operator: Operator, x: u64, y: u64) -> Result<u64, Cause>
     }
 }
 
-// The value of an expression on node `me` of `nodes`, with these values of the 32 private names.
-pub(crate) fn evaluate(
+/// The value of an expression on node `me` of `nodes`, with these values of the 32 private names.
+pub fn evaluate(
     expression: &Expression,
     privates: &[u64; 32],
     me: u8,

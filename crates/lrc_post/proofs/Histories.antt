@@ -1,17 +1,18 @@
 -- What a put and a take do to a legal history and to what is in flight.
 use Rattle.std.proofs.Common.{◌≡◌, ℕ, zero, suc, ◌+◌, ◌-◌, ◌<◌, ◌≤◌, ◌∙◌, cond, Bool, false, List, [], ◌∷◌, ◌++◌}
-use Rattle.std.proofs.Common.{length, replicate, refl, sym, ap, subst, ⊎_elim, arith, length-append}
+use Rattle.std.proofs.Common.{length, replicate, take, refl, sym, ap, subst, ⊎_elim, arith, length-append}
 use Rattle.std.specs.Prelude.{Option, Some, None, slice_get}
 use Rattle.std.specs.List.{count_by}
 use Rattle.std.proofs.lemmas.Bool.{cases_eq, eq-eqb, ne_eqb}
-use Rattle.std.proofs.lemmas.List.{append-nil}
+use Rattle.std.proofs.lemmas.List.{append-nil, take-append-le}
+use Rattle.std.proofs.Math.Seq.{take-append_seam}
 use Rattle.std.proofs.lemmas.List.Sums.{sum_by_push, sum_by-cons}
 use Rattle.std.proofs.lemmas.Option.{slice_get_within, same_Some}
 use Rattle.lrc_wire.specs.declared.picker.Picker.{Picker}
 use Rattle.lrc_post.specs.declared.parcel.Parcel.{Parcel}
 use Rattle.lrc_post.specs.declared.parcel.Wire.{Wire}
 use Rattle.lrc_post.specs.declared.parcel.Wire.TheVariants.{Put, Took}
-use Rattle.lrc_post.specs.Wires.{put_of, IsPutOf, IsPutFor, IsLegalAt, IsLegal, times, takes, if_put, due, each_due, in_flight, next_of, without_next}
+use Rattle.lrc_post.specs.Wires.{put_of, IsPutOf, IsPutFor, IsLegalAt, IsLegal, IsTakenBy, times, takes, if_put, due, each_due, in_flight, next_of, without_next}
 use Rattle.lrc_post.specs.Mailbox.{MailboxRecord, IsKept, IsTake}
 use Rattle.lrc_post.proofs.Dues.{same_due, next_due, next_given}
 
@@ -53,6 +54,29 @@ legal_more owner history more legal next place wire at =
     let below : place < length history = omega (arith, within, other) in
     stays_legal owner history more place wire (omega (arith, within))
     (legal place wire (sym (get_front history more place below) ∙ at)))
+    (cases_eq place (length history))
+
+-- ---- which parcel is given
+
+-- the put that an entry names, if it is a take, is given next
+abbrev IsNext : Picker → List Wire → Wire → Type 0
+IsNext picker before wire = (me put : ℕ) → wire ≡ Took me put → next_of picker (in_flight picker before) ≡ Some put
+
+taken_more : (picker : Picker) (history : List Wire) (more : Wire) → IsTakenBy picker history → IsNext picker history more
+    → IsTakenBy picker (history ++ more ∷ [])
+taken_more picker history more before next place me put at =
+    let within : place < length history + 1 =
+    omega (arith, slice_get_within (history ++ more ∷ []) place (Took me put) at, length_more history more) in
+    ⊎_elim
+    (λ (here : place ≡ length history).
+    let same : more ≡ Took me put =
+    same_Some more (Took me put) (sym (get_last history more) ∙ ap (slice_get (history ++ more ∷ [])) (sym here) ∙ at) in
+    ap (λ xs. next_of picker (in_flight picker xs)) (ap (λ n. take n (history ++ more ∷ [])) here ∙ take-append_seam history (more ∷ []))
+    ∙ next me put same)
+    (λ (other : place ≡ length history → ⊥).
+    let below : place < length history = omega (arith, within, other) in
+    ap (λ xs. next_of picker (in_flight picker xs)) (take-append-le place history (more ∷ []) (omega (arith, below)))
+    ∙ before place me put (sym (get_front history more place below) ∙ at))
     (cases_eq place (length history))
 
 -- ---- how often a parcel was given
@@ -155,6 +179,7 @@ kept_put owner picker history flight from parcel kept to =
     due_here picker history more ∙ ap (λ n. times picker - n) none ∙ omega arith in
     record {
       legal = legal_more owner history more kept.legal to;
+      taken_so = taken_more picker history more kept.taken_so (λ me put is. cc);
       queued =
           ap (λ xs. xs ++ replicate (times picker) (length history)) kept.queued
           ∙ sym (flight_more picker history more
@@ -177,6 +202,11 @@ next_is_put owner picker history flight place kept next =
     for_owner owner history place kept.legal
     (due_put (slice_get history place) _ (next_in_flight owner picker history flight place kept next).1)
 
+-- the put that a take names
+abbrev place_in : ℕ → Wire → ℕ
+place_in other (Put from to stamp bytes) = other
+place_in other (Took me put) = put
+
 -- the owner takes what is given next
 pub kept_take : (owner : ℕ) (picker : Picker) (history : List Wire) (flight : List ℕ) (place : ℕ)
     → IsKept owner picker history flight → next_of picker flight ≡ Some place
@@ -190,6 +220,9 @@ kept_take owner picker history flight place kept next =
     (λ k below other. due_front picker history more k below (ne_eqb place k (λ e. other (sym e))))
     (due_less picker owner history place at.0 at.1) in
     record {
+      taken_so =
+          taken_more picker history more kept.taken_so
+          (λ me put is. ap (next_of picker) (sym kept.queued) ∙ next ∙ ap (λ w. Some (place_in place w)) is);
       legal = legal_more owner history more kept.legal (refl, at.0, next_is_put owner picker history flight place kept next);
       queued =
           ap (without_next picker) kept.queued
@@ -201,7 +234,11 @@ kept_take owner picker history flight place kept next =
 -- a mailbox without a history
 pub kept_new : (owner : ℕ) (picker : Picker) → IsKept owner picker [] []
 unfolding each_due
-kept_new owner picker = record { legal = (λ place wire at. absurd (none_there place wire at)); queued = refl }
+kept_new owner picker = record {
+  legal = (λ place wire at. absurd (none_there place wire at));
+  taken_so = (λ place me put at. absurd (none_there place (Took me put) at));
+  queued = refl;
+}
   where
     none_there : (place : ℕ) (wire : Wire) → None ≡ Some wire → ⊥
     none_there place wire at = cc

@@ -4,7 +4,7 @@ use Rattle.lrc_wire.specs.declared.picker.Picker.{Picker}
 use Rattle.lrc_post.specs.declared.parcel.Parcel.{Parcel}
 use Rattle.lrc_post.specs.declared.parcel.Wire.{Wire}
 use Rattle.lrc_post.specs.declared.parcel.Wire.TheVariants.{Took}
-use Rattle.lrc_post.specs.Wires.{put_of, IsPutOf, IsLegal, in_flight, next_of}
+use Rattle.lrc_post.specs.Wires.{put_of, IsPutOf, IsLegal, IsTakenBy, in_flight, next_of}
 
 -- whose mailbox it is, which parcel is given next, whether it is closed, and all that was put and taken
 pub record MailboxRecord : Type 0 where
@@ -13,9 +13,10 @@ pub record MailboxRecord : Type 0 where
   pub closed : Bool
   pub history : List Wire
 
--- the history is legal, and the queue has what is in flight
+-- the history is legal, each take of it is what the picker says, and the queue has what is in flight
 pub record IsKept (owner : ℕ) (picker : Picker) (history : List Wire) (flight : List ℕ) : Type 0 where
   pub legal : IsLegal owner history
+  pub taken_so : IsTakenBy picker history
   pub queued : flight ≡ in_flight picker history
 
 -- the mailbox with more entries

@@ -1,8 +1,13 @@
 -- What the post does beyond one mailbox.
-use Rattle.std.specs.Prelude.{◌≡◌, ℕ, List, ◌∷◌, ◌++◌, slice_get, Some}
+use Rattle.std.specs.Prelude.{◌≡◌, ℕ, List, ◌∷◌, ◌++◌, slice_get, Some, All}
 use Rattle.lrc_post.specs.declared.parcel.Parcel.{Parcel}
-use Rattle.lrc_post.specs.Wires.{IsLegal}
+use Rattle.lrc_post.specs.Wires.{IsLegal, IsTakenBy}
+use Rattle.lrc_wire.specs.declared.picker.Picker.{Picker}
 use Rattle.lrc_post.specs.Mailbox.{MailboxRecord}
+
+-- these mailboxes are of one picker
+abbrev pub AreOf : Picker → List MailboxRecord → Type 0
+AreOf picker mailboxes = All (λ (mailbox : MailboxRecord). mailbox.picker ≡ picker) mailboxes
 
 -- those before a parcel that was refused are gone; that one and all after it were handed back, in order
 pub record IsHandedBack (parcels back : List Parcel) : Type 0 where
@@ -12,7 +17,7 @@ pub record IsHandedBack (parcels back : List Parcel) : Type 0 where
   pub handed_back : back ≡ refused ∷ rest
   pub all : parcels ≡ put ++ back
 
--- one mailbox for each node, from 0 up, each with a legal history
+-- one mailbox for each node, from 0 up, each with a legal history of which each take is what its picker says
 abbrev pub AreWires : List MailboxRecord → Type 0
 AreWires mailboxes = (place : ℕ) (mailbox : MailboxRecord) → slice_get mailboxes place ≡ Some mailbox
-    → (mailbox.owner ≡ place) × IsLegal mailbox.owner mailbox.history
+    → (mailbox.owner ≡ place) × IsLegal mailbox.owner mailbox.history × IsTakenBy mailbox.picker mailbox.history

@@ -66,6 +66,11 @@ next_of Oldest places = slice_get places 0
 next_of Newest places = slice_get places (length places - 1)
 next_of Twice places = slice_get places 0
 
+-- each take of a history is of the parcel that is given next of those in flight then
+abbrev pub IsTakenBy : Picker → List Wire → Type 0
+IsTakenBy picker history = (place me put : ℕ) → slice_get history place ≡ Some (Took me put)
+    → next_of picker (in_flight picker (take place history)) ≡ Some put
+
 -- the places that are left once the next is given
 abbrev pub without_next : Picker → List ℕ → List ℕ
 without_next Oldest places = drop 1 places

@@ -3,7 +3,7 @@
 ghost use Rattle.std.specs.Prelude.{◌≡◌, [], ◌∷◌, true, false, IfOk, IfErr, IfSome, IsErrAnd, OnErr, OnOk, All, IsTrue, ◌↔◌};
 ghost use Rattle.lrc_post.specs.declared.fault.PostFault.TheVariants.{Closed, NoMemory};
 ghost use Rattle.lrc_post.specs.Mailbox.{with_puts, IsCutShort, Gives};
-ghost use Rattle.lrc_post.specs.Wires.{IsLegal, in_flight};
+ghost use Rattle.lrc_post.specs.Wires.{IsLegal, IsTakenBy, in_flight};
 
 use crate::fault::{PostFault, Unput};
 use crate::parcel::{Parcel, Wire};
@@ -66,6 +66,13 @@ impl Mailbox {
         ensures { result ≡ self.now.owner }
     {
         self.owner
+    }
+
+    /// Which parcel is given next.
+    pub fn picker(&self) -> Picker
+        ensures { result ≡ self.now.picker }
+    {
+        self.picker
     }
 
     /// Puts parcels for the owner, in order. A closed mailbox refuses with `Closed` and stays as it was; for want of
@@ -131,6 +138,7 @@ impl Mailbox {
     pub fn history(&self) -> &[Wire]
         ensures all { result.now ≡ self.now.history }
         ensures legal { IsLegal self.now.owner self.now.history }
+        ensures taken { IsTakenBy self.now.picker self.now.history }
     {
         self.history.as_slice()
     }

@@ -2,7 +2,7 @@
 
 ghost use Rattle.std.specs.Prelude.{◌≡◌, ◌≤◌, [], IfOk, IfErr, IfSome, length};
 ghost use Rattle.std.specs.Vec.{vec_capacity};
-ghost use Rattle.lrc_post.specs.Post.{IsHandedBack};
+ghost use Rattle.lrc_post.specs.Post.{AreOf, IsHandedBack};
 
 use crate::fault::{PostFault, Unput};
 use crate::mailbox::Mailbox;
@@ -37,7 +37,8 @@ pub struct Post {
 impl Post {
     /// A post of this many nodes, each with an empty mailbox that is open.
     pub fn new(alloc: Global, nodes: u8, picker: Picker) -> Result<Self, AllocError>
-        ensures { IfOk result (λ post. post.nodes ≡ nodes) }
+        ensures nodes { IfOk result (λ post. post.nodes ≡ nodes) }
+        ensures picker { IfOk result (λ post. post.picker ≡ picker) }
     {
         let mut desks = Vec::new(alloc);
         for owner in 0..nodes {
@@ -121,10 +122,11 @@ impl Post {
         }
     }
 
-    /// The mailboxes, one for each node, with all that was put and taken. It takes no memory.
+    /// The mailboxes, one for each node, with all that was put and taken, each of the post's picker. It takes no memory.
     #[tactic(auto, using(crate::proofs::Mailboxes::wires_more, crate::proofs::Mailboxes::no_wires))]
     pub fn into_wires(self) -> Wires
-        ensures { length result ≡ self.nodes }
+        ensures count { length result ≡ self.nodes }
+        ensures picker { AreOf self.picker result }
     {
         let mut mailboxes = self.wires;
         let mut desks = self.desks.into_iter();
@@ -171,11 +173,12 @@ impl Post {
     }
 }
 
-// A node's mailbox, which a lock gave back. That it is this node's is known of no lock, so it is looked at.
+// A node's mailbox, which a lock gave back. That it is this node's, and of this picker, is known of no lock, so it is looked at.
 fn own_or_empty(mailbox: Mailbox, owner: u8, picker: Picker, alloc: Global) -> Mailbox
-    ensures { result.owner ≡ owner }
+    ensures owner { result.owner ≡ owner }
+    ensures picker { result.picker ≡ picker }
 {
-    if mailbox.owner() == owner {
+    if mailbox.owner() == owner && mailbox.picker() == picker {
         mailbox
     } else {
         Mailbox::empty(owner, picker, alloc)

@@ -6,8 +6,8 @@ ghost use Rattle.lrc_post.specs.Post.{AreWires};
 use crate::mailbox::Mailbox;
 use std::marker::Model;
 
-/// The mailboxes of a run, one for each node, from 0 up. It keeps in its type that each is its node's, and that
-/// each history is legal.
+/// The mailboxes of a run, one for each node, from 0 up. It keeps in its type that each is its node's, that each history is
+/// legal, and that each take of it is of the parcel that the mailbox's picker says of those in flight then.
 #[derive(Drop)]
 pub struct Wires {
     pub(crate) mailboxes: Vec<Mailbox>,

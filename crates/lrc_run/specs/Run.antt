@@ -1,8 +1,9 @@
 -- What a run of nodes on threads answers.
 use Rattle.std.specs.Prelude.{◌≡◌, ℕ, List, length, map}
 use Rattle.lrc_lang.specs.declared.program.Program.{Program}
+use Rattle.lrc_wire.specs.declared.picker.Picker.{Picker}
 use Rattle.lrc_post.specs.Mailbox.{MailboxRecord}
-use Rattle.lrc_post.specs.Post.{AreWires}
+use Rattle.lrc_post.specs.Post.{AreOf, AreWires}
 use Rattle.lrc_protocol.specs.declared.event.Event.{Event}
 use Rattle.lrc_protocol.specs.Node.{OptionsRecord}
 use Rattle.lrc_protocol.specs.Log.{EntryRecord}
@@ -13,6 +14,8 @@ use Rattle.lrc_weave.specs.Matched.{AreMatched}
 use Rattle.lrc_weave.specs.Woven.{AreWoven}
 use Rattle.lrc_world.specs.declared.report.Report.{Report}
 use Rattle.lrc_world.specs.Report.{AreAll, IsReportOf}
+use Rattle.lrc_run.specs.declared.stop.Stop.{Stop}
+use Rattle.lrc_run.specs.declared.stop.Stop.TheVariants as stops
 use Rattle.lrc_run.specs.declared.fault.RunFault.{RunFault}
 use Rattle.lrc_run.specs.declared.fault.RunFault.TheVariants.{BadNodes, BadSteps, Worn, Mismatch, NoMemory}
 
@@ -30,10 +33,11 @@ pub record IsWovenReport (program : Program) (nodes : ℕ) (options : OptionsRec
   pub over : AreAll program nodes options events
 
 -- There is a mailbox for each node, with a legal history: exactly the puts that the senders' logs make to it, and the takes of its
--- owner's log, each once and in the order of each log.
-pub record AreWiresOf (nodes : ℕ) (report : Report) (wires : List MailboxRecord) : Type 0 where
+-- owner's log, each once and in the order of each log. Each take is of the parcel that the picker gives of those in flight then.
+pub record AreWiresOf (nodes : ℕ) (picker : Picker) (report : Report) (wires : List MailboxRecord) : Type 0 where
   pub count : length wires ≡ nodes
   pub legal : AreWires wires
+  pub picked : AreOf picker wires
   pub matched : AreMatched (turns_of report) wires
 
 -- ---- faults
@@ -50,3 +54,9 @@ IsLate BadSteps = ⊥
 IsLate Worn = Unit {0}
 IsLate Mismatch = Unit {0}
 IsLate NoMemory = Unit {0}
+
+-- what may be answered where a node stopped so, and its run is made once more where it wore out
+abbrev pub AnswersStop : Stop → RunFault → Type 0
+AnswersStop stops.Worn fault = IsLate fault
+AnswersStop stops.Closed fault = fault ≡ NoMemory
+AnswersStop stops.NoMemory fault = fault ≡ NoMemory

@@ -3,6 +3,8 @@ use Rattle.std.specs.Prelude.{◌≡◌, ℕ, Bool, true, false, Option, Some, N
 use Rattle.lrc_wire.specs.declared.fault.WireFault.{WireFault}
 use Rattle.lrc_wire.specs.Envelope.{EnvelopeRecord}
 use Rattle.lrc_wire.specs.Reading.{envelope_of}
+use Rattle.lrc_post.specs.declared.fault.PostFault.{PostFault}
+use Rattle.lrc_post.specs.declared.fault.PostFault.TheVariants as PostFaults
 use Rattle.lrc_post.specs.declared.parcel.Parcel.{Parcel}
 use Rattle.lrc_protocol.specs.Node.{Node}
 use Rattle.lrc_protocol.specs.Log.{Input, run, taken, EntryRecord, Logged, logged, refused, logs}
@@ -100,6 +102,11 @@ LogsLast node entry = (before : List EntryRecord) × (node.log ≡ before ++ ent
 abbrev pub IsRead : Option EnvelopeRecord → Result EnvelopeRecord WireFault → Type 0
 IsRead (Some envelope) said = said ≡ Ok envelope
 IsRead None said = is_err said ≡ true
+
+-- why a thread stops whose post refuses
+abbrev pub stop_of : PostFault → Stop
+stop_of PostFaults.Closed = Closed
+stop_of PostFaults.NoMemory = NoMemory
 
 -- whether a node made a turn, by what it answered
 abbrev pub made_of : Result (Unit {0}) NodeFault → Result Bool Stop

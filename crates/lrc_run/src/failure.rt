@@ -3,7 +3,7 @@
 ghost use Rattle.std.specs.Prelude.{◌≡◌, ◌≤◌, List, length};
 ghost use Rattle.lrc_protocol.specs.declared.event.Event.{Event as AnyEvent};
 ghost use Rattle.lrc_world.specs.Report.{IsWornBy};
-ghost use Rattle.lrc_run.specs.Run.{IsLate};
+ghost use Rattle.lrc_run.specs.Run.{AnswersStop, IsLate};
 
 use crate::fault::RunFault;
 use crate::life::Failure;
@@ -32,6 +32,7 @@ pub(crate) fn fault_of(
 ) -> RunFault
     ensures worn { result ≡ RunFault.Worn → (events : List AnyEvent) × IsWornBy program.now nodes options.now events }
     ensures late { IsLate result }
+    ensures stop { AnswersStop failure.stop result }
 {
     match failure.stop {
         Stop::Worn => worn_out(alloc, program, nodes, options, logs, wires, failure.node),

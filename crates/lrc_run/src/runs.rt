@@ -9,6 +9,7 @@ ghost use Rattle.lrc_exec.specs.Plain.{plain};
 ghost use Rattle.lrc_theory.specs.Follows.{nodes_of};
 ghost use Rattle.lrc_theory.specs.Racing.{HasNoRace, PlainToRace};
 ghost use Rattle.lrc_protocol.specs.declared.event.Event.{Event};
+ghost use Rattle.lrc_post.specs.Post.{AreOf};
 ghost use Rattle.lrc_weave.specs.Logs.{AreLogs};
 ghost use Rattle.lrc_weave.specs.Matched.{AreMatched};
 ghost use Rattle.lrc_world.specs.Range.{AreNodes, AreSteps};
@@ -58,7 +59,7 @@ pub fn run<R: Threads + Wait + Sync>(
     picker: Picker,
 ) -> Result<(Report, Wires), RunFault>
     ensures woven { IfOk result (λ done. IsWovenReport program.now nodes options.now done.0) }
-    ensures wires { IfOk result (λ done. AreWiresOf nodes done.0 done.1) }
+    ensures wires { IfOk result (λ done. AreWiresOf nodes picker done.0 done.1) }
     ensures races { IfOk result (λ done. AreNamedRaces done.0.acts.items done.0.races.items) }
 
     ensures synchronized { IfOk result (λ done. IsWellSynchronized nodes done.0.acts.items) }
@@ -87,7 +88,7 @@ pub fn run_gated<G: Gate + Sync, R: Threads + Wait + Sync>(
     gate: &G,
 ) -> Result<(Report, Wires), RunFault>
     ensures woven { IfOk result (λ done. IsWovenReport program.now nodes options.now done.0) }
-    ensures wires { IfOk result (λ done. AreWiresOf nodes done.0 done.1) }
+    ensures wires { IfOk result (λ done. AreWiresOf nodes picker done.0 done.1) }
     ensures races { IfOk result (λ done. AreNamedRaces done.0.acts.items done.0.races.items) }
 
     ensures synchronized { IfOk result (λ done. IsWellSynchronized nodes done.0.acts.items) }
@@ -128,6 +129,7 @@ fn live<G: Gate + Sync, R: Threads + Wait + Sync>(
     requires few { nodes ≤ 16 }
     ensures logs { IfOk result (λ lived. AreLogs program.now nodes options.now (map (λ log. log.items) lived.0.items)) }
     ensures wires { IfOk result (λ lived. length lived.1 ≡ nodes) }
+    ensures picker { IfOk result (λ lived. AreOf picker lived.1) }
     ensures worn { result ≡ Err RunFault.Worn → (events : List Event) × IsWornBy program.now nodes options.now events }
     ensures late { IfErr result IsLate }
 {

@@ -6,7 +6,7 @@ ghost use Rattle.lrc_protocol.specs.Log.{EntryRecord};
 ghost use Rattle.lrc_node.specs.Logged.{sound};
 ghost use Rattle.lrc_wire.specs.Reading.{envelope_of};
 ghost use Rattle.lrc_run.specs.declared.stop.Stop.TheVariants.{NoMemory};
-ghost use Rattle.lrc_run.specs.Worker.{GoesTo, IsRead, LogsLast, SendsTo, TakesIn, TakesNext, made_of, shown, shown_sent};
+ghost use Rattle.lrc_run.specs.Worker.{GoesTo, IsRead, LogsLast, SendsTo, TakesIn, TakesNext, made_of, shown, shown_sent, stop_of};
 
 use crate::gate::Gate;
 use crate::mail::Mail;
@@ -194,7 +194,9 @@ fn is_made(outcome: Result<(), NodeFault>) -> Result<bool, Stop>
 }
 
 // Why a thread stops whose post refuses.
-fn stop_of(fault: PostFault) -> Stop {
+fn stop_of(fault: PostFault) -> Stop
+    ensures { result ≡ stop_of fault }
+{
     match fault {
         PostFault::Closed => Stop::Closed,
         PostFault::NoMemory => Stop::NoMemory,

@@ -78,3 +78,15 @@ taken_from before stamp sent e bytes seen E (Ok is) same next so = (
   λ t. let was = read_was sent (envelope_of bytes) t.0 t.1 in so.1 (ap envelope_of same ∙ was.0 ∙ ap (λ x. Ok x) t.2),
 )
 taken_from before stamp sent e bytes seen E (Err fault) same next so = so
+
+-- what was read is not too long
+pub no_long : (bytes : List ℕ) (e : EnvelopeRecord) (E : Type 0) (result : Result Bool E) → envelope_of bytes ≡ Ok e
+    → IfOk result (λ is. (is ≡ false) × (MOST_BODY_BYTES < length (body Two runs_of e.message) → ⊥))
+    → IfOk result (λ is. (is ≡ false) × ((other : EnvelopeRecord)
+    → MOST_BODY_BYTES < length (body Two runs_of other.message) → envelope_of bytes ≡ Ok other → ⊥))
+no_long bytes e E (Ok is) read so = (
+  so.0,
+  λ other long again.
+      so.1 (subst (λ (x : EnvelopeRecord). MOST_BODY_BYTES < length (body Two runs_of x.message)) (sym (same_ok (envelope_of bytes) e other read again)) long),
+)
+no_long bytes e E (Err fault) read so = so

@@ -1,16 +1,17 @@
 // Whether bytes spell a message.
 
-ghost use Rattle.std.specs.Prelude.{◌≡◌, ◌↔◌, IfOk, IsTrue, List, ℕ, Ok};
+ghost use Rattle.std.specs.Prelude.{◌≡◌, ◌↔◌, ◌<◌, IfOk, IsTrue, List, ℕ, Ok, false, length};
+ghost use Rattle.lrc_wire.specs.declared.limits.TheConstants.{MOST_BODY_BYTES};
 ghost use Rattle.lrc_wire.specs.declared.version.Version.TheVariants.{Two};
 ghost use Rattle.lrc_wire.specs.Envelope.{EnvelopeRecord};
 ghost use Rattle.lrc_wire.specs.Reading.{envelope_of};
-ghost use Rattle.lrc_wire.specs.Spelling.{Spells};
+ghost use Rattle.lrc_wire.specs.Runs.{runs_of};
+ghost use Rattle.lrc_wire.specs.Spelling.{Spells, body};
 
 use lrc_wire::{EncodeFault, Envelope, WireFault, decode, encode};
 use std::alloc::{AllocError, Global};
 
-/// Whether bytes spell a message, in either version of the format. A message that is too long to be written, which no node puts,
-/// is answered as one that there is no memory for.
+/// Whether bytes spell a message, in either version of the format.
 pub(crate) fn is_spelled(
     alloc: Global,
     bytes: &[u8],
@@ -18,13 +19,38 @@ pub(crate) fn is_spelled(
 ) -> Result<bool, AllocError>
     ensures { IfOk result (λ is. IsTrue is ↔ (envelope_of bytes.now ≡ Ok envelope.now)) }
 {
-    let Ok(written) = encode(alloc, envelope) else {
-        return Err(AllocError);
+    let written = match encode(alloc, envelope) {
+        Ok(written) => written,
+        Err(EncodeFault::TooLong) => return is_long(alloc, bytes),
+        Err(EncodeFault::NoMemory) => return Err(AllocError),
     };
     if *bytes == *written {
         return Ok(true);
     }
     is_read_as(alloc, bytes, &written)
+}
+
+// That bytes spell no message that is too long to be written. Where they spell one in the older version of the format, as no node
+// puts it, that is answered as want of memory.
+fn is_long(alloc: Global, bytes: &[u8]) -> Result<bool, AllocError>
+    ensures { IfOk result (λ is. (is ≡ false) × ((envelope : EnvelopeRecord)
+        → MOST_BODY_BYTES < length (body Two runs_of envelope.message) → envelope_of bytes.now ≡ Ok envelope → ⊥)) }
+{
+    match decode(alloc, bytes) {
+        Ok(envelope) => is_too_long(alloc, &envelope),
+        Err(WireFault::NoMemory) => Err(AllocError),
+        Err(_) => Ok(false),
+    }
+}
+
+// That a message is not too long to be written.
+fn is_too_long(alloc: Global, envelope: &Envelope) -> Result<bool, AllocError>
+    ensures { IfOk result (λ is. (is ≡ false) × ¬ (MOST_BODY_BYTES < length (body Two runs_of envelope.now.message))) }
+{
+    match encode(alloc, envelope) {
+        Ok(_) => Ok(false),
+        Err(_) => Err(AllocError),
+    }
 }
 
 // Whether bytes spell the message that is written so.

@@ -25,14 +25,14 @@ last_or-push : {A : Type 0} (o : Option A) (xs : List A) (x : A) → last_or o (
 last_or-push o [] x = refl
 last_or-push o (y ∷ xs) x = last_or-push (Some y) xs x
 
-end_of-own : (acts : List Act) (a : Act) → end_of a.node (acts ++ a ∷ []) ≡ end_after a.deed
+pub end_of-own : (acts : List Act) (a : Act) → end_of a.node (acts ++ a ∷ []) ≡ end_after a.deed
 end_of-own acts a =
     let mine : Act → Bool = λ x. x.node == a.node in
     let one : filter mine (a ∷ []) ≡ a ∷ [] = ap (λ b. cond b (a ∷ []) []) (eq-eqb a.node a.node refl) in
     ap (λ xs. end_by (last_or None xs)) (filter-append mine acts (a ∷ []) ∙ ap (λ ys. filter mine acts ++ ys) one)
     ∙ ap end_by (last_or-push None (filter mine acts) a)
 
-end_of-other : (acts : List Act) (a : Act) (n : ℕ) → (n ≡ a.node → ⊥) → end_of n (acts ++ a ∷ []) ≡ end_of n acts
+pub end_of-other : (acts : List Act) (a : Act) (n : ℕ) → (n ≡ a.node → ⊥) → end_of n (acts ++ a ∷ []) ≡ end_of n acts
 end_of-other acts a n h =
     let mine : Act → Bool = λ x. x.node == n in
     let none : filter mine (a ∷ []) ≡ [] = ap (λ b. cond b (a ∷ []) []) (ne_eqb a.node n (λ e. h (sym e))) in

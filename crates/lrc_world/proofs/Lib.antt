@@ -7,6 +7,7 @@ pub mod Played
 pub mod Marks
 pub mod Events
 pub mod EndsLemmas
+pub mod EndsOfRuns
 pub mod Driven
 pub mod Theorem
 pub mod Over

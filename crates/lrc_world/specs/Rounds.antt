@@ -1,19 +1,16 @@
--- A run that is driven in rounds.
-use Rattle.std.specs.Prelude.{◌≡◌, ◌<◌, ◌≤◌, ◌-◌, ℕ, Bool, false, min, if◌then◌else◌, Option, Some, List, Result, Ok, Err, length, slice_get}
+-- A run in rounds.
+use Rattle.std.specs.Prelude.{◌≡◌, ◌<◌, ◌-◌, ◌+◌, ℕ, zero, suc, Bool, true, false, min, if◌then◌else◌, Option, List, length, slice_get}
 use Rattle.std.specs.Option.{option_map_or}
+use Rattle.lrc_lang.specs.declared.program.Program.{Program}
 use Rattle.lrc_wire.specs.declared.picker.Picker.{Picker}
 use Rattle.lrc_wire.specs.declared.picker.Picker.TheVariants.{Oldest, Newest, Twice}
 use Rattle.lrc_protocol.specs.declared.event.Event.{Event}
+use Rattle.lrc_protocol.specs.declared.event.Event.TheVariants as events
 use Rattle.lrc_protocol.specs.declared.event.Event.TheVariants.{Deliver, Repeat}
+use Rattle.lrc_protocol.specs.Node.{OptionsRecord}
 use Rattle.lrc_protocol.specs.Turn.{is_ready}
-use Rattle.lrc_protocol.specs.World.{World as Run, Flying as Sent, played}
-use Rattle.lrc_world.specs.declared.report.SimFault.{SimFault}
-use Rattle.lrc_world.specs.declared.report.SimFault.TheVariants.{Worn, NoMemory}
-use Rattle.lrc_world.specs.declared.report.TheConstants.{MOST_EVENTS}
-use Rattle.lrc_world.specs.declared.rounds.Driver.{Driver}
-use Rattle.lrc_world.specs.declared.world.World.{World}
-use Rattle.lrc_world.specs.Report.{IsWornFrom}
-use Rattle.lrc_world.specs.World.{Starts, Shows}
+use Rattle.lrc_protocol.specs.World.{World as Run, Flying as Sent, fresh_world}
+use Rattle.lrc_world.specs.Led.{Schedule, AreLed, WearsOut}
 
 -- the place of the newest message, as far as an event can name it
 abbrev pub newest_place : ℕ → ℕ
@@ -33,32 +30,32 @@ delivery_of Twice flight = if is_delivered (slice_get flight 0) then Deliver 0 e
 abbrev pub ready_at : Run → ℕ → Bool
 ready_at run n = option_map_or (λ l. is_ready l.node) (slice_get run.nodes n) false
 
--- this node is not ready
-abbrev pub IsAsleep : ℕ → World → Type 0
-IsAsleep n world = (starts : Starts) (run : Run) → Shows starts world run → ready_at run n ≡ false
+-- where a run in rounds stands: at the turn of a node, or with so many more messages to deliver
+pub data Stage : Type 0 where
+  at_node : ℕ → Stage
+  delivering : ℕ → Stage
 
--- none of the nodes below this number is ready
-abbrev pub NoneReady : ℕ → World → Type 0
-NoneReady nodes world = (n : ℕ) → n < nodes → IsAsleep n world
+-- In a round each node goes on that is ready when its turn comes. Then messages are delivered, each the one that the picker says of
+-- what is in flight then.
+pub data IsDue (picker : Picker) (nodes : ℕ) (run : Run) : Stage → Event → Stage → Type 0 where
+  turn : {n : ℕ} → n < nodes → ready_at run n ≡ true → IsDue picker nodes run (at_node n) (events.Run n) (at_node (n + 1))
+  delivery : {left : ℕ} → IsDue picker nodes run (delivering (suc left)) (delivery_of picker run.flight) (delivering left)
 
--- the world that is driven is that of the events so far, from a world on
-abbrev pub Drives : Starts → Run → Driver → Type 0
-Drives starts start driver = (run : Run) × (played start driver.events.items ≡ Some run) × Shows starts driver.world run
+-- A node that is not ready is passed over. After the last node as many messages are delivered as are in flight then, and after those
+-- comes the next round.
+pub data Passes (nodes : ℕ) (run : Run) : Stage → Stage → Type 0 where
+  asleep : {n : ℕ} → n < nodes → ready_at run n ≡ false → Passes nodes run (at_node n) (at_node (n + 1))
+  all_went : Passes nodes run (at_node nodes) (delivering (length run.flight))
+  all_delivered : Passes nodes run (delivering zero) (at_node zero)
 
--- what is driven from one moment to another: events are added, of which there are no more than there may be
-pub record Goes (old new : Driver) : Type 0 where
-  pub drives : (starts : Starts) (start : Run) → Drives starts start old → Drives starts start new
-  pub few : length old.events.items ≤ MOST_EVENTS → length new.events.items ≤ MOST_EVENTS
-  pub more : length old.events.items ≤ length new.events.items
+-- rounds of so many nodes, from node 0 up
+abbrev pub rounds : Picker → ℕ → Schedule
+rounds picker nodes = record { Standing = Stage; first = at_node zero; Due = IsDue picker nodes; Passes = Passes nodes }
 
--- the same, or a number or a message was too large, or no memory is left
-abbrev pub GoesTo : Driver → Driver → Result (Unit {0}) SimFault → Type 0
-GoesTo old new (Ok done) = Goes old new
-GoesTo old new (Err Worn) = (starts : Starts) (start : Run) → Drives starts start old → (events : List Event) × IsWornFrom start events
-GoesTo old new (Err NoMemory) = Unit {0}
-GoesTo old new (Err _) = (starts : Starts) (start : Run) → ¬ Drives starts start old
+-- the events are the first ones of a program's run in rounds; the last round may be cut
+abbrev pub AreRounds : Program → ℕ → OptionsRecord → Picker → List Event → Type 0
+AreRounds program nodes options picker events = AreLed (rounds picker nodes) program nodes options events
 
--- no event was added, though there was room for one
-pub record IsStill (old new : Driver) : Type 0 where
-  pub none : length new.events.items ≤ length old.events.items
-  pub room : length new.events.items < MOST_EVENTS
+-- a number or a message becomes too large at an event of a program's run in rounds
+abbrev pub RoundsWearOut : Program → ℕ → OptionsRecord → Picker → Type 0
+RoundsWearOut program nodes options picker = WearsOut (rounds picker nodes) (fresh_world program nodes options)

@@ -1,11 +1,13 @@
 // A run in rounds.
 
-ghost use Rattle.std.specs.Prelude.{◌≡◌, ℕ, ◌<◌, ◌≤◌, [], All, IfOk, OnOk, length, map};
+ghost use Rattle.std.specs.Prelude.{◌≡◌, ◌⊎◌, ℕ, ◌+◌, ◌<◌, ◌≤◌, [], All, IfOk, OnOk, length, map};
 ghost use Rattle.lrc_race.specs.Races.{AreRacesOf, AreTracesOf};
 ghost use Rattle.lrc_judge.specs.declared.TheConstants.{NODES};
 ghost use Rattle.lrc_protocol.specs.World.{World as Run};
 ghost use Rattle.lrc_world.specs.Report.{IsReport};
-ghost use Rattle.lrc_world.specs.Rounds.{GoesTo, IsAsleep, IsStill, NoneReady};
+ghost use Rattle.lrc_world.specs.Driven.{GoesTo, IsAsleep, IsFull, IsStill, NoneReady, PlaysOne};
+ghost use Rattle.lrc_world.specs.Rounds.{at_node, delivering, rounds};
+ghost use Rattle.lrc_wire.specs.declared.picker.Picker.{Picker as AnyPicker};
 ghost use Rattle.lrc_world.specs.World.{Starts, Shows};
 
 use crate::report::{MOST_EVENTS, Report, SimFault};
@@ -36,7 +38,7 @@ impl<'c> Driver<'c> {
     /// Goes on round by round, until one has no event or there are as many events as there may be.
     pub(crate) fn drive(&mut self, nodes: u8, picker: Picker) -> Result<(), SimFault>
         requires { length self.old.events.items ≤ MOST_EVENTS }
-        ensures goes { GoesTo self.old self.new result }
+        ensures goes { GoesTo (rounds picker nodes) (at_node 0) (at_node 0) self.old self.new result }
         ensures over { OnOk result (length self.new.events.items < MOST_EVENTS
             → NoneReady nodes self.new.world × (self.new.world.flight.items ≡ [])) }
     {
@@ -64,7 +66,7 @@ impl<'c> Driver<'c> {
 
     // Each ready node goes on, and then as many messages are delivered as are in flight.
     fn round(&mut self, nodes: u8, picker: Picker) -> Result<(), SimFault>
-        ensures goes { GoesTo self.old self.new result }
+        ensures goes { GoesTo (rounds picker nodes) (at_node 0) (at_node 0) self.old self.new result }
         ensures over { OnOk result (IsStill self.old self.new → NoneReady nodes self.new.world × (self.new.world.flight.items ≡ [])) }
     {
         self.run_each(nodes)?;
@@ -73,7 +75,7 @@ impl<'c> Driver<'c> {
 
     // Each ready node goes on once, from node 0 up, as far as there is room for events.
     fn run_each(&mut self, nodes: u8) -> Result<(), SimFault>
-        ensures goes { GoesTo self.old self.new result }
+        ensures goes { (picker : AnyPicker) → GoesTo (rounds picker nodes) (at_node 0) (at_node nodes) self.old self.new result }
         ensures still { OnOk result (IsStill self.old self.new → (self.new.world ≡ self.old.world) × NoneReady nodes self.old.world) }
     {
         for node in 0..nodes {
@@ -84,7 +86,8 @@ impl<'c> Driver<'c> {
 
     // The node goes on, if it is ready and there is room for an event.
     fn run_if_ready(&mut self, node: u8) -> Result<(), SimFault>
-        ensures goes { GoesTo self.old self.new result }
+        ensures goes { (picker : AnyPicker) (nodes : ℕ) → node < nodes
+            → GoesTo (rounds picker nodes) (at_node node) (at_node (node + 1)) self.old self.new result }
         ensures still { OnOk result (IsStill self.old self.new → (self.new.world ≡ self.old.world) × IsAsleep node self.old.world) }
     {
         if !self.world.is_ready(node as usize) {
@@ -96,7 +99,7 @@ impl<'c> Driver<'c> {
     // As many messages are delivered as are in flight, each of them the one that the picker says, as far as there is room for
     // events.
     fn deliver_each(&mut self, picker: Picker) -> Result<(), SimFault>
-        ensures goes { GoesTo self.old self.new result }
+        ensures goes { (nodes : ℕ) → GoesTo (rounds picker nodes) (at_node nodes) (delivering 0) self.old self.new result }
         ensures still { OnOk result (IsStill self.old self.new → (self.new.world ≡ self.old.world) × (self.old.world.flight.items ≡ [])) }
     {
         let count = self.world.in_flight();
@@ -109,8 +112,7 @@ impl<'c> Driver<'c> {
 
     // Plays an event, if there is room for it.
     fn play(&mut self, event: Event) -> Result<(), SimFault>
-        ensures goes { GoesTo self.old self.new result }
-        ensures moves { OnOk result (¬ IsStill self.old self.new) }
+        ensures { PlaysOne self.old self.new event result ⊎ IsFull self.old self.new result }
     {
         if self.events.len() >= MOST_EVENTS {
             return Ok(());

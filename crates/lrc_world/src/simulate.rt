@@ -1,4 +1,4 @@
-// Runs of a program, by a list of events or by rounds.
+// Runs of a program, by a list of events or in rounds.
 
 ghost use Rattle.std.specs.Prelude.{◌≡◌, ℕ, ◌<◌, ◌≤◌, ◌↔◌, ◌⊎◌, List, Some, length, IfOk, MatchResult, Err, true};
 ghost use Rattle.lrc_trace.specs.Conflict.{IsRaceFree, IsFirstRace};
@@ -10,9 +10,11 @@ ghost use Rattle.lrc_theory.specs.Follows.{nodes_of};
 ghost use Rattle.lrc_theory.specs.Racing.{HasNoRace, PlainToRace};
 ghost use Rattle.lrc_protocol.specs.declared.event.Event.{Event as AnyEvent};
 ghost use Rattle.lrc_protocol.specs.World.{World as Run, run_of};
+ghost use Rattle.lrc_world.specs.Ends.{ends_of};
 ghost use Rattle.lrc_world.specs.Moments.{AreCovered, HasEachToken, RefusesNone, Throughout};
 ghost use Rattle.lrc_world.specs.Range.{AreNodes, AreSteps};
 ghost use Rattle.lrc_world.specs.Report.{AreAll, IsReportOf, IsWornBy};
+ghost use Rattle.lrc_world.specs.Rounds.{AreRounds, RoundsWearOut};
 
 use crate::report::{MOST_STEPS, Report, SimFault};
 use crate::rounds::Driver;
@@ -42,6 +44,7 @@ pub fn simulate(
     events: &[Event],
 ) -> Result<Report, SimFault>
     ensures report { IfOk result (IsReportOf program.now nodes options.now events.now) }
+    ensures ends { IfOk result (λ report. report.ends.items ≡ ends_of nodes report.acts.items) }
     ensures races { IfOk result (λ report. AreNamedRaces report.acts.items report.races.items) }
 
     ensures accepted { IfOk result (λ report. Throughout program.now nodes options.now events.now RefusesNone) }
@@ -76,6 +79,7 @@ pub fn replay(
     events: &[Event],
 ) -> Result<(Report, bool), SimFault>
     ensures report { IfOk result (λ done. IsReportOf program.now nodes options.now events.now done.0) }
+    ensures ends { IfOk result (λ done. done.0.ends.items ≡ ends_of nodes done.0.acts.items) }
     ensures races { IfOk result (λ done. AreNamedRaces done.0.acts.items done.0.races.items) }
 
     ensures accepted { IfOk result (λ done. Throughout program.now nodes options.now events.now RefusesNone) }
@@ -117,6 +121,8 @@ pub fn drive(
     picker: Picker,
 ) -> Result<(Vec<Event>, Report), SimFault>
     ensures report { IfOk result (λ done. IsReportOf program.now nodes options.now done.0.items done.1) }
+    ensures rounds { IfOk result (λ done. AreRounds program.now nodes options.now picker done.0.items) }
+    ensures ends { IfOk result (λ done. done.1.ends.items ≡ ends_of nodes done.1.acts.items) }
     ensures races { IfOk result (λ done. AreNamedRaces done.1.acts.items done.1.races.items) }
 
     ensures accepted { IfOk result (λ done. Throughout program.now nodes options.now done.0.items RefusesNone) }
@@ -135,6 +141,7 @@ pub fn drive(
     ensures few { IfOk result (λ done. length done.0.items ≤ 100000000) }
     ensures over { IfOk result (λ done. length done.0.items < 100000000 → AreAll program.now nodes options.now done.0.items) }
     ensures worn { result ≡ Err SimFault.Worn → (events : List AnyEvent) × IsWornBy program.now nodes options.now events }
+    ensures worn_rounds { result ≡ Err SimFault.Worn → RoundsWearOut program.now nodes options.now picker }
     ensures bad_nodes { (result ≡ Err SimFault.BadNodes) ↔ (¬ AreNodes nodes) }
     ensures bad_steps { (result ≡ Err SimFault.BadSteps) ↔ (AreNodes nodes × ¬ AreSteps options.now.steps) }
 {

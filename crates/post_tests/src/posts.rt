@@ -251,3 +251,60 @@ fn two_threads_put_a_thousand_and_one_takes_them(rt: HostRuntime) -> Result<(), 
     assert!(rt; wires.mailboxes()[1].history().len() == 2000);
     Ok(())
 }
+
+/// The only node of a post puts parcels for itself, with these stamps. Whether the post took them.
+fn puts_itself<R: Wait>(
+    rt: &R,
+    alloc: Global,
+    post: &Post,
+    stamps: &[u64],
+) -> Result<bool, AllocError> {
+    let mut parcels = Vec::new(alloc);
+    for stamp in stamps {
+        parcels.push(Parcel {
+            to: 0,
+            stamp: *stamp,
+            bytes: Bytes::new(),
+        })?;
+    }
+    Ok(post.put_all(rt, 0, parcels).is_ok())
+}
+
+/// How many of ten polls give the only node a parcel.
+fn polls_itself<R: Wait>(rt: &R, post: &Post) -> Result<u64, PostFault> {
+    let mut given = 0u64;
+    for _ in 0..10u64 {
+        if post.poll(rt, 0)?.is_some() && given < 10 {
+            given += 1;
+        }
+    }
+    Ok(given)
+}
+
+/// Whether a post of one node takes parcels until the node waits, and none from then on; and how many parcels were polled.
+fn closes_at_the_wait<R: Wait>(
+    rt: &R,
+    alloc: Global,
+    picker: Picker,
+) -> Result<([bool; 4], [u64; 2]), Fail> {
+    let post = Post::new(alloc, 1, picker)?;
+    let two = puts_itself(rt, alloc, &post, &[1, 2])?;
+    let first = polls_itself(rt, &post)?;
+    let one = puts_itself(rt, alloc, &post, &[3])?;
+    let second = polls_itself(rt, &post)?;
+    let none = post.take(rt, 0)?.is_none();
+    let late = puts_itself(rt, alloc, &post, &[4])?;
+    Ok(([two, one, none, late], [first, second]))
+}
+
+#[test]
+fn post_closes_when_all_wait_and_nothing_is_in_flight(rt: HostRuntime) -> Result<(), Fail> {
+    let oldest = closes_at_the_wait(&rt, rt.alloc(), Picker::Oldest)?;
+    let newest = closes_at_the_wait(&rt, rt.alloc(), Picker::Newest)?;
+    let twice = closes_at_the_wait(&rt, rt.alloc(), Picker::Twice)?;
+    let open_till_then = [true, true, true, false];
+    assert!(rt; oldest == (open_till_then, [2, 1]));
+    assert!(rt; newest == (open_till_then, [2, 1]));
+    assert!(rt; twice == (open_till_then, [4, 2]));
+    Ok(())
+}

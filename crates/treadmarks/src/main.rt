@@ -2,13 +2,14 @@
 #![tactic(auto)]
 
 ghost use Rattle.std.specs.Prelude.{◌≡◌, IfOk, IfSome, is_some, take};
-ghost use Rattle.lrc_cli.specs.Answer.{names_events};
+ghost use Rattle.lrc_words.specs.Files.{names_events};
 
 mod progress;
 
 use crate::progress::Watch;
-use lrc_cli::choice::{Choice, ChooseFault};
-use lrc_cli::{choose, execute};
+use lrc_cli::execute;
+use lrc_words::choice::{Choice, ChooseFault};
+use lrc_words::choose;
 use std::alloc::Global;
 use std::fs::Files;
 use std::io::{ErrorKind, IsTerminal, Read, Write};
@@ -26,9 +27,9 @@ const TEXT_READ: u64 = lrc_lang::MOST_BYTES as u64 + 1;
 const _: () = prove!(TEXT_READ > lrc_lang::MOST_BYTES as u64);
 
 /// One byte more than the longest text of events has: a longer one is cut there, and is still too long.
-const EVENTS_READ: u64 = lrc_cli::events::MOST_BYTES as u64 + 1;
+const EVENTS_READ: u64 = lrc_report::events::MOST_BYTES as u64 + 1;
 
-const _: () = prove!(EVENTS_READ > lrc_cli::events::MOST_BYTES as u64);
+const _: () = prove!(EVENTS_READ > lrc_report::events::MOST_BYTES as u64);
 
 /// The status after a fault of a file or of memory.
 const FAULT: u8 = 1;

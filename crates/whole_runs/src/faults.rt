@@ -1,6 +1,7 @@
 // Texts that are no program, and the line that each gives. The limits are tested where the language is.
 
-use crate::shell::checked;
+use crate::shell::{checked, told};
+use lrc_cli::fault::Fault;
 use std::alloc::{AllocError, Global};
 
 fn complains(alloc: Global, text: &[u8], line: &[u8]) -> bool {
@@ -36,6 +37,19 @@ fn each_fault_has_its_line(rt: HostRuntime) {
     ];
     for (text, line) in cases {
         assert!(rt; complains(rt.alloc(), text, line));
+    }
+}
+
+#[test]
+fn each_fault_of_events_and_of_a_run_has_its_line(rt: HostRuntime) {
+    let cases: [(Fault, &[u8]); 4] = [
+        (Fault::Events(7), b"treadmarks: events line 7: bad event\n"),
+        (Fault::Worn, b"treadmarks: message numbers used up\n"),
+        (Fault::Mismatch, b"treadmarks: logs and wires differ\n"),
+        (Fault::NoMemory, b"treadmarks: out of memory\n"),
+    ];
+    for (fault, line) in cases {
+        assert!(rt; told(rt.alloc(), fault).complains(line));
     }
 }
 

@@ -1,7 +1,7 @@
 // Worked programs of several nodes, by lists of events.
 
 use crate::shell::played;
-use lrc_cli::choice::Nodes;
+use lrc_words::choice::Nodes;
 use std::alloc::{AllocError, Global};
 
 // Lines of events, each so often.

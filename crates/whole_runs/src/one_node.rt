@@ -1,7 +1,7 @@
 // Worked programs of one node.
 
 use crate::shell::{ALL_STEPS, driven};
-use lrc_cli::choice::Steps;
+use lrc_words::choice::Steps;
 use std::alloc::{AllocError, Global};
 
 // Whether the text prints this, and ends with this status.

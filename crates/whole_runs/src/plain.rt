@@ -1,7 +1,7 @@
 // Worked programs on the plain machine, in rounds.
 
 use crate::shell::{ALL_STEPS, in_rounds};
-use lrc_cli::choice::{Nodes, Steps};
+use lrc_words::choice::{Nodes, Steps};
 use std::alloc::Global;
 
 // Whether the text on these nodes prints this, and ends with this status.

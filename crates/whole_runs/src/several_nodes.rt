@@ -1,9 +1,9 @@
 // Worked programs of several nodes, in each order of delivery and with pages of each size.
 
 use crate::shell::{ON_ONE_NODE, Outcome, on_threads, simulated};
-use lrc_cli::choice::{Collect, Nodes, RunOptions};
 use lrc_page::Size;
 use lrc_wire::Picker;
+use lrc_words::choice::{Collect, Nodes, RunOptions};
 use std::alloc::Global;
 use std::sync::Wait;
 use std::thread::Threads;

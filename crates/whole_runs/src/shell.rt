@@ -1,12 +1,13 @@
 // A command with its texts, and what comes of it.
 
 ghost use Rattle.std.specs.Prelude.{◌≡◌, false, is_some};
-ghost use Rattle.lrc_cli.specs.Answer.{names_events, starts_threads};
+ghost use Rattle.lrc_words.specs.Files.{names_events, starts_threads};
 
-use lrc_cli::choice::{Choice, Collect, Nodes, PlainRun, RunOptions, Simulation, Steps};
-use lrc_cli::{execute, perform};
+use lrc_cli::fault::Fault;
+use lrc_cli::{execute, perform, tell};
 use lrc_page::Size;
 use lrc_wire::Picker;
+use lrc_words::choice::{Choice, Collect, Nodes, PlainRun, RunOptions, Simulation, Steps};
 use std::alloc::Global;
 use std::sync::Wait;
 use std::thread::Threads;
@@ -35,6 +36,14 @@ impl Outcome {
     pub fn complains(&self, line: &[u8]) -> bool {
         self.out.is_empty() && self.err.as_slice() == line && self.status == 1
     }
+}
+
+/// What is written where a choice is answered by this fault.
+pub fn told(alloc: Global, fault: Fault) -> Outcome {
+    let mut out = Vec::new(alloc);
+    let mut err = Vec::new(alloc);
+    let status = tell(alloc, Err(fault), &mut out, &mut err);
+    Outcome { out, err, status }
 }
 
 // What a command makes of a text, and of that of its events where it names them.

@@ -1,9 +1,9 @@
 // Words of the command line, and the choice that they make.
 
-use lrc_cli::choice::{Choice, ChooseFault, RunOptions};
-use lrc_cli::choose;
 use lrc_page::Size;
 use lrc_wire::Picker;
+use lrc_words::choice::{Choice, ChooseFault, RunOptions};
+use lrc_words::choose;
 use std::alloc::Global;
 
 // Whether the words ask for the plain machine with this file, and so many nodes and steps.

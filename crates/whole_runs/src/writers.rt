@@ -1,8 +1,8 @@
 // A writer that refuses one of its writes.
 
 use crate::shell::ON_ONE_NODE;
-use lrc_cli::choice::{Choice, Nodes, RunOptions};
 use lrc_cli::{execute, perform};
+use lrc_words::choice::{Choice, Nodes, RunOptions};
 use std::alloc::Global;
 use std::io;
 use std::io::{ErrorKind, Write};

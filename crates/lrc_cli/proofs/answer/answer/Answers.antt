@@ -4,12 +4,12 @@ use Rattle.std.specs.Borrow.{Bor}
 use Rattle.std.specs.declared.alloc.Global.{Global}
 use Rattle.lrc_lang.specs.declared.program.Program.{Program}
 use Rattle.lrc_cli.specs.Answer.{IsFault, IsPrintoutOfRounds, IsRunFault, IsTextOf, IsWornChoice, Prints}
-use Rattle.lrc_cli.specs.ReportText.{whole_text}
+use Rattle.lrc_report.specs.ReportText.{whole_text}
 use Rattle.lrc_cli.specs.declared.answer.Printout.{Printout}
-use Rattle.lrc_cli.specs.declared.choice.Choice.{Choice}
-use Rattle.lrc_cli.specs.declared.choice.Choice.TheVariants.{Plain, Simulate}
-use Rattle.lrc_cli.specs.declared.choice.PlainRun.{PlainRun}
-use Rattle.lrc_cli.specs.declared.choice.Simulation.{Simulation}
+use Rattle.lrc_words.specs.declared.choice.Choice.{Choice}
+use Rattle.lrc_words.specs.declared.choice.Choice.TheVariants.{Plain, Simulate}
+use Rattle.lrc_words.specs.declared.choice.PlainRun.{PlainRun}
+use Rattle.lrc_words.specs.declared.choice.Simulation.{Simulation}
 use Rattle.lrc_cli.specs.declared.fault.Fault.{Fault}
 use Rattle.lrc_cli.specs.declared.fault.Fault.TheVariants.{Text, Events, Worn, Mismatch, NoMemory}
 use Rattle.lrc_cli.proofs.AnswerLemmas.{fault_up}

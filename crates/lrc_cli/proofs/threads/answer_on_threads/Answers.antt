@@ -1,8 +1,8 @@
 use Rattle.std.proofs.Common.{ℕ, List, None, refl}
 use Rattle.lrc_lang.specs.declared.program.Program.{Program}
 use Rattle.lrc_cli.specs.Answer.{IsFault, IsTextOf, IsThreadedFault}
-use Rattle.lrc_cli.specs.declared.choice.Choice.TheVariants.{Run}
-use Rattle.lrc_cli.specs.declared.choice.RunOptions.{RunOptions}
+use Rattle.lrc_words.specs.declared.choice.Choice.TheVariants.{Run}
+use Rattle.lrc_words.specs.declared.choice.RunOptions.{RunOptions}
 use Rattle.lrc_cli.specs.declared.fault.Fault.{Fault}
 use Rattle.lrc_cli.specs.declared.fault.Fault.TheVariants.{Text, Events, Worn, Mismatch, NoMemory}
 use Rattle.lrc_cli.proofs.AnswerLemmas.{fault_up}

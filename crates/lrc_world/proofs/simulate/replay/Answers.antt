@@ -3,6 +3,7 @@ use Rattle.lrc_protocol.specs.Node.{fresh_node}
 use Rattle.lrc_protocol.specs.World.{run_of}
 use Rattle.lrc_world.specs.declared.report.SimFault.TheVariants.{Worn}
 use Rattle.lrc_world.proofs.Events.{goes_on, wears_out, handed_on, take_whole, get_at}
+use Rattle.lrc_world.proofs.EndsOfRuns.{ends_as_acts}
 use Rattle.lrc_world.proofs.Moments.{refuses_none, each_token, covered}
 use Rattle.lrc_world.proofs.Theorem.{in_order, reads_lazily, consistent, to_first_race, race_free}
 use Rattle.lrc_world.proofs.Races.{kept_traces, kept_races}
@@ -32,6 +33,9 @@ returns-clause-report c =
           ∙ runs.1,
       c.in_ok-report.ensures.report (fresh_node c.args.program.now c.args.nodes c.args.options.now) runs.0 runs.2,
     )
+
+pub returns-clause-ends : goal.returns-clause-ends
+returns-clause-ends c = ends_as_acts c.args.program.now c.args.nodes c.args.options.now c.args.events.now c.in_ok-report.field-0 (returns-clause-report c)
 
 pub returns-clause-races : goal.returns-clause-races
 returns-clause-races c =

@@ -1,0 +1,13 @@
+# Each node says that it wants to enter, and enters if the other does not (the heart of Dekker's algorithm). Word 2 counts who entered.
+words 3;
+locks 0;
+[me] = 1;
+other = [1 - me];
+if other == 0 {
+    n = [2];
+    [2] = n + 1;
+}
+barrier;
+n = [2];
+print other;
+print n;

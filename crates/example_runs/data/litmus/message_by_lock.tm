@@ -1,0 +1,17 @@
+# The same, and each look at the flag is under a lock. Once node 1 sees the flag it sees the message too.
+words 2;
+locks 1;
+if me == 0 {
+    acquire 0;
+    [0] = 42;
+    [1] = 1;
+    release 0;
+} else {
+    while seen == 0 {
+        acquire 0;
+        seen = [1];
+        release 0;
+    }
+    x = [0];
+    print x;
+}

@@ -1,0 +1,6 @@
+# Each node writes its own word and then reads the other's. On one flat memory at least one of them reads 1.
+words 2;
+locks 0;
+[me] = 1;
+x = [1 - me];
+print x;

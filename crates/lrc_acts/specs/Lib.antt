@@ -1,0 +1,3 @@
+pub mod ActsText
+pub mod Printed
+pub mod JudgeLines

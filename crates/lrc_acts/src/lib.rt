@@ -1,0 +1,9 @@
+//! The text of a list of acts, one on a line, and the lines in which a judge tells what it found in them.
+#![tactic(auto)]
+
+mod deeds;
+pub mod judge_lines;
+pub mod laws;
+mod numbers;
+pub mod reading;
+mod words;

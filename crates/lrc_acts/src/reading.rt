@@ -1,0 +1,121 @@
+// Reading a text of acts.
+
+ghost use Rattle.std.specs.Prelude.{◌≡◌, ◌++◌, ◌∷◌, [], IfErr, IfOk, MatchBool, MatchOption, OnOk, Err, Ok};
+ghost use Rattle.lrc_trace.specs.declared.act.Act.{Act as AnyAct};
+ghost use Rattle.lrc_acts.specs.ActsText.{IsAmong, Reads, SaysAct, words_of};
+ghost use Rattle.lrc_acts.specs.declared.reading.ActsFault.TheVariants.{NoMemory};
+
+use crate::deeds::deed_in;
+use crate::numbers::number_in;
+use crate::words::{before_comment, first_word};
+use lrc_trace::act::Act;
+use std::alloc::{AllocError, AllocFailed, Global};
+
+/// The longest text of acts, in bytes.
+pub const MOST_BYTES: usize = 67_108_864;
+
+const GREATEST_NODE: u64 = 15;
+
+/// Acts, and the line on which each stands.
+#[derive(Drop)]
+pub struct LinedActs {
+    /// The acts.
+    pub acts: Vec<Act>,
+    /// For each of them the number of its line, counted from 1.
+    pub lines: Vec<u32>,
+}
+
+/// Why a text gives no acts.
+#[derive(Clone, Copy, Debug, PartialEq, Eq)]
+pub enum ActsFault {
+    /// The line of this number, counted from 1, says no act.
+    BadAct(u32),
+    /// Memory ran out.
+    NoMemory,
+}
+
+impl<T: Drop> From<AllocFailed<T>> for ActsFault {
+    ghost from_gives = { λ _ fault. fault ≡ NoMemory };
+
+    fn from(_error: AllocFailed<T>) -> ActsFault {
+        ActsFault::NoMemory
+    }
+}
+
+impl From<AllocError> for ActsFault {
+    ghost from_gives = { λ _ fault. fault ≡ NoMemory };
+
+    fn from(_error: AllocError) -> ActsFault {
+        ActsFault::NoMemory
+    }
+}
+
+/// The acts that a text says, one on each line: a node from 0 to 15, and below the number of nodes where that is given, and what it
+/// does. Words are parted by blanks (spaces, tabs, carriage returns), the sign # begins a comment, and a line without a word
+/// says no act. A text of more than 67,108,864 bytes is wrong in its first line.
+pub fn acts_of(alloc: Global, text: &[u8], nodes: Option<u32>) -> Result<LinedActs, ActsFault>
+    ensures ok { IfOk result (λ lined. Reads nodes text.now (Ok lined)) }
+    ensures err { IfErr result (λ fault. Reads nodes text.now (Err fault)) }
+{
+    if text.len() > MOST_BYTES {
+        return Err(ActsFault::BadAct(1));
+    }
+    let mut lined = LinedActs {
+        acts: Vec::new(alloc),
+        lines: Vec::new(alloc),
+    };
+    let mut number = 0;
+    for line in text.split(|byte| *byte == b'\n') {
+        number += 1;
+        if is_wordless(line) {
+            continue;
+        }
+        match act_on(line, nodes) {
+            Some(act) => push_act(&mut lined, act, number)?,
+            None => return Err(ActsFault::BadAct(number)),
+        }
+    }
+    Ok(lined)
+}
+
+// Adds an act and its line.
+fn push_act(lined: &mut LinedActs, act: Act, line: u32) -> Result<(), AllocError>
+    ensures acts { OnOk result (lined.new.acts.items ≡ lined.old.acts.items ++ act ∷ []) }
+    ensures lines { OnOk result (lined.new.lines.items ≡ lined.old.lines.items ++ line ∷ []) }
+{
+    lined.acts.push(act)?;
+    lined.lines.push(line)?;
+    Ok(())
+}
+
+// Whether a line has no word.
+fn is_wordless(line: &[u8]) -> bool
+    ensures { MatchBool result (words_of line.now ≡ []) (¬ (words_of line.now ≡ [])) }
+{
+    first_word(before_comment(line)).is_none()
+}
+
+// The act that a line says.
+fn act_on(line: &[u8], nodes: Option<u32>) -> Option<Act>
+    ensures { MatchOption result ((act : AnyAct) → ¬ SaysAct nodes (words_of line.now) act) (λ act. SaysAct nodes (words_of line.now) act) }
+{
+    let (digits, rest) = first_word(before_comment(line))?;
+    let node = number_in(digits, GREATEST_NODE)?;
+    if !is_among(nodes, node) {
+        return None;
+    }
+    let deed = deed_in(rest)?;
+    Some(Act {
+        node: node as u8,
+        deed,
+    })
+}
+
+fn is_among(nodes: Option<u32>, node: u64) -> bool
+    ensures { MatchBool result (IsAmong nodes node) (¬ IsAmong nodes node) }
+{
+    match nodes {
+        Some(nodes) => node < u64::from(nodes),
+        None => true,
+    }
+}

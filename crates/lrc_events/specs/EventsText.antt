@@ -1,0 +1,64 @@
+-- The text of a list of events, one on a line.
+use Rattle.std.specs.Prelude.{◌≡◌, ◌≢◌, ◌<◌, ◌≤◌, ◌+◌, ◌==◌, ◌⊎◌, ℕ, List, [], ◌∷◌, ◌++◌, length, codes, Result, Ok, Err}
+use Rattle.std.specs.List.{slice_split}
+use Rattle.std.specs.Str.Parse.{IsNumeral, digits_value}
+use Rattle.lrc_protocol.specs.declared.event.Event.{Event}
+use Rattle.lrc_protocol.specs.declared.event.Event.TheVariants.{Run, Deliver, Repeat}
+use Rattle.lrc_events.specs.declared.events.EventsFault.{EventsFault}
+use Rattle.lrc_events.specs.declared.events.EventsFault.TheVariants.{BadEvent, NoMemory}
+
+-- the lines of a text: what stands before, between and after its line feeds
+abbrev pub lines_of : List ℕ → List (List ℕ)
+lines_of text = slice_split (λ byte. byte == 10) text
+
+-- one or more decimal digits, and nothing else, write this number of an event
+pub record IsPlace (digits : List ℕ) (place : ℕ) : Type 0 where
+  pub numeral : IsNumeral 10 digits
+  pub value : place ≡ digits_value 10 digits
+  pub small : place ≤ 4294967295
+
+-- the line is this word, and then the number
+pub record IsLine (word line : List ℕ) (place : ℕ) : Type 0 where
+  pub digits : List ℕ
+  pub whole : line ≡ word ++ digits
+  pub number : IsPlace digits place
+
+-- the line names this event
+abbrev pub Names : List ℕ → Event → Type 0
+Names line (Run node) = IsLine (codes "run ") line node
+Names line (Deliver place) = IsLine (codes "deliver ") line place
+Names line (Repeat place) = IsLine (codes "repeat ") line place
+
+-- the lines name these events in order, where an empty line names none
+pub data NameAll : List (List ℕ) → List Event → Type 0 where
+  none : NameAll [] []
+  empty : {lines : List (List ℕ)} {events : List Event} → NameAll lines events → NameAll ([] ∷ lines) events
+  more : {line : List ℕ} {event : Event} {lines : List (List ℕ)} {events : List Event}
+      → Names line event → NameAll lines events → NameAll (line ∷ lines) (event ∷ events)
+
+-- the line is not empty, and names no event
+pub record IsBad (line : List ℕ) : Type 0 where
+  pub some : line ≢ []
+  pub nameless : (event : Event) → ¬ Names line event
+
+-- of the lines, the first bad one has this number, counted from 1
+pub record IsFirstBad (lines : List (List ℕ)) (number : ℕ) : Type 0 where
+  pub before : List (List ℕ)
+  pub line : List ℕ
+  pub after : List (List ℕ)
+  pub whole : lines ≡ before ++ line ∷ after
+  pub counted : number ≡ length before + 1
+  pub good : (events : List Event) × NameAll before events
+  pub bad : IsBad line
+
+-- the longest text, in bytes
+abbrev pub most_bytes : ℕ
+most_bytes = 16777216
+
+-- What a text of events comes to: the events that its lines name, or the first line that names none, where a text that
+-- is too long is wrong in its first line. Memory may run out at any text.
+abbrev pub Reads : List ℕ → Result (List Event) EventsFault → Type 0
+Reads text (Ok events) = (length text ≤ most_bytes) × NameAll (lines_of text) events
+Reads text (Err (BadEvent line)) = ((most_bytes < length text) × (line ≡ 1))
+    ⊎ ((length text ≤ most_bytes) × IsFirstBad (lines_of text) line)
+Reads text (Err NoMemory) = Unit {0}

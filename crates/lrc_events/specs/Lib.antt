@@ -1,0 +1,2 @@
+pub mod EventsText
+pub mod Writing

@@ -1,0 +1,174 @@
+-- How often nodes have arrived, by how many states were found; and states that orders lead to, by how they were found.
+use Rattle.std.proofs.Common.{◌≡◌, ℕ, zero, suc, ◌+◌, ◌<◌, ◌≤◌, List, [], ◌∷◌, ◌++◌, Bool, true, false, inl, inr, length, refl, sym, subst, ◌∙◌, ap, arith, replicate}
+use Rattle.std.specs.Prelude.{Option, Some, None, slice_get, slice_index, slice_set, if◌then◌else◌}
+use Rattle.std.proofs.lemmas.Bool.{cases_lt, cases_eq}
+use Rattle.std.proofs.lemmas.List.{get_or-set_same, get_or-set_other, get_or_past, length-set, length_push}
+use Rattle.std.proofs.lemmas.Option.{same_Some, some_pair_parts, option_and_then_some, slice_get_within}
+use Rattle.lrc_lang.specs.declared.program.Program.{Program}
+use Rattle.lrc_trace.specs.declared.act.Deed.{Deed}
+use Rattle.lrc_trace.specs.declared.act.Deed.TheVariants.{Quiet, Print, Read, Write, Acquire, Release, Arrive, Depart, Trap, End}
+use Rattle.lrc_trace.specs.Run.{act_of}
+use Rattle.lrc_trace.proofs.Positions.{slice_get-front, slice_get-seam}
+use Rattle.lrc_exec.specs.declared.spot.Flat.{Flat}
+use Rattle.lrc_exec.specs.Flat.{IsCodeOf}
+use Rattle.lrc_exec.specs.Meaning.{Next, quiet, prints, reads, writes, acquires, releases, arrives, departs, traps, ends, next_of}
+use Rattle.lrc_exec.specs.Plain.{Plain, deed_of, is_free, all_arrived, with_thread, thread_in, plain_step, plain_start}
+use Rattle.lrc_theory.proofs.Plainly.{one_more, plain_from-joined}
+use Rattle.lrc_explore.specs.declared.state.State.{State}
+use Rattle.lrc_explore.specs.declared.search.Found.{Found}
+use Rattle.lrc_explore.specs.declared.search.Origin.{Origin}
+use Rattle.lrc_explore.specs.Meeting.{IsReached}
+use Rattle.lrc_explore.specs.States.{plain_at, begun}
+use Rattle.lrc_explore.specs.Search.{Stands, Steps, IsFound}
+use Rattle.lrc_explore.specs.Limit.{AreCounted, HasMoreStates, MeetsMore}
+use Rattle.lrc_explore.proofs.Searching.{stands_one, stands_grown}
+
+-- a deed with the machine after it, where it can be done
+abbrev done : Deed → Plain → Option (Deed × Plain)
+done e m = Some (e, m)
+
+abbrev done_if : Bool → Deed → Plain → Option (Deed × Plain)
+done_if b e m = if b then done e m else None
+
+-- one step counts one arrival at most
+module _ (machine after : Plain) (node k : ℕ) (d : Deed) where
+  abbrev Counts : Plain → Type 0
+  Counts m = slice_index m.arrivals k ≤ slice_index machine.arrivals k + 1
+
+  counts_after : (e : Deed) (m : Plain) → done e m ≡ done d after → Counts m → Counts after
+  counts_after e m is counts = subst Counts ((some_pair_parts e d m after is).1) counts
+
+  counts_if : (b : Bool) (e : Deed) (m : Plain) → done_if b e m ≡ done d after → Counts m → Counts after
+  counts_if true e m is counts = counts_after e m is counts
+  counts_if false e m is counts = cc
+
+  raised_counts : slice_index (slice_set machine.arrivals node (slice_index machine.arrivals node + 1)) k ≤ slice_index machine.arrivals k + 1
+  raised_counts =
+      let xs = machine.arrivals in
+      let v = slice_index xs node + 1 in
+      elim (cases_eq k node) [
+        | inl same ↦
+            let own : slice_index xs k ≡ slice_index xs node = ap (slice_index xs) same in
+            elim (cases_lt node (length xs)) [
+              | inl lt ↦
+                  let more : slice_index (slice_set xs node v) k ≡ v = ap (slice_index (slice_set xs node v)) same ∙ get_or-set_same xs node v 0 lt in
+                  omega arith
+              | inr le ↦
+                  let none : slice_index (slice_set xs node v) k ≡ 0 = get_or_past (slice_set xs node v) k 0 (omega (arith, length-set xs node v)) in
+                  omega arith
+            ]
+        | inr other ↦ let e : slice_index (slice_set xs node v) k ≡ slice_index xs k = get_or-set_other xs node k v 0 other in omega arith
+      ]
+
+  counts_deed : (n : Next) → deed_of machine node n ≡ Some (d, after) → Counts after
+  counts_deed (quiet t) is = counts_after Quiet (with_thread machine node (Some t)) is (omega arith)
+  counts_deed (prints v t) is = counts_after (Print v) (with_thread machine node (Some t)) is (omega arith)
+  counts_deed (reads w t) is =
+      let v = slice_index machine.memory w in counts_after (Read w v) (with_thread machine node (Some (t v))) is (omega arith)
+  counts_deed (writes w v t) is =
+      counts_after (Write w v) (record (with_thread machine node (Some t)) { memory = slice_set machine.memory w v }) is (omega arith)
+  counts_deed (acquires l t) is =
+      counts_if (is_free machine l) (Acquire l) (record (with_thread machine node (Some t)) { holders = slice_set machine.holders l (Some node) }) is
+      (omega arith)
+  counts_deed (releases l t) is =
+      counts_after (Release l) (record (with_thread machine node (Some t)) { holders = slice_set machine.holders l None }) is (omega arith)
+  counts_deed (arrives t) is =
+      counts_after Arrive
+      (record (with_thread machine node (Some t)) { arrivals = slice_set machine.arrivals node (slice_index machine.arrivals node + 1) }) is raised_counts
+  counts_deed (departs t) is = counts_if (all_arrived machine node) Depart (with_thread machine node (Some t)) is (omega arith)
+  counts_deed (traps cause) is = counts_after (Trap cause) (with_thread machine node None) is (omega arith)
+  counts_deed ends is = counts_after End (with_thread machine node None) is (omega arith)
+
+  step_counts : plain_step machine node ≡ Some (d, after) → Counts after
+  step_counts is = option_and_then_some (λ t. deed_of machine node (next_of t)) (thread_in machine node) (d, after) is (λ t at made. counts_deed (next_of t) made)
+
+-- at the start nobody has arrived
+zero_at : (n k : ℕ) → slice_index (replicate n 0) k ≡ 0
+zero_at zero k = refl
+zero_at (suc n) zero = refl
+zero_at (suc n) (suc k) = zero_at n k
+
+pub counted_first : (flat : Flat) (place : ℕ) (start : State) (keys : List State) → keys ≡ start ∷ [] → plain_at flat start ≡ begun flat place → AreCounted keys
+counted_first flat place start keys are is k s at node =
+    let at' : slice_get (start ∷ []) k ≡ Some s = ap (λ l. slice_get l k) (sym are) ∙ at in
+    let within = slice_get_within (start ∷ []) k s at' in
+    let first : k ≡ 0 = omega arith in
+    let same : start ≡ s = same_Some start s (ap (slice_get (start ∷ [])) (sym first) ∙ at') in
+    let none : slice_index s.arrivals.items node ≡ 0 =
+    ap (λ (x : State). slice_index x.arrivals.items node) (sym same) ∙ ap (λ (m : Plain). slice_index m.arrivals node) is ∙ zero_at flat.nodes node in
+    omega arith
+
+-- at the state at a place
+pub counted_there : (flat : Flat) (states : List State) (state : State) (place node : ℕ) → AreCounted states → Stands flat states place (plain_at flat state)
+    → slice_index state.arrivals.items node ≤ place
+counted_there flat states state place node counted there =
+    let same : slice_index there.state.arrivals.items node ≡ slice_index state.arrivals.items node = ap (λ (m : Plain). slice_index m.arrivals node) there.same in
+    let few = counted place there.state there.there node in
+    omega arith
+
+-- one state more
+pub counted_more : (flat : Flat) (old new : List State) (state : State) (origin : Origin) → AreCounted old → Steps flat old origin (plain_at flat state)
+    → new ≡ old ++ state ∷ [] → AreCounted new
+counted_more flat old new state origin counted steps keys k s at node = elim (cases_lt k (length old)) [
+  | inl lt ↦
+      let before = sym (slice_get-front old (state ∷ []) k lt) ∙ sym (ap (λ l. slice_get l k) keys) ∙ at in
+      counted k s before node
+  | inr le ↦
+      let within = slice_get_within new k s at in
+      let long = ap length keys ∙ length_push old state in
+      let last : k ≡ length old = omega arith in
+      let seam : slice_get new k ≡ Some state = ap (λ l. slice_get l k) keys ∙ ap (slice_get (old ++ state ∷ [])) last ∙ slice_get-seam old state [] in
+      let is : state ≡ s = same_Some state s (sym seam ∙ at) in
+      let here : slice_index s.arrivals.items node ≡ slice_index state.arrivals.items node = ap (λ (x : State). slice_index x.arrivals.items node) (sym is) in
+      let more = step_counts steps.before (plain_at flat state) origin.node node steps.deed steps.stepped in
+      let parent : slice_index steps.parent.state.arrivals.items node ≡ slice_index steps.before.arrivals node =
+      ap (λ (m : Plain). slice_index m.arrivals node) steps.parent.same in
+      let few = counted origin.parent steps.parent.state steps.parent.there node in
+      let earlier = slice_get_within old origin.parent steps.parent.state steps.parent.there in
+      omega arith
+]
+
+-- some order leads to each state that was found
+module _ (program : Program) (flat : Flat) (found : Found) (sound : IsFound flat found) (start : Stands flat found.states.keys 0 (plain_start program flat.nodes)) where
+  reached_below : (bound k : ℕ) (state : State) → k < bound → slice_get found.states.keys k ≡ Some state → IsReached program flat.nodes (plain_at flat state)
+  reached_below zero k state lt at = absurd (omega arith)
+  reached_below (suc bound) k state lt at = elim (cases_eq k 0) [
+    | inl first ↦
+        let here : Stands flat found.states.keys 0 (plain_at flat state) =
+        record { state = state; there = ap (slice_get found.states.keys) (sym first) ∙ at; same = refl } in
+        record { order = []; acts = []; led = ap (λ m. Some ([], m)) (stands_one (plain_start program flat.nodes) (plain_at flat state) start here) }
+    | inr later ↦
+        let from = sound.from k state (omega arith) at in
+        let steps = from.steps in
+        let node = from.origin.node in
+        let earlier = from.earlier in
+        let r = reached_below bound from.origin.parent steps.parent.state (omega arith) steps.parent.there in
+        let stepped : plain_step (plain_at flat steps.parent.state) node ≡ Some (steps.deed, plain_at flat state) =
+        ap (λ m. plain_step m node) steps.parent.same ∙ steps.stepped in
+        record {
+          order = r.order ++ node ∷ [];
+          acts = r.acts ++ act_of node steps.deed ∷ [];
+          led = plain_from-joined r.order (node ∷ []) (plain_start program flat.nodes) (plain_at flat steps.parent.state) (plain_at flat state) r.acts
+              (act_of node steps.deed ∷ []) r.led
+              (one_more (plain_at flat steps.parent.state) (plain_at flat state) (plain_at flat state) node steps.deed [] [] stepped refl);
+        }
+  ]
+
+  pub reached_all : (k : ℕ) (state : State) → slice_get found.states.keys k ≡ Some state → IsReached program flat.nodes (plain_at flat state)
+  reached_all k state at = reached_below (k + 1) k state (omega arith) at
+
+-- a search that met more states than a bound
+pub has_more : (program : Program) (flat : Flat) (place most : ℕ) (first : List State) → IsCodeOf flat.code.now place program.statements.items
+    → flat.words ≡ program.words → flat.locks ≡ program.locks → Stands flat first 0 (plain_start program flat.nodes) → MeetsMore flat first most
+    → HasMoreStates program flat.nodes most
+has_more program flat place most first code words locks start m = record {
+  flat = flat;
+  place = place;
+  code = code;
+  words = words;
+  locks = locks;
+  states = m.found.states.keys;
+  many = m.many;
+  distinct = m.distinct;
+  reached = reached_all program flat m.found m.sound (stands_grown m.grows start);
+}

@@ -1,0 +1,11 @@
+pub mod Effects
+pub mod Reduced
+pub mod Reducing
+pub mod Meetings
+pub mod Spots
+pub mod Same
+pub mod Pairs
+pub mod Standing
+pub mod Searching
+pub mod Counting
+pub mod Exploring

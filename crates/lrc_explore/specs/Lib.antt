@@ -1,0 +1,6 @@
+pub mod Meeting
+pub mod Stuck
+pub mod States
+pub mod Verdict
+pub mod Search
+pub mod Limit

@@ -1,0 +1,44 @@
+-- What is known of a program whose search met too many states.
+use Rattle.std.specs.Prelude.{◌≡◌, ℕ, ◌<◌, ◌≤◌, List, Some, length, slice_get, slice_index}
+use Rattle.std.specs.List.{IsDistinct}
+use Rattle.lrc_lang.specs.declared.program.Program.{Program}
+use Rattle.lrc_exec.specs.declared.spot.Flat.{Flat}
+use Rattle.lrc_exec.specs.Flat.{IsCodeOf}
+use Rattle.lrc_explore.specs.declared.state.State.{State}
+use Rattle.lrc_explore.specs.declared.search.Found.{Found}
+use Rattle.lrc_explore.specs.declared.search.ExploreFault.{ExploreFault}
+use Rattle.lrc_explore.specs.declared.search.ExploreFault.TheVariants.{BadNodes, TooMany, NoMemory}
+use Rattle.lrc_explore.specs.contracts.state.StatePartialEq.TheImpl.{eq-value}
+use Rattle.lrc_explore.specs.Meeting.{IsReached}
+use Rattle.lrc_explore.specs.States.{plain_at}
+use Rattle.lrc_explore.specs.Search.{IsFound, Grows}
+
+-- more states than a bound over the program's code, no two of them equal, to each of which some order leads
+pub record HasMoreStates (program : Program) (nodes most : ℕ) : Type 0 where
+  pub flat : Flat
+  pub place : ℕ
+  pub code : IsCodeOf flat.code.now place program.statements.items
+  pub words : flat.words ≡ program.words
+  pub locks : flat.locks ≡ program.locks
+  pub states : List State
+  pub many : most < length states
+  pub distinct : IsDistinct eq-value.it states
+  pub reached : (k : ℕ) (state : State) → slice_get states k ≡ Some state → IsReached program nodes (plain_at flat state)
+
+-- a search that began with these states met more than a bound
+pub record MeetsMore (flat : Flat) (first : List State) (most : ℕ) : Type 0 where
+  pub found : Found
+  pub sound : IsFound flat found
+  pub grows : Grows first found.states.keys
+  pub many : most < length found.states.keys
+  pub distinct : IsDistinct eq-value.it found.states.keys
+
+-- why a search gives up: it met too many states, or had no memory
+abbrev pub IsFault : Flat → List State → (most : ℕ) → ExploreFault → Type 0
+IsFault flat first most BadNodes = ⊥
+IsFault flat first most TooMany = MeetsMore flat first most
+IsFault flat first most NoMemory = Unit {0}
+
+-- no node has arrived more often at a state than there are states before it
+abbrev pub AreCounted : List State → Type 0
+AreCounted states = (k : ℕ) (state : State) → slice_get states k ≡ Some state → (node : ℕ) → slice_index state.arrivals.items node ≤ k

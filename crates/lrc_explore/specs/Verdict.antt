@@ -1,0 +1,37 @@
+-- What a search answers of a program.
+use Rattle.std.specs.Prelude.{◌≡◌, ◌≤◌, ℕ, ◌+◌, List, Some, None, length}
+use Rattle.lrc_lang.specs.declared.program.Program.{Program}
+use Rattle.lrc_trace.specs.declared.act.Act.{Act}
+use Rattle.lrc_trace.specs.Conflict.{Races}
+use Rattle.lrc_exec.specs.Plain.{plain}
+use Rattle.lrc_theory.specs.Racing.{HasNoRace}
+use Rattle.lrc_explore.specs.declared.search.Verdict.{Verdict}
+use Rattle.lrc_explore.specs.declared.search.Verdict.TheVariants.{RaceFree, Racy}
+use Rattle.lrc_explore.specs.Stuck.{GetsStuck}
+
+-- an order that gives the plain machine a run whose last act races with the one before
+pub record LeadsToRace (program : Program) (nodes : ℕ) (order : List ℕ) : Type 0 where
+  pub run : List Act
+  pub is : plain program nodes order ≡ Some run
+  pub first : ℕ
+  pub last : first + 2 ≡ length run
+  pub races : Races run first (first + 1)
+
+-- no order leads to where the program is stuck
+abbrev pub NeverStuck : Program → ℕ → Type 0
+NeverStuck program nodes = (order : List ℕ) → ¬ GetsStuck program nodes order
+
+-- no order races; and the order leads to where the program is stuck, or there is none that does
+abbrev pub IsVerdict : Program → ℕ → Verdict → Type 0
+IsVerdict program nodes (RaceFree None) = HasNoRace program nodes × NeverStuck program nodes
+IsVerdict program nodes (RaceFree (Some order)) = HasNoRace program nodes × GetsStuck program nodes order.items
+IsVerdict program nodes (Racy order) = LeadsToRace program nodes order.items
+
+-- the answer is that no order races
+abbrev pub FindsNoRace : Verdict → Type 0
+FindsNoRace (RaceFree stuck) = Unit {0}
+FindsNoRace (Racy order) = ⊥
+
+-- there are 1 to 16 nodes
+abbrev pub AreNodes : ℕ → Type 0
+AreNodes nodes = (1 ≤ nodes) × (nodes ≤ 16)

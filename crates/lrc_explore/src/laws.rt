@@ -1,0 +1,34 @@
+// Races and meetings. Each function is a theorem: its body is empty, and its clause is the law.
+
+ghost use Rattle.std.specs.Prelude.{◌≡◌, ℕ, ◌↔◌, List, Some};
+ghost use Rattle.lrc_lang.specs.declared.program.Program.{Program};
+ghost use Rattle.lrc_trace.specs.declared.act.Act.{Act};
+ghost use Rattle.lrc_trace.specs.Conflict.{IsRaceFree};
+ghost use Rattle.lrc_trace.specs.Reading.{ReadsLazily};
+ghost use Rattle.lrc_trace.specs.Synchronization.{IsWellSynchronized};
+ghost use Rattle.lrc_exec.specs.Plain.{Plain, plain};
+ghost use Rattle.lrc_theory.specs.Follows.{FollowsText, nodes_of};
+ghost use Rattle.lrc_theory.specs.Racing.{HasNoRace};
+ghost use Rattle.lrc_explore.specs.Meeting.{IsCertificate, NeverMeets};
+ghost use Rattle.lrc_explore.specs.declared.search.Verdict.{Verdict};
+ghost use Rattle.lrc_explore.specs.Verdict.{IsVerdict, FindsNoRace};
+
+/// A program has no race exactly where no order leads two nodes of the plain machine to where both are about to access one
+/// word, and one of them to write it.
+pub fn a_race_is_a_meeting()
+    ensures { (program : Program) (nodes : ℕ) → (HasNoRace program nodes ↔ NeverMeets program nodes) }
+{}
+
+/// States that have the start, and all that a step leads to from one of them, certify a program where at none of them two nodes
+/// meet.
+pub fn certified_programs_have_no_race()
+    ensures { (program : Program) (nodes : ℕ) (states : List Plain) → IsCertificate program nodes states → HasNoRace program nodes }
+{}
+
+/// Where every order was looked at and none races, a run that follows the text, is well synchronized and reads lazily has no
+/// race and is one of the plain machine.
+pub fn runs_of_explored_programs_are_plain()
+    ensures { (program : Program) (nodes : ℕ) (verdict : Verdict) (run : List Act) → IsVerdict program nodes verdict → FindsNoRace verdict
+        → FollowsText program nodes run → IsWellSynchronized nodes run → ReadsLazily run
+        → IsRaceFree run × (plain program nodes (nodes_of run) ≡ Some run) }
+{}

@@ -1,0 +1,6 @@
+//! Races of a program by its states: where two nodes of the plain machine are about to make conflicting accesses.
+#![tactic(auto)]
+
+pub mod laws;
+pub mod search;
+pub mod state;

@@ -1,0 +1,3 @@
+pub mod EventsText
+pub mod Output
+pub mod ReportText

@@ -1,0 +1,82 @@
+// The text of a list of events.
+
+ghost use Rattle.std.specs.Prelude.{◌≡◌, ℕ, IfErr, IfOk, MatchOption, Err, Ok};
+ghost use Rattle.lrc_protocol.specs.declared.event.Event.{Event};
+ghost use Rattle.lrc_report.specs.EventsText.{IsPlace, Names, Reads};
+ghost use Rattle.lrc_report.specs.declared.events.EventsFault.TheVariants.{NoMemory};
+
+use lrc_protocol::Event;
+use std::alloc::{AllocFailed, Global};
+
+/// The longest text of events, in bytes.
+pub const MOST_BYTES: usize = 16_777_216;
+
+/// Why a text gives no events.
+#[derive(Clone, Copy, Debug, PartialEq, Eq)]
+pub enum EventsFault {
+    /// The line of this number, counted from 1, names no event.
+    BadEvent(u32),
+    /// Memory ran out.
+    NoMemory,
+}
+
+impl<T: Drop> From<AllocFailed<T>> for EventsFault {
+    ghost from_gives = { λ _ fault. fault ≡ NoMemory };
+
+    fn from(_error: AllocFailed<T>) -> EventsFault {
+        EventsFault::NoMemory
+    }
+}
+
+/// The events that a text names, one on each line: `run N`, `deliver N` or `repeat N` with a number of up to 4294967295 in
+/// decimal digits. An empty line names none. A text of more than 16,777,216 bytes is wrong in its first line.
+pub fn events_of(alloc: Global, text: &[u8]) -> Result<Vec<Event>, EventsFault>
+    ensures ok { IfOk result (λ events. Reads text.now (Ok events.items)) }
+    ensures err { IfErr result (λ fault. Reads text.now (Err fault)) }
+{
+    if text.len() > MOST_BYTES {
+        return Err(EventsFault::BadEvent(1));
+    }
+    let mut events = Vec::new(alloc);
+    let mut number = 0;
+    for line in text.split(|byte| *byte == b'\n') {
+        number += 1;
+        if line.is_empty() {
+            continue;
+        }
+        match event_on(line) {
+            Some(event) => events.push(event)?,
+            None => return Err(EventsFault::BadEvent(number)),
+        }
+    }
+    Ok(events)
+}
+
+fn event_on(line: &[u8]) -> Option<Event>
+    ensures { MatchOption result ((event : Event) → ¬ Names line.now event) (λ event. Names line.now event) }
+{
+    if let Some(digits) = line.strip_prefix(b"run ") {
+        return Some(Event::Run(place_in(digits)?));
+    }
+    if let Some(digits) = line.strip_prefix(b"deliver ") {
+        return Some(Event::Deliver(place_in(digits)?));
+    }
+    let digits = line.strip_prefix(b"repeat ")?;
+    Some(Event::Repeat(place_in(digits)?))
+}
+
+fn place_in(digits: &[u8]) -> Option<u32>
+    ensures { MatchOption result ((place : ℕ) → ¬ IsPlace digits.now place) (λ place. IsPlace digits.now place) }
+{
+    if digits.is_empty() {
+        return None;
+    }
+    let mut place = 0u32;
+    for digit in digits {
+        if !digit.is_ascii_digit() {
+            return None;
+        }
+        place = place.checked_mul(10)?.checked_add(u32::from(digit - b'0'))?;
+    }
+    Some(place)
+}

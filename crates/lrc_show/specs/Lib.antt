@@ -1,0 +1,4 @@
+pub mod Each
+pub mod ActsText
+pub mod Tally
+pub mod Rapid

@@ -1,0 +1,10 @@
+//! Texts of a run in parts: numbers, acts and races in words.
+#![tactic(auto)]
+
+mod act;
+mod number;
+mod race;
+
+pub use act::{push_act, push_act_line, push_deed};
+pub use number::push_number;
+pub use race::{first_race_part, push_race, races_part};

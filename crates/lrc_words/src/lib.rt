@@ -1,0 +1,8 @@
+//! The words of the command line of `treadmarks`, and the choice that they make.
+#![tactic(auto)]
+
+pub mod choice;
+mod command_line;
+mod files;
+
+pub use command_line::choose;

@@ -1,0 +1,59 @@
+-- What is driven, as its functions say it.
+use Rattle.std.specs.Prelude.{◌≡◌, ◌⊎◌, ◌<◌, ◌≤◌, ℕ, false, [], ◌∷◌, ◌++◌, Result, Ok, Err, OnOk, length}
+use Rattle.lrc_protocol.specs.declared.event.Event.{Event}
+use Rattle.lrc_protocol.specs.World.{World as Run, event_on}
+use Rattle.lrc_world.specs.declared.report.SimFault.{SimFault}
+use Rattle.lrc_world.specs.declared.report.SimFault.TheVariants.{Worn, NoMemory}
+use Rattle.lrc_world.specs.declared.report.TheConstants.{MOST_EVENTS}
+use Rattle.lrc_world.specs.declared.rounds.Driver.{Driver}
+use Rattle.lrc_world.specs.declared.world.World.{World}
+use Rattle.lrc_world.specs.Led.{Schedule, Led, WearsOut}
+use Rattle.lrc_world.specs.Rounds.{ready_at}
+use Rattle.lrc_world.specs.World.{Starts, Shows, PlaysTo}
+
+-- this node is not ready
+abbrev pub IsAsleep : ℕ → World → Type 0
+IsAsleep n world = (starts : Starts) (run : Run) → Shows starts world run → ready_at run n ≡ false
+
+-- none of the nodes below this number is ready
+abbrev pub NoneReady : ℕ → World → Type 0
+NoneReady nodes world = (n : ℕ) → n < nodes → IsAsleep n world
+
+-- What is driven stands here, unless it has as many events as there may be: its events are led so from a world on, and its world
+-- shows the run after them.
+pub record StandsAt (schedule : Schedule) (starts : Starts) (start : Run) (at : schedule.Standing) (driver : Driver) : Type 0 where
+  pub run : Run
+  pub standing : schedule.Standing
+  pub led : Led schedule start driver.events.items run standing
+  pub shows : Shows starts driver.world run
+  pub here : (standing ≡ at) ⊎ (MOST_EVENTS ≤ length driver.events.items)
+
+-- what is driven from one standing to another: events are added, of which there are no more than there may be
+pub record Goes (schedule : Schedule) (from to : schedule.Standing) (old new : Driver) : Type 0 where
+  pub drives : (starts : Starts) (start : Run) → StandsAt schedule starts start from old → StandsAt schedule starts start to new
+  pub few : length old.events.items ≤ MOST_EVENTS → length new.events.items ≤ MOST_EVENTS
+  pub more : length old.events.items ≤ length new.events.items
+
+-- the same, or a number or a message was too large, or no memory is left
+abbrev pub GoesTo : (schedule : Schedule) → schedule.Standing → schedule.Standing → Driver → Driver → Result (Unit {0}) SimFault → Type 0
+GoesTo schedule from to old new (Ok done) = Goes schedule from to old new
+GoesTo schedule from to old new (Err Worn) = (starts : Starts) (start : Run) → StandsAt schedule starts start from old → WearsOut schedule start
+GoesTo schedule from to old new (Err NoMemory) = Unit {0}
+GoesTo schedule from to old new (Err _) = (starts : Starts) (start : Run) → ¬ StandsAt schedule starts start from old
+
+-- no event was added, though there was room for one
+pub record IsStill (old new : Driver) : Type 0 where
+  pub none : length new.events.items ≤ length old.events.items
+  pub room : length new.events.items < MOST_EVENTS
+
+-- one event was added, and it was played, if there was room for it
+pub record PlaysOne (old new : Driver) (event : Event) (result : Result (Unit {0}) SimFault) : Type 0 where
+  pub room : length old.events.items < MOST_EVENTS
+  pub events : OnOk result (new.events.items ≡ old.events.items ++ event ∷ [])
+  pub plays : (starts : Starts) (run : Run) → Shows starts old.world run → PlaysTo starts new.world (event_on run event) result
+
+-- there was no room for it, and nothing changed
+pub record IsFull (old new : Driver) (result : Result (Unit {0}) SimFault) : Type 0 where
+  pub full : MOST_EVENTS ≤ length old.events.items
+  pub same : new ≡ old
+  pub ok : result ≡ Ok tt

@@ -1,0 +1,8 @@
+# Each node adds 1 to word 0, with no lock: all but one addition may be lost. Compare examples/counter.tm.
+words 1;
+locks 0;
+x = [0];
+[0] = x + 1;
+barrier;
+y = [0];
+print y;
