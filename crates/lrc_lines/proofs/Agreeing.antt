@@ -9,7 +9,8 @@ use Rattle.lrc_trace.specs.declared.act.Act.{Act}
 use Rattle.lrc_trace.specs.declared.act.Cause.TheVariants.{DivisionByZero, WordOutOfRange, LockOutOfRange, LockHeld, LockNotHeld}
 use Rattle.lrc_trace.specs.declared.act.Deed.{Deed}
 use Rattle.lrc_trace.specs.declared.act.Deed.TheVariants as deeds
-use Rattle.lrc_exec.specs.Meaning.{Thread, Next, acquires, releases, departs, traps, holds, then_holds, or_trap, value_in, block, chosen, act_of, first_act, next_of}
+use Rattle.lrc_exec.specs.Meaning.{Thread, Next, acquires, releases, departs, traps, holds, then_holds, or_trap, value_in}
+use Rattle.lrc_exec.specs.Meaning.{block, chosen, act_of, first_act, next_of}
 use Rattle.lrc_exec.specs.Ask.{ask_of, done, answered}
 use Rattle.lrc_exec.specs.Condition.{is_met, first_is_met, condition_holds}
 use Rattle.lrc_lines.specs.Tasks.{Task, behind, behind_block, tasks, beyond, passed}
@@ -65,12 +66,14 @@ module _ (value : ℕ) (t : Thread) (stays : t.arrived ≡ false) where
   leads (Acquire e) lines rest more same =
       on_value (Leads (statements more)) (value_in t e) _ (stuck (statements more) DivisionByZero)
       (λ l is. on_if (Leads (statements more)) (nat_lt l t.setting.locks) _ _
-      (on_if (Leads (statements more)) (holds t l) (traps LockHeld) (acquires l (then_holds t rest l true)) (stuck (statements more) LockHeld) (λ goes. (sym same, stays)))
+      (on_if (Leads (statements more)) (holds t l) (traps LockHeld) (acquires l (then_holds t rest l true)) (stuck (statements more) LockHeld)
+      (λ goes. (sym same, stays)))
       (stuck (statements more) LockOutOfRange))
   leads (Release e) lines rest more same =
       on_value (Leads (statements more)) (value_in t e) _ (stuck (statements more) DivisionByZero)
       (λ l is. on_if (Leads (statements more)) (nat_lt l t.setting.locks) _ _
-      (on_if (Leads (statements more)) (holds t l) (releases l (then_holds t rest l false)) (traps LockNotHeld) (λ goes. (sym same, stays)) (stuck (statements more) LockNotHeld))
+      (on_if (Leads (statements more)) (holds t l) (releases l (then_holds t rest l false)) (traps LockNotHeld) (λ goes. (sym same, stays))
+      (stuck (statements more) LockNotHeld))
       (stuck (statements more) LockOutOfRange))
   leads Barrier lines rest more same = λ goes. (sym same, refl)
   leads (Print e) lines rest more same =

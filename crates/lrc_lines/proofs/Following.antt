@@ -1,6 +1,7 @@
 -- Where deeds lead a walk.
-use Rattle.std.proofs.Common.{◌≡◌, ℕ, Bool, true, false, List, Result, Ok, Err, refl, sym, ap, ◌∙◌}
-use Rattle.std.specs.Prelude.{if◌then◌else◌, OnOk}
+use Rattle.std.proofs.Common.{◌≡◌, ℕ, suc, ◌-◌, Bool, true, false, List, [], ◌∷◌, length, fold, Some, None, Result, Ok, Err, refl, sym, ap, ◌∙◌, arith}
+use Rattle.std.specs.Prelude.{if◌then◌else◌, slice_get, OnOk}
+use Rattle.std.proofs.lemmas.Option.{same_Some, slice_get-get_or}
 use Rattle.lrc_trace.specs.declared.act.Deed.{Deed}
 use Rattle.lrc_trace.specs.declared.act.Deed.TheVariants.{Quiet, Print, Read, Write, Acquire, Release, Arrive, Depart, Trap, End}
 use Rattle.lrc_exec.specs.declared.machine.Ask.{Ask}
@@ -57,3 +58,21 @@ led_onward w End not_arrive not_trap not_end not_read = absurd (not_end refl)
 pub on_ok : {E A : Type 0} {P Q : Type 0} (r : Result A E) → (P → Q) → OnOk r P → OnOk r Q
 on_ok (Ok x) f h = f h
 on_ok (Err e) f h = tt
+
+-- ---- the text's end
+
+-- the last line is the text's end
+pub end_of_last : (from line : ℕ) (lines : List ℕ) → slice_get lines (length lines - 1) ≡ Some line → fold (λ _ l. l) from lines ≡ line
+end_of_last from line [] is = cc
+end_of_last from line (x ∷ []) is =
+    let place : length (x ∷ []) - 1 ≡ 0 = omega arith in
+    same_Some x line (sym (ap (slice_get (x ∷ [])) place) ∙ is)
+end_of_last from line (x ∷ y ∷ rest) is =
+    let place : length (x ∷ y ∷ rest) - 1 ≡ suc (length (y ∷ rest) - 1) = omega arith in
+    end_of_last x line (y ∷ rest) (sym (ap (slice_get (x ∷ y ∷ rest)) place) ∙ is)
+
+pub end_of_none : (lines : List ℕ) → slice_get lines (length lines - 1) ≡ None → lines ≡ []
+end_of_none [] is = refl
+end_of_none (x ∷ rest) is =
+    let there = slice_get-get_or (x ∷ rest) (length (x ∷ rest) - 1) x (omega arith) in
+    cc

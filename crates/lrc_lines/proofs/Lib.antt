@@ -1,3 +1,4 @@
 pub mod Agreeing
 pub mod Following
 pub mod Passing
+pub mod Several

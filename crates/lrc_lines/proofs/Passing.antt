@@ -1,5 +1,6 @@
 -- What is still to do once a statement is passed.
-use Rattle.std.proofs.Common.{◌≡◌, ℕ, suc, ◌+◌, ◌-◌, ◌<◌, get_or, take, Bool, true, false, List, [], ◌∷◌, ◌++◌, length, drop, fold, Some, None, refl, sym, ap, ◌∙◌, arith}
+use Rattle.std.proofs.Common.{◌≡◌, ℕ, suc, ◌+◌, ◌-◌, ◌<◌, Bool, true, false, List, [], ◌∷◌, ◌++◌, Some, None, refl, sym, ap, ◌∙◌, arith}
+use Rattle.std.proofs.Common.{get_or, take, length, drop, fold}
 use Rattle.std.specs.Prelude.{slice_get, slice_index_or}
 use Rattle.std.proofs.lemmas.List.{take_more}
 use Rattle.std.proofs.lemmas.Option.{same_Some, slice_get-get_or}
@@ -14,7 +15,7 @@ use Rattle.lrc_lines.specs.Ways.{tasks_of, todo_of}
 
 -- ---- lines
 
-fold_append : {A B : Type 0} (f : B → A → B) (from : B) (a b : List A) → fold f from (a ++ b) ≡ fold f (fold f from a) b
+pub fold_append : {A B : Type 0} (f : B → A → B) (from : B) (a b : List A) → fold f from (a ++ b) ≡ fold f (fold f from a) b
 fold_append f from [] b = refl
 fold_append f from (x ∷ a) b = fold_append f (f from x) a b
 
@@ -130,3 +131,6 @@ passed_loop holds old items pushed s e v body inside todo holds_is old_is pushed
     ∙ ap (λ l. tasks v.items (drop 1 s.lines.now) ++ l) (todo_of_push pushed items s pushed_is)
     ∙ sym (passed_pop holds old items s old_is ∙ ap (λ b. beyond b s.first.now s.lines.now (rest_of s items)) holds_is
     ∙ beyond_while_true s.first.now e v s.lines.now (rest_of s items) is)
+
+-- whatever a statement is, where it leads
+pub ruleset passings = (passed_pop, todo_of_push, beyond_if_true, beyond_if_false, beyond_while_true, beyond_while_false, beyond_straight)

@@ -1,5 +1,6 @@
 -- The lines of acts. A node's deeds lead its thread through the text, and with it what is still to do, each with its line.
-use Rattle.std.specs.Prelude.{ℕ, ◌==◌, Bool, true, false, List, [], ◌∷◌, ◌++◌, fold, if◌then◌else◌}
+use Rattle.std.specs.Prelude.{ℕ, ◌==◌, nat_lt, Bool, true, false, List, [], ◌∷◌, ◌++◌, fold, map, if◌then◌else◌}
+use Rattle.std.specs.List.{range_with_len}
 use Rattle.lrc_lang.specs.declared.program.Program.{Program}
 use Rattle.lrc_trace.specs.declared.act.Act.{Act}
 use Rattle.lrc_trace.specs.declared.act.Deed.{Deed}
@@ -63,11 +64,20 @@ line_at end walk = line_of end walk.todo
 abbrev pub end_of : (lines : List ℕ) → ℕ
 end_of = fold (λ _ line. line) 0
 
+-- the same, of each node of a run
+abbrev pub walks_behind : Program → (nodes : ℕ) → (lines : List ℕ) → List Act → List Walk
+walks_behind program nodes lines acts = map (walk_behind program nodes lines acts) (range_with_len 0 nodes)
+
+-- the line that the acts so far have led a node to; where there is no such node, the line of the text's end
+abbrev pub line_behind : Program → (nodes : ℕ) → (lines : List ℕ) → List Act → (node : ℕ) → ℕ
+line_behind program nodes lines acts node =
+    if nat_lt node nodes then line_at (end_of lines) (walk_behind program nodes lines acts node) else end_of lines
+
 -- The lines of acts that come behind these ones: of each the line that its node has come to.
 abbrev pub lines_behind : Program → (nodes : ℕ) → (lines : List ℕ) → (before acts : List Act) → List ℕ
 lines_behind program nodes lines before [] = []
 lines_behind program nodes lines before (act ∷ acts) =
-    line_at (end_of lines) (walk_behind program nodes lines before act.node) ∷ lines_behind program nodes lines (before ++ act ∷ []) acts
+    line_behind program nodes lines before act.node ∷ lines_behind program nodes lines (before ++ act ∷ []) acts
 
 -- the lines of acts
 abbrev pub lines_of : Program → (nodes : ℕ) → (lines : List ℕ) → (acts : List Act) → List ℕ

@@ -3,4 +3,5 @@
 
 pub mod laws;
 pub mod walk;
+pub mod walks;
 mod way;

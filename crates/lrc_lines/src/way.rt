@@ -101,7 +101,7 @@ impl<'c> Way<'c> {
     }
 
     // What comes next is done, or its condition was evaluated.
-    #[tactic(auto, using(crate::proofs::Passing::passed_pop, crate::proofs::Passing::todo_of_push, crate::proofs::Passing::beyond_if_true, crate::proofs::Passing::beyond_if_false, crate::proofs::Passing::beyond_while_true, crate::proofs::Passing::beyond_while_false, crate::proofs::Passing::beyond_straight))]
+    #[tactic(auto, using(crate::proofs::Passing::passings))]
     pub(crate) fn pass(&mut self, holds: bool) -> Result<(), AllocError>
         ensures { OnOk result (todo_of self.new.stretches.items ≡ passed holds (todo_of self.old.stretches.items)) }
     {
