@@ -10,6 +10,8 @@ mod execution;
 #[cfg(test)]
 mod language;
 #[cfg(test)]
+mod lines;
+#[cfg(test)]
 mod races;
 #[cfg(test)]
 mod runs;

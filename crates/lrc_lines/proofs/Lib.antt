@@ -1,0 +1,4 @@
+pub mod Agreeing
+pub mod Following
+pub mod Passing
+pub mod Several

@@ -1,0 +1,5 @@
+pub mod Seen
+pub mod Standing
+pub mod Tasks
+pub mod Walks
+pub mod Ways

@@ -1,0 +1,141 @@
+// The nodes of a run on their ways through the text.
+
+ghost use Rattle.std.specs.Prelude.{◌≡◌, ◌++◌, ◌∷◌, [], ℕ, List, map, slice_index_or, IfOk, OnOk};
+ghost use Rattle.lrc_lang.specs.declared.program.Program.{Program};
+ghost use Rattle.lrc_exec.specs.Ask.{ask_of};
+ghost use Rattle.lrc_exec.specs.Meaning.{next_of};
+ghost use Rattle.lrc_lines.specs.Seen.{walks_of};
+ghost use Rattle.lrc_lines.specs.Walks.{walks_behind, line_at, lines_of, end_of};
+
+use crate::walk::Walk;
+use lrc_exec::code::Code;
+use lrc_exec::machine::Ask;
+use lrc_trace::act::Act;
+use std::alloc::{AllocError, Global};
+
+/// Where each node of a run is in the text.
+#[derive(Drop)]
+pub struct Walks<'c> {
+    nodes: Vec<Walk<'c>>,
+    end: u32,
+}
+
+/// Acts that were followed.
+#[derive(Drop)]
+pub struct Followed<'c> {
+    /// The line of each act.
+    pub lines: Vec<u32>,
+    /// Where the nodes are once the acts are done.
+    pub walks: Walks<'c>,
+}
+
+// The line of the text's end, which comes last.
+#[tactic(auto, using(crate::proofs::Following::end_of_last, crate::proofs::Following::end_of_none))]
+fn end_of(lines: &[u32]) -> u32
+    ensures { result ≡ end_of lines.now }
+{
+    match lines.last() {
+        Some(end) => *end,
+        None => 0,
+    }
+}
+
+impl<'c> Walks<'c> {
+    /// Nodes 0, 1, .. at the beginning of a program whose statements, and the text's end behind them, have these lines.
+    pub fn start(
+        alloc: Global,
+        code: &'c Code<'_>,
+        lines: &'c [u32],
+        nodes: u8,
+    ) -> Result<Walks<'c>, AllocError>
+        ensures walks { IfOk result (λ walks. walks_of walks ≡ walks_behind code.now nodes lines.now []) }
+        ensures end { IfOk result (λ walks. walks.end ≡ end_of lines.now) }
+    {
+        let mut walks = Vec::new(alloc);
+        for me in 0..nodes {
+            walks.push(Walk::start(alloc, code, lines, nodes, me)?)?;
+        }
+        Ok(Walks {
+            nodes: walks,
+            end: end_of(lines),
+        })
+    }
+
+    /// What a node's thread asks for next; at a barrier to which it has come that is the barrier still. Where there is
+    /// no such node, it is the end.
+    pub fn ask(&self, node: u8) -> Ask
+        ensures { result ≡ slice_index_or (map (λ walk. ask_of (next_of walk.thread)) (walks_of self.now)) node Ask.End }
+    {
+        let node = usize::from(node);
+        if node < self.nodes.len() {
+            self.nodes[node].ask()
+        } else {
+            Ask::End
+        }
+    }
+
+    /// The line of what a node comes to next. Where there is no such node, it is the line of the text's end.
+    pub fn line(&self, node: u8) -> u32
+        ensures { result ≡ slice_index_or (map (line_at self.now.end) (walks_of self.now)) node self.now.end }
+    {
+        let node = usize::from(node);
+        if node < self.nodes.len() {
+            self.nodes[node].line(self.end)
+        } else {
+            self.end
+        }
+    }
+
+    /// An act is done. After an error nothing is promised of where its node is.
+    pub fn follow(&mut self, act: &Act) -> Result<(), AllocError>
+        ensures walks { (program : Program) (nodes : ℕ) (lines : List ℕ) (before : List Act)
+            → walks_of self.old ≡ walks_behind program nodes lines before
+            → OnOk result (walks_of self.new ≡ walks_behind program nodes lines (before ++ act.now ∷ [])) }
+        ensures end { self.new.end ≡ self.old.end }
+    {
+        let node = usize::from(act.node);
+        if node < self.nodes.len() {
+            self.nodes[node].follow(act.deed)
+        } else {
+            Ok(())
+        }
+    }
+}
+
+/// Follows acts of nodes 0, 1, .. from the beginning of a program whose statements, and the text's end behind them, have
+/// these lines.
+pub fn follow_acts<'c>(
+    alloc: Global,
+    code: &'c Code<'_>,
+    lines: &'c [u32],
+    nodes: u8,
+    acts: &[Act],
+) -> Result<Followed<'c>, AllocError>
+    ensures lines { IfOk result (λ followed. followed.lines.items ≡ lines_of code.now nodes lines.now acts.now) }
+    ensures walks { IfOk result (λ followed. walks_of followed.walks ≡ walks_behind code.now nodes lines.now acts.now) }
+    ensures end { IfOk result (λ followed. followed.walks.end ≡ end_of lines.now) }
+{
+    let mut walks = Walks::start(alloc, code, lines, nodes)?;
+    let mut found = Vec::new(alloc);
+    for act in acts {
+        found.push(walks.line(act.node))?;
+        walks.follow(act)?;
+    }
+    Ok(Followed {
+        lines: found,
+        walks,
+    })
+}
+
+/// The lines of acts: of each the line of the statement that it is of, or for an end that of the text's end.
+pub fn lines_of_acts(
+    alloc: Global,
+    code: &Code<'_>,
+    lines: &[u32],
+    nodes: u8,
+    acts: &[Act],
+) -> Result<Vec<u32>, AllocError>
+    ensures { IfOk result (λ found. found.items ≡ lines_of code.now nodes lines.now acts.now) }
+{
+    Ok(follow_acts(alloc, code, lines, nodes, acts)?.lines)
+}
