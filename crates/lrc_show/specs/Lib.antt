@@ -1,4 +1,5 @@
 pub mod Each
 pub mod ActsText
+pub mod Json
 pub mod Tally
 pub mod Rapid
