@@ -3,3 +3,4 @@ pub mod ActsText
 pub mod Json
 pub mod Tally
 pub mod Rapid
+pub mod RapidOrder

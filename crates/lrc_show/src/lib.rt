@@ -3,6 +3,7 @@
 
 mod acts;
 mod json;
+pub mod laws;
 mod rapid;
 mod tally;
 
