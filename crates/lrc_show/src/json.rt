@@ -2,7 +2,8 @@
 
 ghost use Rattle.std.specs.Prelude.{◌≡◌, ◌++◌, IfOk, OnOk, length};
 ghost use Rattle.lrc_trace.specs.Interval.{closes};
-ghost use Rattle.lrc_show.specs.Json.{access_members, act_json, deed_json, deed_members, deed_name, entry_text, json_line, json_of_acts, place_json, time_json, with_commas};
+ghost use Rattle.lrc_show.specs.Json.{access_members, act_json, deed_json, deed_members, deed_name, entry_text};
+ghost use Rattle.lrc_show.specs.Json.{json_line, json_of_acts, place_json, time_json, with_commas};
 
 use crate::tally::Tally;
 use lrc_text::push_number;
