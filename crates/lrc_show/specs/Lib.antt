@@ -1,4 +1,6 @@
 pub mod Each
 pub mod ActsText
+pub mod Json
 pub mod Tally
 pub mod Rapid
+pub mod RapidOrder

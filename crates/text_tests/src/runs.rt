@@ -1,0 +1,153 @@
+// Runs, and their texts.
+
+use lrc_show::{acts_part, json_part, rapid_part};
+use lrc_time::Time;
+use lrc_trace::act::{Act, Deed};
+use std::alloc::{AllocError, Global};
+
+fn act(node: u8, deed: Deed) -> Act {
+    Act { node, deed }
+}
+
+// Whether this is the text of the acts, of which each is of a line.
+fn says_acts(alloc: Global, acts: &[Act], lines: &[u32], text: &[u8]) -> Result<bool, AllocError> {
+    if lines.len() != acts.len() {
+        return Ok(false);
+    }
+    let part = acts_part(alloc, acts, lines)?;
+    Ok(part.as_slice() == text)
+}
+
+// Whether this is the trace of the acts of a program with so many locks on so many nodes.
+fn says_rapid(
+    alloc: Global,
+    acts: &[Act],
+    lines: &[u32],
+    locks: u8,
+    nodes: u8,
+    text: &[u8],
+) -> Result<bool, AllocError> {
+    if lines.len() != acts.len() {
+        return Ok(false);
+    }
+    let part = rapid_part(alloc, acts, lines, locks, nodes)?;
+    Ok(part.as_slice() == text)
+}
+
+// One node writes a word under a lock and another outside it, and then the other node reads both under the lock.
+fn passed_on() -> [Act; 14] {
+    [
+        act(0, Deed::Quiet),
+        act(0, Deed::Acquire(0)),
+        act(0, Deed::Write(0, 1)),
+        act(0, Deed::Release(0)),
+        act(0, Deed::Write(1, 2)),
+        act(1, Deed::Quiet),
+        act(1, Deed::Acquire(0)),
+        act(1, Deed::Read(0, 1)),
+        act(1, Deed::Read(1, 0)),
+        act(1, Deed::Release(0)),
+        act(1, Deed::Print(1)),
+        act(1, Deed::Print(0)),
+        act(1, Deed::End),
+        act(0, Deed::End),
+    ]
+}
+
+const LINES: [u32; 14] = [3, 4, 5, 6, 7, 3, 9, 10, 11, 12, 13, 14, 16, 16];
+
+const ACTS_TEXT: &[u8] =
+    b"0 quiet # line 3\n0 acquire 0 # line 4\n0 write 0 1 # line 5\n0 release 0 # line 6\n0 write 1 2 # line 7
+1 quiet # line 3\n1 acquire 0 # line 9\n1 read 0 1 # line 10\n1 read 1 0 # line 11\n1 release 0 # line 12
+1 print 1 # line 13\n1 print 0 # line 14\n1 end # line 16\n0 end # line 16\n";
+
+#[test]
+fn a_line_for_each_act(rt: HostRuntime) {
+    assert!(rt; says_acts(rt.alloc(), &passed_on(), &LINES, ACTS_TEXT) == Ok(true));
+}
+
+// The time of one of two nodes that knows so many intervals of each.
+fn time(first: u32, second: u32) -> Time {
+    let mut time = Time::new(2);
+    if first > 0 {
+        time.raise(0, first);
+    }
+    if second > 0 {
+        time.raise(1, second);
+    }
+    time
+}
+
+// The nodes' times just after the first acts.
+fn times() -> [Time; 8] {
+    [
+        time(0, 0),
+        time(1, 0),
+        time(1, 0),
+        time(2, 0),
+        time(2, 0),
+        time(0, 0),
+        time(2, 1),
+        time(2, 1),
+    ]
+}
+
+// Whether this is what the acts are as JSON.
+fn says_json(
+    alloc: Global,
+    acts: &[Act],
+    lines: &[u32],
+    times: &[Time],
+    text: &[u8],
+) -> Result<bool, AllocError> {
+    if lines.len() != acts.len() || times.len() != acts.len() {
+        return Ok(false);
+    }
+    let part = json_part(alloc, acts, lines, times)?;
+    Ok(part.as_slice() == text)
+}
+
+const JSON_TEXT: &[u8] =
+    b"{\"act\":0,\"node\":0,\"deed\":\"quiet\",\"line\":3,\"interval\":1,\"time\":[0,0]}
+{\"act\":1,\"node\":0,\"deed\":\"acquire\",\"lock\":0,\"line\":4,\"interval\":1,\"time\":[1,0]}
+{\"act\":2,\"node\":0,\"deed\":\"write\",\"word\":0,\"value\":1,\"line\":5,\"interval\":2,\"time\":[1,0]}
+{\"act\":3,\"node\":0,\"deed\":\"release\",\"lock\":0,\"line\":6,\"interval\":2,\"time\":[2,0]}
+{\"act\":4,\"node\":0,\"deed\":\"write\",\"word\":1,\"value\":2,\"line\":7,\"interval\":3,\"time\":[2,0]}
+{\"act\":5,\"node\":1,\"deed\":\"quiet\",\"line\":3,\"interval\":1,\"time\":[0,0]}
+{\"act\":6,\"node\":1,\"deed\":\"acquire\",\"lock\":0,\"line\":9,\"interval\":1,\"time\":[2,1]}
+{\"act\":7,\"node\":1,\"deed\":\"read\",\"word\":0,\"value\":1,\"line\":10,\"interval\":2,\"time\":[2,1]}\n";
+
+#[test]
+fn an_object_for_each_act(rt: HostRuntime) {
+    let acts = passed_on();
+    assert!(rt; says_json(rt.alloc(), &acts[..8], &LINES[..8], &times(), JSON_TEXT) == Ok(true));
+}
+
+const RAPID_TEXT: &[u8] = b"T0|acq(L0)|4\nT0|w(V0)|5\nT0|rel(L0)|6\nT0|w(V1)|7\nT1|acq(L0)|9
+T1|r(V0)|10\nT1|r(V1)|11\nT1|rel(L0)|12\n";
+
+#[test]
+fn accesses_and_locks_as_a_trace(rt: HostRuntime) {
+    assert!(rt; says_rapid(rt.alloc(), &passed_on(), &LINES, 1, 2, RAPID_TEXT) == Ok(true));
+}
+
+// Two nodes come to a barrier and go on, one of them comes to a second one, and the other gets the third lock.
+fn met() -> [Act; 6] {
+    [
+        act(0, Deed::Arrive),
+        act(1, Deed::Arrive),
+        act(1, Deed::Depart),
+        act(1, Deed::Arrive),
+        act(0, Deed::Depart),
+        act(0, Deed::Acquire(2)),
+    ]
+}
+
+const MET_TEXT: &[u8] = b"T0|acq(L3)|4\nT0|rel(L3)|4\nT1|acq(L4)|4\nT1|rel(L4)|4
+T1|acq(L3)|4\nT1|rel(L3)|4\nT1|acq(L4)|4\nT1|rel(L4)|4\nT1|acq(L6)|5\nT1|rel(L6)|5
+T0|acq(L3)|4\nT0|rel(L3)|4\nT0|acq(L4)|4\nT0|rel(L4)|4\nT0|acq(L2)|9\n";
+
+#[test]
+fn barriers_are_locks_past_those_of_the_program(rt: HostRuntime) {
+    assert!(rt; says_rapid(rt.alloc(), &met(), &[4, 4, 4, 5, 4, 9], 3, 2, MET_TEXT) == Ok(true));
+}
