@@ -8,3 +8,11 @@ pub mod Keeping
 pub mod Naming
 pub mod Ascending
 mod Touching
+mod LastWritten
+mod Additions
+mod Entering
+mod Crossing
+mod PairOrder
+mod LatestWrites
+mod Allowed
+mod Searching

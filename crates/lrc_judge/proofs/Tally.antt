@@ -15,19 +15,7 @@ use Rattle.lrc_trace.proofs.HappensBefore.{forward, transitive}
 use Rattle.lrc_judge.specs.Reading.{Misreads}
 use Rattle.lrc_trace.proofs.Decided.{HappensBefore-decided}
 use Rattle.lrc_judge.specs.declared.reading.StoredValue.{StoredValue}
-
--- the last write before position n, if there is one
-abbrev pub IsLast : List Act → ℕ → ℕ → ℕ → Option StoredValue → Type 0
-IsLast run j word n None = (k v : ℕ) → k < n → WrittenBefore run j word k v → ⊥
-IsLast run j word n (Some w) = (w.position < n) × WrittenBefore run j word w.position w.value
-    × ((k v : ℕ) → k < n → WrittenBefore run j word k v → k ≤ w.position)
-
--- of the writes before position n that happen before j: whether one writes the value, whether any two are ordered, and
--- the last
-pub record IsTally (run : List Act) (j word value n : ℕ) (is_written are_ordered : Bool) (last : Option StoredValue) : Type 0 where
-  pub written : (is_written ≡ true) ↔ ((value ≡ 0) ⊎ ((i : ℕ) × (i < n) × WrittenBefore run j word i value))
-  pub ordered : (are_ordered ≡ true) ↔ ((i k u v : ℕ) → k < n → WrittenBefore run j word i u → WrittenBefore run j word k v → i < k → HappensBefore run i k)
-  pub latest : IsLast run j word n last
+use Rattle.lrc_judge.specs.Tally.{IsLast, IsTally}
 
 -- a write of one position has one value
 WrittenBefore-one : {run : List Act} {j word i u v : ℕ} → WrittenBefore run j word i u → WrittenBefore run j word i v → u ≡ v
@@ -275,6 +263,36 @@ module _ (run : List Act) (j word value : ℕ) where
         | inl may ↦ inl (d.0 may)
         | inr fails ↦ inr (λ m. false≢true (sym fails ∙ d.1 m))
       ]
+
+-- What may be read, by a tally of any value.
+module _ (run : List Act) (j word told : ℕ) (is_written are_ordered : Bool) (last : Option StoredValue)
+    (t : IsTally run j word told j is_written are_ordered last) where
+  retold : (value : ℕ) → IsTally run j word value j (some_tally run j word value j).is_written are_ordered last
+  retold value = record { written = (some_tally run j word value j).tally.written; ordered = t.ordered; latest = t.latest }
+
+  -- where the writes are unordered, 0 and what they wrote
+  pub may_any : are_ordered ≡ false → (value : ℕ) → IsSomeWrite run j word value ↔ MayRead run j word value
+  may_any unordered value =
+      let r = retold value in
+      let w = (some_tally run j word value j).is_written in (
+        λ s. may_from run j word value w are_ordered last r (r.written.1 (elim s [ inl nothing ↦ inl nothing | inr (i, b) ↦ inr (i, forward b.before, b) ]))
+            (λ ordered. absurd (false≢true (sym unordered ∙ ordered))),
+        λ m. m.weak,
+      )
+
+  -- where they are ordered, what the last of them wrote, or 0
+  pub may_last : are_ordered ≡ true → (value : ℕ) → (value ≡ option_map_or (λ (w : StoredValue). w.value) last 0) ↔ MayRead run j word value
+  may_last ordered value =
+      let r = retold value in
+      let w = (some_tally run j word value j).is_written in (
+        λ e. may_from run j word value w are_ordered last r (r.written.1 (some last t.latest e)) (λ _. e),
+        λ m. (from_may run j word value w are_ordered last r m).1 ordered,
+      )
+    where
+      some : (l : Option StoredValue) → IsLast run j word j l → value ≡ option_map_or (λ (w : StoredValue). w.value) l 0
+          → (value ≡ 0) ⊎ ((i : ℕ) × (i < j) × WrittenBefore run j word i value)
+      some None none e = inl e
+      some (Some w) (within, written, max) e = inr (w.position, within, subst (λ v. WrittenBefore run j word w.position v) (sym e) written)
 
 -- no position misreads exactly where all reads are lazy
 pub no_misread : (run : List Act) → ((j : ℕ) → Misreads run j → ⊥) ↔ ReadsLazily run

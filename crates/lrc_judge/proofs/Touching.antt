@@ -144,7 +144,7 @@ pub AreTouched-same : (run : List Act) (n : ℕ) (words : BTreeMap ℕ Touched) 
 AreTouched-same run n words none old = λ word. same_or run n word (get nat_cmp words word) (λ p. none p word) (old word)
 
 -- another word is at another key
-apart_at : (k q : ℕ) → (q ≡ k → ⊥) → is_at (nat_cmp k) q ≡ false
+pub apart_at : (k q : ℕ) → (q ≡ k → ⊥) → is_at (nat_cmp k) q ≡ false
 apart_at k q other =
     elim (cases_lt k q) [
       | inl less ↦ ap is_eq (sym (nat_cmp_is k q Less less))

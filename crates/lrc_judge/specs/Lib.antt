@@ -1,5 +1,11 @@
+pub mod Adding
+pub mod Allowed
+pub mod InOrder
+pub mod Lanes
+pub mod Latest
 pub mod Log
 pub mod Order
+pub mod Pairs
 pub mod Past
 pub mod Races
 pub mod Reading
@@ -8,3 +14,5 @@ pub mod Standing
 pub mod Synchronization
 pub mod Touched
 pub mod Unreached
+pub mod Tally
+pub mod Written

@@ -10,9 +10,14 @@ use lrc_time::MOST_NODES;
 use lrc_trace::act::Act;
 
 mod accesses;
+mod entries;
 pub mod first;
+pub mod in_order;
+mod lanes;
+mod latest;
 pub mod laws;
 pub mod order;
+pub mod pairs;
 mod past;
 pub mod races;
 mod reach;
@@ -20,6 +25,7 @@ pub mod reading;
 mod segments;
 pub mod synchronization;
 mod touched;
+mod written;
 
 /// How many nodes a run has at most.
 pub const NODES: usize = MOST_NODES;

@@ -1,14 +1,20 @@
 // Lazy reading.
-ghost use Rattle.std.specs.Prelude.{◌≡◌, ℕ, ◌<◌, ◌≤◌, ◌↔◌, ◌==◌, ◌||◌, ◌&&◌, All, IsTrue, IfOk, MatchOption, Some, true, not, length};
+ghost use Rattle.std.specs.Prelude.{◌≡◌, ℕ, ◌<◌, ◌≤◌, ◌↔◌, ◌&&◌, All, Bool, IsTrue, IfOk, OnOk, MatchBool, MatchOption, Some, true, length};
 ghost use Rattle.std.specs.Option.{option_map_or};
-ghost use Rattle.lrc_trace.specs.declared.act.Deed.TheVariants.{Write};
+ghost use Rattle.lrc_trace.specs.declared.act.Deed.TheVariants.{Read, Write};
 ghost use Rattle.lrc_trace.specs.Run.{IsDone};
-ghost use Rattle.lrc_trace.specs.Reading.{MayRead, ReadsLazily};
+ghost use Rattle.lrc_trace.specs.Reading.{AreOrdered, IsSomeWrite, MayRead, ReadsLazily};
+ghost use Rattle.lrc_judge.specs.Adding.{Adds};
+ghost use Rattle.lrc_judge.specs.Allowed.{AreAllowed};
 ghost use Rattle.lrc_judge.specs.Order.{is_before, IsOrderOf};
-ghost use Rattle.lrc_judge.specs.Reading.{IsFirstMisread};
+ghost use Rattle.lrc_judge.specs.Tally.{IsTally};
+ghost use Rattle.lrc_judge.specs.Reading.{Misreads, IsFirstMisread};
+ghost use Rattle.lrc_judge.specs.Written.{AreFlags, IsWrittenOf};
+ghost use Rattle.lrc_judge.specs.declared.TheConstants.{NODES};
 
 use crate::NODES;
 use crate::order::{Order, happens_before};
+use crate::written::Written;
 use lrc_trace::act::{Act, Deed};
 use std::alloc::{AllocError, Global};
 
@@ -31,11 +37,9 @@ fn stored_at(acts: &[Act], position: usize, word: u32) -> Option<StoredValue>
     }
 }
 
-/// What the writes to a word so far that happen before a read say of the value that it gives.
+/// What the writes to a word so far that happen before a position say of a read there.
 #[derive(Clone, Copy)]
 struct Tally {
-    /// Whether the value is 0 or one of them writes it.
-    is_written: bool,
     /// Whether any two of them are ordered.
     are_ordered: bool,
     /// The last of them.
@@ -43,9 +47,8 @@ struct Tally {
 }
 
 impl Tally {
-    /// One write more.
-    fn with(self, order: &Order, write: StoredValue, value: u64) -> Tally
-        ensures written { result.is_written ≡ (self.is_written || (write.value == value)) }
+    // One write more.
+    fn with(self, order: &Order, write: StoredValue) -> Tally
         ensures ordered { result.are_ordered ≡ (self.are_ordered
             && option_map_or (λ w. is_before order.now w.position write.position) self.last true) }
         ensures last { result.last ≡ Some write }
@@ -55,33 +58,29 @@ impl Tally {
             None => true,
         };
         Tally {
-            is_written: self.is_written || write.value == value,
             are_ordered: self.are_ordered && follows,
             last: Some(write),
         }
     }
 
-    /// Whether the read may give the value.
-    fn allows(self, value: u64) -> bool
-        ensures { result ≡ (self.is_written
-            && (not self.are_ordered || (value == option_map_or (λ w. w.value) self.last 0))) }
+    // What the last of them writes, or 0.
+    fn latest(self) -> u64
+        ensures { result ≡ option_map_or (λ w. w.value) self.last 0 }
     {
-        let latest = match self.last {
+        match self.last {
             Some(last) => last.value,
             None => 0,
-        };
-        self.is_written && (!self.are_ordered || value == latest)
+        }
     }
 }
 
-/// Whether the read of the word at this position may give the value.
-fn may_read(order: &Order, acts: &[Act], position: usize, word: u32, value: u64) -> bool
+// What the writes to the word that happen before this position say of a read there.
+fn tally_of(order: &Order, acts: &[Act], position: usize, word: u32) -> Tally
     requires order { IsOrderOf acts.now order.now }
     requires within { position < length acts.now }
-    ensures { IsTrue result ↔ MayRead acts.now position word value }
+    ensures { (w : Bool) × IsTally acts.now position word 0 position w result.are_ordered result.last }
 {
     let mut tally = Tally {
-        is_written: value == 0,
         are_ordered: true,
         last: None,
     };
@@ -90,26 +89,109 @@ fn may_read(order: &Order, acts: &[Act], position: usize, word: u32, value: u64)
             continue;
         };
         if order.is_before(earlier, position) {
-            tally = tally.with(order, write, value);
+            tally = tally.with(order, write);
         }
     }
-    tally.allows(value)
+    tally
+}
+
+// Adds 0 and what the writes to the word that happen before this position wrote.
+fn add_written(
+    values: &mut Vec<u64>,
+    order: &Order,
+    acts: &[Act],
+    position: usize,
+    word: u32,
+) -> Result<(), AllocError>
+    requires order { IsOrderOf acts.now order.now }
+    requires within { position < length acts.now }
+    ensures { OnOk result (Adds values.old.items values.new.items (IsSomeWrite acts.now position word)) }
+{
+    values.push(0)?;
+    for earlier in 0..position {
+        let Some(write) = stored_at(acts, earlier, word) else {
+            continue;
+        };
+        if order.is_before(earlier, position) {
+            values.push(write.value)?;
+        }
+    }
+    Ok(())
+}
+
+/// The values that a read of the word at this position may give, ascending, each once: where the writes that happen before
+/// it are ordered the last one's, or 0 where there are none; else 0 and what they wrote.
+pub fn values_allowed(
+    alloc: Global,
+    acts: &[Act],
+    position: usize,
+    word: u32,
+) -> Result<Vec<u64>, AllocError>
+    requires nodes { All (λ act. act.node < NODES) acts.now }
+    requires within { position < length acts.now }
+    ensures { IfOk result (λ values. AreAllowed acts.now position word values.items) }
+{
+    let order = happens_before(alloc, acts)?;
+    let tally = tally_of(&order, acts, position, word);
+    let mut values = Vec::new(alloc);
+    if tally.are_ordered {
+        values.push(tally.latest())?;
+    } else {
+        add_written(&mut values, &order, acts, position, word)?;
+    }
+    values.sort_unstable();
+    values.dedup();
+    Ok(values)
+}
+
+// Whether any two of the writes that happen before the write at this position are ordered. Of another act nothing is asked.
+fn flag_at(written: &Written, ordered: &[bool], acts: &[Act], position: usize) -> bool
+    requires written { IsWrittenOf acts.now written.now }
+    requires nodes { All (λ act. act.node < NODES) acts.now }
+    requires flags { AreFlags acts.now position ordered.now }
+    requires long { position ≤ length ordered.now }
+    requires within { position < length acts.now }
+    ensures { (word value : ℕ) → IsDone acts.now position (Write word value) → IsTrue result ↔ AreOrdered acts.now position word }
+{
+    match acts[position].deed {
+        Deed::Write(word, _) => written.are_ordered(ordered, word, position),
+        _ => true,
+    }
+}
+
+// Whether the act at this position, if it is a read, gives a value that it may give.
+fn is_allowed(written: &Written, ordered: &[bool], acts: &[Act], position: usize) -> bool
+    requires written { IsWrittenOf acts.now written.now }
+    requires nodes { All (λ act. act.node < NODES) acts.now }
+    requires flags { AreFlags acts.now position ordered.now }
+    requires long { position ≤ length ordered.now }
+    requires within { position < length acts.now }
+    ensures { MatchBool result ((word value : ℕ) → IsDone acts.now position (Read word value) → MayRead acts.now position word value)
+        (Misreads acts.now position) }
+{
+    match acts[position].deed {
+        Deed::Read(word, value) => {
+            let is_ordered = written.are_ordered(ordered, word, position);
+            written.allows(acts, position, word, value, is_ordered)
+        }
+        _ => true,
+    }
 }
 
 /// The least position of a read that breaks lazy reading: it gives a value that no write before it wrote, or not that
-/// of the last of them although they are ordered.
+/// of the last of them although they are ordered. It costs little more than the acts, times the nodes.
 pub fn first_fault_of_reading(alloc: Global, acts: &[Act]) -> Result<Option<usize>, AllocError>
     requires { All (λ act. act.node < NODES) acts.now }
     ensures { IfOk result (λ fault. MatchOption fault (ReadsLazily acts.now) (IsFirstMisread acts.now)) }
 {
-    let order = happens_before(alloc, acts)?;
+    let written = Written::of(alloc, acts)?;
+    let mut ordered = Vec::new(alloc);
     for position in 0..acts.len() {
-        let Deed::Read(word, value) = acts[position].deed else {
-            continue;
-        };
-        if !may_read(&order, acts, position, word, value) {
+        if !is_allowed(&written, ordered.as_slice(), acts, position) {
             return Ok(Some(position));
         }
+        let flag = flag_at(&written, ordered.as_slice(), acts, position);
+        ordered.push(flag)?;
     }
     Ok(None)
 }

@@ -1,0 +1,62 @@
+-- One position more, and the whole run.
+use Rattle.std.proofs.Common.{◌≡◌, ℕ, ◌+◌, ◌<◌, inl, inr, sym, subst, ◌∙◌, get_or, arith}
+use Rattle.std.proofs.lemmas.Bool.{cases_eq}
+use Rattle.lrc_trace.specs.declared.act.Act.{Act}
+use Rattle.lrc_trace.specs.declared.act.Deed.TheVariants.{Quiet, Read, Write}
+use Rattle.lrc_trace.specs.Run.{Does, IsDone}
+use Rattle.lrc_trace.proofs.Positions.{Does-read, Does-deed, Does-one_deed, Does-within}
+use Rattle.lrc_judge.specs.InOrder.{IsLastWritten}
+use Rattle.lrc_judge.proofs.LastWritten.{IsMemory-same, IsMemory-next}
+use Rattle.lrc_judge.proofs.in_order.first_out_of_order.Goals as goal
+use Rattle.lrc_judge.proofs.in_order.first_out_of_order.Goals.{in-Read+else-value-last_written, in-Write+in_ok-insert-in-Write, in_default}
+
+pub loop-position-preserved : goal.loop-position-preserved
+loop-position-preserved c =
+    let quiet : Act = record { node = 0; deed = Quiet } in
+    let run = c.args.acts.now in
+    let n = c.loop-position.position in
+    let node = (get_or run n quiet).node in
+    let here = Does-read run n quiet c.loop-position-test.true in
+    let old = c.loop-position.invariant.reads in
+    elim c.match-acts-position.branch [
+      | in-Read+else-value-last_written w ↦
+          let read : Does run n node (Read w.in-Read.word w.in-Read.value) = Does-deed w.in-Read.is here in
+          record {
+            memory = rw w.memory-is (IsMemory-same run n c.loop-position.memory (λ word v (p, d). let e = Does-one_deed read d in let never : ⊥ = cc in never) c.loop-position.invariant.memory);
+            reads = λ j word v lt (p, r).
+                elim (cases_eq j n) [
+                  | inl same ↦
+                      let both : Read w.in-Read.word w.in-Read.value ≡ Read word v = Does-one_deed read (subst (λ k. Does run k p (Read word v)) same r) in
+                      let words : w.in-Read.word ≡ word = cc in
+                      let values : w.in-Read.value ≡ v = cc in
+                      let now = c.loop-position.invariant.memory w.in-Read.word in
+                      let is : w.in-Read.value ≡ w.last_written-last_written.result = w.if-value-last_written.false in
+                      rw (same, ← words, ← values, is, w.last_written-last_written.ensures) now
+                  | inr other ↦ old j word v (omega arith) (p, r)
+                ];
+          }
+      | in-Write+in_ok-insert-in-Write w ↦
+          let write : Does run n node (Write w.in-Write.word w.in-Write.value) = Does-deed w.in-Write.is here in
+          record {
+            memory = rw w.memory-is (IsMemory-next run n node w.in-Write.word w.in-Write.value c.loop-position.memory w.insert.new.self write
+                w.in_ok-insert-in-Write.ensures.updates c.loop-position.invariant.memory);
+            reads = λ j word v lt (p, r).
+                elim (cases_eq j n) [
+                  | inl same ↦ let e = Does-one_deed write (subst (λ k. Does run k p (Read word v)) same r) in let never : ⊥ = cc in absurd never
+                  | inr other ↦ old j word v (omega arith) (p, r)
+                ];
+          }
+      | in_default w ↦ record {
+        memory = rw w.memory-is (IsMemory-same run n c.loop-position.memory (λ word v (p, d). w.in_default.not-Write word v (Does-one_deed here d)) c.loop-position.invariant.memory);
+        reads = λ j word v lt (p, r).
+            elim (cases_eq j n) [
+              | inl same ↦ absurd (w.in_default.not-Read word v (Does-one_deed here (subst (λ k. Does run k p (Read word v)) same r)))
+              | inr other ↦ old j word v (omega arith) (p, r)
+            ];
+      }
+    ]
+
+pub returns : goal.returns
+returns c j word value r =
+    let within = Does-within r.1 in
+    c.loop-position.invariant.reads j word value (omega arith) r
