@@ -1,0 +1,130 @@
+-- What a judge says of acts: by the definitions on acts, for any list of them.
+use Rattle.std.specs.Prelude.{◌≡◌, ◌<◌, ◌≤◌, ◌&&◌, ℕ, Bool, true, false, All, List, ◌++◌}
+use Rattle.std.specs.Prelude.{Option, Some, None, MatchOption, Ok, if◌then◌else◌, is_some, slice_index, slice_index_or}
+use Rattle.std.specs.List.{flat_map}
+use Rattle.lrc_trace.specs.declared.act.Act.{Act}
+use Rattle.lrc_trace.specs.declared.act.Deed.{Deed}
+use Rattle.lrc_trace.specs.declared.act.Deed.TheVariants.{Quiet, Read, Write}
+use Rattle.lrc_trace.specs.declared.race.Race.{Race}
+use Rattle.lrc_trace.specs.Run.{IsDone, act_of}
+use Rattle.lrc_trace.specs.Synchronization.{IsWellSynchronized}
+use Rattle.lrc_trace.specs.Reading.{ReadsLazily}
+use Rattle.lrc_trace.specs.Conflict.{IsFirstRace, IsRaceFree}
+use Rattle.lrc_judge.specs.Synchronization.{IsFirstBreak}
+use Rattle.lrc_judge.specs.Allowed.{AreAllowed}
+use Rattle.lrc_judge.specs.Reading.{IsFirstMisread}
+use Rattle.lrc_judge.specs.InOrder.{IsFirstOutOfOrder, ReadsInOrder}
+use Rattle.lrc_judge.specs.Races.{AreNamedRaces}
+use Rattle.lrc_judge.specs.Pairs.{AreRacingPairs}
+use Rattle.lrc_judge.specs.declared.lanes.Pair.{Pair}
+use Rattle.lrc_judge.specs.declared.in_order.OutOfOrder.{OutOfOrder}
+use Rattle.lrc_text.specs.RaceText.{first_race_text, races_text}
+use Rattle.lrc_acts.specs.ActsText.{Reads}
+use Rattle.lrc_acts.specs.JudgeLines.{lazy_line, ordered_line, pair_line, synchronized_line, unlazy_line, unordered_line, unsynchronized_line}
+use Rattle.lrc_acts.specs.declared.judge_lines.Place.{Place}
+use Rattle.lrc_acts.specs.declared.judge_lines.RacingAccesses.{RacingAccesses}
+use Rattle.lrc_acts.specs.declared.reading.LinedActs.{LinedActs}
+
+-- the place of the act at a position
+abbrev pub place_at : List ℕ → ℕ → Place
+place_at lines position = record { position = position; line = slice_index lines position }
+
+-- the acts are, or are not, well synchronized, and this line says so
+pub data TellsSynchronization (nodes : ℕ) (acts : List Act) (lines : List ℕ) : Bool → List ℕ → Type 0 where
+  synchronized : IsWellSynchronized nodes acts → TellsSynchronization nodes acts lines true synchronized_line
+  unsynchronized : {position : ℕ} → IsFirstBreak nodes acts position
+      → TellsSynchronization nodes acts lines false (unsynchronized_line (place_at lines position))
+
+-- the acts read, or do not read, lazily, and this line says so
+pub data TellsLazyReading (acts : List Act) (lines : List ℕ) : Bool → List ℕ → Type 0 where
+  lazy : ReadsLazily acts → TellsLazyReading acts lines true lazy_line
+  unlazy : {position word value : ℕ} {allowed : List ℕ} → IsFirstMisread acts position → IsDone acts position (Read word value)
+      → AreAllowed acts position word allowed → TellsLazyReading acts lines false (unlazy_line (place_at lines position) value allowed)
+
+-- the acts read, or do not read, in order, and this line says so
+pub data TellsOrder (acts : List Act) (lines : List ℕ) : List ℕ → Type 0 where
+  ordered : ReadsInOrder acts → TellsOrder acts lines ordered_line
+  unordered : {first : OutOfOrder} {word value : ℕ} → IsFirstOutOfOrder acts first → IsDone acts first.position (Read word value)
+      → TellsOrder acts lines (unordered_line (place_at lines first.position) value first.last_written)
+
+-- 4 where the acts are not well synchronized, or do not read lazily; else 3 where there is a race
+abbrev pub judge_status : Bool → Bool → Option ℕ → ℕ
+judge_status holds reads first = if holds && reads then (if is_some first then 3 else 0) else 4
+
+-- the text after is the text before and one that is so
+pub record Adds (before after : List ℕ) (IsSo : List ℕ → Type 0) : Type 0 where
+  pub added : List ℕ
+  pub whole : after ≡ before ++ added
+  pub so : IsSo added
+
+-- whether a deed writes, and the word that it accesses, or 0 where it accesses none
+abbrev pub writes : Deed → Bool
+writes (Write word value) = true
+writes _ = false
+
+abbrev pub word_of : Deed → ℕ
+word_of (Read word value) = word
+word_of (Write word value) = word
+word_of _ = 0
+
+-- the deed at a position
+abbrev pub deed_at : List Act → ℕ → Deed
+deed_at acts position = (slice_index_or acts position (act_of 0 Quiet)).deed
+
+-- the accesses at two positions, to the word of the later
+abbrev pub accesses_at : List Act → ℕ → ℕ → RacingAccesses
+accesses_at acts earlier later = record {
+  earlier = earlier;
+  earlier_writes = writes (deed_at acts earlier);
+  later = later;
+  later_writes = writes (deed_at acts later);
+  word = word_of (deed_at acts later);
+}
+
+-- the text names the races of the acts; or, where they are asked for, the racing pairs
+pub data TellsRaces (acts : List Act) : Bool → List ℕ → Type 0 where
+  named : {races : List Race} → AreNamedRaces acts races → TellsRaces acts false (races_text races)
+  paired : {pairs : List Pair} → AreRacingPairs acts pairs
+      → TellsRaces acts true (flat_map (λ pair. pair_line (accesses_at acts pair.earlier pair.later)) pairs)
+
+-- the least number above 0 below which every node is that acts
+pub record IsNodeCount (acts : List Act) (count : ℕ) : Type 0 where
+  pub some : 0 < count
+  pub above : All (λ act. act.node < count) acts
+  pub least : (other : ℕ) → 0 < other → All (λ act. act.node < other) acts → count ≤ other
+
+-- how many nodes there are: as many as are given, or else as act
+abbrev pub AreNodes : Option ℕ → List Act → ℕ → Type 0
+AreNodes (Some nodes) acts count = count ≡ nodes
+AreNodes None acts count = IsNodeCount acts count
+
+-- the first three lines of a judgement: the acts are or are not well synchronized, read or do not read lazily, and read in order
+pub record IsHead (nodes : ℕ) (acts : List Act) (lines : List ℕ) (holds reads : Bool) (text : List ℕ) : Type 0 where
+  pub first : List ℕ
+  pub second : List ℕ
+  pub third : List ℕ
+  pub tells_synchronization : TellsSynchronization nodes acts lines holds first
+  pub tells_reading : TellsLazyReading acts lines reads second
+  pub tells_order : TellsOrder acts lines third
+  pub whole : text ≡ first ++ second ++ third
+
+-- what is printed of acts and their lines, and the status after it
+pub record IsJudgement (nodes : ℕ) (acts : List Act) (lines : List ℕ) (pairs : Bool) (out : List ℕ) (status : ℕ) : Type 0 where
+  pub holds : Bool
+  pub reads : Bool
+  pub head : List ℕ
+  pub races : List ℕ
+  pub race : Option ℕ
+  pub is_head : IsHead nodes acts lines holds reads head
+  pub tells_races : TellsRaces acts pairs races
+  pub is_first : MatchOption race (IsRaceFree acts) (IsFirstRace acts)
+  pub whole : out ≡ head ++ races ++ first_race_text race
+  pub status_is : status ≡ judge_status holds reads race
+
+-- what is printed of a text of acts, and the status after it
+pub record Judges (nodes : Option ℕ) (pairs : Bool) (text out : List ℕ) (status : ℕ) : Type 0 where
+  pub lined : LinedActs
+  pub count : ℕ
+  pub says : Reads nodes text (Ok lined)
+  pub counted : AreNodes nodes lined.acts.items count
+  pub judgement : IsJudgement count lined.acts.items lined.lines.items pairs out status

@@ -1,0 +1,5 @@
+//! What a judge prints of a text of acts: whether they are well synchronized, read lazily and read in order, their races and the first.
+#![tactic(auto)]
+
+pub mod judge;
+mod tell;
