@@ -11,17 +11,17 @@ use Rattle.lrc_protocol.specs.declared.event.Event.{Event}
 use Rattle.lrc_protocol.specs.declared.event.Event.TheVariants as events
 use Rattle.lrc_protocol.specs.Turn.{is_ready}
 use Rattle.lrc_protocol.specs.Log.{Logged}
-use Rattle.lrc_protocol.specs.World.{World as Run, event_on, step_of, played}
+use Rattle.lrc_protocol.specs.World.{World as Run, step_of, played}
 use Rattle.lrc_world.specs.declared.report.SimFault.{SimFault}
 use Rattle.lrc_world.specs.declared.report.SimFault.TheVariants.{BadNodes, BadSteps, Worn, NoMemory}
 use Rattle.lrc_world.specs.declared.report.TheConstants.{MOST_EVENTS}
 use Rattle.lrc_world.specs.declared.rounds.Driver.{Driver}
 use Rattle.lrc_world.specs.declared.world.World.{World}
-use Rattle.lrc_world.specs.Driven.{StandsAt, Goes, GoesTo, IsStill, IsAsleep, NoneReady, PlaysOne, IsFull}
+use Rattle.lrc_world.specs.Driven.{StandsAt, Goes, GoesTo, IsStill, IsAsleep, NoneReady, IsIdle, PlaysOne, IsFull}
 use Rattle.lrc_world.specs.Led.{Schedule, Led, begins, plays, passes, WearsOut}
 use Rattle.lrc_world.specs.Report.{IsOver, IsWornFrom}
 use Rattle.lrc_world.specs.Rounds.{rounds, at_node, delivering, IsDue, turn, delivery, asleep, all_went, all_delivered, ready_at, delivery_of}
-use Rattle.lrc_world.specs.World.{Starts, Shows, PlaysTo, seen, shown}
+use Rattle.lrc_world.specs.World.{Starts, Shows, seen, shown}
 use Rattle.lrc_world.proofs.Lists.{same_length}
 
 -- ---- from one moment to another
@@ -283,11 +283,16 @@ is_over nodes run count none landed = record {
   taken = landed;
 }
 
-pub idle_after : (nodes : ℕ) (world : World) → NoneReady nodes world × (world.flight.items ≡ []) → (starts : Starts) (run : Run) → Shows starts world run
-    → length run.nodes ≡ nodes → IsOver run
-idle_after nodes world still starts run shows count =
+pub idle_after : (nodes : ℕ) (world : World) → NoneReady nodes world × (world.flight.items ≡ []) → IsIdle nodes world
+idle_after nodes world still = λ starts run shows count.
     is_over nodes run count (λ n below. still.0 n below starts run shows)
     (none_long run.flight (omega (arith, same_length seen shown world.flight.items run.flight shows.flight, ap length still.1)))
+
+pub idle_if : (nodes : ℕ) (new : Driver) (result : Result (Unit {0}) SimFault)
+    → OnOk result (length new.events.items < MOST_EVENTS → NoneReady nodes new.world × (new.world.flight.items ≡ []))
+    → OnOk result (length new.events.items < MOST_EVENTS → IsIdle nodes new.world)
+idle_if nodes new (Ok u) over = λ few. idle_after nodes new.world (over few)
+idle_if nodes new (Err fault) over = tt
 
 module _ (picker : Picker) (nodes : ℕ) (old new : Driver) (event : Event) (result : Result (Unit {0}) SimFault)
     (either : PlaysOne old new event result ⊎ IsFull old new result) where

@@ -1,5 +1,5 @@
 -- How the nodes of a run ended: their texts and their last acts agree.
-use Rattle.std.proofs.Common.{◌≡◌, ◌∙◌, ℕ, ◌+◌, ◌<◌, List, [], ◌∷◌, ◌++◌, Bool, true, false, inl, inr, length, map}
+use Rattle.std.proofs.Common.{◌≡◌, ◌∙◌, ℕ, ◌+◌, ◌<◌, List, [], ◌++◌, Bool, true, false, inl, inr, length, map}
 use Rattle.std.proofs.Common.{refl, sym, ap, subst, arith, append-nil, get_or, zero-add}
 use Rattle.std.specs.Prelude.{Option, Some, None, option_map, slice_get, slice_set}
 use Rattle.std.specs.List.{range_with_len}
@@ -15,16 +15,14 @@ use Rattle.lrc_trace.specs.Run.{act_of}
 use Rattle.lrc_exec.specs.Meaning.{Setting, Next, quiet, prints, reads, writes, acquires, releases, arrives, departs, traps, ends, next_of}
 use Rattle.lrc_protocol.specs.declared.event.Event.{Event}
 use Rattle.lrc_protocol.specs.Course.{Course, going, trapped, ended, deed_of, course_of}
-use Rattle.lrc_protocol.specs.Node.{Node, OptionsRecord, fresh_node}
-use Rattle.lrc_protocol.specs.Turn.{TurnRecord}
+use Rattle.lrc_protocol.specs.Node.{OptionsRecord, fresh_node}
 use Rattle.lrc_protocol.specs.Log.{Input, EntryRecord, Logged}
 use Rattle.lrc_protocol.specs.World.{World as Run, Flying, fresh_world, with_turn, run_of}
-use Rattle.lrc_protocol.proofs.Induction.{Comes, by_turns}
+use Rattle.lrc_protocol.proofs.Induction.{by_turns}
 use Rattle.lrc_protocol.proofs.Turned.{Turned, Turns, turns}
 use Rattle.lrc_protocol.proofs.Worlds.{IsEntry, fresh_at, get_set_same, get_set_other, run-whole}
-use Rattle.lrc_invariants.proofs.Shift.{Acted, Rested, Moved, Shifted, ShiftedIf, course_in, deed_back, deed_in, deed_made, shifts}
+use Rattle.lrc_invariants.proofs.Shift.{Moved, Shifted, ShiftedIf, course_in, deed_back, deed_in, deed_made, shifts}
 use Rattle.lrc_node.specs.declared.end.End.{End}
-use Rattle.lrc_node.specs.declared.end.End.TheVariants.{Unfinished}
 use Rattle.lrc_node.specs.Text.{end_of as end_of_text}
 use Rattle.lrc_world.specs.declared.report.Report.{Report}
 use Rattle.lrc_world.specs.Ends.{end_after, end_of, ends_of}

@@ -9,6 +9,7 @@ pub mod Events
 pub mod EndsLemmas
 pub mod EndsOfRuns
 pub mod Driven
+pub mod Choosing
 pub mod Theorem
 pub mod Over
 pub mod Moments

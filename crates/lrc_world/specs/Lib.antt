@@ -4,5 +4,6 @@ pub mod Report
 pub mod World
 pub mod Led
 pub mod Rounds
+pub mod Random
 pub mod Driven
 pub mod Moments

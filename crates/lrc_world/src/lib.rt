@@ -4,6 +4,7 @@
 
 pub mod ends;
 mod flying;
+mod random;
 pub mod report;
 mod rounds;
 pub mod simulate;

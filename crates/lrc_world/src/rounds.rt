@@ -1,20 +1,31 @@
-// A run in rounds.
+// A run in rounds, or in a random order.
 
 ghost use Rattle.std.specs.Prelude.{◌≡◌, ◌⊎◌, ℕ, ◌+◌, ◌<◌, ◌≤◌, [], All, IfOk, OnOk, length, map};
 ghost use Rattle.lrc_race.specs.Races.{AreRacesOf, AreTracesOf};
 ghost use Rattle.lrc_judge.specs.declared.TheConstants.{NODES};
 ghost use Rattle.lrc_protocol.specs.World.{World as Run};
 ghost use Rattle.lrc_world.specs.Report.{IsReport};
-ghost use Rattle.lrc_world.specs.Driven.{GoesTo, IsAsleep, IsFull, IsStill, NoneReady, PlaysOne};
+ghost use Rattle.lrc_world.specs.Driven.{GoesTo, IsAsleep, IsDrivenBy, IsFull, IsIdle, IsStill, NoneReady, PlaysOne, schedule_of};
+ghost use Rattle.lrc_world.specs.Random.{wandering};
 ghost use Rattle.lrc_world.specs.Rounds.{at_node, delivering, rounds};
 ghost use Rattle.lrc_wire.specs.declared.picker.Picker.{Picker as AnyPicker};
 ghost use Rattle.lrc_world.specs.World.{Starts, Shows};
 
+use crate::random::Random;
 use crate::report::{MOST_EVENTS, Report, SimFault};
 use crate::world::World;
 use lrc_protocol::Event;
 use lrc_wire::Picker;
 use std::alloc::{AllocError, Global};
+
+/// In which order a run goes on.
+#[derive(Clone, Copy)]
+pub(crate) enum Order {
+    /// In rounds, in which the messages are delivered that the picker says.
+    Rounds(Picker),
+    /// At random, from this seed.
+    Random(u64),
+}
 
 /// All nodes with the messages in flight, and the events so far.
 #[derive(Drop)]
@@ -35,19 +46,15 @@ impl<'c> Driver<'c> {
         }
     }
 
-    /// Goes on round by round, until one has no event or there are as many events as there may be.
-    pub(crate) fn drive(&mut self, nodes: u8, picker: Picker) -> Result<(), SimFault>
-        requires { length self.old.events.items ≤ MOST_EVENTS }
-        ensures goes { GoesTo (rounds picker nodes) (at_node 0) (at_node 0) self.old self.new result }
-        ensures over { OnOk result (length self.new.events.items < MOST_EVENTS
-            → NoneReady nodes self.new.world × (self.new.world.flight.items ≡ [])) }
+    /// Goes on in this order, until nothing is left to do or there are as many events as there may be.
+    pub(crate) fn lead(&mut self, nodes: u8, order: Order) -> Result<(), SimFault>
+        requires { self.old.events.items ≡ [] }
+        ensures goes { IsDrivenBy (schedule_of nodes order) self.old self.new result }
+        ensures over { OnOk result (length self.new.events.items < MOST_EVENTS → IsIdle nodes self.new.world) }
     {
-        'rounds: loop {
-            let before = self.events.len();
-            self.round(nodes, picker)?;
-            if self.events.len() <= before {
-                return Ok(());
-            }
+        match order {
+            Order::Rounds(picker) => self.drive(nodes, picker),
+            Order::Random(seed) => self.wander(nodes, seed),
         }
     }
 
@@ -62,6 +69,39 @@ impl<'c> Driver<'c> {
         let Driver { world, events } = self;
         let report = world.report()?;
         Ok((events, report))
+    }
+
+    // Goes on round by round, until one has no event or there are as many events as there may be.
+    fn drive(&mut self, nodes: u8, picker: Picker) -> Result<(), SimFault>
+        requires { length self.old.events.items ≤ MOST_EVENTS }
+        ensures goes { GoesTo (rounds picker nodes) (at_node 0) (at_node 0) self.old self.new result }
+        ensures over { OnOk result (length self.new.events.items < MOST_EVENTS
+            → NoneReady nodes self.new.world × (self.new.world.flight.items ≡ [])) }
+    {
+        'rounds: loop {
+            let before = self.events.len();
+            self.round(nodes, picker)?;
+            if self.events.len() <= before {
+                return Ok(());
+            }
+        }
+    }
+
+    // Goes on event by event, each of them the one that the next random number says, until nothing is left to do or there are as
+    // many events as there may be.
+    fn wander(&mut self, nodes: u8, seed: u64) -> Result<(), SimFault>
+        requires { self.old.events.items ≡ [] }
+        ensures goes { IsDrivenBy (wandering nodes seed) self.old self.new result }
+        ensures over { OnOk result (length self.new.events.items < MOST_EVENTS → IsIdle nodes self.new.world) }
+    {
+        let mut random = Random::new(seed);
+        for _event in 0..MOST_EVENTS {
+            let Some(event) = self.world.choice(nodes, random.next())? else {
+                return Ok(());
+            };
+            self.play(event)?;
+        }
+        Ok(())
     }
 
     // Each ready node goes on, and then as many messages are delivered as are in flight.

@@ -1,4 +1,4 @@
-// Runs of a program, by a list of events or in rounds.
+// Runs of a program, by a list of events, in rounds or in a random order.
 
 ghost use Rattle.std.specs.Prelude.{◌≡◌, ℕ, ◌<◌, ◌≤◌, ◌↔◌, ◌⊎◌, List, Some, length, IfOk, MatchResult, Err, true};
 ghost use Rattle.lrc_trace.specs.Conflict.{IsRaceFree, IsFirstRace};
@@ -9,15 +9,18 @@ ghost use Rattle.lrc_exec.specs.Plain.{plain};
 ghost use Rattle.lrc_theory.specs.Follows.{nodes_of};
 ghost use Rattle.lrc_theory.specs.Racing.{HasNoRace, PlainToRace};
 ghost use Rattle.lrc_protocol.specs.declared.event.Event.{Event as AnyEvent};
-ghost use Rattle.lrc_protocol.specs.World.{World as Run, run_of};
+ghost use Rattle.lrc_protocol.specs.World.{World as Run, fresh_world, run_of};
+ghost use Rattle.lrc_world.specs.Driven.{schedule_of};
 ghost use Rattle.lrc_world.specs.Ends.{ends_of};
+ghost use Rattle.lrc_world.specs.Led.{AreLed, WearsOut};
 ghost use Rattle.lrc_world.specs.Moments.{AreCovered, HasEachToken, RefusesNone, Throughout};
+ghost use Rattle.lrc_world.specs.Random.{IsWandering, WanderingWearsOut};
 ghost use Rattle.lrc_world.specs.Range.{AreNodes, AreSteps};
 ghost use Rattle.lrc_world.specs.Report.{AreAll, IsReportOf, IsWornBy};
 ghost use Rattle.lrc_world.specs.Rounds.{AreRounds, RoundsWearOut};
 
 use crate::report::{MOST_STEPS, Report, SimFault};
-use crate::rounds::Driver;
+use crate::rounds::{Driver, Order};
 use crate::world::World;
 use lrc_exec::code::Code;
 use lrc_lang::program::Program;
@@ -145,11 +148,71 @@ pub fn drive(
     ensures bad_nodes { (result ≡ Err SimFault.BadNodes) ↔ (¬ AreNodes nodes) }
     ensures bad_steps { (result ≡ Err SimFault.BadSteps) ↔ (AreNodes nodes × ¬ AreSteps options.now.steps) }
 {
+    lead(alloc, program, nodes, options, Order::Rounds(picker))
+}
+
+/// A run in a random order: as long as a node is ready or a message in flight, and there are fewer than 100,000,000 events, the
+/// next event is one of the turns of the ready nodes, ascending, and the deliveries of the messages in flight, oldest first. Which of
+/// them, the next number of SplitMix64 says, by its remainder; its state is `seed` at first. The answer is the events, and the
+/// report that [`simulate`] has for them.
+pub fn wander(
+    alloc: Global,
+    program: &Program,
+    nodes: u32,
+    options: &Options,
+    seed: u64,
+) -> Result<(Vec<Event>, Report), SimFault>
+    ensures report { IfOk result (λ done. IsReportOf program.now nodes options.now done.0.items done.1) }
+    ensures wandering { IfOk result (λ done. IsWandering program.now nodes options.now seed done.0.items) }
+    ensures ends { IfOk result (λ done. done.1.ends.items ≡ ends_of nodes done.1.acts.items) }
+    ensures races { IfOk result (λ done. AreNamedRaces done.1.acts.items done.1.races.items) }
+
+    ensures accepted { IfOk result (λ done. Throughout program.now nodes options.now done.0.items RefusesNone) }
+    ensures tokens { IfOk result (λ done. Throughout program.now nodes options.now done.0.items (HasEachToken program.now.locks)) }
+    ensures covered { IfOk result (λ done. (run : Run) → run_of program.now nodes options.now done.0.items ≡ Some run
+        → AreCovered done.1.acts.items run.times) }
+    ensures synchronized { IfOk result (λ done. IsWellSynchronized nodes done.1.acts.items) }
+    ensures lazy { IfOk result (λ done. ReadsLazily done.1.acts.items) }
+    ensures consistent { IfOk result (λ done. IsRaceFree done.1.acts.items
+        → plain program.now nodes (nodes_of done.1.acts.items) ≡ Some done.1.acts.items) }
+    ensures first { IfOk result (λ done. (position : ℕ) → IsFirstRace done.1.acts.items position
+        → PlainToRace program.now nodes done.1.acts.items position) }
+    ensures unraced { IfOk result (λ done. HasNoRace program.now nodes → IsRaceFree done.1.acts.items) }
+
+    // Unless there are 100,000,000 events, no node is ready and no message is in flight after them.
+    ensures few { IfOk result (λ done. length done.0.items ≤ 100000000) }
+    ensures over { IfOk result (λ done. length done.0.items < 100000000 → AreAll program.now nodes options.now done.0.items) }
+    ensures worn { result ≡ Err SimFault.Worn → (events : List AnyEvent) × IsWornBy program.now nodes options.now events }
+    ensures worn_wandering { result ≡ Err SimFault.Worn → WanderingWearsOut program.now nodes options.now seed }
+    ensures bad_nodes { (result ≡ Err SimFault.BadNodes) ↔ (¬ AreNodes nodes) }
+    ensures bad_steps { (result ≡ Err SimFault.BadSteps) ↔ (AreNodes nodes × ¬ AreSteps options.now.steps) }
+{
+    lead(alloc, program, nodes, options, Order::Random(seed))
+}
+
+// The run that goes on in an order, its events, and what all its other promises follow from.
+fn lead(
+    alloc: Global,
+    program: &Program,
+    nodes: u32,
+    options: &Options,
+    order: Order,
+) -> Result<(Vec<Event>, Report), SimFault>
+    ensures report { IfOk result (λ done. IsReportOf program.now nodes options.now done.0.items done.1) }
+    ensures led { IfOk result (λ done. AreLed (schedule_of nodes order) program.now nodes options.now done.0.items) }
+    ensures races { IfOk result (λ done. AreNamedRaces done.1.acts.items done.1.races.items) }
+    ensures nodes { IfOk result (λ done. AreNodes nodes) }
+    ensures few { IfOk result (λ done. length done.0.items ≤ 100000000) }
+    ensures over { IfOk result (λ done. length done.0.items < 100000000 → AreAll program.now nodes options.now done.0.items) }
+    ensures worn { result ≡ Err SimFault.Worn → WearsOut (schedule_of nodes order) (fresh_world program.now nodes options.now) }
+    ensures bad_nodes { (result ≡ Err SimFault.BadNodes) ↔ (¬ AreNodes nodes) }
+    ensures bad_steps { (result ≡ Err SimFault.BadSteps) ↔ (AreNodes nodes × ¬ AreSteps options.now.steps) }
+{
     let count = check(nodes, options)?;
     let code = Code::new(alloc, program)?;
     let world = World::new(alloc, &code, count, options)?;
     let mut driver = Driver::new(alloc, world);
-    driver.drive(count, picker)?;
+    driver.lead(count, order)?;
     Ok(driver.report()?)
 }
 

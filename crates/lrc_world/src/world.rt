@@ -1,8 +1,8 @@
 // All nodes of a run, the messages in flight, and what events do to them.
 
 ghost use Rattle.lrc_race.specs.Races.{AreRacesOf, AreTracesOf};
-ghost use Rattle.std.specs.Prelude.{◌≡◌, ℕ, ◌≤◌, ◌<◌, ◌++◌, [], ◌∷◌, ◌↔◌, All, IfOk, IfErr, OnOk, IsOk, Ok, true, false, List, length, map, remove, slice_get};
-ghost use Rattle.std.specs.List.{list_any};
+ghost use Rattle.std.specs.Prelude.{◌≡◌, ℕ, ◌≤◌, ◌<◌, ◌++◌, [], ◌∷◌, ◌↔◌, All, IfOk, IfErr, OnOk, IsOk, Ok, true, false, List, filter, length, map, remove, slice_get, ◌^◌};
+ghost use Rattle.std.specs.List.{list_any, range_with_len};
 ghost use Rattle.std.specs.Option.{option_to_list};
 ghost use Rattle.lrc_judge.specs.declared.TheConstants.{NODES};
 ghost use Rattle.lrc_wire.specs.Reading.{envelope_of};
@@ -14,6 +14,7 @@ ghost use Rattle.lrc_protocol.specs.Log as log;
 ghost use Rattle.lrc_protocol.specs.Turn.{is_ready};
 ghost use Rattle.lrc_node.specs.Logged.{sound};
 ghost use Rattle.lrc_world.specs.Report.{IsOver, IsReport, end_of_logged};
+ghost use Rattle.lrc_world.specs.Random.{chosen, picked};
 ghost use Rattle.lrc_world.specs.Rounds.{delivery_of, is_delivered, newest_place, ready_at};
 ghost use Rattle.lrc_world.specs.World.{Starts, Shows, PlaysTo, AddsTo, LogsLast, ReceivesTo, TurnsTo, made_of, IsSendFault, seen, shown, shown_new, is_long};
 
@@ -113,6 +114,30 @@ impl<'c> World<'c> {
                 }
             }
         }
+    }
+
+    /// What a random number says of all that may happen next, if anything may.
+    pub(crate) fn choice(&self, nodes: u8, number: u64) -> Result<Option<Event>, AllocError>
+        ensures { (starts : Starts) (run : Run) → Shows starts self.now run → IfOk result (λ event. event ≡ chosen nodes number run) }
+    {
+        let ready = self.ready_nodes(nodes)?;
+        let deliveries = self.flight.len().min(1 << 32);
+        Ok(event_at(&ready, deliveries, number))
+    }
+
+    // The numbers of the ready nodes, ascending.
+    fn ready_nodes(&self, nodes: u8) -> Result<Vec<u32>, AllocError>
+        ensures few { IfOk result (λ ready. length ready.items ≤ nodes) }
+        ensures ready { (starts : Starts) (run : Run) → Shows starts self.now run
+            → IfOk result (λ ready. ready.items ≡ filter (ready_at run) (range_with_len 0 nodes)) }
+    {
+        let mut ready = Vec::with_capacity(self.alloc, nodes as usize)?;
+        for node in 0..nodes {
+            if self.is_ready(node as usize) {
+                ready.push(u32::from(node))?;
+            }
+        }
+        Ok(ready)
     }
 
     // Whether the oldest message was delivered already.
@@ -219,6 +244,23 @@ impl<'c> World<'c> {
         send(self.alloc, &entry.turn.out, entry.stamp, &mut self.flight)?;
         note(&mut self.acts, entry.turn.act)?;
         Ok(())
+    }
+}
+
+// The event that a number says, of the turns of these nodes and so many deliveries.
+fn event_at(ready: &[u32], deliveries: usize, number: u64) -> Option<Event>
+    requires ready { length ready.now ≤ 255 }
+    requires deliveries { deliveries ≤ 2 ^ 32 }
+    ensures { result ≡ picked number (map events.Run ready.now ++ map events.Deliver (range_with_len 0 deliveries)) }
+{
+    let count = ready.len() + deliveries;
+    if count == 0 {
+        return None;
+    }
+    let place = (number % count as u64) as usize;
+    match ready.get(place) {
+        Some(node) => Some(Event::Run(*node)),
+        None => Some(Event::Deliver((place - ready.len()) as u32)),
     }
 }
 
