@@ -10,13 +10,15 @@ fn are_lines(alloc: Global, text: &[u8], wanted: &[u32]) -> Result<bool, AllocEr
 
 #[test]
 fn both_branches_and_a_comment(rt: HostRuntime) {
-    let text = b"words 1;\nlocks 0;\nif me == 0 {\n  [0] = 5; # one\n} else {\n  x = [0];\n  print x;\n}\n";
+    let text =
+        b"words 1;\nlocks 0;\nif me == 0 {\n  [0] = 5; # one\n} else {\n  x = [0];\n  print x;\n}\n";
     assert!(rt; are_lines(rt.alloc(), text, &[3, 4, 6, 7, 9]) == Ok(true));
 }
 
 #[test]
 fn loops_in_loops_and_several_on_a_line(rt: HostRuntime) {
-    let text = b"words 1; locks 1; x =\n3; while x\n> 0 { if x == 2 { barrier; } while\n0 { } x = x - 1; } acquire 0;";
+    let text =
+        b"words 1; locks 1; x =\n3; while x\n> 0 { if x == 2 { barrier; } while\n0 { } x = x - 1; } acquire 0;";
     assert!(rt; are_lines(rt.alloc(), text, &[1, 2, 3, 3, 3, 4, 4, 4]) == Ok(true));
 }
 
