@@ -14,6 +14,8 @@ mod one_node;
 #[cfg(test)]
 mod plain;
 #[cfg(test)]
+mod progress;
+#[cfg(test)]
 mod several_nodes;
 #[cfg(test)]
 mod shell;
