@@ -474,3 +474,13 @@ fn a_body_over_the_limit_is_not_written(rt: HostRuntime) -> Result<(), Fail> {
     assert!(rt; fits == Some(Ok(12 + 16_777_214)) && over == Some(Err(EncodeFault::TooLong)));
     Ok(())
 }
+
+// The grant whose last interval names pages 1 and then 0.
+#[test]
+fn pages_that_fall_are_refused(rt: HostRuntime) {
+    let falling = [
+        2, 3, 0, 1, 0, 0, 0, 0, 0, 0, 0, 42, 0, 2, 0, 0, 0, 2, 0, 0, 0, 0, 0, 0, 0, 2, 0, 2, 0, 0,
+        0, 1, 0, 0, 0, 0, 0, 0, 0, 2, 0, 0, 0, 2, 0, 0, 0, 0, 0, 2, 0, 1, 0, 0,
+    ];
+    assert!(rt; read(rt.alloc(), &falling).err() == Some(WireFault::NotAscending));
+}

@@ -194,3 +194,24 @@ fn arithmetic_wraps_and_steps_are_used_up(rt: HostRuntime) {
     let endless = b"words 1; locks 0; while 1 { x = x + 1; }";
     assert!(rt; makes_alone(rt.alloc(), endless, 3, &[act(0, Deed::Quiet); 3]) == Ok(true));
 }
+
+// Node 1 takes the lock after node 0, which writes word 1 behind its release.
+const LATE: &[u8] = b"words 2; locks 1; if me == 0 { acquire 0; [0] = 1; release 0; [1] = 2; }
+    else { acquire 0; x = [0]; y = [1]; release 0; print x; print y; }";
+
+#[test]
+fn the_plain_machine_reads_what_was_written_last(rt: HostRuntime) {
+    let wanted = [
+        act(0, Deed::Quiet),
+        act(0, Deed::Acquire(0)),
+        act(0, Deed::Write(0, 1)),
+        act(0, Deed::Release(0)),
+        act(0, Deed::Write(1, 2)),
+        act(1, Deed::Quiet),
+        act(1, Deed::Acquire(0)),
+        act(1, Deed::Read(0, 1)),
+        act(1, Deed::Read(1, 2)),
+    ];
+    let order = [0, 0, 0, 0, 0, 1, 1, 1, 1];
+    assert!(rt; makes(rt.alloc(), LATE, &order, Some(&wanted)) == Ok(true));
+}
