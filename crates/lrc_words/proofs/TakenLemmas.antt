@@ -290,8 +290,8 @@ flag_passed None there none = absurd cc
 flag_passed (Some t) there none =
     let takes = accepts-Accepts false BoolParser t (go (accepts false BoolParser t) none) in
     elim (either_true (bytes_eq t (codes "true")) (bytes_eq t (codes "false")) takes) [
-      | inl yes ↦ inl (same_bytes t (codes "true") yes)
-      | inr no ↦ inr (same_bytes t (codes "false") no)
+      | inl e ↦ inl (same_bytes t (codes "true") e)
+      | inr e ↦ inr (same_bytes t (codes "false") e)
     ]
   where
     go : (b : Bool) → cond b [] (InvalidValue ∷ []) ≡ [] → b ≡ true

@@ -32,13 +32,17 @@ words_meant (word ∷ words) = word ∷ words
 
 -- ---- what clap makes sure of
 
--- the command that shows something of a run of the nodes, with what clap makes sure of in its matches
+-- the command that asks more of a run of the nodes, with what clap makes sure of in its matches
+abbrev pub IsAskTaken : Text × List Row → Type 0
+IsAskTaken found = ((found.0 ≡ codes "trace") × IsTraceTaken found.1)
+    ⊎ ((found.0 ≡ codes "explain") × IsShowingTaken found.1)
+    ⊎ ((found.0 ≡ codes "stats") × IsShowingTaken found.1)
+
+-- the command that shows something of a run of the nodes
 abbrev pub IsShowTaken : Text × List Row → Type 0
 IsShowTaken found = ((found.0 ≡ codes "sim") × IsSimTaken found.1)
     ⊎ ((found.0 ≡ codes "run") × IsRunTaken found.1)
-    ⊎ ((found.0 ≡ codes "trace") × IsTraceTaken found.1)
-    ⊎ ((found.0 ≡ codes "explain") × IsShowingTaken found.1)
-    ⊎ ((found.0 ≡ codes "stats") × IsShowingTaken found.1)
+    ⊎ IsAskTaken found
 
 -- the command that the words name, with what clap makes sure of in its matches
 abbrev pub IsTaken : Option (Text × List Row) → Type 0
@@ -105,22 +109,22 @@ abbrev pub HasPlainMisfit : List Row → Misfit → Type 0
 HasPlainMisfit rows misfit = (misfit ≡ Number) × HasBadCount rows
 
 -- of a run of the nodes, on threads or not: words are looked at before numbers
-abbrev pub HasMisfitOfRun : Bool → List Row → Misfit → Type 0
-HasMisfitOfRun threads rows misfit =
-    HasWayMisfitIn threads rows misfit ⊎ ((way : Way) × IsWayIn threads rows way × HasOptionsMisfit rows misfit)
+pub record HasMisfitOfRun (threads : Bool) (rows : List Row) (misfit : Misfit) : Type 0 where
+  pub why : HasWayMisfitIn threads rows misfit ⊎ ((way : Way) × IsWayIn threads rows way × HasOptionsMisfit rows misfit)
 
 -- the same, where a flag says whether it is on threads
-abbrev pub HasShowingMisfit : List Row → Misfit → Type 0
-HasShowingMisfit rows misfit = (threads : Bool) × IsFlag (codes "threads") threads rows × HasMisfitOfRun threads rows misfit
+pub record HasShowingMisfit (rows : List Row) (misfit : Misfit) : Type 0 where
+  pub threads : Bool
+  pub asked : IsFlag (codes "threads") threads rows
+  pub why : HasMisfitOfRun threads rows misfit
 
-abbrev pub HasTraceMisfit : List Row → Misfit → Type 0
-HasTraceMisfit rows misfit = HasFormMisfitIn rows misfit ⊎ ((form : Form) × IsFormIn rows form × HasShowingMisfit rows misfit)
+pub record HasTraceMisfit (rows : List Row) (misfit : Misfit) : Type 0 where
+  pub why : HasFormMisfitIn rows misfit ⊎ ((form : Form) × IsFormIn rows form × HasShowingMisfit rows misfit)
 
 -- of the command `run`
-abbrev pub HasThreadsMisfit : List Row → Misfit → Type 0
-HasThreadsMisfit rows misfit =
-    ((misfit ≡ RunOrder) × ((picker : Picker) → ¬ IsPicker (first_of (codes "order") rows) picker))
-    ⊎ ((way : Way) × IsThreadsWayIn rows way × HasOptionsMisfit rows misfit)
+pub record HasThreadsMisfit (rows : List Row) (misfit : Misfit) : Type 0 where
+  pub why : ((misfit ≡ RunOrder) × ((picker : Picker) → ¬ IsPicker (first_of (codes "order") rows) picker))
+      ⊎ ((picker : Picker) × IsPicker (first_of (codes "order") rows) picker × HasOptionsMisfit rows misfit)
 
 abbrev pub HasJudgeMisfit : List Row → Misfit → Type 0
 HasJudgeMisfit rows misfit = (misfit ≡ Number) × IsSomeAnd (some_number_in (codes "nodes") rows) (IsOutOfRange 1 16)

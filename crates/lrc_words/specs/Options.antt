@@ -173,11 +173,19 @@ pub record AreRunOptions (run : RunOptions) (rows : List Row) : Type 0 where
   pub collect : collect_in rows ≡ run.collect.count
   pub size : IsSize (first_of (codes "page") rows) run.size
 
+-- what these matches say of a run's order, its seed and its events
+pub record AreAsked (rows : List Row) (order : Order) (seed : Option ℕ) (events : Option Text) : Type 0 where
+  pub order_is : IsOrder (first_of (codes "order") rows) order
+  pub seed_is : seed ≡ some_number_in (codes "seed") rows
+  pub events_is : events ≡ first_of (codes "events") rows
+
 -- how a run goes on, on threads or not, is chosen by these matches
 pub record IsWayIn (threads : Bool) (rows : List Row) (way : Way) : Type 0 where
   pub order : Order
-  pub named : IsOrder (first_of (codes "order") rows) order
-  pub way_is : IsWay order (some_number_in (codes "seed") rows) (first_of (codes "events") rows) threads way
+  pub seed : Option ℕ
+  pub events : Option Text
+  pub asked : AreAsked rows order seed events
+  pub way_is : IsWay order seed events threads way
 
 -- the same on threads, where the command has neither events nor a seed
 abbrev pub IsThreadsWayIn : List Row → Way → Type 0
@@ -215,8 +223,8 @@ HasOptionsMisfit rows misfit = ((misfit ≡ unfit.Page) × HasBadPage rows)
 abbrev pub HasWayMisfitIn : Bool → List Row → Misfit → Type 0
 HasWayMisfitIn threads rows misfit =
     ((misfit ≡ unfit.Order) × ((order : Order) → ¬ IsOrder (first_of (codes "order") rows) order))
-    ⊎ ((order : Order) × IsOrder (first_of (codes "order") rows) order
-    × HasWayMisfit order (some_number_in (codes "seed") rows) (first_of (codes "events") rows) threads misfit)
+    ⊎ ((order : Order) × (seed : Option ℕ) × (events : Option Text) × AreAsked rows order seed events
+    × HasWayMisfit order seed events threads misfit)
 
 -- what does not fit in the form of a trace
 abbrev pub HasFormMisfitIn : List Row → Misfit → Type 0

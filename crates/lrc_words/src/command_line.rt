@@ -5,7 +5,7 @@ ghost use Rattle.std.specs.Int.{IsOutOfRange};
 ghost use Rattle.clap.specs.Words.{fault_of, found_of, rows_of, subcommand_of, subcommand_rows_of};
 ghost use Rattle.lrc_words.specs.Commands.{treadmarks};
 ghost use Rattle.lrc_words.specs.CommandLine.{Chooses, HasExploreMisfit, HasJudgeMisfit, HasMisfit, HasPlainMisfit, HasShowMisfit};
-ghost use Rattle.lrc_words.specs.CommandLine.{IsExploring, IsFound, IsFoundFault, IsJudging, IsPlainRun, IsShowTaken};
+ghost use Rattle.lrc_words.specs.CommandLine.{IsAskTaken, IsExploring, IsFound, IsFoundFault, IsJudging, IsPlainRun, IsShowTaken};
 ghost use Rattle.lrc_words.specs.CommandLine.{IsTaken, fault_from, words_meant};
 ghost use Rattle.lrc_words.specs.Options.{IsExploreTaken, IsJudgeTaken, IsPlainTaken};
 ghost use Rattle.lrc_words.specs.declared.choice.ChooseFault.TheVariants.{NoMemory};
@@ -17,7 +17,7 @@ use crate::misfit::{Misfit, fault_of_misfit};
 use crate::reading::{
     is_named, most_of, nodes_of, so_many_nodes, some_number_of, steps_of, text_of,
 };
-use crate::runs::{form_of, run_choice, showing_run, threads_run};
+use crate::runs::{run_choice, showing_run, threads_run, traced_run};
 use clap::ArgMatches;
 use clap::error::ErrorKind;
 use std::alloc::{AllocError, Global};
@@ -86,9 +86,18 @@ fn shown_from<'w>(matches: &ArgMatches<'w>) -> Result<Choice<'w>, Misfit>
     if let Some(options) = matches.subcommand_matches("run") {
         return Ok(Choice::Show(threads_run(options)?, Shape::Report));
     }
+    asked_from(matches)
+}
+
+// What a command asks for that asks more of a run.
+fn asked_from<'w>(matches: &ArgMatches<'w>) -> Result<Choice<'w>, Misfit>
+    requires { IsSomeAnd (subcommand_rows_of matches.now) IsAskTaken }
+    ensures ok { IfOk result (λ choice. IsSomeAnd (subcommand_rows_of matches.now) (λ found. IsFound found choice)) }
+    ensures err { IfErr result (λ misfit. IsSomeAnd (subcommand_rows_of matches.now) (λ found. HasShowMisfit found misfit)) }
+{
     if let Some(options) = matches.subcommand_matches("trace") {
-        let form = form_of(options)?;
-        return Ok(Choice::Show(showing_run(options)?, Shape::Trace(form)));
+        let (run, form) = traced_run(options)?;
+        return Ok(Choice::Show(run, Shape::Trace(form)));
     }
     if let Some(options) = matches.subcommand_matches("explain") {
         return Ok(Choice::Show(showing_run(options)?, Shape::Explain));

@@ -3,7 +3,7 @@
 ghost use Rattle.std.specs.Prelude.{◌≡◌, Bool, IfErr, IfOk, IfSome, None, Some, codes, false, option_map};
 ghost use Rattle.clap.specs.Words.{first_of, found_of, rows_of};
 ghost use Rattle.lrc_wire.specs.declared.picker.Picker.{Picker as AnyPicker};
-ghost use Rattle.lrc_words.specs.CommandLine.{HasMisfitOfRun, HasShowingMisfit, HasThreadsMisfit, IsRun, IsShowingRun, IsThreadsRun};
+ghost use Rattle.lrc_words.specs.CommandLine.{HasMisfitOfRun, HasShowingMisfit, HasThreadsMisfit, HasTraceMisfit, IsRun, IsShowingRun, IsThreadsRun};
 ghost use Rattle.lrc_words.specs.Options.{AreRunOptions, HasFormMisfitIn, HasOptionsMisfit, HasValue, HasWayMisfit, HasWayMisfitIn};
 ghost use Rattle.lrc_words.specs.Options.{HasWordMisfit, IsForm, IsFormIn, IsOrder, IsPicker, IsRunTaken, IsShowingTaken, IsSimTaken};
 ghost use Rattle.lrc_words.specs.Options.{IsTraceTaken, IsWay, IsWayIn};
@@ -49,6 +49,17 @@ pub(crate) fn run_choice<'w>(
     Ok(RunChoice { options, way })
 }
 
+/// A run, and the form of its trace.
+pub(crate) fn traced_run<'w>(options: &ArgMatches<'w>) -> Result<(RunChoice<'w>, Form), Misfit>
+    requires { IsTraceTaken (rows_of (found_of options.now)) }
+    ensures form { IfOk result (λ traced. IsFormIn (rows_of (found_of options.now)) traced.1) }
+    ensures run { IfOk result (λ traced. IsShowingRun (rows_of (found_of options.now)) traced.0) }
+    ensures err { IfErr result (HasTraceMisfit (rows_of (found_of options.now))) }
+{
+    let form = form_of(options)?;
+    Ok((showing_run(options)?, form))
+}
+
 /// A run of a command whose runs are all on threads.
 pub(crate) fn threads_run<'w>(options: &ArgMatches<'w>) -> Result<RunChoice<'w>, Misfit>
     requires { IsRunTaken (rows_of (found_of options.now)) }
@@ -85,7 +96,14 @@ fn way_of<'w>(options: &ArgMatches<'w>, threads: bool) -> Result<Way<'w>, Misfit
 {
     let order = order_of(options)?;
     let seed = some_number_of(options, "seed");
-    way_in(order, seed, options.get_str("events"), threads)
+    way_in(order, seed, events_of(options), threads)
+}
+
+// The file of the events, if one is named.
+fn events_of<'w>(options: &ArgMatches<'w>) -> Option<&'w str>
+    ensures { option_map (λ path. path.now) result ≡ first_of (codes "events") (rows_of (found_of options.now)) }
+{
+    options.get_str("events")
 }
 
 // How a run in an order goes on.
@@ -176,8 +194,7 @@ fn picker_named(word: &str) -> Option<Picker>
     }
 }
 
-/// The form of a trace.
-pub(crate) fn form_of(options: &ArgMatches<'_>) -> Result<Form, Misfit>
+fn form_of(options: &ArgMatches<'_>) -> Result<Form, Misfit>
     requires { IsTraceTaken (rows_of (found_of options.now)) }
     ensures ok { IfOk result (IsFormIn (rows_of (found_of options.now))) }
     ensures err { IfErr result (HasFormMisfitIn (rows_of (found_of options.now))) }

@@ -7,14 +7,14 @@ use Rattle.lrc_words.proofs.reading.is_named.Goals as goal
 -- what clap says of a flag is what `get_flag` reads
 flag_read : (text : Option Text) (named : Bool) → IsSomeAnd text (λ t. (t ≡ codes "true") ⊎ (t ≡ codes "false"))
     → (text ≡ Some (codes "true") → named ≡ true) → (text ≡ Some (codes "false") → named ≡ false) → text ≡ Some (bool_text named)
-flag_read None named said yes no = absurd said
-flag_read (Some t) named said yes no = elim said [
+flag_read None named said is_true is_false = absurd said
+flag_read (Some t) named said is_true is_false = elim said [
   | inl e ↦
       let is : Some t ≡ Some (codes "true") = ap Some e in
-      is ∙ ap (λ b. Some (bool_text b)) (sym (yes is))
+      is ∙ ap (λ b. Some (bool_text b)) (sym (is_true is))
   | inr e ↦
       let is : Some t ≡ Some (codes "false") = ap Some e in
-      is ∙ ap (λ b. Some (bool_text b)) (sym (no is))
+      is ∙ ap (λ b. Some (bool_text b)) (sym (is_false is))
 ]
 
 pub returns : goal.returns
