@@ -1,6 +1,6 @@
 use Rattle.std.proofs.Common.{List, Option, None, Some, IsSomeAnd, inr}
 use Rattle.std.proofs.lemmas.Result.{IfErr-weaker}
-use Rattle.clap.specs.Words.{Row, Text}
+use Rattle.clap.specs.Words.{Row, Text, subcommand_rows_of}
 use Rattle.lrc_words.specs.CommandLine.{HasMisfit, HasShowMisfit}
 use Rattle.lrc_words.specs.declared.misfit.Misfit.{Misfit}
 use Rattle.lrc_words.proofs.command_line.choice_from.Goals as goal
@@ -12,4 +12,4 @@ shown None misfit has = absurd has
 shown (Some f) misfit has = inr (inr (inr has))
 
 pub returns-clause-err : goal.returns-clause-err
-returns-clause-err c = IfErr-weaker c.shown_from.result _ _ (λ misfit has. shown _ misfit has) c.shown_from.ensures.err
+returns-clause-err c = IfErr-weaker c.shown_from.result _ _ (λ misfit has. shown (subcommand_rows_of c.args.matches.now) misfit has) c.shown_from.ensures.err
