@@ -1,5 +1,5 @@
 -- The words of the command line, as clap reads them, and the choice that they make.
-use Rattle.std.specs.Prelude.{◌≡◌, ◌≢◌, ◌⊎◌, ℕ, Bool, false, List, [], ◌∷◌, Option, None, Some, Result, Ok, Err, IsSomeAnd, codes, option_map}
+use Rattle.std.specs.Prelude.{◌≡◌, ◌≢◌, ◌⊎◌, Bool, false, List, [], ◌∷◌, Option, None, Some, Result, Ok, Err, IsSomeAnd, codes, option_map}
 use Rattle.std.specs.Int.{IsOutOfRange}
 use Rattle.clap.specs.Words.{IsAmong, Row, Text, fault_of, first_of, kind_of, subcommand_of}
 use Rattle.clap.specs.declared.error.Error.{Error}
