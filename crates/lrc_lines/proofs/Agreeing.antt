@@ -26,11 +26,11 @@ statements_tasks (first ∷ more) lines = ap (λ l. first ∷ l) (statements_tas
 
 -- ---- what a thread does next
 
-on_value : (P : Next → Type 0) (o : Option ℕ) (go : ℕ → Next) → P (traps DivisionByZero) → ((v : ℕ) → o ≡ Some v → P (go v)) → P (or_trap o go)
+pub on_value : (P : Next → Type 0) (o : Option ℕ) (go : ℕ → Next) → P (traps DivisionByZero) → ((v : ℕ) → o ≡ Some v → P (go v)) → P (or_trap o go)
 on_value P None go trapped each = trapped
 on_value P (Some v) go trapped each = each v refl
 
-on_if : (P : Next → Type 0) (test : Bool) (one other : Next) → P one → P other → P (if test then one else other)
+pub on_if : (P : Next → Type 0) (test : Bool) (one other : Next) → P one → P other → P (if test then one else other)
 on_if P true one other first second = first
 on_if P false one other first second = second
 
@@ -127,7 +127,7 @@ agrees_onward : (value : ℕ) (w : Walk) → Agrees w → Agrees (onward value w
 agrees_onward value w agrees =
     agrees_if (goes_on (ask_of (next_of w.thread))) _ w (λ goes. agrees_on value w.thread w.todo agrees.0 agrees.1 goes) agrees
 
-agrees_led : (w : Walk) (d : Deed) → Agrees w → Agrees (led w d)
+pub agrees_led : (w : Walk) (d : Deed) → Agrees w → Agrees (led w d)
 agrees_led w deeds.Arrive agrees = agrees
 agrees_led w (deeds.Trap cause) agrees = agrees
 agrees_led w deeds.End agrees = agrees
@@ -144,6 +144,9 @@ agrees_fold node [] w agrees = agrees
 agrees_fold node (act ∷ acts) w agrees =
     agrees_fold node acts (led_by node w act) (agrees_if (act.node == node) (led w act.deed) w (λ e. agrees_led w act.deed agrees) agrees)
 
+pub agrees_start : (program : Program) (nodes : ℕ) (lines : List ℕ) (node : ℕ) → Agrees (walk_at_start program nodes lines node)
+agrees_start program nodes lines node = (statements_tasks program.statements.items lines, refl)
+
 pub agrees_behind : (program : Program) (nodes : ℕ) (lines : List ℕ) (acts : List Act) (node : ℕ) → Agrees (walk_behind program nodes lines acts node)
 agrees_behind program nodes lines acts node =
-    agrees_fold node acts (walk_at_start program nodes lines node) (statements_tasks program.statements.items lines, refl)
+    agrees_fold node acts (walk_at_start program nodes lines node) (agrees_start program nodes lines node)

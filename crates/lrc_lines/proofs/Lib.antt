@@ -1,4 +1,6 @@
 pub mod Agreeing
 pub mod Following
+pub mod Making
 pub mod Passing
+pub mod Placing
 pub mod Several

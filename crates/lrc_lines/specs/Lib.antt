@@ -1,3 +1,5 @@
+pub mod Makes
+pub mod Places
 pub mod Seen
 pub mod Standing
 pub mod Tasks

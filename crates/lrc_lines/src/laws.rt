@@ -1,12 +1,34 @@
 // Laws of walks. These functions do nothing: each contract states a law.
 
-ghost use Rattle.std.specs.Prelude.{◌≡◌, ℕ, List};
+ghost use Rattle.std.specs.Prelude.{◌≡◌, ◌<◌, ℕ, All, List, Some, slice_get, take};
 ghost use Rattle.lrc_lang.specs.declared.program.Program.{Program};
 ghost use Rattle.lrc_trace.specs.declared.act.Act.{Act};
+ghost use Rattle.lrc_trace.specs.declared.act.Deed.{Deed};
+ghost use Rattle.lrc_trace.specs.Run.{Does};
+ghost use Rattle.lrc_theory.specs.Follows.{FollowsText};
+ghost use Rattle.lrc_lines.specs.Makes.{MakesNext};
+ghost use Rattle.lrc_lines.specs.Places.{StandsAmong, in_order};
 ghost use Rattle.lrc_lines.specs.Standing.{Agrees};
-ghost use Rattle.lrc_lines.specs.Walks.{walk_behind};
+ghost use Rattle.lrc_lines.specs.Walks.{end_of, line_at, lines_of, walk_behind};
 
 /// Whatever the acts are, the statements still to do with their lines are those that the node's thread has still to do.
 pub fn walks_agree_with_their_threads()
     ensures { (program : Program) (nodes : ℕ) (lines : List ℕ) (acts : List Act) (node : ℕ) → Agrees (walk_behind program nodes lines acts node) }
+{}
+
+/// What a node has still to do stands in the program's text, with the lines from its own place on: the first of them is its line.
+pub fn what_is_still_to_do_stands_in_the_text()
+    ensures { (program : Program) (nodes : ℕ) (lines : List ℕ) (acts : List Act) (node : ℕ)
+        → All (StandsAmong (in_order program.statements.items) lines) (walk_behind program nodes lines acts node).todo }
+{}
+
+/// The line of each act is that of what comes next on its node's way; and where acts follow the text, that is what makes the act:
+/// the statement on that line, the barrier from which the node departs, or the end of the text.
+pub fn each_line_is_of_what_makes_the_act()
+    ensures line { (program : Program) (nodes : ℕ) (lines : List ℕ) (acts : List Act) (i node : ℕ) (deed : Deed)
+        → Does acts i node deed → node < nodes → slice_get (lines_of program nodes lines acts) i
+        ≡ Some (line_at (end_of lines) (walk_behind program nodes lines (take i acts) node)) }
+    ensures made { (program : Program) (nodes : ℕ) (lines : List ℕ) (acts : List Act) (i node : ℕ) (deed : Deed)
+        → FollowsText program nodes acts → Does acts i node deed → node < nodes
+        → MakesNext (walk_behind program nodes lines (take i acts) node) deed }
 {}

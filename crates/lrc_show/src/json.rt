@@ -134,8 +134,8 @@ fn push_time(text: &mut Vec<u8>, time: &Time) -> Result<(), AllocError>
     text.extend_from_slice(b"]")
 }
 
-// Adds the entries of a time, with commas between them.
-fn push_entries(text: &mut Vec<u8>, time: &Time) -> Result<(), AllocError>
+/// Adds the entries of a time, with commas between them.
+pub fn push_entries(text: &mut Vec<u8>, time: &Time) -> Result<(), AllocError>
     ensures { OnOk result (text.new.items ≡ text.old.items ++ with_commas time.now) }
 {
     for node in 0..time.nodes() {

@@ -8,5 +8,5 @@ mod rapid;
 mod tally;
 
 pub use acts::acts_part;
-pub use json::json_part;
+pub use json::{json_part, push_entries};
 pub use rapid::rapid_part;

@@ -1,0 +1,73 @@
+// Changes of pages in words.
+
+ghost use Rattle.std.specs.Prelude.{◌≡◌, ◌++◌, IfOk, OnOk, codes};
+ghost use Rattle.lrc_messages.specs.Lists.{before, joined, joined_or_dash};
+ghost use Rattle.lrc_messages.specs.MessageText.{change_text, part_text, words_in};
+
+use crate::lists::push_before;
+use lrc_page::{Change, Changes, Page};
+use lrc_text::push_number;
+use lrc_wire::{IndexedChanges, Parts};
+use std::alloc::{AllocError, Global};
+
+fn push_change(text: &mut Vec<u8>, place: usize, change: Change) -> Result<(), AllocError>
+    ensures { OnOk result (text.new.items ≡ text.old.items ++ before place (codes ",") ++ change_text change) }
+{
+    push_before(text, place, b",")?;
+    push_number(text, b"", u64::from(change.offset))?;
+    push_number(text, b"=", change.value)
+}
+
+fn push_changes(text: &mut Vec<u8>, changes: &Changes) -> Result<(), AllocError>
+    ensures { OnOk result (text.new.items ≡ text.old.items ++ joined (codes ",") change_text changes.now) }
+{
+    for place in 0..changes.len() {
+        push_change(text, place, changes.at(place))?;
+    }
+    Ok(())
+}
+
+fn push_changes_or_dash(text: &mut Vec<u8>, changes: &Changes) -> Result<(), AllocError>
+    ensures { OnOk result (text.new.items ≡ text.old.items ++ joined_or_dash (codes ",") change_text changes.now) }
+{
+    if changes.is_empty() {
+        text.extend_from_slice(b"-")
+    } else {
+        push_changes(text, changes)
+    }
+}
+
+fn push_part(text: &mut Vec<u8>, place: usize, part: &IndexedChanges) -> Result<(), AllocError>
+    ensures { OnOk result (text.new.items ≡ text.old.items ++ before place (codes " ") ++ part_text part.now) }
+{
+    push_before(text, place, b" ")?;
+    push_number(text, b"", u64::from(part.index))?;
+    text.extend_from_slice(b"[")?;
+    push_changes(text, &part.changes)?;
+    text.extend_from_slice(b"]")
+}
+
+/// Adds what intervals changed, each with its index.
+pub(crate) fn push_parts(text: &mut Vec<u8>, parts: &Parts) -> Result<(), AllocError>
+    ensures { OnOk result (text.new.items ≡ text.old.items ++ joined (codes " ") part_text parts.now) }
+{
+    for place in 0..parts.len() {
+        push_part(text, place, parts.at(place))?;
+    }
+    Ok(())
+}
+
+// The words of a page that are not 0.
+fn words_in(alloc: Global, page: &Page) -> Result<Changes, AllocError>
+    ensures { IfOk result (λ changes. changes ≡ words_in page.now) }
+{
+    Changes::between(alloc, &Page::zero(page.size()), page)
+}
+
+/// Adds the words of a page that are not 0.
+pub(crate) fn push_words(alloc: Global, text: &mut Vec<u8>, page: &Page) -> Result<(), AllocError>
+    ensures { OnOk result (text.new.items ≡ text.old.items ++ joined_or_dash (codes ",") change_text (words_in page.now)) }
+{
+    let words = words_in(alloc, page)?;
+    push_changes_or_dash(text, &words)
+}

@@ -1,0 +1,107 @@
+// A line for each message that a node takes or sends.
+
+ghost use Rattle.std.specs.Prelude.{◌≡◌, ◌<◌, ◌≤◌, ◌++◌, IfOk, MatchOption, OnOk, length};
+ghost use Rattle.std.specs.Prelude.{codes, if◌then◌else◌};
+ghost use Rattle.lrc_wire.specs.declared.limits.TheConstants.{MOST_BODY_BYTES};
+ghost use Rattle.lrc_wire.specs.declared.version.Version.TheVariants.{Two};
+ghost use Rattle.lrc_wire.specs.Runs.{runs_of};
+ghost use Rattle.lrc_wire.specs.Spelling.{body};
+ghost use Rattle.lrc_messages.specs.MessageText.{message_text};
+ghost use Rattle.lrc_messages.specs.TurnText.{bytes_of, sent_text, sent_texts, size_text, taken_text};
+
+use crate::message::push_message;
+use lrc_text::push_number;
+use lrc_wire::{EncodeFault, Envelope, Message, encode};
+use std::alloc::{AllocError, Global};
+
+/// Adds the line of a message that a node takes; of one that it took before no more is said.
+pub fn push_taken(
+    alloc: Global,
+    text: &mut Vec<u8>,
+    node: u8,
+    envelope: &Envelope,
+    again: bool,
+) -> Result<(), AllocError>
+    ensures { OnOk result (text.new.items ≡ text.old.items ++ taken_text node envelope.now again) }
+{
+    push_number(text, b"# node ", u64::from(node))?;
+    push_number(text, b" takes ", u64::from(envelope.number))?;
+    push_number(text, b" from ", u64::from(envelope.from))?;
+    push_said(alloc, text, &envelope.message, again)?;
+    text.extend_from_slice(b"\n")
+}
+
+// Adds what a message says, or that it was taken before.
+fn push_said(
+    alloc: Global,
+    text: &mut Vec<u8>,
+    message: &Message,
+    again: bool,
+) -> Result<(), AllocError>
+    ensures { OnOk result (text.new.items
+        ≡ text.old.items ++ (if again then codes " again" else codes ": " ++ message_text message.now)) }
+{
+    if again {
+        return text.extend_from_slice(b" again");
+    }
+    text.extend_from_slice(b": ")?;
+    push_message(alloc, text, message)
+}
+
+// How many bytes an envelope has, or none where it has more than may be sent.
+#[tactic(auto, using(crate::proofs::Sizes::written_long, crate::proofs::Sizes::written_short))]
+fn size_of(alloc: Global, envelope: &Envelope) -> Result<Option<u64>, AllocError>
+    ensures { IfOk result (λ size. MatchOption size
+        (MOST_BODY_BYTES < length (body Two runs_of envelope.now.message))
+        (λ count. (count ≡ length (bytes_of envelope.now))
+        × (length (body Two runs_of envelope.now.message) ≤ MOST_BODY_BYTES))) }
+{
+    match encode(alloc, envelope) {
+        Ok(bytes) => Ok(Some(bytes.len() as u64)),
+        Err(EncodeFault::TooLong) => Ok(None),
+        Err(EncodeFault::NoMemory) => Err(AllocError),
+    }
+}
+
+fn push_size(alloc: Global, text: &mut Vec<u8>, envelope: &Envelope) -> Result<(), AllocError>
+    ensures { OnOk result (text.new.items ≡ text.old.items ++ size_text envelope.now) }
+{
+    match size_of(alloc, envelope)? {
+        Some(count) => push_number(text, b"", count),
+        None => text.extend_from_slice(b"no"),
+    }
+}
+
+/// Adds the line of a message that a node sends.
+pub fn push_sent(
+    alloc: Global,
+    text: &mut Vec<u8>,
+    node: u8,
+    envelope: &Envelope,
+) -> Result<(), AllocError>
+    ensures { OnOk result (text.new.items ≡ text.old.items ++ sent_text node envelope.now) }
+{
+    push_number(text, b"# node ", u64::from(node))?;
+    push_number(text, b" sends ", u64::from(envelope.number))?;
+    push_number(text, b" to ", u64::from(envelope.to))?;
+    text.extend_from_slice(b", ")?;
+    push_size(alloc, text, envelope)?;
+    text.extend_from_slice(b" bytes: ")?;
+    push_message(alloc, text, &envelope.message)?;
+    text.extend_from_slice(b"\n")
+}
+
+/// Adds a line for each message that a node sends.
+pub fn push_all_sent(
+    alloc: Global,
+    text: &mut Vec<u8>,
+    node: u8,
+    out: &[Envelope],
+) -> Result<(), AllocError>
+    ensures { OnOk result (text.new.items ≡ text.old.items ++ sent_texts node out.now) }
+{
+    for envelope in out {
+        push_sent(alloc, text, node, envelope)?;
+    }
+    Ok(())
+}

@@ -1,0 +1,11 @@
+//! Messages in words: what one node tells another, and a line for each message that a node takes or sends.
+#![tactic(auto)]
+
+mod changes;
+mod envelope;
+mod lists;
+mod message;
+mod news;
+
+pub use envelope::{push_all_sent, push_sent, push_taken};
+pub use message::{kind_name, push_message};

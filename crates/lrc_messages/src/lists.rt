@@ -1,0 +1,52 @@
+// Lists in words.
+
+ghost use Rattle.std.specs.Prelude.{◌≡◌, ◌++◌, OnOk};
+ghost use Rattle.lrc_show.specs.Json.{entry_text, with_commas};
+ghost use Rattle.lrc_messages.specs.Lists.{before};
+
+use lrc_page::Pages;
+use lrc_text::push_number;
+use lrc_wire::Indices;
+use std::alloc::AllocError;
+
+/// Adds what stands before an item at this place of a list: the sign, but before the first nothing.
+pub(crate) fn push_before(text: &mut Vec<u8>, place: usize, sign: &[u8]) -> Result<(), AllocError>
+    ensures { OnOk result (text.new.items ≡ text.old.items ++ before place sign.now) }
+{
+    if place == 0 {
+        Ok(())
+    } else {
+        text.extend_from_slice(sign)
+    }
+}
+
+// Adds a number at this place of a list with commas.
+fn push_listed(text: &mut Vec<u8>, place: usize, number: u64) -> Result<(), AllocError>
+    ensures { OnOk result (text.new.items ≡ text.old.items ++ entry_text place number) }
+{
+    if place == 0 {
+        push_number(text, b"", number)
+    } else {
+        push_number(text, b",", number)
+    }
+}
+
+/// Adds the numbers of pages, with commas between them.
+pub(crate) fn push_pages(text: &mut Vec<u8>, pages: &Pages) -> Result<(), AllocError>
+    ensures { OnOk result (text.new.items ≡ text.old.items ++ with_commas pages.now) }
+{
+    for place in 0..pages.len() {
+        push_listed(text, place, u64::from(pages.at(place)))?;
+    }
+    Ok(())
+}
+
+/// Adds the indices of intervals, with commas between them.
+pub(crate) fn push_indices(text: &mut Vec<u8>, indices: &Indices) -> Result<(), AllocError>
+    ensures { OnOk result (text.new.items ≡ text.old.items ++ with_commas indices.now) }
+{
+    for place in 0..indices.len() {
+        push_listed(text, place, u64::from(indices.at(place)))?;
+    }
+    Ok(())
+}

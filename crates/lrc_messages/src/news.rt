@@ -1,0 +1,71 @@
+// Times and intervals in words.
+
+ghost use Rattle.std.specs.Prelude.{◌≡◌, ◌++◌, OnOk, codes};
+ghost use Rattle.lrc_messages.specs.Lists.{before, joined, joined_or_dash};
+ghost use Rattle.lrc_messages.specs.MessageText.{collect_text, interval_text, news_text, time_text};
+
+use crate::lists::{push_before, push_pages};
+use lrc_show::push_entries;
+use lrc_store::{Interval, Intervals};
+use lrc_text::push_number;
+use lrc_time::Time;
+use lrc_wire::News;
+use std::alloc::AllocError;
+
+/// Adds the entries of a time.
+pub(crate) fn push_time(text: &mut Vec<u8>, time: &Time) -> Result<(), AllocError>
+    ensures { OnOk result (text.new.items ≡ text.old.items ++ time_text time.now) }
+{
+    text.extend_from_slice(b" time ")?;
+    push_entries(text, time)
+}
+
+fn push_interval(text: &mut Vec<u8>, place: usize, interval: &Interval) -> Result<(), AllocError>
+    ensures { OnOk result (text.new.items ≡ text.old.items ++ before place (codes " ") ++ interval_text interval.now) }
+{
+    push_before(text, place, b" ")?;
+    push_number(text, b"", u64::from(interval.node))?;
+    push_number(text, b".", u64::from(interval.index()))?;
+    text.extend_from_slice(b"[")?;
+    push_pages(text, &interval.pages)?;
+    text.extend_from_slice(b"]")
+}
+
+fn push_intervals(text: &mut Vec<u8>, intervals: &Intervals) -> Result<(), AllocError>
+    ensures { OnOk result (text.new.items ≡ text.old.items ++ joined (codes " ") interval_text intervals.now) }
+{
+    for place in 0..intervals.len() {
+        push_interval(text, place, intervals.at(place))?;
+    }
+    Ok(())
+}
+
+fn push_intervals_or_dash(text: &mut Vec<u8>, intervals: &Intervals) -> Result<(), AllocError>
+    ensures { OnOk result (text.new.items ≡ text.old.items ++ joined_or_dash (codes " ") interval_text intervals.now) }
+{
+    if intervals.is_empty() {
+        text.extend_from_slice(b"-")
+    } else {
+        push_intervals(text, intervals)
+    }
+}
+
+/// Adds a time, and intervals.
+pub(crate) fn push_news(text: &mut Vec<u8>, news: &News) -> Result<(), AllocError>
+    ensures { OnOk result (text.new.items ≡ text.old.items ++ news_text news.now.time news.now.intervals) }
+{
+    push_time(text, &news.time)?;
+    text.extend_from_slice(b" news ")?;
+    push_intervals_or_dash(text, &news.intervals)
+}
+
+/// Adds that a collection is asked for, or that there is one.
+pub(crate) fn push_collect(text: &mut Vec<u8>, collects: bool) -> Result<(), AllocError>
+    ensures { OnOk result (text.new.items ≡ text.old.items ++ collect_text collects) }
+{
+    if collects {
+        text.extend_from_slice(b" collect")
+    } else {
+        Ok(())
+    }
+}
