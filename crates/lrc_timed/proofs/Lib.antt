@@ -1,0 +1,2 @@
+pub mod NextPast
+pub mod OfRuns

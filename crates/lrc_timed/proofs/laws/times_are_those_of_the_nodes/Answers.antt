@@ -1,0 +1,8 @@
+use Rattle.lrc_timed.proofs.OfRuns.{acts_of_nodes, times_of_nodes}
+use Rattle.lrc_timed.proofs.laws.times_are_those_of_the_nodes.Goals as goal
+
+pub returns-clause-nodes : goal.returns-clause-nodes
+returns-clause-nodes c = acts_of_nodes
+
+pub returns-clause-times : goal.returns-clause-times
+returns-clause-times c = times_of_nodes
