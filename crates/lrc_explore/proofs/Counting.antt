@@ -12,7 +12,7 @@ use Rattle.lrc_trace.specs.Run.{act_of}
 use Rattle.lrc_trace.proofs.Positions.{slice_get-front, slice_get-seam}
 use Rattle.lrc_exec.specs.declared.spot.Flat.{Flat}
 use Rattle.lrc_exec.specs.Flat.{IsCodeOf}
-use Rattle.lrc_exec.specs.Meaning.{Next, quiet, prints, reads, writes, acquires, releases, arrives, departs, traps, ends, next_of}
+use Rattle.lrc_exec.specs.Meaning.{Thread, Next, quiet, prints, reads, writes, acquires, releases, arrives, departs, traps, ends, next_of}
 use Rattle.lrc_exec.specs.Plain.{Plain, deed_of, is_free, all_arrived, with_thread, thread_in, plain_step, plain_start}
 use Rattle.lrc_theory.proofs.Plainly.{one_more, plain_from-joined}
 use Rattle.lrc_explore.specs.declared.state.State.{State}
@@ -80,12 +80,49 @@ module _ (machine after : Plain) (node k : ℕ) (d : Deed) where
   counts_deed (traps cause) is = counts_after (Trap cause) (with_thread machine node None) is (omega arith)
   counts_deed ends is = counts_after End (with_thread machine node None) is (omega arith)
 
-  step_counts : plain_step machine node ≡ Some (d, after) → Counts after
+  pub step_counts : plain_step machine node ≡ Some (d, after) → Counts after
   step_counts is =
       option_and_then_some (λ t. deed_of machine node (next_of t)) (thread_in machine node) (d, after) is (λ t at made. counts_deed (next_of t) made)
 
+-- one step keeps the number of threads
+module _ (machine after : Plain) (node : ℕ) (d : Deed) where
+  abbrev Sized : Plain → Type 0
+  Sized m = length m.threads ≡ length machine.threads
+
+  sized_after : (e : Deed) (m : Plain) → done e m ≡ done d after → Sized m → Sized after
+  sized_after e m is size = subst Sized ((some_pair_parts e d m after is).1) size
+
+  sized_if : (b : Bool) (e : Deed) (m : Plain) → done_if b e m ≡ done d after → Sized m → Sized after
+  sized_if true e m is size = sized_after e m is size
+  sized_if false e m is size = cc
+
+  sized : (t : Option Thread) → length (slice_set machine.threads node t) ≡ length machine.threads
+  sized t = length-set machine.threads node t
+
+  sized_deed : (n : Next) → deed_of machine node n ≡ Some (d, after) → Sized after
+  sized_deed (quiet t) is = sized_after Quiet (with_thread machine node (Some t)) is (sized (Some t))
+  sized_deed (prints v t) is = sized_after (Print v) (with_thread machine node (Some t)) is (sized (Some t))
+  sized_deed (reads w t) is =
+      let v = slice_index machine.memory w in sized_after (Read w v) (with_thread machine node (Some (t v))) is (sized (Some (t v)))
+  sized_deed (writes w v t) is =
+      sized_after (Write w v) (record (with_thread machine node (Some t)) { memory = slice_set machine.memory w v }) is (sized (Some t))
+  sized_deed (acquires l t) is =
+      sized_if (is_free machine l) (Acquire l) (record (with_thread machine node (Some t)) { holders = slice_set machine.holders l (Some node) }) is
+      (sized (Some t))
+  sized_deed (releases l t) is =
+      sized_after (Release l) (record (with_thread machine node (Some t)) { holders = slice_set machine.holders l None }) is (sized (Some t))
+  sized_deed (arrives t) is =
+      sized_after Arrive
+      (record (with_thread machine node (Some t)) { arrivals = slice_set machine.arrivals node (slice_index machine.arrivals node + 1) }) is (sized (Some t))
+  sized_deed (departs t) is = sized_if (all_arrived machine node) Depart (with_thread machine node (Some t)) is (sized (Some t))
+  sized_deed (traps cause) is = sized_after (Trap cause) (with_thread machine node None) is (sized None)
+  sized_deed ends is = sized_after End (with_thread machine node None) is (sized None)
+
+  pub step_threads : plain_step machine node ≡ Some (d, after) → Sized after
+  step_threads is = option_and_then_some (λ t. deed_of machine node (next_of t)) (thread_in machine node) (d, after) is (λ t at made. sized_deed (next_of t) made)
+
 -- at the start nobody has arrived
-zero_at : (n k : ℕ) → slice_index (replicate n 0) k ≡ 0
+pub zero_at : (n k : ℕ) → slice_index (replicate n 0) k ≡ 0
 zero_at zero k = refl
 zero_at (suc n) zero = refl
 zero_at (suc n) (suc k) = zero_at n k

@@ -9,3 +9,6 @@ pub mod Standing
 pub mod Searching
 pub mod Counting
 pub mod Exploring
+pub mod Noting
+pub mod Alike
+pub mod Gathering

@@ -4,3 +4,5 @@ pub mod States
 pub mod Verdict
 pub mod Search
 pub mod Limit
+pub mod Notes
+pub mod Outcome

@@ -1,6 +1,6 @@
 // Races and meetings. Each function is a theorem: its body is empty, and its clause is the law.
 
-ghost use Rattle.std.specs.Prelude.{◌≡◌, ℕ, ◌↔◌, List, Some};
+ghost use Rattle.std.specs.Prelude.{◌≡◌, ℕ, ◌<◌, ◌↔◌, List, [], ◌∷◌, ◌++◌, Some};
 ghost use Rattle.lrc_lang.specs.declared.program.Program.{Program};
 ghost use Rattle.lrc_trace.specs.declared.act.Act.{Act};
 ghost use Rattle.lrc_trace.specs.Conflict.{IsRaceFree};
@@ -11,6 +11,7 @@ ghost use Rattle.lrc_theory.specs.Follows.{FollowsText, nodes_of};
 ghost use Rattle.lrc_theory.specs.Racing.{HasNoRace};
 ghost use Rattle.lrc_explore.specs.Meeting.{IsCertificate, NeverMeets};
 ghost use Rattle.lrc_explore.specs.declared.search.Verdict.{Verdict};
+ghost use Rattle.lrc_explore.specs.Notes.{notes_of, noted};
 ghost use Rattle.lrc_explore.specs.Verdict.{IsVerdict, FindsNoRace};
 
 /// A program has no race exactly where no order leads two nodes of the plain machine to where both are about to access one
@@ -31,4 +32,10 @@ pub fn runs_of_explored_programs_are_plain()
     ensures { (program : Program) (nodes : ℕ) (verdict : Verdict) (run : List Act) → IsVerdict program nodes verdict → FindsNoRace verdict
         → FollowsText program nodes run → IsWellSynchronized nodes run → ReadsLazily run
         → IsRaceFree run × (plain program nodes (nodes_of run) ≡ Some run) }
+{}
+
+/// What is noted of one act more is what was noted, with that act put in behind the notes of the nodes up to its own.
+pub fn notes_of_one_act_more()
+    ensures { (nodes : ℕ) (acts : List Act) (act : Act) → act.node < nodes
+        → notes_of nodes (acts ++ act ∷ []) ≡ noted (notes_of nodes acts) act }
 {}

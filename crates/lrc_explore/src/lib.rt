@@ -2,5 +2,7 @@
 #![tactic(auto)]
 
 pub mod laws;
+pub mod notes;
+pub mod outcomes;
 pub mod search;
 pub mod state;

@@ -1,0 +1,234 @@
+// Every outcome of a program.
+
+ghost use Rattle.std.specs.Prelude.{◌≡◌, ◌↔◌, List, IfOk, IfErr, Err};
+ghost use Rattle.lrc_trace.specs.declared.act.Act.{Act};
+ghost use Rattle.lrc_explore.specs.Verdict.{AreNodes};
+ghost use Rattle.lrc_explore.specs.Outcome.{HasMoreNoted, HasOutcome, IsOutcome};
+
+use crate::notes::note;
+use crate::search::{ExploreFault, count_of};
+use crate::state::{State, copied};
+use indexmap::IndexSet;
+use lrc_exec::code::Code;
+use lrc_exec::spot::Flat;
+use lrc_lang::program::Program;
+use lrc_trace::act::{Act, Deed};
+use std::alloc::{AllocError, Global};
+
+/// What the nodes print, each one's in order, and how each ends: the prints, the traps and the ends, node by node.
+#[derive(PartialEq, Eq, Hash, Drop)]
+pub struct Outcome {
+    pub notes: Vec<Act>,
+}
+
+// A state, and what was noted on the way to it.
+#[derive(PartialEq, Eq, Hash, Drop)]
+pub(crate) struct Noted {
+    state: State,
+    notes: Vec<Act>,
+}
+
+// States, each once, in the order in which they were found, and the outcomes of those at which no node can make an act.
+#[derive(Drop)]
+pub(crate) struct Gathered {
+    states: IndexSet<Noted>,
+    outcomes: IndexSet<Outcome>,
+}
+
+/// Every outcome of the orders in which so many nodes can run a program, after which no node can make an act. Gives up where
+/// there are more states to tell apart than `most`.
+pub fn outcomes(
+    alloc: Global,
+    program: &Program,
+    nodes: u32,
+    most: usize,
+) -> Result<IndexSet<Outcome>, ExploreFault>
+    ensures exact { IfOk result (λ found. (notes : List Act) → (HasOutcome found.keys notes ↔ IsOutcome program.now nodes notes)) }
+    ensures bad_nodes { (result ≡ Err ExploreFault.BadNodes) ↔ (¬ AreNodes nodes) }
+    ensures too_many { IfErr result (λ fault. fault ≡ ExploreFault.TooMany → HasMoreNoted program.now nodes most) }
+{
+    let nodes = count_of(nodes)?;
+    let code = Code::new(alloc, program)?;
+    let (instructions, place) = code.parts();
+    let flat = Flat {
+        code: instructions,
+        words: code.words(),
+        locks: code.locks(),
+        nodes,
+    };
+    let mut gathered = Gathered::new(alloc, &flat, place)?;
+    gathered.go_through(alloc, &flat, place, most)?;
+    Ok(gathered.outcomes)
+}
+
+impl Noted {
+    ghost use Rattle.std.specs.Prelude.{◌≡◌, ◌<◌, ◌-◌, ◌^◌, IfOk, Some, length, option_map, slice_index};
+    ghost use Rattle.lrc_trace.specs.Run.{act_of};
+    ghost use Rattle.lrc_exec.specs.Plain.{plain_step};
+    ghost use Rattle.lrc_exec.specs.Spots.{IsFlat};
+    ghost use Rattle.lrc_explore.specs.Notes.{noted};
+    ghost use Rattle.lrc_explore.specs.States.{plain_at, IsState, IsCopy};
+
+    // The same state and notes.
+    fn copy(&self, alloc: Global) -> Result<Noted, AllocError>
+        ensures state { IfOk result (λ copy. IsCopy copy.state self.now.state) }
+        ensures notes { IfOk result (λ copy. copy.notes.items ≡ self.now.notes.items) }
+    {
+        Ok(Noted {
+            state: self.state.copy(alloc)?,
+            notes: copied(alloc, &self.notes)?,
+        })
+    }
+
+    // The state after a deed, with its note.
+    fn after(
+        &self,
+        alloc: Global,
+        flat: &Flat,
+        node: usize,
+        deed: Deed,
+    ) -> Result<Noted, AllocError>
+        requires flat { IsFlat flat.now }
+        requires state { IsState flat.now self.now.state }
+        requires node { node < flat.now.nodes }
+        requires can { option_map (λ step. step.0) (plain_step (plain_at flat.now self.now.state) node) ≡ Some deed }
+        requires room { slice_index self.now.state.arrivals.items node < 2 ^ 64 - 1 }
+        ensures made { IfOk result (λ after. plain_step (plain_at flat.now self.now.state) node ≡ Some (deed, plain_at flat.now after.state)) }
+        ensures state { IfOk result (λ after. IsState flat.now after.state) }
+        ensures notes { IfOk result (λ after. after.notes.items ≡ noted self.now.notes.items (act_of node deed)) }
+    {
+        let _nodes = flat.nodes;
+        let mut after = self.copy(alloc)?;
+        after.state.make(flat, node, deed);
+        let act = Act {
+            node: node as u8,
+            deed,
+        };
+        note(&mut after.notes, act)?;
+        Ok(after)
+    }
+}
+
+impl Gathered {
+    ghost use Rattle.std.specs.Prelude.{◌≡◌, ◌≢◌, ◌<◌, ◌≤◌, ◌^◌, IfOk, IfErr, OnOk, length, []};
+    ghost use Rattle.lrc_exec.specs.Spots.{IsFlat};
+    ghost use Rattle.lrc_explore.specs.States.{IsState, begun, plain_at};
+    ghost use Rattle.lrc_explore.specs.Search.{Grows};
+    ghost use Rattle.lrc_explore.specs.Outcome.{AreLed, AreSound, AreDone, HasNoted, HasNextBelow, IsLed, IsDoneAt, IsCopyAt, CountsUpTo, MeetsMoreNoted};
+
+    // The start alone.
+    fn new(alloc: Global, flat: &Flat, place: usize) -> Result<Gathered, AllocError>
+        requires { place ≤ length flat.now.code.now }
+        ensures led { IfOk result (λ new. AreLed flat.now (begun flat.now place) new.states.keys) }
+        ensures start { IfOk result (λ new. HasNoted flat.now new.states.keys (begun flat.now place) []) }
+        ensures none { IfOk result (λ new. new.outcomes.keys ≡ []) }
+    {
+        let mut states = IndexSet::new(alloc);
+        let state = State::start(alloc, flat, place)?;
+        let notes = Vec::new(alloc);
+        states.insert(Noted { state, notes })?;
+        let outcomes = IndexSet::new(alloc);
+        Ok(Gathered { states, outcomes })
+    }
+
+    // Goes through the states, in the order in which they are found.
+    fn go_through(
+        &mut self,
+        alloc: Global,
+        flat: &Flat,
+        start: usize,
+        most: usize,
+    ) -> Result<(), ExploreFault>
+        requires flat { IsFlat flat.now }
+        requires led { AreLed flat.now (begun flat.now start) self.old.states.keys }
+        requires none { self.old.outcomes.keys ≡ [] }
+        ensures grows { OnOk result (Grows self.old.states.keys self.new.states.keys) }
+        ensures led { OnOk result (AreLed flat.now (begun flat.now start) self.new.states.keys) }
+        ensures sound { OnOk result (AreSound flat.now (begun flat.now start) self.new.outcomes.keys) }
+        ensures done { OnOk result (AreDone flat.now self.new.states.keys self.new.outcomes.keys (length self.new.states.keys)) }
+        ensures nodes { IfErr result (λ fault. fault ≢ ExploreFault.BadNodes) }
+        ensures faults { IfErr result (λ fault. fault ≡ ExploreFault.TooMany → MeetsMoreNoted flat.now (begun flat.now start) most) }
+    {
+        let mut place = 0;
+        while place < self.states.len() {
+            if self.states.len() > most {
+                return Err(ExploreFault::TooMany);
+            }
+            self.visit(alloc, flat, start, place)?;
+            place += 1;
+        }
+        Ok(())
+    }
+
+    // Looks at a state: finds those after it, and takes its outcome where no node can make an act.
+    fn visit(
+        &mut self,
+        alloc: Global,
+        flat: &Flat,
+        start: usize,
+        place: usize,
+    ) -> Result<(), AllocError>
+        requires flat { IsFlat flat.now }
+        requires led { AreLed flat.now (begun flat.now start) self.old.states.keys }
+        requires sound { AreSound flat.now (begun flat.now start) self.old.outcomes.keys }
+        requires within { place < length self.old.states.keys }
+        requires small { place < 2 ^ 63 }
+        ensures grows { OnOk result (Grows self.old.states.keys self.new.states.keys) }
+        ensures led { OnOk result (AreLed flat.now (begun flat.now start) self.new.states.keys) }
+        ensures more { OnOk result (Grows self.old.outcomes.keys self.new.outcomes.keys) }
+        ensures sound { OnOk result (AreSound flat.now (begun flat.now start) self.new.outcomes.keys) }
+        ensures done { OnOk result (IsDoneAt flat.now self.new.states.keys self.new.outcomes.keys place) }
+    {
+        let held = &self.states.as_slice()[place];
+        let key = held.copy(alloc)?;
+        self.expand(alloc, flat, start, place, &key)?;
+        if key.state.is_still(flat) {
+            self.outcomes.insert_full(Outcome { notes: key.notes })?;
+        }
+        Ok(())
+    }
+
+    // The states that a step leads to from one of them.
+    fn expand(
+        &mut self,
+        alloc: Global,
+        flat: &Flat,
+        start: usize,
+        place: usize,
+        key: &Noted,
+    ) -> Result<(), AllocError>
+        requires flat { IsFlat flat.now }
+        requires led { AreLed flat.now (begun flat.now start) self.old.states.keys }
+        requires there { IsCopyAt flat.now self.old.states.keys place key.now }
+        requires small { place < 2 ^ 63 }
+        requires state { IsState flat.now key.now.state }
+        ensures grows { OnOk result (Grows self.old.states.keys self.new.states.keys) }
+        ensures led { OnOk result (AreLed flat.now (begun flat.now start) self.new.states.keys) }
+        ensures same { self.new.outcomes.keys ≡ self.old.outcomes.keys }
+        ensures next { OnOk result (HasNextBelow flat.now self.new.states.keys key.now (length key.now.state.spots.items)) }
+    {
+        for node in 0..key.state.spots.len() {
+            let Some(deed) = key.state.next_deed(flat, node) else {
+                continue;
+            };
+            let after = key.after(alloc, flat, node, deed)?;
+            self.add(flat, start, after)?;
+        }
+        Ok(())
+    }
+
+    // One state more, if it is new.
+    fn add(&mut self, flat: &Flat, start: usize, after: Noted) -> Result<(), AllocError>
+        requires led { AreLed flat.now (begun flat.now start) self.old.states.keys }
+        requires state { IsState flat.now after.state }
+        requires led_to { IsLed flat.now (begun flat.now start) after }
+        requires counted { CountsUpTo (length self.old.states.keys) after }
+        ensures grows { OnOk result (Grows self.old.states.keys self.new.states.keys) }
+        ensures led { OnOk result (AreLed flat.now (begun flat.now start) self.new.states.keys) }
+        ensures same { self.new.outcomes.keys ≡ self.old.outcomes.keys }
+        ensures has { OnOk result (HasNoted flat.now self.new.states.keys (plain_at flat.now after.state) after.notes.items) }
+    {
+        self.states.insert_full(after)?;
+        Ok(())
+    }
+}
