@@ -1,6 +1,6 @@
 // A node's mail.
 
-ghost use Rattle.std.specs.Prelude.{◌≡◌, ◌+◌, ◌<◌, ◌≤◌, Some, None, Err, All, IfOk, OnOk, OnSome, false, [], length, replicate, slice_index, slice_set};
+ghost use Rattle.std.specs.Prelude.{◌≡◌, ◌+◌, ◌<◌, ◌≤◌, Some, None, Err, All, IfOk, OnErr, OnOk, OnSome, false, [], length, replicate, slice_index, slice_set};
 ghost use Rattle.lrc_wire.specs.declared.limits.TheConstants.{MOST_NODES};
 ghost use Rattle.lrc_mail.specs.declared.fault.MailFault.TheVariants.{Worn};
 ghost use Rattle.lrc_protocol.specs.Mail.{fresh_mail, nothing, was_taken, with_taken, numbered, MOST_NUMBER};
@@ -93,7 +93,7 @@ impl Mail {
     }
 
     /// Gives node `me`'s letters the numbers that follow those sent to each receiver before, from `first` on, and counts
-    /// them as sent. Refused with `Worn` where a number would pass 4,294,967,295.
+    /// them as sent. Refused with `Worn` where a number would pass 4,294,967,295. A refusal counts none of them.
     pub fn number(
         &mut self,
         me: u8,
@@ -105,9 +105,15 @@ impl Mail {
         ensures numbers { IfOk result (λ out. numbered me first self.old.sent letters.items ≡ Some (out.items, self.new.sent)) }
         ensures after { OnOk result (self.new ≡ record self.old { sent = self.new.sent }) }
         ensures worn { result ≡ Err Worn → numbered me first self.old.sent letters.items ≡ None }
+        ensures refused { OnErr result (self.new ≡ self.old) }
         ensures lengths { (length self.new.sent ≡ length self.old.sent) × (length self.new.taken ≡ length self.old.taken) }
     {
-        number_all(&mut self.sent, me, first, letters)
+        let mut counts = [0u64; 16];
+        let counts = &mut counts[..self.sent.len()];
+        counts.copy_from_slice(&self.sent);
+        let out = number_all(counts, me, first, letters)?;
+        self.sent.copy_from_slice(counts);
+        Ok(out)
     }
 }
 

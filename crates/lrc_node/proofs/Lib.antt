@@ -14,3 +14,4 @@ pub mod Logging
 pub mod Takes
 pub mod Requests
 pub mod Leading
+pub mod Ending

@@ -1,5 +1,5 @@
 -- What comes of an input to a node with its log.
-use Rattle.std.proofs.Common.{◌≡◌, ℕ, Bool, true, false, Option, Some, None, List, [], ◌∷◌, ◌++◌, Result, Ok, Err, refl, sym, ap, ◌∙◌, subst}
+use Rattle.std.proofs.Common.{◌≡◌, ℕ, Bool, true, false, Option, Some, None, List, [], ◌∷◌, ◌++◌, Result, Ok, Err, refl, sym, ap, ◌∙◌, subst, inl, inr}
 use Rattle.std.specs.Prelude.{is_some, nat_le, if◌then◌else◌, IfOk, IfErr, OnErr, MatchResult}
 use Rattle.std.proofs.Common.{length, get_or}
 use Rattle.std.proofs.Math.Seq.{get_or-append_seam}
@@ -7,13 +7,13 @@ use Rattle.std.proofs.lemmas.Option.{same_Some}
 use Rattle.lrc_trace.specs.Trace.{TraceRecord}
 use Rattle.lrc_protocol.specs.Traced.{with_act}
 use Rattle.lrc_protocol.specs.Node.{Node}
-use Rattle.lrc_protocol.specs.Turn.{TurnRecord, Outcome, done}
-use Rattle.lrc_protocol.specs.Log.{Input, EntryRecord, Logged, logged, too_large, logging, next_stamp, MOST_STAMP}
+use Rattle.lrc_protocol.specs.Turn.{TurnRecord, Outcome, done, not_ready, unexpected, worn}
+use Rattle.lrc_protocol.specs.Log.{Input, run, taken, EntryRecord, Logged, logged, too_large, logging, next_stamp, MOST_STAMP}
 use Rattle.lrc_node.specs.declared.fault.NodeFault.{NodeFault}
 use Rattle.lrc_node.specs.declared.fault.NodeFault.TheVariants.{Failed, NotReady, Unexpected, Worn, NoMemory}
-use Rattle.lrc_node.specs.Fault.{is_final}
+use Rattle.lrc_node.specs.Fault.{MayAnswer, is_final}
 use Rattle.lrc_node.specs.Node.{TracedNode, Answers, unready, unawaited, too_large as too_large_answer, without_memory}
-use Rattle.lrc_node.specs.Logged.{LoggedNode, TracedLog, Logs, Enters, NotesIn}
+use Rattle.lrc_node.specs.Logged.{LoggedNode, TracedLog, Logs, Enters, MakesRoom, NotesIn, NotesFault}
 
 -- a refusal of the node is one of the node with its log
 pub logs_refused : (l : Logged) (input : Input) (stamp : ℕ) (o : Outcome) (fault : NodeFault) (new : Option Node) → Answers o l.node fault new
@@ -89,7 +89,7 @@ gone : (mid : LoggedNode) (log : List EntryRecord) (input : Input) (came : ℕ) 
     → Enters mid input came turn new result → IfErr result (λ fault. is_final fault ≡ true → new ≡ record { node = None; log = log })
 gone mid log input came turn new (Ok tt) same h = tt
 gone mid log input came turn new (Err Worn) same h = λ e. h.1 ∙ ap (λ (g : List EntryRecord). let m : LoggedNode = record { node = None; log = g } in m) same
-gone mid log input came turn new (Err NoMemory) same h = λ e. h ∙ ap (λ (g : List EntryRecord). let m : LoggedNode = record { node = None; log = g } in m) same
+gone mid log input came turn new (Err NoMemory) same h = λ e. h.1 ∙ ap (λ (g : List EntryRecord). let m : LoggedNode = record { node = None; log = g } in m) same
 gone mid log input came turn new (Err Failed) same h = absurd h
 gone mid log input came turn new (Err NotReady) same h = absurd h
 gone mid log input came turn new (Err Unexpected) same h = absurd h
@@ -156,3 +156,67 @@ pub seen_made : (mid : TracedNode) (o : Outcome) (trace : TraceRecord) (r : Resu
     → IfOk r (λ turn. (after : Node) × (o ≡ done turn after) × (mid.node ≡ Some after))
 seen_made mid o trace (Ok turn) made = (made.0, made.1, ap (λ (m : TracedNode). m.node) made.2)
 seen_made mid o trace (Err fault) made = tt
+
+-- ---- what is answered, and the trace behind it
+
+pub may_settle : (input : Input) (came : ℕ) (mid new : LoggedNode) (r : Result TurnRecord NodeFault) (result : Result (Unit {0}) NodeFault)
+    → IfErr r (MayAnswer input)
+    → MatchResult r (λ turn. Enters mid input came turn new result) (λ fault. (result ≡ Err fault) × (new ≡ mid))
+    → IfErr result (MayAnswer input)
+may_settle input came mid new (Err fault) result may settled = subst (λ (r : Result (Unit {0}) NodeFault). IfErr r (MayAnswer input)) (sym settled.0) may
+may_settle input came mid new (Ok turn) (Ok tt) may settled = tt
+may_settle run came mid new (Ok turn) (Err Worn) may settled = tt
+may_settle (taken envelope) came mid new (Ok turn) (Err Worn) may settled = tt
+may_settle run came mid new (Ok turn) (Err NoMemory) may settled = tt
+may_settle (taken envelope) came mid new (Ok turn) (Err NoMemory) may settled = tt
+may_settle input came mid new (Ok turn) (Err Failed) may settled = absurd settled
+may_settle input came mid new (Ok turn) (Err NotReady) may settled = absurd settled
+may_settle input came mid new (Ok turn) (Err Unexpected) may settled = absurd settled
+
+-- a trace that stays as it was
+kept_without_memory : (o : Outcome) (old new : TraceRecord) → new ≡ old → NotesFault old o NoMemory new
+kept_without_memory (done turn after) old new e = inl e
+kept_without_memory not_ready old new e = e
+kept_without_memory unexpected old new e = e
+kept_without_memory worn old new e = e
+
+kept_refused : {o : Outcome} {node : Node} {fault : NodeFault} {left : Option Node} (old new : TraceRecord) → Answers o node fault left → new ≡ old
+    → NotesFault old o fault new
+kept_refused old new unready e = e
+kept_refused old new unawaited e = e
+kept_refused old new too_large_answer e = e
+kept_refused {o = o} old new without_memory e = kept_without_memory o old new e
+
+noted_entered : (mid : LoggedNode) (input : Input) (came : ℕ) (turn : TurnRecord) (after : Node) (old new : TraceRecord) (left : LoggedNode)
+    (result : Result (Unit {0}) NodeFault)
+    → Enters mid input came turn left result → new ≡ with_act after turn.act old → IfErr result (λ fault. NotesFault old (done turn after) fault new)
+noted_entered mid input came turn after old new left (Ok tt) h e = tt
+noted_entered mid input came turn after old new left (Err Worn) h e = e
+noted_entered mid input came turn after old new left (Err NoMemory) h e = inr e
+noted_entered mid input came turn after old new left (Err Failed) h e = absurd h
+noted_entered mid input came turn after old new left (Err NotReady) h e = absurd h
+noted_entered mid input came turn after old new left (Err Unexpected) h e = absurd h
+
+pub failing_settled : (old new : TracedLog) (mid : TracedNode) (log : List EntryRecord) (input : Input) (came : ℕ) (node : Node) (o : Outcome)
+    (r : Result TurnRecord NodeFault) (result : Result (Unit {0}) NodeFault) (trace : TraceRecord) → trace ≡ old.trace
+    → IfOk r (λ turn. (after : Node) × (o ≡ done turn after) × (mid ≡ record { node = Some after; trace = with_act after turn.act trace }))
+    → IfErr r (λ fault. Answers o node fault mid.node) → OnErr r (mid.trace ≡ trace)
+    → MatchResult r (λ turn. Enters (record { node = mid.node; log = log }) input came turn new.logged result)
+    (λ fault. (result ≡ Err fault) × (new.logged ≡ record { node = mid.node; log = log }))
+    → new.trace ≡ mid.trace → IfErr result (λ fault. NotesFault old.trace o fault new.trace)
+failing_settled old new mid log input came node o (Ok turn) result trace at made refuses refused settled kept =
+    subst (λ (o : Outcome). IfErr result (λ fault. NotesFault old.trace o fault new.trace)) (sym made.1)
+    (noted_entered (record { node = mid.node; log = log }) input came turn made.0 old.trace new.trace new.logged result settled
+    (kept ∙ ap (λ (m : TracedNode). m.trace) made.2 ∙ ap (λ (t : TraceRecord). with_act made.0 turn.act t) at))
+failing_settled old new mid log input came node o (Err fault) result trace at made refuses refused settled kept =
+    subst (λ (r : Result (Unit {0}) NodeFault). IfErr r (λ fault. NotesFault old.trace o fault new.trace)) (sym settled.0)
+    (kept_refused old.trace new.trace refuses (kept ∙ refused ∙ at))
+
+-- where there was no room
+pub failing_roomless : (old new : TracedLog) (o : Outcome) (node : Node) (fault : NodeFault)
+    → MakesRoom old.logged new.logged (Err fault) → new.trace ≡ old.trace → old.logged.node ≡ Some node → NotesFault old.trace o fault new.trace
+failing_roomless old new o node Failed room kept e = let none : None ≡ Some node = sym room.0 ∙ e in cc
+failing_roomless old new o node NoMemory room kept e = kept_without_memory o old.trace new.trace kept
+failing_roomless old new o node NotReady room kept e = absurd room
+failing_roomless old new o node Unexpected room kept e = absurd room
+failing_roomless old new o node Worn room kept e = absurd room

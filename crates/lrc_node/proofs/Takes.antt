@@ -6,13 +6,21 @@ use Rattle.lrc_trace.specs.Trace.{TraceRecord}
 use Rattle.lrc_local.specs.Traced.{IsTraced}
 use Rattle.lrc_protocol.specs.Expected.{is_expected}
 use Rattle.lrc_protocol.specs.Node.{Node}
+use Rattle.lrc_protocol.specs.Log.{taken}
 use Rattle.lrc_protocol.specs.Take.{take_effect}
 use Rattle.lrc_protocol.specs.Turn.{Outcome, done, unexpected, worn, empty_turn, take_turn, take_anew, taking, turn_of, is_addressed, is_repeat}
 use Rattle.lrc_node.specs.declared.fault.NodeFault.{NodeFault}
 use Rattle.lrc_node.specs.declared.fault.NodeFault.TheVariants.{Worn, NoMemory}
-use Rattle.lrc_node.specs.Fault.{is_final}
+use Rattle.lrc_node.specs.Fault.{MayAnswer, is_final}
 use Rattle.lrc_node.specs.Taken.{RefusesTake, unawaited, too_large, without_memory}
 use Rattle.lrc_node.specs.Node.{Answers, unawaited as answers_unawaited, too_large as answers_too_large, without_memory as answers_without_memory}
+
+-- a node that is to take a message does not answer that it is not ready
+pub may_take : {outcome : Outcome} {node after : Node} {fault : NodeFault} (envelope : EnvelopeRecord) → RefusesTake outcome node fault after
+    → MayAnswer (taken envelope) fault
+may_take envelope unawaited = tt
+may_take envelope too_large = tt
+may_take envelope without_memory = tt
 
 -- the outcome by what is tested
 pub unaddressed : (node : Node) (envelope : EnvelopeRecord) → is_addressed node envelope ≡ false → take_turn node envelope ≡ unexpected

@@ -7,9 +7,10 @@ use Rattle.lrc_trace.specs.Trace.{TraceRecord}
 use Rattle.lrc_protocol.specs.Node.{Node}
 use Rattle.lrc_protocol.specs.Traced.{with_act}
 use Rattle.lrc_protocol.specs.Turn.{TurnRecord, Outcome, not_ready}
+use Rattle.lrc_protocol.specs.Log.{run}
 use Rattle.lrc_local.specs.Traced.{IsTraced}
 use Rattle.lrc_node.specs.declared.fault.NodeFault.{NodeFault}
-use Rattle.lrc_node.specs.Fault.{is_final}
+use Rattle.lrc_node.specs.Fault.{MayAnswer, is_final}
 use Rattle.lrc_node.specs.Effects.{RefusesRun, unready, too_large, without_memory}
 use Rattle.lrc_node.specs.Node.{TracedNode, seen_node, Answers, unready as answers_unready}
 use Rattle.lrc_node.specs.Node.{too_large as answers_too_large, without_memory as answers_without_memory}
@@ -18,6 +19,12 @@ use Rattle.lrc_node.specs.Node.{too_large as answers_too_large, without_memory a
 pub fault_up : {T : Type 0} (r : Result T NodeFault) (fault : NodeFault) (P : NodeFault → Type 0) → IsErrAnd r (λ f. f ≡ fault) → P fault → IfErr r P
 fault_up (Ok x) fault P is h = tt
 fault_up (Err f) fault P is h = subst P (sym is) h
+
+-- a node that is to go on by itself does not answer that a message is not expected
+pub may_run : {outcome : Outcome} {fault : NodeFault} → RefusesRun outcome fault → MayAnswer run fault
+may_run unready = tt
+may_run too_large = tt
+may_run without_memory = tt
 
 -- with the fault that is answered the node is as it was, or it has failed
 pub answers_run : {outcome : Outcome} {fault : NodeFault} (node after : Node) → RefusesRun outcome fault

@@ -1,11 +1,17 @@
 -- A node with its log, as contracts see it.
-use Rattle.std.specs.Prelude.{◌≡◌, ℕ, true, false, nat_le, Option, Some, None, is_some, List, [], ◌∷◌, ◌++◌, Result, Ok, Err}
+use Rattle.std.specs.Prelude.{◌≡◌, ℕ, true, false, nat_le, ◌⊎◌, Option, Some, None, is_some, IfErr, List, [], ◌∷◌, ◌++◌, filter_map, Result, Ok, Err}
+use Rattle.std.specs.List.{last_or}
+use Rattle.lrc_trace.specs.declared.act.Act.{Act}
+use Rattle.lrc_trace.specs.declared.act.Deed.{Deed}
+use Rattle.lrc_trace.specs.declared.act.Deed.TheVariants as deeds
 use Rattle.lrc_trace.specs.Trace.{TraceRecord}
 use Rattle.lrc_protocol.specs.Node.{Node}
-use Rattle.lrc_protocol.specs.Log.{Input, run, taken, EntryRecord, Logged, Logging, logged, refused, too_large, logs, next_stamp, MOST_STAMP}
+use Rattle.lrc_protocol.specs.Log.{Input, run, taken, EntryRecord, Logged, Logging, logged, refused, too_large, logs, next_stamp, outcome_of, MOST_STAMP}
 use Rattle.lrc_protocol.specs.Follows.{inputs_of}
 use Rattle.lrc_protocol.specs.Traced.{traced, trace_of, with_act}
-use Rattle.lrc_protocol.specs.Turn.{TurnRecord}
+use Rattle.lrc_protocol.specs.Turn.{TurnRecord, Outcome, done as made}
+use Rattle.lrc_node.specs.declared.end.End.{End}
+use Rattle.lrc_node.specs.declared.end.End.TheVariants.{Ended, Trapped, Unfinished}
 use Rattle.lrc_node.specs.declared.fault.NodeFault.{NodeFault}
 use Rattle.lrc_node.specs.declared.fault.NodeFault.TheVariants.{Failed, NotReady, Unexpected, Worn, NoMemory}
 use Rattle.lrc_node.specs.declared.logged.Input.{Input as Given}
@@ -58,6 +64,39 @@ pub record LeadsFrom (start : Node) (l : Logged) (seen : TracedLog) : Type 0 whe
   pub replayed : (traced start (inputs_of l.log)).node ≡ l.node
   pub trace_is : seen.trace ≡ trace_of start l.log
 
+-- The trace of a node that answers a fault to an input, of which this would have come: as it was. But where the node made the turn, and
+-- its stamp was too large, or the log had no memory for it, the access of that turn is noted too.
+abbrev pub NotesFault : TraceRecord → Outcome → NodeFault → TraceRecord → Type 0
+NotesFault old (made turn after) Worn new = new ≡ with_act after turn.act old
+NotesFault old (made turn after) NoMemory new = (new ≡ old) ⊎ (new ≡ with_act after turn.act old)
+NotesFault old outcome fault new = new ≡ old
+
+abbrev pub NotesFailing : TracedLog → Input → TracedLog → Result (Unit {0}) NodeFault → Type 0
+NotesFailing old input new result = (node : Node) → old.logged.node ≡ Some node
+    → IfErr result (λ fault. NotesFault old.trace (outcome_of node input) fault new.trace)
+
+-- ---- how a node ended, by its log
+
+-- how a node ended whose last deed is this
+abbrev pub end_after : Deed → End
+end_after (deeds.Trap cause) = Trapped cause
+end_after deeds.End = Ended
+end_after _ = Unfinished
+
+-- how a node ended whose last act is this, if it made any
+abbrev pub end_by : Option Act → End
+end_by None = Unfinished
+end_by (Some act) = end_after act.deed
+
+-- how a node ended with this log: as the last act of its turns says
+abbrev pub ended_by : List EntryRecord → End
+ended_by log = end_by (last_or None (filter_map (λ (e : EntryRecord). e.turn.act) log))
+
+-- the same with the act of one turn more, if that makes one
+abbrev pub end_next : End → Option Act → End
+end_next before None = before
+end_next before (Some act) = end_after act.deed
+
 -- ---- the steps of a call
 
 -- room is made in the log; or the node has failed, or fails
@@ -73,5 +112,5 @@ Enters old input came turn new (Ok done) =
     (nat_le (next_stamp old.log came) MOST_STAMP ≡ true)
     × (new ≡ record { node = old.node; log = old.log ++ record { input = input; stamp = next_stamp old.log came; turn = turn } ∷ [] })
 Enters old input came turn new (Err Worn) = (nat_le (next_stamp old.log came) MOST_STAMP ≡ false) × (new ≡ record { node = None; log = old.log })
-Enters old input came turn new (Err NoMemory) = new ≡ record { node = None; log = old.log }
+Enters old input came turn new (Err NoMemory) = (nat_le (next_stamp old.log came) MOST_STAMP ≡ true) × (new ≡ record { node = None; log = old.log })
 Enters old input came turn new (Err fault) = ⊥

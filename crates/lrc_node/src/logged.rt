@@ -1,10 +1,10 @@
 // A node with its log.
 
-ghost use Rattle.std.specs.Prelude.{◌≡◌, Err, IfErr, MatchResult, None, [], true};
+ghost use Rattle.std.specs.Prelude.{◌≡◌, Err, IfErr, MatchResult, None, [], false, true};
 ghost use Rattle.lrc_protocol.specs.Log as log;
 ghost use Rattle.lrc_protocol.specs.Turn.{is_ready};
-ghost use Rattle.lrc_node.specs.Fault.{is_final};
-ghost use Rattle.lrc_node.specs.Logged.{Enters, LogsTo, MakesRoom, NotesIn, seen_input, sound};
+ghost use Rattle.lrc_node.specs.Fault.{MayAnswer, is_final};
+ghost use Rattle.lrc_node.specs.Logged.{Enters, LogsTo, MakesRoom, NotesFailing, NotesIn, end_next, ended_by, seen_input, sound};
 ghost use Rattle.lrc_node.specs.Text.{end_of};
 ghost use Rattle.lrc_node.specs.declared.fault.NodeFault.TheVariants.{Failed};
 
@@ -12,6 +12,7 @@ use crate::end::End;
 use crate::fault::NodeFault;
 use crate::node::Node;
 use crate::turn::Turn;
+use lrc_trace::act::{Act, Deed};
 use lrc_trace::trace::Trace;
 use lrc_wire::Envelope;
 use std::alloc::Global;
@@ -88,6 +89,8 @@ impl<'c> Logged<'c> {
         ensures notes { NotesIn self.old self.new result }
         ensures failed { self.old.logged.node ≡ None → (result ≡ Err Failed) × (self.new ≡ self.old) }
         ensures fails { IfErr result (λ fault. is_final fault ≡ true → self.new.logged ≡ record { node = None; log = self.old.logged.log }) }
+        ensures fault { IfErr result (MayAnswer log.run) }
+        ensures notes_failing { NotesFailing self.old log.run self.new result }
     {
         self.make_room()?;
         let outcome = self.node.run();
@@ -101,6 +104,8 @@ impl<'c> Logged<'c> {
         ensures notes { NotesIn self.old self.new result }
         ensures failed { self.old.logged.node ≡ None → (result ≡ Err Failed) × (self.new ≡ self.old) }
         ensures fails { IfErr result (λ fault. is_final fault ≡ true → self.new.logged ≡ record { node = None; log = self.old.logged.log }) }
+        ensures fault { IfErr result (MayAnswer (log.taken envelope)) }
+        ensures notes_failing { NotesFailing self.old (log.taken envelope) self.new result }
     {
         self.make_room()?;
         let outcome = self.node.take(&envelope);
@@ -157,18 +162,24 @@ impl<'c> Logged<'c> {
         Ok(())
     }
 
-    /// Whether the node would go on if it were named.
+    /// Whether the node would go on if it were named. A failed one would not.
     pub fn ready(&self) -> bool
-        ensures { (l : log.Logged) → self.now.logged ≡ sound l → result ≡ is_ready l.node }
+        ensures sound { (l : log.Logged) → self.now.logged ≡ sound l → result ≡ is_ready l.node }
+        ensures failed { self.now.logged.node ≡ None → result ≡ false }
     {
         self.node.ready()
     }
 
-    /// How the node ended.
+    /// How the node ended. Of one that has failed its log says so.
     pub fn end(&self) -> End
-        ensures { (l : log.Logged) → self.now.logged ≡ sound l → result ≡ end_of l.node.course }
+        ensures sound { (l : log.Logged) → self.now.logged ≡ sound l → result ≡ end_of l.node.course }
+        ensures failed { self.now.logged.node ≡ None → result ≡ ended_by self.now.logged.log }
     {
-        self.node.end()
+        if self.node.has_failed() {
+            end_in_log(&self.log)
+        } else {
+            self.node.end()
+        }
     }
 
     /// The accesses that the node made, by interval.
@@ -196,5 +207,30 @@ impl<'c> Logged<'c> {
             log,
         } = self;
         (log, node.into_trace())
+    }
+}
+
+// How a node ended with this log.
+fn end_in_log(log: &[Entry]) -> End
+    ensures { result ≡ ended_by log.now }
+{
+    let mut end = End::Unfinished;
+    for entry in log {
+        end = end_next(end, entry.turn.act);
+    }
+    end
+}
+
+// How a node ended that had ended so before, with the act of its next turn if that makes one.
+fn end_next(before: End, act: Option<Act>) -> End
+    ensures { result ≡ end_next before act }
+{
+    let Some(act) = act else {
+        return before;
+    };
+    match act.deed {
+        Deed::End => End::Ended,
+        Deed::Trap(cause) => End::Trapped(cause),
+        _ => End::Unfinished,
     }
 }

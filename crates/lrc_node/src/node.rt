@@ -4,6 +4,8 @@ ghost use Rattle.std.specs.Prelude.{◌≡◌, ◌<◌, ◌≤◌, IfErr, IfOk, 
 ghost use Rattle.lrc_protocol.specs.Node.{Node as NodeRecord, fresh_node};
 ghost use Rattle.lrc_protocol.specs.Traced.{with_act};
 ghost use Rattle.lrc_protocol.specs.Turn.{done, is_ready, not_ready, run_turn, take_turn, unexpected};
+ghost use Rattle.lrc_protocol.specs.Log.{run, taken};
+ghost use Rattle.lrc_node.specs.Fault.{MayAnswer};
 ghost use Rattle.lrc_node.specs.Node.{Answers, end_in};
 ghost use Rattle.lrc_node.specs.declared.fault.NodeFault.TheVariants.{Failed, NoMemory, NotReady, Unexpected};
 
@@ -77,6 +79,7 @@ impl<'c> Node<'c> {
         ensures refused { (node : NodeRecord) → self.old.node ≡ Some node → IfErr result (λ fault. Answers (run_turn node) node fault self.new.node) }
         ensures ready { (node : NodeRecord) → self.old.node ≡ Some node → run_turn node ≡ not_ready → result ≡ Err NotReady }
         ensures kept { OnErr result (self.new.trace ≡ self.old.trace) }
+        ensures fault { IfErr result (MayAnswer run) }
     {
         if self.failed {
             return Err(NodeFault::Failed);
@@ -102,6 +105,7 @@ impl<'c> Node<'c> {
             → IfErr result (λ fault. Answers (take_turn node envelope.now) node fault self.new.node) }
         ensures unexpected { (node : NodeRecord) → self.old.node ≡ Some node → take_turn node envelope.now ≡ unexpected → result ≡ Err Unexpected }
         ensures kept { OnErr result (self.new.trace ≡ self.old.trace) }
+        ensures fault { IfErr result (MayAnswer (taken envelope.now)) }
     {
         if self.failed {
             return Err(NodeFault::Failed);

@@ -7,6 +7,7 @@ use Rattle.lrc_post.specs.declared.fault.PostFault.{PostFault}
 use Rattle.lrc_post.specs.declared.fault.PostFault.TheVariants as PostFaults
 use Rattle.lrc_post.specs.declared.parcel.Parcel.{Parcel}
 use Rattle.lrc_protocol.specs.Node.{Node}
+use Rattle.lrc_protocol.specs.Turn.{is_ready}
 use Rattle.lrc_protocol.specs.Log.{Input, run, taken, EntryRecord, Logged, logged, refused, logs}
 use Rattle.lrc_node.specs.Logged.{LoggedNode, sound}
 use Rattle.lrc_node.specs.declared.fault.NodeFault.{NodeFault}
@@ -83,6 +84,10 @@ GoesTo puts takes s l t new (Ok done) = (j : Logged) × (new ≡ sound j) × Goe
 GoesTo puts takes s l t new (Err Closed) = (j : Logged) × (new ≡ sound j) × Turns l j
 GoesTo puts takes s l t new (Err Worn) = Unit {0}
 GoesTo puts takes s l t new (Err NoMemory) = Unit {0}
+
+-- a node that has not failed and would not go on by itself
+abbrev pub IsIdle : LoggedNode → Type 0
+IsIdle node = (j : Logged) × (node ≡ sound j) × (is_ready j.node ≡ false)
 
 -- the next parcel was taken, or there is none and nothing changed
 abbrev pub TakesNext : {S : Type 0} → (S → Parcel → S → Type 0) → S → Option Parcel → S → Type 0

@@ -9,6 +9,7 @@ mod life;
 mod mail;
 mod nodes;
 mod runs;
+mod spin;
 mod stop;
 mod thread;
 mod worker;

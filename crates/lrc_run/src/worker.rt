@@ -1,28 +1,32 @@
 // One node's thread.
 
-ghost use Rattle.std.specs.Prelude.{List, ◌≡◌, ◌++◌, ◌∷◌, [], IfOk, Ok, map, MatchOption, is_err, true, IfErr, IfSome, IfNone};
+ghost use Rattle.std.specs.Prelude.{List, ◌≡◌, ◌++◌, ◌∷◌, [], IfOk, OnOk, Ok, map, MatchOption, is_err, true, false, IfErr, IfSome, IfNone};
 ghost use Rattle.lrc_protocol.specs.Log as log;
 ghost use Rattle.lrc_protocol.specs.Log.{EntryRecord};
 ghost use Rattle.lrc_node.specs.Logged.{sound};
 ghost use Rattle.lrc_wire.specs.Reading.{envelope_of};
 ghost use Rattle.lrc_run.specs.declared.stop.Stop.TheVariants.{NoMemory};
-ghost use Rattle.lrc_run.specs.Worker.{GoesTo, IsRead, LogsLast, SendsTo, TakesIn, TakesNext, made_of, shown, shown_sent, stop_of};
+ghost use Rattle.lrc_run.specs.Worker.{GoesTo, IsIdle, IsRead, LogsLast, SendsTo, TakesIn, TakesNext, made_of, shown, shown_sent, stop_of};
 
 use crate::gate::Gate;
 use crate::mail::Mail;
+use crate::spin::Spin;
 use crate::stop::Stop;
 use lrc_node::{Logged, NodeFault};
 use lrc_post::{Parcel, PostFault};
+use lrc_trace::act::Deed;
 use lrc_wire::{EncodeFault, Envelope, WireFault, decode, encode};
 use std::alloc::Global;
 use std::sync::Wait;
+use std::thread;
 
-/// How many turns a node makes by itself before it looks whether there is a message for it.
+/// How many turns a node makes by itself, at most, before it looks whether there is a message for it.
 const TURNS: u32 = 64;
 
-/// A node's turns, until there will be no message for it any more: it goes on while it is ready, and takes its messages, which it
-/// waits for where it is not ready. What a turn sends is put before the next one. A message that cannot be read, or that the node
-/// does not expect, is taken and makes no turn.
+/// A node's turns, until there will be no message for it any more and it waits: it goes on while it is ready, and takes its messages,
+/// which it waits for where it is not ready. A node that is ready looks for messages after each release of a lock, and after each 64 turns; one
+/// that spins under a lock lets other threads go on meanwhile. What a turn sends is put before the next one. A message that cannot
+/// be read, or that the node does not expect, is taken and makes no turn.
 pub fn work<M: Mail, G: Gate, R: Wait>(
     rt: &R,
     alloc: Global,
@@ -31,24 +35,45 @@ pub fn work<M: Mail, G: Gate, R: Wait>(
     node: &mut Logged<'_>,
     me: u8,
 ) -> Result<(), Stop>
-    ensures { (l : log.Logged) → node.old.logged ≡ sound l → GoesTo M.puts M.takes mail.old l mail.new node.new.logged result }
+    ensures goes { (l : log.Logged) → node.old.logged ≡ sound l → GoesTo M.puts M.takes mail.old l mail.new node.new.logged result }
+    ensures over { (l : log.Logged) → node.old.logged ≡ sound l → OnOk result (IsIdle node.new.logged) }
 {
+    let mut spin = Spin::new();
     for _round in rt.forever() {
-        run_on(alloc, gate, mail, node, me)?;
-        if !receive(alloc, gate, mail, node, me)? {
+        go_on(alloc, gate, mail, node, me, &mut spin)?;
+        if !receive(alloc, gate, mail, node, me, &mut spin)? {
             return Ok(());
         }
     }
     Ok(())
 }
 
-// The node goes on by itself while it is ready, but not too long.
+// The node goes on by itself, or stands aside where it spins.
+fn go_on<M: Mail, G: Gate>(
+    alloc: Global,
+    gate: &G,
+    mail: &mut M,
+    node: &mut Logged<'_>,
+    me: u8,
+    spin: &mut Spin,
+) -> Result<(), Stop>
+    ensures { (l : log.Logged) → node.old.logged ≡ sound l → GoesTo M.puts M.takes mail.old l mail.new node.new.logged result }
+{
+    if spin.rest() {
+        thread::yield_now();
+        return Ok(());
+    }
+    run_on(alloc, gate, mail, node, me, spin)
+}
+
+// The node goes on by itself while it is ready, up to its next release of a lock, but not too long.
 fn run_on<M: Mail, G: Gate>(
     alloc: Global,
     gate: &G,
     mail: &mut M,
     node: &mut Logged<'_>,
     me: u8,
+    spin: &mut Spin,
 ) -> Result<(), Stop>
     ensures { (l : log.Logged) → node.old.logged ≡ sound l → GoesTo M.puts M.takes mail.old l mail.new node.new.logged result }
 {
@@ -57,8 +82,17 @@ fn run_on<M: Mail, G: Gate>(
             return Ok(());
         }
         run_once(alloc, gate, mail, node, me)?;
+        if spin.note_turn(last_deed(node)) {
+            return Ok(());
+        }
     }
     Ok(())
+}
+
+// What the node did in its newest turn, if it made an act.
+fn last_deed(node: &Logged<'_>) -> Option<Deed> {
+    let act = node.log().last()?.turn.act?;
+    Some(act.deed)
 }
 
 // The node goes on by one turn, if it is ready.
@@ -87,13 +121,16 @@ fn receive<M: Mail, G: Gate>(
     mail: &mut M,
     node: &mut Logged<'_>,
     me: u8,
+    spin: &mut Spin,
 ) -> Result<bool, Stop>
-    ensures { (l : log.Logged) → node.old.logged ≡ sound l → GoesTo M.puts M.takes mail.old l mail.new node.new.logged result }
+    ensures goes { (l : log.Logged) → node.old.logged ≡ sound l → GoesTo M.puts M.takes mail.old l mail.new node.new.logged result }
+    ensures over { (l : log.Logged) → node.old.logged ≡ sound l → IfOk result (λ goes. goes ≡ false → IsIdle node.new.logged) }
 {
     let ready = node.ready();
     let Some(parcel) = next_parcel(mail, ready)? else {
         return Ok(ready);
     };
+    spin.note_message();
     gate.pass(usize::from(me), turns_of(node));
     take_in(alloc, mail, node, &parcel)?;
     Ok(true)

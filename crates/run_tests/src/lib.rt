@@ -4,9 +4,13 @@
 #[cfg(test)]
 mod gates;
 #[cfg(test)]
+mod orders;
+#[cfg(test)]
 mod rows;
 #[cfg(test)]
 mod shell;
+#[cfg(test)]
+mod spins;
 #[cfg(test)]
 mod weaves;
 #[cfg(test)]

@@ -23,3 +23,11 @@ loop-turn-preserved g c = λ start is.
     gone g.M.Mail.puts g.M.Mail.takes c.args.mail.now c.run_once.new.mail start c.run_once.new.node.logged c.in_ok-run_once.field-0 c.run_once.result done
     (goes_further g.M.Mail.puts g.M.Mail.takes c.args.mail.now c.loop-turn.mail c.run_once.new.mail start before.0 c.run_once.new.node.logged c.run_once.result
     before.2 (c.run_once.ensures before.0 before.1))
+
+pub returns-then-note_turn : goal.returns-then-note_turn
+returns-then-note_turn g c = λ start is.
+    let before = c.loop-turn.invariant start is in
+    let done : c.run_once.result ≡ Ok c.in_ok-run_once.field-0 = search rules in
+    gone g.M.Mail.puts g.M.Mail.takes c.args.mail.now c.run_once.new.mail start c.run_once.new.node.logged c.in_ok-run_once.field-0 c.run_once.result done
+    (goes_further g.M.Mail.puts g.M.Mail.takes c.args.mail.now c.loop-turn.mail c.run_once.new.mail start before.0 c.run_once.new.node.logged c.run_once.result
+    before.2 (c.run_once.ensures before.0 before.1))

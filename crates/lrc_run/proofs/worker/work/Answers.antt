@@ -1,5 +1,5 @@
-use Rattle.std.proofs.Common.{◌≡◌, Ok, Err, rules}
-use Rattle.lrc_run.specs.Worker.{stays}
+use Rattle.std.proofs.Common.{◌≡◌, Ok, Err, false, rules}
+use Rattle.lrc_run.specs.Worker.{IsIdle, stays}
 use Rattle.lrc_run.proofs.Steps.{goes_further, gone}
 use Rattle.lrc_run.proofs.Turned.{handed_on}
 use Rattle.lrc_run.proofs.worker.work.Goals as goal
@@ -7,48 +7,58 @@ use Rattle.lrc_run.proofs.worker.work.Goals as goal
 pub loop-round-init : goal.loop-round-init
 loop-round-init g c = λ start is. (start, is, stays)
 
-pub returns-in_err-run_on : goal.returns-in_err-run_on
-returns-in_err-run_on g c = λ l is.
+pub returns-in_err-go_on-clause-goes : goal.returns-in_err-go_on-clause-goes
+returns-in_err-go_on-clause-goes g c = λ l is.
     let before = c.loop-round.invariant l is in
-    let refused : c.run_on.result ≡ Err c.in_err-run_on.field-0.0 = search rules in
-    handed_on g.M.Mail.puts g.M.Mail.takes c.args.mail.now c.run_on.new.mail l c.run_on.new.node.logged c.in_err-run_on.field-0.0 c.run_on.result
+    let refused : c.go_on.result ≡ Err c.in_err-go_on.field-0.0 = search rules in
+    handed_on g.M.Mail.puts g.M.Mail.takes c.args.mail.now c.go_on.new.mail l c.go_on.new.node.logged c.in_err-go_on.field-0.0 c.go_on.result
     c.from_residual.result refused c.from_residual.ensures.1
-    (goes_further g.M.Mail.puts g.M.Mail.takes c.args.mail.now c.loop-round.mail c.run_on.new.mail l before.0 c.run_on.new.node.logged c.run_on.result
-    before.2 (c.run_on.ensures before.0 before.1))
+    (goes_further g.M.Mail.puts g.M.Mail.takes c.args.mail.now c.loop-round.mail c.go_on.new.mail l before.0 c.go_on.new.node.logged c.go_on.result
+    before.2 (c.go_on.ensures before.0 before.1))
 
-pub returns-in_err-receive : goal.returns-in_err-receive
-returns-in_err-receive g c = λ l is.
+pub returns-in_err-receive-clause-goes : goal.returns-in_err-receive-clause-goes
+returns-in_err-receive-clause-goes g c = λ l is.
     let before = c.loop-round.invariant l is in
-    let done : c.run_on.result ≡ Ok c.in_ok-run_on.field-0 = search rules in
-    let run = gone g.M.Mail.puts g.M.Mail.takes c.args.mail.now c.run_on.new.mail l c.run_on.new.node.logged c.in_ok-run_on.field-0 c.run_on.result done
-    (goes_further g.M.Mail.puts g.M.Mail.takes c.args.mail.now c.loop-round.mail c.run_on.new.mail l before.0 c.run_on.new.node.logged c.run_on.result
-    before.2 (c.run_on.ensures before.0 before.1)) in
+    let done : c.go_on.result ≡ Ok c.in_ok-go_on.field-0 = search rules in
+    let run = gone g.M.Mail.puts g.M.Mail.takes c.args.mail.now c.go_on.new.mail l c.go_on.new.node.logged c.in_ok-go_on.field-0 c.go_on.result done
+    (goes_further g.M.Mail.puts g.M.Mail.takes c.args.mail.now c.loop-round.mail c.go_on.new.mail l before.0 c.go_on.new.node.logged c.go_on.result
+    before.2 (c.go_on.ensures before.0 before.1)) in
     let refused : c.receive.result ≡ Err c.in_err-receive.field-0.0 = search rules in
     handed_on g.M.Mail.puts g.M.Mail.takes c.args.mail.now c.receive.new.mail l c.receive.new.node.logged c.in_err-receive.field-0.0 c.receive.result
     c.from_residual-in_err-receive.result refused c.from_residual-in_err-receive.ensures.1
-    (goes_further g.M.Mail.puts g.M.Mail.takes c.args.mail.now c.run_on.new.mail c.receive.new.mail l run.0 c.receive.new.node.logged c.receive.result
-    run.2 (c.receive.ensures run.0 run.1))
+    (goes_further g.M.Mail.puts g.M.Mail.takes c.args.mail.now c.go_on.new.mail c.receive.new.mail l run.0 c.receive.new.node.logged c.receive.result
+    run.2 (c.receive.ensures.goes run.0 run.1))
 
-pub returns-then-not-branch : goal.returns-then-not-branch
-returns-then-not-branch g c = λ l is.
+pub returns-then-not-branch-clause-goes : goal.returns-then-not-branch-clause-goes
+returns-then-not-branch-clause-goes g c = λ l is.
     let before = c.loop-round.invariant l is in
-    let done : c.run_on.result ≡ Ok c.in_ok-run_on.field-0 = search rules in
-    let run = gone g.M.Mail.puts g.M.Mail.takes c.args.mail.now c.run_on.new.mail l c.run_on.new.node.logged c.in_ok-run_on.field-0 c.run_on.result done
-    (goes_further g.M.Mail.puts g.M.Mail.takes c.args.mail.now c.loop-round.mail c.run_on.new.mail l before.0 c.run_on.new.node.logged c.run_on.result
-    before.2 (c.run_on.ensures before.0 before.1)) in
+    let done : c.go_on.result ≡ Ok c.in_ok-go_on.field-0 = search rules in
+    let run = gone g.M.Mail.puts g.M.Mail.takes c.args.mail.now c.go_on.new.mail l c.go_on.new.node.logged c.in_ok-go_on.field-0 c.go_on.result done
+    (goes_further g.M.Mail.puts g.M.Mail.takes c.args.mail.now c.loop-round.mail c.go_on.new.mail l before.0 c.go_on.new.node.logged c.go_on.result
+    before.2 (c.go_on.ensures before.0 before.1)) in
     let received : c.receive.result ≡ Ok c.in_ok-receive.field-0 = search rules in
     gone g.M.Mail.puts g.M.Mail.takes c.args.mail.now c.receive.new.mail l c.receive.new.node.logged c.in_ok-receive.field-0 c.receive.result received
-    (goes_further g.M.Mail.puts g.M.Mail.takes c.args.mail.now c.run_on.new.mail c.receive.new.mail l run.0 c.receive.new.node.logged c.receive.result
-    run.2 (c.receive.ensures run.0 run.1))
+    (goes_further g.M.Mail.puts g.M.Mail.takes c.args.mail.now c.go_on.new.mail c.receive.new.mail l run.0 c.receive.new.node.logged c.receive.result
+    run.2 (c.receive.ensures.goes run.0 run.1))
+
+pub returns-then-not-branch-clause-over : goal.returns-then-not-branch-clause-over
+returns-then-not-branch-clause-over g c = λ l is.
+    let before = c.loop-round.invariant l is in
+    let done : c.go_on.result ≡ Ok c.in_ok-go_on.field-0 = search rules in
+    let run = gone g.M.Mail.puts g.M.Mail.takes c.args.mail.now c.go_on.new.mail l c.go_on.new.node.logged c.in_ok-go_on.field-0 c.go_on.result done
+    (goes_further g.M.Mail.puts g.M.Mail.takes c.args.mail.now c.loop-round.mail c.go_on.new.mail l before.0 c.go_on.new.node.logged c.go_on.result
+    before.2 (c.go_on.ensures before.0 before.1)) in
+    let idle : c.in_ok-receive.field-0 ≡ false → IsIdle c.receive.new.node.logged = c.in_ok-receive.ensures.over run.0 run.1 in
+    idle (search rules)
 
 pub loop-round-preserved : goal.loop-round-preserved
 loop-round-preserved g c = λ l is.
     let before = c.loop-round.invariant l is in
-    let done : c.run_on.result ≡ Ok c.in_ok-run_on.field-0 = search rules in
-    let run = gone g.M.Mail.puts g.M.Mail.takes c.args.mail.now c.run_on.new.mail l c.run_on.new.node.logged c.in_ok-run_on.field-0 c.run_on.result done
-    (goes_further g.M.Mail.puts g.M.Mail.takes c.args.mail.now c.loop-round.mail c.run_on.new.mail l before.0 c.run_on.new.node.logged c.run_on.result
-    before.2 (c.run_on.ensures before.0 before.1)) in
+    let done : c.go_on.result ≡ Ok c.in_ok-go_on.field-0 = search rules in
+    let run = gone g.M.Mail.puts g.M.Mail.takes c.args.mail.now c.go_on.new.mail l c.go_on.new.node.logged c.in_ok-go_on.field-0 c.go_on.result done
+    (goes_further g.M.Mail.puts g.M.Mail.takes c.args.mail.now c.loop-round.mail c.go_on.new.mail l before.0 c.go_on.new.node.logged c.go_on.result
+    before.2 (c.go_on.ensures before.0 before.1)) in
     let received : c.receive.result ≡ Ok c.in_ok-receive.field-0 = search rules in
     gone g.M.Mail.puts g.M.Mail.takes c.args.mail.now c.receive.new.mail l c.receive.new.node.logged c.in_ok-receive.field-0 c.receive.result received
-    (goes_further g.M.Mail.puts g.M.Mail.takes c.args.mail.now c.run_on.new.mail c.receive.new.mail l run.0 c.receive.new.node.logged c.receive.result
-    run.2 (c.receive.ensures run.0 run.1))
+    (goes_further g.M.Mail.puts g.M.Mail.takes c.args.mail.now c.go_on.new.mail c.receive.new.mail l run.0 c.receive.new.node.logged c.receive.result
+    run.2 (c.receive.ensures.goes run.0 run.1))

@@ -9,7 +9,7 @@ pub loop-node-preserved : goal.loop-node-preserved
 loop-node-preserved c = λ all e.
     let s = stands_at c.args.nodes.now all c.loop-node.node-index c.node-item.result e (omega (arith, c.loop-node-test.true)) c.node-item.is in
     let so_far : c.loop-node.ends.items ≡ map end_of_logged (take c.loop-node.node-index all) = c.loop-node.invariant all e in
-    let one : c.end.result ≡ end_of_logged s.0 = c.end.ensures s.0 s.2 in
+    let one : c.end.result ≡ end_of_logged s.0 = c.end.ensures.sound s.0 s.2 in
     let items : c.push.new.self.items ≡ c.loop-node.ends.items ++ c.end.result ∷ [] = search rules in
     let next : c.loop-node.node-index + 1 ≡ suc c.loop-node.node-index = omega arith in
     items ∙ ap (λ xs. xs ++ c.end.result ∷ []) so_far

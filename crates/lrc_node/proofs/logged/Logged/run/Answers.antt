@@ -1,8 +1,9 @@
-use Rattle.std.proofs.Common.{◌≡◌, ◌∙◌, Some, ap}
+use Rattle.std.proofs.Common.{◌≡◌, ◌∙◌, Some, ap, rules}
 use Rattle.lrc_protocol.specs.Turn.{run_turn}
-use Rattle.lrc_protocol.specs.Log.{run}
-use Rattle.lrc_node.specs.Logged.{LoggedNode, TracedLog, sound}
-use Rattle.lrc_node.proofs.Logging.{logs_settled, fails_settled, notes_settled, seen_made, some_of}
+use Rattle.lrc_protocol.specs.Log.{run, outcome_of}
+use Rattle.lrc_node.specs.Logged.{LoggedNode, TracedLog, NotesFault, sound}
+use Rattle.lrc_node.proofs.Logging.{logs_settled, fails_settled, notes_settled, seen_made, some_of, may_settle, failing_settled, failing_roomless}
+use Rattle.lrc_node.proofs.Turns.{fault_up}
 use Rattle.lrc_node.proofs.logged.Logged.run.Goals as goal
 
 pub returns-clause-logs : goal.returns-clause-logs
@@ -38,3 +39,24 @@ returns-clause-fails c =
     let same : c.self.inside.log.items ≡ c.args.self.now.logged.log = ap (λ (m : LoggedNode). m.log) at in
     fails_settled some.0 c.args.self.now.logged.log run 0 (run_turn some.0) mid c.settle.new.self.logged c.run-outcome.result c.settle.result same
     (c.run-outcome.ensures.refused some.0 node) c.settle.ensures.settled
+
+pub returns-clause-fault : goal.returns-clause-fault
+returns-clause-fault c =
+    let mid : LoggedNode = record { node = c.run-outcome.new.self.node; log = c.self.inside.log.items } in
+    may_settle run 0 mid c.settle.new.self.logged c.run-outcome.result c.settle.result c.run-outcome.ensures.fault c.settle.ensures.settled
+
+pub returns-clause-notes_failing : goal.returns-clause-notes_failing
+returns-clause-notes_failing c = λ n e.
+    let before : LoggedNode = record { node = c.self.inside.node.node; log = c.self.inside.log.items } in
+    let at : before ≡ c.args.self.now.logged = ap (λ (t : TracedLog). t.logged) c.self.view_is ∙ c.in_ok-make_room.ensures.room.1 in
+    let node : c.self.inside.node.node ≡ Some n = ap (λ (m : LoggedNode). m.node) at ∙ e in
+    let trace : c.self.inside.node.trace ≡ c.args.self.now.trace = ap (λ (t : TracedLog). t.trace) c.self.view_is ∙ c.in_ok-make_room.ensures.trace in
+    failing_settled c.args.self.now c.settle.new.self c.run-outcome.new.self c.self.inside.log.items run 0 n (run_turn n)
+    c.run-outcome.result c.settle.result c.self.inside.node.trace trace (c.run-outcome.ensures.done n node) (c.run-outcome.ensures.refused n node)
+    c.run-outcome.ensures.kept c.settle.ensures.settled c.settle.ensures.trace
+
+pub returns-in_err-make_room-clause-notes_failing : goal.returns-in_err-make_room-clause-notes_failing
+returns-in_err-make_room-clause-notes_failing c = λ n e.
+    fault_up c.from_residual.result c.in_err-make_room.field-0.0
+    (λ fault. NotesFault c.args.self.now.trace (outcome_of n run) fault c.make_room.new.self.trace) c.from_residual.ensures.1
+    (failing_roomless c.args.self.now c.make_room.new.self (outcome_of n run) n c.in_err-make_room.field-0.0 (search rules) c.make_room.ensures.trace e)

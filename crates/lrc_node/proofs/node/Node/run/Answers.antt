@@ -5,7 +5,7 @@ use Rattle.lrc_local.specs.Traced.{IsTraced}
 use Rattle.lrc_local.proofs.Noting.{traced_turn}
 use Rattle.lrc_node.specs.Fault.{is_final}
 use Rattle.lrc_node.specs.Node.{Answers}
-use Rattle.lrc_node.proofs.Turns.{answers_run, traced_run, seen_there, seen_turn}
+use Rattle.lrc_node.proofs.Turns.{answers_run, may_run, traced_run, seen_there, seen_turn}
 use Rattle.lrc_node.proofs.node.Node.run.Goals as goal
 
 pub invariant_of-self : goal.invariant_of-self
@@ -34,3 +34,6 @@ returns-in-Err-clause-refused c = λ node e.
     rw c.is_final-self-inside.ensures
     (subst (λ n. Answers (run_turn n) n c.in-Err.fault (cond (is_final c.in-Err.fault) None (Some c.run_noting.new.self))) same
     (answers_run c.self.inside.state c.run_noting.new.self c.in-Err.ensures.refused (λ n. (c.run_noting.ensures.ready n).1)))
+
+pub returns-in-Err-clause-fault : goal.returns-in-Err-clause-fault
+returns-in-Err-clause-fault c = may_run c.in-Err.ensures.refused

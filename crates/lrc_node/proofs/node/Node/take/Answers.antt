@@ -5,7 +5,7 @@ use Rattle.lrc_local.specs.Traced.{IsTraced}
 use Rattle.lrc_local.proofs.Noting.{traced_turn}
 use Rattle.lrc_node.specs.Fault.{is_final}
 use Rattle.lrc_node.specs.Node.{Answers}
-use Rattle.lrc_node.proofs.Takes.{answers_take, traced_take}
+use Rattle.lrc_node.proofs.Takes.{answers_take, may_take, traced_take}
 use Rattle.lrc_node.proofs.Turns.{seen_there, seen_turn}
 use Rattle.lrc_node.proofs.node.Node.take.Goals as goal
 
@@ -36,3 +36,6 @@ returns-in-Err-clause-refused c = λ node e.
     rw c.is_final-self-inside.ensures
     (subst (λ n. Answers (take_turn n c.args.envelope.now) n c.in-Err.fault (cond (is_final c.in-Err.fault) None (Some c.take_noting.new.self))) same
     (answers_take c.self.inside.state c.take_noting.new.self c.in-Err.ensures.refused))
+
+pub returns-in-Err-clause-fault : goal.returns-in-Err-clause-fault
+returns-in-Err-clause-fault c = may_take c.args.envelope.now c.in-Err.ensures.refused

@@ -13,7 +13,7 @@ pub returns-in-Some : goal.returns-in-Some
 returns-in-Some c = λ starts run shows.
     let s = stands_at c.args.self.now.nodes.items run.nodes c.args.node c.in-Some.logged.now
     (all_logged starts c.args.self.now.nodes.items run.nodes shows.nodes) (search rules) (search rules) in
-    c.ready.ensures s.0 s.2 ∙ sym (ap (λ o. option_map_or (λ (l : Logged). is_ready l.node) o false) s.1)
+    c.ready.ensures.sound s.0 s.2 ∙ sym (ap (λ o. option_map_or (λ (l : Logged). is_ready l.node) o false) s.1)
 
 pub returns-in-None : goal.returns-in-None
 returns-in-None c = λ starts run shows.
