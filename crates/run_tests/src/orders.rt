@@ -135,7 +135,7 @@ fn shown_once<R: Threads + Wait + Sync>(rt: &R, alloc: Global, order: Picker) ->
 }
 
 // The same of the first run in which the messages come so.
-fn shown<R: Threads + Wait + Sync>(rt: &R, alloc: Global, order: Picker) -> Option<Shown> {
+fn first_shown<R: Threads + Wait + Sync>(rt: &R, alloc: Global, order: Picker) -> Option<Shown> {
     for _ in 0..500u32 {
         let once = shown_once(rt, alloc, order);
         if once.is_some() {
@@ -158,9 +158,9 @@ fn each_order_takes_its_own_message(rt: HostRuntime) {
         often: 1,
     };
     let twice = Shown { often: 2, ..oldest };
-    assert!(rt; shown(&rt, rt.alloc(), Picker::Oldest) == Some(oldest));
-    assert!(rt; shown(&rt, rt.alloc(), Picker::Newest) == Some(newest));
-    assert!(rt; shown(&rt, rt.alloc(), Picker::Twice) == Some(twice));
+    assert!(rt; first_shown(&rt, rt.alloc(), Picker::Oldest) == Some(oldest));
+    assert!(rt; first_shown(&rt, rt.alloc(), Picker::Newest) == Some(newest));
+    assert!(rt; first_shown(&rt, rt.alloc(), Picker::Twice) == Some(twice));
 }
 
 // How many turns of a run were made without passing the gate once, with the number of the turns before.
