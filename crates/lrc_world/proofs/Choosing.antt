@@ -22,7 +22,7 @@ use Rattle.lrc_world.specs.Rounds.{ready_at}
 use Rattle.lrc_world.specs.World.{Starts, Shows, seen, shown}
 use Rattle.lrc_world.proofs.Driven.{goes_by, is_over, none_long}
 use Rattle.lrc_world.proofs.Lists.{same_length}
-use Rattle.lrc_world.proofs.Turned.{not_none}
+use Rattle.lrc_world.proofs.NodeTurns.{not_none}
 
 -- ---- the one that a number says
 

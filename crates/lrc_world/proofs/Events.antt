@@ -37,7 +37,7 @@ module _ (program : Program) (nodes : ℕ) (options : OptionsRecord) (events : L
       let p = subst (PlaysTo first new (event_on runs.0 event)) ok (plays first runs.0 runs.2) in
       (p.0, one_more runs.0 runs.1 ∙ p.1, p.2)
 
-split_at : {X : Type 0} (xs : List X) (k : ℕ) (x : X) → slice_get xs k ≡ Some x → xs ≡ take k xs ++ x ∷ drop (suc k) xs
+pub split_at : {X : Type 0} (xs : List X) (k : ℕ) (x : X) → slice_get xs k ≡ Some x → xs ≡ take k xs ++ x ∷ drop (suc k) xs
 split_at [] k x at = cc
 split_at (y ∷ xs) zero x at = let same : y ≡ x = cc in ap (λ z. z ∷ xs) same
 split_at (y ∷ xs) (suc k) x at = ap (λ more. y ∷ more) (split_at xs k x at)

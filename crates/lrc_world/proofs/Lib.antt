@@ -1,7 +1,7 @@
 pub mod Kept
 pub mod Races
 pub mod Worlds
-pub mod Turned
+pub mod NodeTurns
 pub mod Lists
 pub mod Played
 pub mod Marks
@@ -11,5 +11,8 @@ pub mod EndsOfRuns
 pub mod Driven
 pub mod Choosing
 pub mod Theorem
+pub mod Made
 pub mod Over
 pub mod Moments
+pub mod Unskipped
+pub mod Walked

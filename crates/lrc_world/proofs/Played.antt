@@ -16,7 +16,7 @@ use Rattle.lrc_node.specs.declared.fault.NodeFault.TheVariants.{Failed, NotReady
 use Rattle.lrc_world.specs.declared.flying.Flying.{Flying}
 use Rattle.lrc_node.proofs.Leading.{entry_of}
 use Rattle.lrc_world.proofs.Kept.{all_logged, kept_get, kept_after, kept_set, replayed_after}
-use Rattle.lrc_world.proofs.Turned.{not_none}
+use Rattle.lrc_world.proofs.NodeTurns.{not_none}
 use Rattle.std.proofs.lemmas.Option.{get_or_from_slice_get, same_Some, slice_get_within}
 use Rattle.lrc_world.specs.declared.world.World.{World}
 use Rattle.lrc_world.specs.declared.report.SimFault.{SimFault}

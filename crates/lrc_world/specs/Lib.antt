@@ -7,3 +7,5 @@ pub mod Rounds
 pub mod Random
 pub mod Driven
 pub mod Moments
+pub mod Turned
+pub mod Walk

@@ -8,4 +8,5 @@ mod random;
 pub mod report;
 mod rounds;
 pub mod simulate;
+pub mod turned;
 mod world;

@@ -18,6 +18,7 @@ ghost use Rattle.lrc_world.specs.Random.{IsWandering, WanderingWearsOut};
 ghost use Rattle.lrc_world.specs.Range.{AreNodes, AreSteps};
 ghost use Rattle.lrc_world.specs.Report.{AreAll, IsReportOf, IsWornBy};
 ghost use Rattle.lrc_world.specs.Rounds.{AreRounds, RoundsWearOut};
+ghost use Rattle.lrc_world.specs.Turned.{AreAllTurned};
 
 use crate::report::{MOST_STEPS, Report, SimFault};
 use crate::rounds::{Driver, Order};
@@ -114,8 +115,8 @@ pub fn replay(
 
 /// A run in rounds: in each, every ready node from 0 up goes on once, and then as many messages are delivered as are in
 /// flight, each of them the one that `picker` says; with `Twice` a message stays in flight the first time that it is delivered.
-/// It ends after a round with no event, or at 100,000,000 events. The answer is the events, and the report that [`simulate`]
-/// has for them.
+/// It ends after a round with no event, or at 100,000,000 events. The answer is the events, none of which is skipped, and the
+/// report that [`simulate`] has for them.
 pub fn drive(
     alloc: Global,
     program: &Program,
@@ -125,6 +126,7 @@ pub fn drive(
 ) -> Result<(Vec<Event>, Report), SimFault>
     ensures report { IfOk result (λ done. IsReportOf program.now nodes options.now done.0.items done.1) }
     ensures rounds { IfOk result (λ done. AreRounds program.now nodes options.now picker done.0.items) }
+    ensures unskipped { IfOk result (λ done. AreAllTurned program.now nodes options.now done.0.items) }
     ensures ends { IfOk result (λ done. done.1.ends.items ≡ ends_of nodes done.1.acts.items) }
     ensures races { IfOk result (λ done. AreNamedRaces done.1.acts.items done.1.races.items) }
 
@@ -153,8 +155,8 @@ pub fn drive(
 
 /// A run in a random order: as long as a node is ready or a message in flight, and there are fewer than 100,000,000 events, the
 /// next event is one of the turns of the ready nodes, ascending, and the deliveries of the messages in flight, oldest first. Which of
-/// them, the next number of SplitMix64 says, by its remainder; its state is `seed` at first. The answer is the events, and the
-/// report that [`simulate`] has for them.
+/// them, the next number of SplitMix64 says, by its remainder; its state is `seed` at first. The answer is the events, none of
+/// which is skipped, and the report that [`simulate`] has for them.
 pub fn wander(
     alloc: Global,
     program: &Program,
@@ -164,6 +166,7 @@ pub fn wander(
 ) -> Result<(Vec<Event>, Report), SimFault>
     ensures report { IfOk result (λ done. IsReportOf program.now nodes options.now done.0.items done.1) }
     ensures wandering { IfOk result (λ done. IsWandering program.now nodes options.now seed done.0.items) }
+    ensures unskipped { IfOk result (λ done. AreAllTurned program.now nodes options.now done.0.items) }
     ensures ends { IfOk result (λ done. done.1.ends.items ≡ ends_of nodes done.1.acts.items) }
     ensures races { IfOk result (λ done. AreNamedRaces done.1.acts.items done.1.races.items) }
 

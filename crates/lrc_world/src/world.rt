@@ -1,7 +1,8 @@
 // All nodes of a run, the messages in flight, and what events do to them.
 
 ghost use Rattle.lrc_race.specs.Races.{AreRacesOf, AreTracesOf};
-ghost use Rattle.std.specs.Prelude.{◌≡◌, ℕ, ◌≤◌, ◌<◌, ◌++◌, [], ◌∷◌, ◌↔◌, All, IfOk, IfErr, OnOk, IsOk, Ok, true, false, List, filter, length, map, remove, slice_get, ◌^◌};
+ghost use Rattle.std.specs.Prelude.{◌≡◌, ℕ, ◌≤◌, ◌<◌, ◌^◌, ◌++◌, [], ◌∷◌, ◌↔◌, All, IfOk, IfErr, OnOk, IsOk, Ok, true, false};
+ghost use Rattle.std.specs.Prelude.{List, filter, length, map, remove, slice_get};
 ghost use Rattle.std.specs.List.{list_any, range_with_len};
 ghost use Rattle.std.specs.Option.{option_to_list};
 ghost use Rattle.lrc_judge.specs.declared.TheConstants.{NODES};

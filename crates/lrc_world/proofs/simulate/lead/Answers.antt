@@ -44,7 +44,8 @@ returns-in_err-lead-clause-bad_nodes c =
     let ranged = in_range s s.first c.in_err-lead.ensures.goes.0 c.new-driver.result c.lead.new.self (fresh_node c.args.program.now c.args.nodes c.args.options.now)
     (fresh_world c.args.program.now c.args.nodes c.args.options.now) c.in_err-lead.field-0.0 d
     c.in_err-lead.ensures.goes.1 in (
-      λ e good. ranged.0 (handed_on c.from_residual-in_err-lead.result c.in_err-lead.field-0.0 BadNodes c.from_residual-in_err-lead.ensures.1 e),
+      λ e good.
+          ranged.0 (handed_on c.from_residual-in_err-lead.result c.in_err-lead.field-0.0 BadNodes c.from_residual-in_err-lead.ensures.1 e),
       λ bad. absurd (bad c.in_ok-count.ensures.1),
     )
 
@@ -56,7 +57,9 @@ returns-in_err-lead-clause-bad_steps c =
     let ranged = in_range s s.first c.in_err-lead.ensures.goes.0 c.new-driver.result c.lead.new.self (fresh_node c.args.program.now c.args.nodes c.args.options.now)
     (fresh_world c.args.program.now c.args.nodes c.args.options.now) c.in_err-lead.field-0.0 d
     c.in_err-lead.ensures.goes.1 in (
-      λ e. absurd (ranged.1 (handed_on c.from_residual-in_err-lead.result c.in_err-lead.field-0.0 BadSteps c.from_residual-in_err-lead.ensures.1 e)),
+      λ e.
+          absurd
+          (ranged.1 (handed_on c.from_residual-in_err-lead.result c.in_err-lead.field-0.0 BadSteps c.from_residual-in_err-lead.ensures.1 e)),
       λ bad. absurd (bad.1 c.in_ok-count.ensures.2),
     )
 

@@ -1,6 +1,6 @@
 use Rattle.std.proofs.Common.{arith}
 use Rattle.lrc_protocol.specs.Log as log
-use Rattle.lrc_world.proofs.Turned.{turned, unturned}
+use Rattle.lrc_world.proofs.NodeTurns.{turned, unturned}
 use Rattle.lrc_world.proofs.world.run_at.Goals as goal
 
 pub returns-then-node-len : goal.returns-then-node-len

@@ -6,7 +6,7 @@ use Rattle.lrc_protocol.specs.Turn.{is_ready}
 use Rattle.lrc_node.specs.Logged.{TracedLog, sound}
 use Rattle.lrc_world.proofs.Kept.{all_logged}
 use Rattle.lrc_world.proofs.Lists.{same_length}
-use Rattle.lrc_world.proofs.Turned.{stands_at}
+use Rattle.lrc_world.proofs.NodeTurns.{stands_at}
 use Rattle.lrc_world.proofs.world.World.is_ready.Goals as goal
 
 pub returns-in-Some : goal.returns-in-Some
