@@ -53,7 +53,7 @@ race_equivalence =
     }
 
 -- races that agree in every field are one
-race_eq-exact : (a b : Race) → race_eq a b ≡ true → a ≡ b
+pub race_eq-exact : (a b : Race) → race_eq a b ≡ true → a ≡ b
 race_eq-exact a b h =
     let (words, h1) = and_parts (a.word == b.word) _ h in
     let (nodes_a, h2) = and_parts (a.node_a == b.node_a) _ h1 in

@@ -6,6 +6,8 @@ pub mod Breaking
 pub mod Tally
 pub mod Keeping
 mod Naming
+mod Leading
+mod Firstness
 pub mod Ascending
 mod Touching
 mod LastWritten

@@ -1,5 +1,5 @@
 -- The races that pairs of first accesses name.
-use Rattle.std.proofs.Common.{◌≡◌, ℕ, ◌<◌, ◌⊎◌, ◌++◌, List, [], ◌∷◌, length, inl, inr, refl, sym, subst, ◌∙◌, arith}
+use Rattle.std.proofs.Common.{◌≡◌, ℕ, ◌<◌, ◌≤◌, ◌⊎◌, ◌++◌, List, [], ◌∷◌, length, inl, inr, refl, sym, subst, ◌∙◌, arith}
 use Rattle.std.specs.Prelude.{All, Contains, slice_index}
 use Rattle.std.proofs.lemmas.Bool.{cases_order, lt-ltb, le-ltb}
 use Rattle.lrc_trace.specs.declared.act.Act.{Act}
@@ -25,6 +25,7 @@ use Rattle.lrc_judge.specs.Adding.{Adds}
 use Rattle.lrc_judge.specs.Firsts.{AreIntervals, AreFirstEntries}
 use Rattle.lrc_judge.specs.Lanes.{entry, AreEntries, AreSearchable}
 use Rattle.lrc_judge.specs.Pairs.{word_lane, IsCrossing}
+use Rattle.lrc_judge.specs.FirstPairs.{IsPairOf}
 use Rattle.lrc_judge.specs.Races.{word_of, race_of_places, IsNameOf}
 use Rattle.lrc_judge.proofs.Additions.{adds-iff, adds-push}
 use Rattle.lrc_judge.proofs.Searching.{searchable}
@@ -57,13 +58,23 @@ word_is run i p w (inr (v, h)) q d does = let e : Write w v ≡ d = Does-one_dee
 accesses_within : {run : List Act} {i p w : ℕ} → Accesses run i p w → i < length run
 accesses_within a = Does-within (access_does a).1
 
+-- numbers that are others in either order, where these are not above two numbers in order
+not_later : (early late i j lower upper : ℕ) → early < late → ((early ≡ i) × (late ≡ j)) ⊎ ((early ≡ j) × (late ≡ i)) → i ≤ lower → j ≤ upper
+    → lower < upper → (late ≤ upper) × (early ≤ lower)
+not_later early late i j lower upper lt (inl (e, l)) le le' up = (omega arith, omega arith)
+not_later early late i j lower upper lt (inr (e, l)) le le' up = (omega arith, omega arith)
+
+turned : {A B : Type 0} → A ⊎ B → B ⊎ A
+turned (inl a) = inr a
+turned (inr b) = inl b
+
 module _ (run : List Act) (intervals : List ℕ) (are : AreIntervals run (length run) intervals) where
   interval_is : {i p w : ℕ} → Accesses run i p w → slice_index intervals i ≡ interval_at run p i
   interval_is {i} {p} a = let (d, does) = access_does a in are.each i p d (Does-within does) does
 
-  -- the name of a racing pair is one of the run
-  pub name_is : (pair : Pair) (race : Race) → Races run pair.earlier pair.later → IsNameOf run intervals pair race → IsNamedRace run race
-  name_is pair race r name =
+  -- the name of a racing pair names it
+  pub pair_named : (pair : Pair) (race : Race) → Races run pair.earlier pair.later → IsNameOf run intervals pair race → IsPairOf run race pair
+  pair_named pair race r name =
       let i = pair.earlier in
       let j = pair.later in
       let (p, q, word, c) = r.conflict in
@@ -80,21 +91,30 @@ module _ (run : List Act) (intervals : List ℕ) (are : AreIntervals run (length
         | inl same ↦ absurd (c.apart same)
         | inr (inl lower) ↦
             let e = is ∙ named_lower word p (interval_at run p i) q (interval_at run q j) lower in
-            subst (λ x. IsNamedRace run x) (sym e) (i, j, record { ascending = lower; conflict = c; races = inl r; interval_a = refl; interval_b = refl })
+            subst (λ x. IsPairOf run x pair) (sym e) (record {
+              races = r;
+              named = inl (record { ascending = lower; conflict = c; races = inl r; interval_a = refl; interval_b = refl });
+            })
         | inr (inr upper) ↦
             let e = is ∙ named_upper word p (interval_at run p i) q (interval_at run q j) upper in
-            subst (λ x. IsNamedRace run x) (sym e) (
-              j,
-              i,
-              record {
+            subst (λ x. IsPairOf run x pair) (sym e) (record {
+              races = r;
+              named = inr (record {
                 ascending = upper;
                 conflict = ConflictAt-symmetric c;
                 races = inr r;
                 interval_a = refl;
                 interval_b = refl;
-              },
-            )
+              });
+            })
       ]
+
+  -- the name of a racing pair is one of the run
+  pub name_is : (pair : Pair) (race : Race) → Races run pair.earlier pair.later → IsNameOf run intervals pair race → IsNamedRace run race
+  name_is pair race r name = elim (pair_named pair race r name).named [
+    | inl n ↦ (pair.earlier, pair.later, n)
+    | inr n ↦ (pair.later, pair.earlier, n)
+  ]
 
   -- a race that a pair's positions name is the pair's name
   pub is_name : (pair : Pair) (race : Race) → Names run race pair.earlier pair.later ⊎ Names run race pair.later pair.earlier → IsNameOf run intervals pair race
@@ -157,9 +177,13 @@ module _ (run : List Act) (intervals : List ℕ) (are : AreIntervals run (length
         let below = in_range i act within in
         omega (arith, here, below)
 
-    abbrev IsPairFor : Race → Pair → Type 0
-    IsPairFor race pair = (IsCrossing accesses writes order pair ⊎ IsCrossing writes accesses order pair)
-        × (Names run race pair.earlier pair.later ⊎ Names run race pair.later pair.earlier)
+    -- the pair is of these positions
+    abbrev IsOf : ℕ → ℕ → Pair → Type 0
+    IsOf i j pair = ((pair.earlier ≡ i) × (pair.later ≡ j)) ⊎ ((pair.earlier ≡ j) × (pair.later ≡ i))
+
+    abbrev IsPairFor : Race → ℕ → ℕ → Pair → Type 0
+    IsPairFor race i j pair = (IsCrossing accesses writes order pair ⊎ IsCrossing writes accesses order pair)
+        × IsPairOf run race pair × IsOf i j pair
 
     -- of the first accesses i of node_a and j of node_b, of which this one writes
     paired : (race : Race) (these those : List Entry) → AreEntries (In these) these → AreEntries (In those) those
@@ -168,7 +192,7 @@ module _ (run : List Act) (intervals : List ℕ) (are : AreIntervals run (length
         → (i j : ℕ) → race.node_a < race.node_b → ConflictAt run i race.node_a j race.node_b race.word
         → In these (word_lane race.word race.node_a) i → In those (word_lane race.word race.node_b) j
         → (HappensBefore run i j → ⊥) → (HappensBefore run j i → ⊥)
-        → race.interval_a ≡ interval_at run race.node_a i → race.interval_b ≡ interval_at run race.node_b j → (pair : Pair) × IsPairFor race pair
+        → race.interval_a ≡ interval_at run race.node_a i → race.interval_b ≡ interval_at run race.node_b j → (pair : Pair) × IsPairFor race i j pair
     paired race these those are others one two i j ascending c at_i at_j not_ij not_ji ia ib =
         elim (cases_order i j) [
           | inl same ↦
@@ -181,7 +205,7 @@ module _ (run : List Act) (intervals : List ℕ) (are : AreIntervals run (length
               let names : Names run race i j = record { ascending = ascending; conflict = c; races = inl r; interval_a = ia; interval_b = ib } in
               let crossing = two pair (races_crossing run order is (In those) (In these) those these others are pair race.node_a race.node_b race.word
               (node_below c.first) c.apart at_j at_i lower not_ij) in
-              (pair, (crossing, inl names))
+              (pair, (crossing, record { races = r; named = inl names }, inl (refl, refl)))
           | inr (inr upper) ↦
               let pair : Pair = record { later = i; earlier = j } in
               let r : Races run j i =
@@ -189,11 +213,13 @@ module _ (run : List Act) (intervals : List ℕ) (are : AreIntervals run (length
               let names : Names run race i j = record { ascending = ascending; conflict = c; races = inr r; interval_a = ia; interval_b = ib } in
               let crossing = one pair (races_crossing run order is (In these) (In those) these those are others pair race.node_b race.node_a race.word
               (node_below c.second) (λ e. c.apart (sym e)) at_i at_j upper not_ji) in
-              (pair, (crossing, inr names))
+              (pair, (crossing, record { races = r; named = inr names }, inr (refl, refl)))
         ]
 
-    pub pairs_complete : (race : Race) → IsNamedRace run race → (pair : Pair) × IsPairFor race pair
-    pairs_complete race (i, j, n) =
+    -- for positions that a race names there is a pair of positions that are not later
+    pub pairs_complete : (race : Race) (i j : ℕ) → Names run race i j
+        → (i' : ℕ) × (j' : ℕ) × (i' ≤ i) × (j' ≤ j) × ((pair : Pair) × IsPairFor race i' j' pair)
+    pairs_complete race i j n =
         let c = n.conflict in
         let p = race.node_a in
         let q = race.node_b in
@@ -210,12 +236,17 @@ module _ (run : List Act) (intervals : List ℕ) (are : AreIntervals run (length
               let first : Accesses run i' p word = inr writes_i in
               let second : Accesses run j' q word = entry_accesses (all.sound (word_lane word q) j' at_j) in
               let same_i = sym (interval_is first) ∙ ints_i ∙ interval_is c.first in
-              let same_j = sym (interval_is second) ∙ ints_j ∙ interval_is c.second in
-              paired race writes accesses some_entries all_entries (λ pair h. inr h) (λ pair h. inl h) i' j' n.ascending
-              (record { apart = c.apart; first = first; second = second; writes = inl writes_i }) at_i at_j
-              (unordered_too run i i' j j' p q word word word word c.apart c.first first c.second second le_i same_i le_j neither.0)
-              (unordered_too run j j' i i' q p word word word word (λ e. c.apart (sym e)) c.second second c.first first le_j same_j le_i neither.1)
-              (n.interval_a ∙ sym same_i) (n.interval_b ∙ sym same_j)
+              let same_j = sym (interval_is second) ∙ ints_j ∙ interval_is c.second in (
+                i',
+                j',
+                le_i,
+                le_j,
+                paired race writes accesses some_entries all_entries (λ pair h. inr h) (λ pair h. inl h) i' j' n.ascending
+                    (record { apart = c.apart; first = first; second = second; writes = inl writes_i }) at_i at_j
+                    (unordered_too run i i' j j' p q word word word word c.apart c.first first c.second second le_i same_i le_j neither.0)
+                    (unordered_too run j j' i i' q p word word word word (λ e. c.apart (sym e)) c.second second c.first first le_j same_j le_i neither.1)
+                    (n.interval_a ∙ sym same_i) (n.interval_b ∙ sym same_j),
+              )
           | inr w ↦
               let (i', at_i, le_i, ints_i) = all.complete (word_lane word p) i (access_listed c.first) in
               let (j', at_j, le_j, ints_j) = some.complete (word_lane word q) j (write_listed w) in
@@ -223,13 +254,64 @@ module _ (run : List Act) (intervals : List ℕ) (are : AreIntervals run (length
               let first : Accesses run i' p word = entry_accesses (all.sound (word_lane word p) i' at_i) in
               let second : Accesses run j' q word = inr writes_j in
               let same_i = sym (interval_is first) ∙ ints_i ∙ interval_is c.first in
-              let same_j = sym (interval_is second) ∙ ints_j ∙ interval_is c.second in
-              paired race accesses writes all_entries some_entries (λ pair h. inl h) (λ pair h. inr h) i' j' n.ascending
-              (record { apart = c.apart; first = first; second = second; writes = inr writes_j }) at_i at_j
-              (unordered_too run i i' j j' p q word word word word c.apart c.first first c.second second le_i same_i le_j neither.0)
-              (unordered_too run j j' i i' q p word word word word (λ e. c.apart (sym e)) c.second second c.first first le_j same_j le_i neither.1)
-              (n.interval_a ∙ sym same_i) (n.interval_b ∙ sym same_j)
+              let same_j = sym (interval_is second) ∙ ints_j ∙ interval_is c.second in (
+                i',
+                j',
+                le_i,
+                le_j,
+                paired race accesses writes all_entries some_entries (λ pair h. inl h) (λ pair h. inr h) i' j' n.ascending
+                    (record { apart = c.apart; first = first; second = second; writes = inr writes_j }) at_i at_j
+                    (unordered_too run i i' j j' p q word word word word c.apart c.first first c.second second le_i same_i le_j neither.0)
+                    (unordered_too run j j' i i' q p word word word word (λ e. c.apart (sym e)) c.second second c.first first le_j same_j le_i neither.1)
+                    (n.interval_a ∙ sym same_i) (n.interval_b ∙ sym same_j),
+              )
         ]
+
+    -- for a pair that a race names there is one that is not later
+    pub pairs_below : (race : Race) (other : Pair) → IsPairOf run race other
+        → (pair : Pair) × (IsCrossing accesses writes order pair ⊎ IsCrossing writes accesses order pair) × IsPairOf run race pair
+        × (pair.later ≤ other.later) × (pair.earlier ≤ other.earlier)
+    pairs_below race other o =
+        let up = o.races.earlier in
+        elim o.named [
+          | inl n ↦
+              let (i, j, le_i, le_j, found) = pairs_complete race other.earlier other.later n in
+              let (pair, both) = found in
+              let (crossing, of, places) = both in
+              let le = not_later pair.earlier pair.later i j other.earlier other.later of.races.earlier places le_i le_j up in
+              (pair, crossing, of, le.0, le.1)
+          | inr n ↦
+              let (i, j, le_i, le_j, found) = pairs_complete race other.later other.earlier n in
+              let (pair, both) = found in
+              let (crossing, of, places) = both in
+              let le = not_later pair.earlier pair.later j i other.earlier other.later of.races.earlier (turned places) le_j le_i up in
+              (pair, crossing, of, le.0, le.1)
+        ]
+
+-- a race that the run names is the name of a pair
+pub named_pair : (run : List Act) (race : Race) → IsNamedRace run race → (pair : Pair) × IsPairOf run race pair
+named_pair run race (i, j, n) = elim n.races [
+  | inl r ↦ (record { later = j; earlier = i }, record { races = r; named = inl n })
+  | inr r ↦ (record { later = i; earlier = j }, record { races = r; named = inr n })
+]
+
+-- a pair of acts has one name
+pub name_one : (run : List Act) (intervals : List ℕ) (pair : Pair) (race other : Race) → IsNameOf run intervals pair race
+    → IsNameOf run intervals pair other → race ≡ other
+name_one run intervals pair race other n m =
+    let nodes_p : n.p ≡ m.p = Does-one_node n.first m.first in
+    let nodes_q : n.q ≡ m.q = Does-one_node n.second m.second in
+    let deeds : n.b ≡ m.b = Does-one_deed n.second m.second in
+    n.is ∙ rw (nodes_p, nodes_q, deeds) (sym m.is)
+
+-- a racing pair has a name
+pub name_there : (run : List Act) (intervals : List ℕ) (pair : Pair) → Races run pair.earlier pair.later → (race : Race) × IsNameOf run intervals pair race
+name_there run intervals pair r =
+    let (p, q, word, c) = r.conflict in
+    let (a, does_i) = access_does c.first in
+    let (b, does_j) = access_does c.second in
+    let race = race_of_places (word_of b) p (slice_index intervals pair.earlier) q (slice_index intervals pair.later) in
+    (race, record { p = p; q = q; a = a; b = b; first = does_i; second = does_j; is = refl })
 
 -- ---- step by step
 

@@ -1,9 +1,11 @@
 pub mod Adding
 pub mod Allowed
+pub mod FirstPairs
 pub mod Firsts
 pub mod InOrder
 pub mod Lanes
 pub mod Latest
+pub mod Leaders
 pub mod Order
 pub mod Pairs
 pub mod Past

@@ -1,5 +1,5 @@
 -- The races that a run names, as a list.
-use Rattle.std.specs.Prelude.{◌≡◌, ℕ, ◌↔◌, ◌⊎◌, if◌then◌else◌, nat_lt, List, Contains, slice_index}
+use Rattle.std.specs.Prelude.{◌≡◌, ℕ, ◌≤◌, ◌↔◌, if◌then◌else◌, nat_lt, List, Contains, slice_index}
 use Rattle.std.specs.Ordering.{nat_cmp, ordering_then}
 use Rattle.std.specs.List.Sorted.{IsStrictlySortedBy}
 use Rattle.std.specs.declared.cmp.Ordering.{Ordering}
@@ -9,8 +9,9 @@ use Rattle.lrc_trace.specs.declared.act.Deed.TheVariants.{Read, Write}
 use Rattle.lrc_trace.specs.declared.race.Race.{Race}
 use Rattle.lrc_trace.specs.Run.{Does}
 use Rattle.lrc_trace.specs.Conflict.{Races}
-use Rattle.lrc_trace.specs.Interval.{IsNamedRace, Names}
+use Rattle.lrc_trace.specs.Interval.{IsNamedRace}
 use Rattle.lrc_judge.specs.declared.lanes.Pair.{Pair}
+use Rattle.lrc_judge.specs.FirstPairs.{IsPairOf}
 
 -- races by word, then by nodes, then by intervals
 abbrev pub race_cmp : Race → Race → Ordering
@@ -46,8 +47,8 @@ pub record IsNameOf (run : List Act) (intervals : List ℕ) (pair : Pair) (race 
   pub second : Does run pair.later q b
   pub is : race ≡ race_of_places (word_of b) p (slice_index intervals pair.earlier) q (slice_index intervals pair.later)
 
--- each pair races, and of each race that the run names there is a pair that it names
+-- each pair races, and for each pair that a race names there is one that it names and that is not later
 pub record AreRacePairs (run : List Act) (pairs : List Pair) : Type 0 where
   pub sound : (pair : Pair) → Contains pairs pair → Races run pair.earlier pair.later
-  pub complete : (race : Race) → IsNamedRace run race
-      → (pair : Pair) × Contains pairs pair × (Names run race pair.earlier pair.later ⊎ Names run race pair.later pair.earlier)
+  pub complete : (race : Race) (other : Pair) → IsPairOf run race other
+      → (pair : Pair) × Contains pairs pair × IsPairOf run race pair × (pair.later ≤ other.later) × (pair.earlier ≤ other.earlier)

@@ -12,6 +12,7 @@ use lrc_trace::act::Act;
 mod accesses;
 mod entries;
 pub mod first;
+pub mod first_pairs;
 mod firsts;
 pub mod in_order;
 mod lanes;

@@ -16,7 +16,7 @@ use lrc_trace::race::Race;
 use std::alloc::{AllocError, Global};
 
 // The word of an access; of another deed 0.
-fn word_of(deed: Deed) -> u32
+pub(crate) fn word_of(deed: Deed) -> u32
     ensures { result ≡ word_of deed }
 {
     match deed {
@@ -26,7 +26,7 @@ fn word_of(deed: Deed) -> u32
 }
 
 // The race of accesses of two nodes in these intervals, the lower node first.
-fn race_of_places(word: u32, p: u8, i: u64, q: u8, j: u64) -> Race
+pub(crate) fn race_of_places(word: u32, p: u8, i: u64, q: u8, j: u64) -> Race
     ensures { result ≡ race_of_places word p i q j }
 {
     if p < q {
@@ -64,7 +64,11 @@ fn first_entries(
 }
 
 // Pairs that race, among them one for each race that the run names: those of the first accesses of intervals.
-fn race_pairs(alloc: Global, acts: &[Act], intervals: &[u64]) -> Result<Vec<Pair>, AllocError>
+pub(crate) fn race_pairs(
+    alloc: Global,
+    acts: &[Act],
+    intervals: &[u64],
+) -> Result<Vec<Pair>, AllocError>
     requires nodes { All (λ act. act.node < NODES) acts.now }
     requires intervals { AreIntervals acts.now (length acts.now) intervals.now }
     ensures { IfOk result (λ pairs. AreRacePairs acts.now pairs.items) }

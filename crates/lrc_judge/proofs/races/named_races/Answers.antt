@@ -7,7 +7,7 @@ use Rattle.lrc_judge.specs.declared.lanes.Pair.{Pair}
 use Rattle.lrc_judge.specs.Adding.{Adds, IsOfSome}
 use Rattle.lrc_judge.specs.Races.{IsNameOf}
 use Rattle.lrc_judge.proofs.Touching.{Races-within}
-use Rattle.lrc_judge.proofs.Naming.{name_is, is_name}
+use Rattle.lrc_judge.proofs.Naming.{name_is, is_name, named_pair}
 use Rattle.lrc_judge.proofs.Ascending.{race_eq, unique-ascending, unique-contains}
 use Rattle.lrc_judge.proofs.races.named_races.Goals as goal
 
@@ -59,7 +59,8 @@ returns c =
               | inr (pair, has, name) ↦ name_is run intervals are pair race (c.in_ok-pairs.ensures.sound pair has) name
             ],
             λ n.
-                let (pair, has, names) = c.in_ok-pairs.ensures.complete race n in
-                same.1 ((adds.exact race).1 (inr (pair, has, is_name run intervals are pair race names))),
+                let (other, of_other) = named_pair run race n in
+                let (pair, has, of, _, _) = c.in_ok-pairs.ensures.complete race other of_other in
+                same.1 ((adds.exact race).1 (inr (pair, has, is_name run intervals are pair race of.named))),
           );
     }

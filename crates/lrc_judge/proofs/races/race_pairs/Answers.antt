@@ -6,7 +6,7 @@ use Rattle.lrc_judge.specs.declared.lanes.Entry.{Entry}
 use Rattle.lrc_judge.specs.Adding.{Adds}
 use Rattle.lrc_judge.specs.Lanes.{AreSearchable}
 use Rattle.lrc_judge.specs.Pairs.{IsCrossing}
-use Rattle.lrc_judge.proofs.Naming.{firsts_searchable, pairs_sound, pairs_complete}
+use Rattle.lrc_judge.proofs.Naming.{firsts_searchable, pairs_sound, pairs_below}
 use Rattle.lrc_judge.proofs.races.race_pairs.Goals as goal
 
 pub add_crossing-requires : goal.add_crossing-requires
@@ -42,12 +42,12 @@ returns c =
             | inr two ↦ inr two
             | inl before ↦ elim ((first.exact pair).0 before) [ inl (k, lt, _) ↦ absurd (omega arith) | inr one ↦ inl one ]
           ]);
-      complete = λ race n.
-          let (pair, both) = pairs_complete run intervals c.requires.intervals order c.in_ok-order.ensures accesses writes c.in_ok-accesses.ensures
-          c.in_ok-writes.ensures c.requires.nodes race n in
-          let has : Contains found pair = (second.exact pair).1 (elim both.0 [
+      complete = λ race other of.
+          let (pair, crossing, named, later, earlier) = pairs_below run intervals c.requires.intervals order c.in_ok-order.ensures accesses writes c.in_ok-accesses.ensures
+          c.in_ok-writes.ensures c.requires.nodes race other of in
+          let has : Contains found pair = (second.exact pair).1 (elim crossing [
             | inl one ↦ inl ((first.exact pair).1 (inr one))
             | inr two ↦ inr two
           ]) in
-          (pair, has, both.1);
+          (pair, has, named, later, earlier);
     }
