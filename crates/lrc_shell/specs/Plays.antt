@@ -1,11 +1,11 @@
 -- What the program does with its words and the files that they name.
-use Rattle.std.specs.Prelude.{◌≡◌, ◌≢◌, ◌⊎◌, ℕ, List, Option, None, Some, Ok, Err, codes}
+use Rattle.std.specs.Prelude.{◌≡◌, ◌≢◌, ◌⊎◌, ℕ, Bool, true, false, List, Option, None, Some, Ok, Err, codes}
 use Rattle.std.specs.Io.KnownBytes.{Appends, Keeps}
 use Rattle.std.specs.declared.io.ErrorKind.{ErrorKind}
 use Rattle.std.specs.declared.io.ErrorKind.TheVariants.{OutOfMemory}
 use Rattle.clap.specs.Words.{Text}
 use Rattle.lrc_words.specs.CommandLine.{Chooses}
-use Rattle.lrc_words.specs.Files.{events_of, file_of}
+use Rattle.lrc_words.specs.Files.{events_of, file_of, reads_acts}
 use Rattle.lrc_words.specs.declared.choice.Choice.{Choice}
 use Rattle.lrc_words.specs.declared.choice.ChooseFault.{ChooseFault}
 use Rattle.lrc_words.specs.declared.choice.ChooseFault.TheVariants.{BadNumber, NoMemory, Usage}
@@ -13,17 +13,19 @@ use Rattle.lrc_report.specs.Output.{AppendsFront}
 use Rattle.lrc_cli.specs.Performance.{Performs}
 use Rattle.lrc_shell.specs.Known.{IsCause, IsFront, Known}
 
--- of a text of a program one byte more than the longest has is read, and of a text of events too
-abbrev pub text_read : ℕ
-text_read = 65537
+-- of a text one byte more than the longest has is read: of one of acts, or of a program,
+abbrev pub most_read : Bool → ℕ
+most_read true = 67108865
+most_read false = 65537
 
+-- and of one of events
 abbrev pub events_read : ℕ
 events_read = 16777217
 
--- what is read of the program's text; the path `-` is standard input
-abbrev pub IsTextRead : Known → List ℕ → List ℕ → Type 0
-IsTextRead known path text = ((path ≡ codes "-") × IsFront text_read known.input text)
-    ⊎ ((path ≢ codes "-") × IsFront text_read (known.files path) text)
+-- what is read of a text, so many bytes of it at most; the path `-` is standard input
+abbrev pub IsTextRead : Known → ℕ → List ℕ → List ℕ → Type 0
+IsTextRead known most path text = ((path ≡ codes "-") × IsFront most known.input text)
+    ⊎ ((path ≢ codes "-") × IsFront most (known.files path) text)
 
 -- what is read of the events, where a file of them is named
 abbrev pub AreEventsRead : Known → Option (List ℕ) → Option (List ℕ) → Type 0
@@ -71,7 +73,7 @@ pub data IsPlayed (known : Known) (choice : Choice) (out out' err err' : Option 
   unread : (kind : ErrorKind) → IsTextCause known (file_of choice) kind ⊎ IsEventsCause known (events_of choice) kind
       → IsTold err err' (read_line kind) → Keeps out out' → status ≡ 1 → IsPlayed known choice out out' err err' status
   -- or it is answered, with what was read.
-  performed : (text : List ℕ) (events : Option (List ℕ)) → IsTextRead known (file_of choice) text
+  performed : (text : List ℕ) (events : Option (List ℕ)) → IsTextRead known (most_read (reads_acts choice)) (file_of choice) text
       → AreEventsRead known (events_of choice) events → Performs choice text events out out' err err' status
       → IsPlayed known choice out out' err err' status
 

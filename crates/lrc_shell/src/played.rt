@@ -5,8 +5,8 @@ ghost use Rattle.std.specs.IoError.{error_kind};
 ghost use Rattle.lrc_cli.specs.Answer.{Answers};
 ghost use Rattle.lrc_cli.specs.Performance.{Performs};
 ghost use Rattle.lrc_words.specs.CommandLine.{words_meant};
-ghost use Rattle.lrc_words.specs.Files.{events_of, file_of, names_events};
-ghost use Rattle.lrc_shell.specs.Plays.{AreEventsRead, IsEventsCause, IsPlayed, IsTextCause, IsTextRead, Plays};
+ghost use Rattle.lrc_words.specs.Files.{events_of, file_of, names_events, reads_acts};
+ghost use Rattle.lrc_shell.specs.Plays.{AreEventsRead, IsEventsCause, IsPlayed, IsTextCause, IsTextRead, Plays, most_read};
 
 use crate::progress::Watch;
 use crate::refusal::{refuse, refuse_file};
@@ -29,10 +29,15 @@ const TEXT_READ: u64 = lrc_lang::MOST_BYTES as u64 + 1;
 
 const _: () = prove!(TEXT_READ > lrc_lang::MOST_BYTES as u64);
 
-/// One byte more than the longest text of events has: a longer one is cut there, and is still too long.
-const EVENTS_READ: u64 = lrc_report::events::MOST_BYTES as u64 + 1;
+/// One byte more than the longest text of acts has: a longer one is cut there, and is still too long.
+const ACTS_READ: u64 = lrc_acts::reading::MOST_BYTES as u64 + 1;
 
-const _: () = prove!(EVENTS_READ > lrc_report::events::MOST_BYTES as u64);
+const _: () = prove!(ACTS_READ > lrc_acts::reading::MOST_BYTES as u64);
+
+/// One byte more than the longest text of events has: a longer one is cut there, and is still too long.
+const EVENTS_READ: u64 = lrc_events::events::MOST_BYTES as u64 + 1;
+
+const _: () = prove!(EVENTS_READ > lrc_events::events::MOST_BYTES as u64);
 
 /// Does what the arguments of the program ask for, the first of which is its name, and gives the exit status. What it prints
 /// goes to `out`, and each fault to `err`. Where it is watched, a line on standard error says that a run takes long.
@@ -97,7 +102,7 @@ fn play_text<R, F: Sources, W: Write, E: Write>(
 ) -> u8
 where
     R: Threads + Wait + Sync + Clock + Eprint + AllocGlobal,
-    ensures { IsTextRead (F.known sources.now) (file_of choice.now) text.now → IsPlayed (F.known sources.now) choice.now
+    ensures { IsTextRead (F.known sources.now) (most_read (reads_acts choice.now)) (file_of choice.now) text.now → IsPlayed (F.known sources.now) choice.now
         (W.contents out.old) (W.contents out.new) (E.contents err.old) (E.contents err.new) result }
 {
     match read_events(rt.alloc(), sources, choice) {
@@ -188,16 +193,28 @@ where
     answered
 }
 
-// Reads the program's text. The path `-` is standard input.
+// Reads the text of a program, or of acts. The path `-` is standard input.
 fn read_text<F: Sources>(alloc: Global, sources: &F, choice: &Choice<'_>) -> io::Result<Vec<u8>>
-    ensures ok { IfOk result (λ text. IsTextRead (F.known sources.now) (file_of choice.now) text.items) }
+    ensures ok { IfOk result (λ text. IsTextRead (F.known sources.now) (most_read (reads_acts choice.now)) (file_of choice.now) text.items) }
     ensures err { IfErr result (λ error. IsTextCause (F.known sources.now) (file_of choice.now) (error_kind error)) }
 {
     let path = choice.file();
+    let most = most_read(choice);
     if path == "-" {
-        sources.input(alloc, TEXT_READ)
+        sources.input(alloc, most)
     } else {
-        sources.file(alloc, path, TEXT_READ)
+        sources.file(alloc, path, most)
+    }
+}
+
+// How many bytes of its text are read for a choice.
+fn most_read(choice: &Choice<'_>) -> u64
+    ensures { result ≡ most_read (reads_acts choice.now) }
+{
+    if choice.reads_acts() {
+        ACTS_READ
+    } else {
+        TEXT_READ
     }
 }
 

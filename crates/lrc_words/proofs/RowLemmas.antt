@@ -24,9 +24,9 @@ use Rattle.clap.specs.Takes.{is_given}
 use Rattle.clap.specs.Kinds.{Kinds, check_kinds, or_else, range_kinds, request_kinds, value_kinds, values_kinds}
 use Rattle.clap.specs.Faults.{action_fault, bundle_fault, bundle_step_fault, check_fault, default_fault, defaults_fault, flag_word_fault}
 use Rattle.clap.specs.Faults.{flags_fault, given_default_fault, level_fault, long_fault, option_fault, other_fault, positional_fault, react_fault}
-use Rattle.clap.specs.Faults.{settle_fault, short_fault, step_fault, turn_fault, use_fault, values_fault, walk_fault, word_fault}
+use Rattle.clap.specs.Faults.{set_fault, settle_fault, short_fault, step_fault, turn_fault, use_fault, values_fault, walk_fault, word_fault}
 use Rattle.clap.specs.declared.builder.action.ArgAction.{ArgAction}
-use Rattle.clap.specs.declared.builder.action.ArgAction.TheVariants.{Set, Help}
+use Rattle.clap.specs.declared.builder.action.ArgAction.TheVariants.{Set, SetTrue, Help}
 use Rattle.clap.specs.declared.builder.value_parser.Reading.{Reading}
 use Rattle.clap.specs.declared.builder.value_parser.ValueParser.{ValueParser}
 use Rattle.clap.specs.declared.error.kind.ErrorKind.TheVariants.{InvalidValue, TooManyValues}
@@ -52,10 +52,10 @@ values_kinds-append ignore p (x ∷ xs) ys h k =
 
 -- ---- rows
 
--- the argument is the first of its id, and each use of it sets its values or asks for help
+-- the argument is the first of its id, and each use of it sets its values, or one that stands for them, or asks for help
 pub record IsKeyed (c : List Rule) (a : Rule) : Type 0 where
   pub own : arg_by_id c a.id ≡ Some a
-  pub acts : ((action_of a ≡ Set) × (0 < (unwrap_or_range a.range).start_inclusive)) ⊎ (action_of a ≡ Help)
+  pub acts : ((action_of a ≡ Set) × (0 < (unwrap_or_range a.range).start_inclusive)) ⊎ ((action_of a ≡ SetTrue) × (0 < length a.missing)) ⊎ (action_of a ≡ Help)
 
 -- the row has a value, and it is as its argument wants
 pub record IsGood (c : List Rule) (r : Row) : Type 0 where
@@ -70,7 +70,7 @@ good-append : (c : List Rule) (xs ys : List Row) → AreGood c xs → AreGood c 
 good-append c [] ys h k = k
 good-append c (x ∷ xs) ys h k = (h.0, good-append c xs ys h.1 k)
 
-same_bytes : (xs ys : List ℕ) → bytes_eq xs ys ≡ true → xs ≡ ys
+pub same_bytes : (xs ys : List ℕ) → bytes_eq xs ys ≡ true → xs ≡ ys
 same_bytes xs ys h = (bytes_eq-Decides xs ys).0 h
 
 good-at_row : (c : List Rule) (id : Text) (change : Row → List Row) (missing rows : List Row)
@@ -117,12 +117,20 @@ some_values least most zero none some =
     absurd cc
 some_values least most (suc n) none some = omega arith
 
+-- where there are values, they are used
+given_some_values : (a : Rule) (values : List Text) → 0 < length values → 0 < length (values_or_missing a values)
+given_some_values a [] some = absurd (omega arith)
+given_some_values a (v ∷ vs) some = some
+
+-- and where there are none, those that stand for them
+missing_some_values : (a : Rule) (values : List Text) → 0 < length a.missing → 0 < length (values_or_missing a values)
+missing_some_values a [] some = some
+missing_some_values a (v ∷ vs) some = omega arith
+
 set_good : (c : List Rule) (again : Bool) (a : Rule) (values : List Text) (rows : List Row) → IsKeyed c a → 0 < length values
-    → action_fault Set again a (values_or_missing a values) rows ≡ [] → AreGood c rows
-    → AreGood c (used_as Set a.id (reading_by a) (values_or_missing a values) rows)
-set_good c again a [] rows keyed some none good = absurd (omega arith)
-set_good c again a (v ∷ vs) rows keyed some none good =
-    good-with_values c a CommandLine (v ∷ vs) (without a.id rows) keyed some (neither _ _ none).1 (good-without c a.id rows good)
+    → set_fault again a values rows ≡ [] → AreGood c rows → AreGood c (with_values a.id (reading_by a) CommandLine values (without a.id rows))
+set_good c again a values rows keyed some none good =
+    good-with_values c a CommandLine values (without a.id rows) keyed some (neither _ _ none).1 (good-without c a.id rows good)
 
 used_good : (c : List Rule) (again : Bool) (a : Rule) (values : List Text) (rows : List Row) → IsKeyed c a → use_fault again a values rows ≡ [] → AreGood c rows
     → AreGood c (used a values rows)
@@ -130,11 +138,16 @@ used_good c again a values rows keyed none good =
     let parts = neither (range_kinds (unwrap_or_range a.range).start_inclusive (most_values a) (length values)) _ none in
     elim keyed.acts [
       | inl sets ↦
-          let some = some_values _ _ _ parts.0 sets.1 in
+          let some = given_some_values a values (some_values _ _ _ parts.0 sets.1) in
           let asks = subst (λ (x : ArgAction). action_fault x again a (values_or_missing a values) rows ≡ []) sets.0 parts.1 in
           subst (λ (x : ArgAction). AreGood c (used_as x a.id (reading_by a) (values_or_missing a values) rows)) (sym sets.0)
-          (set_good c again a values rows keyed some asks good)
-      | inr helps ↦
+          (set_good c again a (values_or_missing a values) rows keyed some asks good)
+      | inr (inl flags) ↦
+          let some = missing_some_values a values flags.1 in
+          let asks = subst (λ (x : ArgAction). action_fault x again a (values_or_missing a values) rows ≡ []) flags.0 parts.1 in
+          subst (λ (x : ArgAction). AreGood c (used_as x a.id (reading_by a) (values_or_missing a values) rows)) (sym flags.0)
+          (set_good c again a (values_or_missing a values) rows keyed some asks good)
+      | inr (inr helps) ↦
           let asks = subst (λ (x : ArgAction). action_fault x again a (values_or_missing a values) rows ≡ []) helps parts.1 in
           absurd cc
     ]

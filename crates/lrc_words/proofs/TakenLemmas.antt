@@ -1,21 +1,25 @@
 -- What clap's definitions say of words in which they find no fault: they name one of the commands, with a FILE, and
--- the values of its number options are numbers.
-use Rattle.std.proofs.Common.{◌≡◌, ◌∙◌, Bool, cond, true, false, refl, codes, List, [], ◌∷◌}
+-- the values of its options are such as they take.
+use Rattle.std.proofs.Common.{◌≡◌, ◌∙◌, ◌⊎◌, ◌||◌, Bool, cond, true, false, refl, codes, List, [], ◌∷◌}
 use Rattle.std.proofs.Common.{Option, Some, None, IfSome, IsSome, IsSomeAnd, inl, inr, is_some, lit<, option_map}
 use Rattle.std.specs.List.{AllByRecursion}
 use Rattle.std.specs.Option.{option_map_or}
+use Rattle.std.specs.Str.{bytes_eq}
 use Rattle.clap.specs.Words.{App, IsUnsignedIn, Row, Shape, Text, first_of, subcommand_of}
 use Rattle.clap.specs.Walk.{answers_to, arg_by_id, finished, nothing_held, rows_after, settled, stop_after, walk, walk_from}
 use Rattle.clap.specs.Simple.{built_leaf, entered, filled, inherited, label_of, names_of, rows_at}
 use Rattle.clap.specs.Kinds.{value_kinds}
 use Rattle.clap.specs.ValueTests.{accepts}
 use Rattle.clap.specs.Faults.{check_fault, defaults_fault, entered_fault, fault_of, level_fault, settle_fault, walk_fault}
-use Rattle.clap.specs.declared.builder.value_parser.ValueParser.TheVariants.{Unsigned}
-use Rattle.clap.specs.declared.error.kind.ErrorKind.TheVariants.{ValueValidation}
+use Rattle.clap.specs.declared.builder.value_parser.ValueParser.TheVariants.{Unsigned, Bool as BoolParser}
+use Rattle.clap.specs.declared.error.kind.ErrorKind.TheVariants.{InvalidValue, ValueValidation}
 use Rattle.clap.proofs.ValueTestLemmas.{accepts-Accepts}
-use Rattle.lrc_words.specs.CommandLine.{HasValue, IsNumberOption, IsPlainTaken, IsRunTaken, IsTaken, check, collect, nodes, number, order, page}
-use Rattle.lrc_words.specs.CommandLine.{plain, run, sim, steps, treadmarks, treadmarks_shape}
-use Rattle.lrc_words.proofs.RowLemmas.{IsKeyed, IsLevel, first_passes, given_some, level_good, neither, required_given}
+use Rattle.lrc_words.specs.CommandLine.{IsTaken}
+use Rattle.lrc_words.specs.Commands.{bare_number, check, collect, flag, form, judge, nodes, number, order, page}
+use Rattle.lrc_words.specs.Commands.{plain, run, sim, steps, trace, treadmarks, treadmarks_shape}
+use Rattle.lrc_words.specs.Options.{HasValue, IsBareNumber, IsFlagOption, IsJudgeTaken, IsNumberOption, IsPlainTaken, IsRunTaken}
+use Rattle.lrc_words.specs.Options.{IsShowingTaken, IsSimTaken, IsTraceTaken}
+use Rattle.lrc_words.proofs.RowLemmas.{IsKeyed, IsLevel, first_passes, given_some, level_good, neither, required_given, same_bytes}
 
 abbrev check_built : Shape
 check_built = built_leaf (inherited treadmarks_shape check.top)
@@ -29,10 +33,19 @@ sim_built = built_leaf (inherited treadmarks_shape sim.top)
 abbrev run_built : Shape
 run_built = built_leaf (inherited treadmarks_shape run.top)
 
+abbrev trace_built : Shape
+trace_built = built_leaf (inherited treadmarks_shape trace.top)
+
+abbrev judge_built : Shape
+judge_built = built_leaf (inherited treadmarks_shape judge.top)
+
 check_keyed : AllByRecursion (IsKeyed check_built.rules) check_built.rules
 check_keyed = (
   record { own = refl; acts = inl (refl, lit< tt) },
-  (record { own = refl; acts = inr refl }, tt),
+  (
+    record { own = refl; acts = inr (inr refl) },
+    tt,
+  ),
 )
 
 plain_keyed : AllByRecursion (IsKeyed plain_built.rules) plain_built.rules
@@ -42,7 +55,10 @@ plain_keyed = (
     record { own = refl; acts = inl (refl, lit< tt) },
     (
       record { own = refl; acts = inl (refl, lit< tt) },
-      (record { own = refl; acts = inr refl }, tt),
+      (
+        record { own = refl; acts = inr (inr refl) },
+        tt,
+      ),
     ),
   ),
 )
@@ -62,7 +78,13 @@ sim_keyed = (
             record { own = refl; acts = inl (refl, lit< tt) },
             (
               record { own = refl; acts = inl (refl, lit< tt) },
-              (record { own = refl; acts = inr refl }, tt),
+              (
+                record { own = refl; acts = inl (refl, lit< tt) },
+                (
+                  record { own = refl; acts = inr (inr refl) },
+                  tt,
+                ),
+              ),
             ),
           ),
         ),
@@ -84,7 +106,10 @@ run_keyed = (
           record { own = refl; acts = inl (refl, lit< tt) },
           (
             record { own = refl; acts = inl (refl, lit< tt) },
-            (record { own = refl; acts = inr refl }, tt),
+            (
+              record { own = refl; acts = inr (inr refl) },
+              tt,
+            ),
           ),
         ),
       ),
@@ -92,13 +117,88 @@ run_keyed = (
   ),
 )
 
+trace_keyed : AllByRecursion (IsKeyed trace_built.rules) trace_built.rules
+trace_keyed = (
+  record { own = refl; acts = inl (refl, lit< tt) },
+  (
+    record { own = refl; acts = inl (refl, lit< tt) },
+    (
+      record { own = refl; acts = inl (refl, lit< tt) },
+      (
+        record { own = refl; acts = inl (refl, lit< tt) },
+        (
+          record { own = refl; acts = inl (refl, lit< tt) },
+          (
+            record { own = refl; acts = inl (refl, lit< tt) },
+            (
+              record { own = refl; acts = inl (refl, lit< tt) },
+              (
+                record { own = refl; acts = inl (refl, lit< tt) },
+                (
+                  record { own = refl; acts = inr (inl (refl, lit< tt)) },
+                  (
+                    record { own = refl; acts = inl (refl, lit< tt) },
+                    (
+                      record { own = refl; acts = inr (inr refl) },
+                      tt,
+                    ),
+                  ),
+                ),
+              ),
+            ),
+          ),
+        ),
+      ),
+    ),
+  ),
+)
+
+judge_keyed : AllByRecursion (IsKeyed judge_built.rules) judge_built.rules
+judge_keyed = (
+  record { own = refl; acts = inl (refl, lit< tt) },
+  (
+    record { own = refl; acts = inl (refl, lit< tt) },
+    (
+      record { own = refl; acts = inr (inl (refl, lit< tt)) },
+      (
+        record { own = refl; acts = inr (inr refl) },
+        tt,
+      ),
+    ),
+  ),
+)
+
 -- a value that the parser of numbers let through
-number_passed : (text : Option Text) → IsSome text → IfSome text (λ t. value_kinds false (Unsigned 0 18446744073709551615) t ≡ [])
-    → IsSomeAnd text (IsUnsignedIn 0 18446744073709551615)
-number_passed None there none = absurd cc
-number_passed (Some t) there none = accepts-Accepts false (Unsigned 0 18446744073709551615) t (go (accepts false (Unsigned 0 18446744073709551615) t) none)
+bare_passed : (text : Option Text) → IfSome text (λ t. value_kinds false (Unsigned 0 18446744073709551615) t ≡ [])
+    → IfSome text (IsUnsignedIn 0 18446744073709551615)
+bare_passed None none = tt
+bare_passed (Some t) none = accepts-Accepts false (Unsigned 0 18446744073709551615) t (go (accepts false (Unsigned 0 18446744073709551615) t) none)
   where
     go : (b : Bool) → cond b [] (ValueValidation ∷ []) ≡ [] → b ≡ true
+    go true e = refl
+    go false e = absurd cc
+
+number_passed : (text : Option Text) → IsSome text → IfSome text (IsUnsignedIn 0 18446744073709551615)
+    → IsSomeAnd text (IsUnsignedIn 0 18446744073709551615)
+number_passed None there fits = absurd cc
+number_passed (Some t) there fits = fits
+
+either_true : (a b : Bool) → (a || b) ≡ true → (a ≡ true) ⊎ (b ≡ true)
+either_true true b e = inl refl
+either_true false b e = inr e
+
+-- a value that the parser of flags let through
+flag_passed : (text : Option Text) → IsSome text → IfSome text (λ t. value_kinds false BoolParser t ≡ [])
+    → IsSomeAnd text (λ t. (t ≡ codes "true") ⊎ (t ≡ codes "false"))
+flag_passed None there none = absurd cc
+flag_passed (Some t) there none =
+    let takes = accepts-Accepts false BoolParser t (go (accepts false BoolParser t) none) in
+    elim (either_true (bytes_eq t (codes "true")) (bytes_eq t (codes "false")) takes) [
+      | inl e ↦ inl (same_bytes t (codes "true") e)
+      | inr e ↦ inr (same_bytes t (codes "false") e)
+    ]
+  where
+    go : (b : Bool) → cond b [] (InvalidValue ∷ []) ≡ [] → b ≡ true
     go true e = refl
     go false e = absurd cc
 
@@ -112,7 +212,20 @@ module _ (s : Shape) (rows : List Row) (level : IsLevel s rows) where
   number_taken name value own =
       let first = first_passes s.rules (filled (number name value)) rows level.good own in
       record {
-        number = number_passed (first_of name rows) (level.there (filled (number name value)) own (lit< tt)) first.0;
+        number = number_passed (first_of name rows) (level.there (filled (number name value)) own (lit< tt)) (bare_passed (first_of name rows) first.0);
+        as_written = first.1 ∙ same_text (first_of name rows);
+      }
+
+  bare_taken : (name : Text) → arg_by_id s.rules name ≡ Some (filled (bare_number name)) → IsBareNumber name rows
+  bare_taken name own =
+      let first = first_passes s.rules (filled (bare_number name)) rows level.good own in
+      record { number = bare_passed (first_of name rows) first.0; as_written = first.1 ∙ same_text (first_of name rows) }
+
+  flag_taken : (name : Text) → arg_by_id s.rules name ≡ Some (filled (flag name)) → IsFlagOption name rows
+  flag_taken name own =
+      let first = first_passes s.rules (filled (flag name)) rows level.good own in
+      record {
+        said = flag_passed (first_of name rows) (level.there (filled (flag name)) own (lit< tt)) first.0;
         as_written = first.1 ∙ same_text (first_of name rows);
       }
 
@@ -135,12 +248,20 @@ module _ (s : Shape) (rows : List Row) (level : IsLevel s rows) where
     page = level.there (filled page) page_own (lit< tt);
   }
 
-check_taken : (words : List Text) → level_fault check_built [] nothing_held words false [] ≡ []
-    → HasValue (codes "FILE") (rows_after check_built.rules [] words)
+  -- of one that has a seed too
+  all_sim_taken : IsRunTaken rows → arg_by_id s.rules (codes "seed") ≡ Some (filled (bare_number (codes "seed"))) → IsSimTaken rows
+  all_sim_taken run seed_own = record { run = run; seed = bare_taken (codes "seed") seed_own }
+
+  -- of one that has a flag for threads too
+  all_showing_taken : IsSimTaken rows → arg_by_id s.rules (codes "threads") ≡ Some (filled (flag (codes "threads"))) → IsShowingTaken rows
+  all_showing_taken sim threads_own = record { sim = sim; threads = flag_taken (codes "threads") threads_own }
+
+check_taken : (words : List Text) → level_fault check_built [] nothing_held words false [] ≡ [] → HasValue (codes "FILE") (rows_after check_built.rules [] words)
 check_taken words none =
     let rows = rows_after check_built.rules [] words in
     let level = level_good check_built words check_keyed none in
-    given_some check_built.rules (codes "FILE") rows level.good ((required_given check_built rows level.checked).0 refl)
+    let file = given_some check_built.rules (codes "FILE") rows level.good ((required_given check_built rows level.checked).0 refl) in
+    file
 
 plain_taken : (words : List Text) → level_fault plain_built [] nothing_held words false [] ≡ [] → IsPlainTaken (rows_after plain_built.rules [] words)
 plain_taken words none =
@@ -149,12 +270,12 @@ plain_taken words none =
     let file = given_some plain_built.rules (codes "FILE") rows level.good ((required_given plain_built rows level.checked).0 refl) in
     all_plain_taken plain_built rows level file refl refl
 
-sim_taken : (words : List Text) → level_fault sim_built [] nothing_held words false [] ≡ [] → IsRunTaken (rows_after sim_built.rules [] words)
+sim_taken : (words : List Text) → level_fault sim_built [] nothing_held words false [] ≡ [] → IsSimTaken (rows_after sim_built.rules [] words)
 sim_taken words none =
     let rows = rows_after sim_built.rules [] words in
     let level = level_good sim_built words sim_keyed none in
     let file = given_some sim_built.rules (codes "FILE") rows level.good ((required_given sim_built rows level.checked).0 refl) in
-    all_run_taken sim_built rows level (all_plain_taken sim_built rows level file refl refl) refl refl refl
+    all_sim_taken sim_built rows level (all_run_taken sim_built rows level (all_plain_taken sim_built rows level file refl refl) refl refl refl) refl
 
 run_taken : (words : List Text) → level_fault run_built [] nothing_held words false [] ≡ [] → IsRunTaken (rows_after run_built.rules [] words)
 run_taken words none =
@@ -163,29 +284,54 @@ run_taken words none =
     let file = given_some run_built.rules (codes "FILE") rows level.good ((required_given run_built rows level.checked).0 refl) in
     all_run_taken run_built rows level (all_plain_taken run_built rows level file refl refl) refl refl refl
 
+trace_taken : (words : List Text) → level_fault trace_built [] nothing_held words false [] ≡ [] → IsTraceTaken (rows_after trace_built.rules [] words)
+trace_taken words none =
+    let rows = rows_after trace_built.rules [] words in
+    let level = level_good trace_built words trace_keyed none in
+    let file = given_some trace_built.rules (codes "FILE") rows level.good ((required_given trace_built rows level.checked).0 refl) in
+    record {
+      showing = all_showing_taken trace_built rows level (all_sim_taken trace_built rows level (all_run_taken trace_built rows level (all_plain_taken trace_built rows level file refl refl) refl refl refl) refl) refl;
+      form = level.there (filled form) refl (lit< tt);
+    }
+
+judge_taken : (words : List Text) → level_fault judge_built [] nothing_held words false [] ≡ [] → IsJudgeTaken (rows_after judge_built.rules [] words)
+judge_taken words none =
+    let rows = rows_after judge_built.rules [] words in
+    let level = level_good judge_built words judge_keyed none in
+    let file = given_some judge_built.rules (codes "FILE") rows level.good ((required_given judge_built rows level.checked).0 refl) in
+    record {
+      file = file;
+      nodes = bare_taken judge_built rows level (codes "nodes") refl;
+      pairs = flag_taken judge_built rows level (codes "pairs") refl;
+    }
+
 -- the top of the command line, as clap builds it
 abbrev top_built : App
-top_built = record { top = built_leaf (record treadmarks_shape { is_leaf = false }); subs = check_built ∷ plain_built ∷ sim_built ∷ run_built ∷ [] }
+top_built = record {
+  top = built_leaf (record treadmarks_shape { is_leaf = false });
+  subs = check_built ∷ plain_built ∷ sim_built ∷ run_built ∷ trace_built ∷ judge_built ∷ [];
+}
 
 one_named : (rows : List Row) (stop : Option (Text × List Text)) → entered_fault top_built stop ≡ []
     → check_fault top_built.top rows (is_some (entered top_built stop)) ≡ []
     → IsTaken (entered top_built stop)
 one_named rows None none checked = absurd cc
 one_named rows (Some p) none checked =
-    go (answers_to p.0 (label_of check_built)) (answers_to p.0 (label_of plain_built)) (answers_to p.0 (label_of sim_built))
-    (answers_to p.0 (label_of run_built)) none checked
+    go (answers_to p.0 (label_of check_built)) (answers_to p.0 (label_of plain_built)) (answers_to p.0 (label_of sim_built)) (answers_to p.0 (label_of run_built)) (answers_to p.0 (label_of trace_built)) (answers_to p.0 (label_of judge_built)) none checked
   where
-    shape : Bool → Bool → Bool → Bool → Option Shape
-    shape b d f h = cond b (Some check_built) (cond d (Some plain_built) (cond f (Some sim_built) (cond h (Some run_built) None)))
+    shape : Bool → Bool → Bool → Bool → Bool → Bool → Option Shape
+    shape a b d f h i = cond a (Some check_built) (cond b (Some plain_built) (cond d (Some sim_built) (cond f (Some run_built) (cond h (Some trace_built) (cond i (Some judge_built) (None))))))
 
-    go : (b d f h : Bool) → option_map_or (λ s. level_fault s [] nothing_held p.1 false []) (shape b d f h) [] ≡ []
-        → check_fault top_built.top rows (is_some (option_map (λ s. rows_at s p.1) (shape b d f h))) ≡ []
-        → IsTaken (option_map (λ s. rows_at s p.1) (shape b d f h))
-    go true d f h e checked = inl (refl, check_taken p.1 e)
-    go false true f h e checked = inr (inl (refl, plain_taken p.1 e))
-    go false false true h e checked = inr (inr (inl (refl, sim_taken p.1 e)))
-    go false false false true e checked = inr (inr (inr (refl, run_taken p.1 e)))
-    go false false false false e checked = absurd cc
+    go : (a b d f h i : Bool) → option_map_or (λ s. level_fault s [] nothing_held p.1 false []) (shape a b d f h i) [] ≡ []
+        → check_fault top_built.top rows (is_some (option_map (λ s. rows_at s p.1) (shape a b d f h i))) ≡ []
+        → IsTaken (option_map (λ s. rows_at s p.1) (shape a b d f h i))
+    go true b d f h i e checked = inl (refl, check_taken p.1 e)
+    go false true d f h i e checked = inr (inl (refl, plain_taken p.1 e))
+    go false false true f h i e checked = inr (inr (inr (inl (refl, sim_taken p.1 e))))
+    go false false false true h i e checked = inr (inr (inr (inr (inl (refl, run_taken p.1 e)))))
+    go false false false false true i e checked = inr (inr (inr (inr (inr (refl, trace_taken p.1 e)))))
+    go false false false false false true e checked = inr (inr (inl (refl, judge_taken p.1 e)))
+    go false false false false false false e checked = absurd cc
 
 pub taken : (words : List Text) → fault_of treadmarks words ≡ [] → IsTaken (subcommand_of treadmarks words)
 unfolding treadmarks

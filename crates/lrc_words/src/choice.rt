@@ -38,7 +38,7 @@ pub struct PlainRun<'w> {
     pub steps: Steps,
 }
 
-/// The options that `sim` and `run` have in common.
+/// What the runs have in common, whichever way they go on.
 #[derive(Clone, Copy)]
 pub struct RunOptions<'w> {
     /// The file of the program's text; `-` is standard input.
@@ -46,18 +46,57 @@ pub struct RunOptions<'w> {
     pub nodes: Nodes,
     pub steps: Steps,
     pub collect: Collect,
-    /// Which message is delivered next, where no file of events is named.
-    pub order: Picker,
     /// The size of a page.
     pub size: Size,
 }
 
-/// The options of `sim`.
+/// How a run goes on.
 #[derive(Clone, Copy)]
-pub struct Simulation<'w> {
+pub enum Way<'w> {
+    /// By the events that this file names.
+    Events(&'w str),
+    /// In rounds; which message is delivered next.
+    Rounds(Picker),
+    /// At random, from this seed.
+    Random(u64),
+    /// Each node on a thread of its own; which message a mailbox gives next.
+    Threads(Picker),
+}
+
+/// A run.
+#[derive(Clone, Copy)]
+pub struct RunChoice<'w> {
     pub options: RunOptions<'w>,
-    /// The file of the events, if one is named.
-    pub events: Option<&'w str>,
+    pub way: Way<'w>,
+}
+
+/// The form in which `trace` shows the acts of a run.
+#[derive(Clone, Copy)]
+pub enum Form {
+    /// A line for each act.
+    Acts,
+    /// The trace form of the race detectors' framework RAPID.
+    Rapid,
+}
+
+/// What is shown of a run.
+#[derive(Clone, Copy)]
+pub enum Shape {
+    /// What the nodes print, how they end, and the races.
+    Report,
+    /// Its acts.
+    Trace(Form),
+}
+
+/// The options of `judge`.
+#[derive(Clone, Copy)]
+pub struct Judging<'w> {
+    /// The file of the text of acts; `-` is standard input.
+    pub file: &'w str,
+    /// How many nodes there are; where it is left out, one more than the greatest node that acts.
+    pub nodes: Option<Nodes>,
+    /// Whether every racing pair is named, in place of the named races.
+    pub pairs: bool,
 }
 
 /// What the words ask for.
@@ -67,10 +106,10 @@ pub enum Choice<'w> {
     Check(&'w str),
     /// A run on the plain machine, in rounds.
     Plain(PlainRun<'w>),
-    /// A run in which one event happens after the other.
-    Simulate(Simulation<'w>),
-    /// A run whose nodes are on threads of their own.
-    Run(RunOptions<'w>),
+    /// A run of the nodes, and what is shown of it.
+    Show(RunChoice<'w>, Shape),
+    /// What is to be said of acts from anywhere.
+    Judge(Judging<'w>),
 }
 
 /// Why there is no choice.

@@ -3,6 +3,10 @@
 
 pub mod choice;
 mod command_line;
+mod commands;
 mod files;
+mod misfit;
+mod reading;
+mod runs;
 
 pub use command_line::choose;

@@ -5,7 +5,8 @@ use Rattle.clap.specs.declared.error.kind.ErrorKind.{ErrorKind}
 use Rattle.clap.specs.declared.error.kind.ErrorKind.TheVariants.{OutOfMemory}
 use Rattle.clap.proofs.OnLiterals.{clap_on_literals}
 use Rattle.lrc_words.specs.declared.choice.ChooseFault.{ChooseFault}
-use Rattle.lrc_words.specs.CommandLine.{IsFoundFault, fault_from, fault_of_kind, treadmarks}
+use Rattle.lrc_words.specs.CommandLine.{IsFoundFault, fault_from, fault_of_kind}
+use Rattle.lrc_words.specs.Commands.{treadmarks}
 use Rattle.lrc_words.proofs.command_line.matches_of.Goals as goal
 
 simple : is_simple treadmarks ≡ true

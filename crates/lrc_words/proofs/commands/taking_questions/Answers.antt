@@ -1,0 +1,11 @@
+use Rattle.std.proofs.Common.{ap, ap₂, ◌∙◌}
+use Rattle.std.proofs.lemmas.Result.{IfOk-weaker}
+use Rattle.clap.specs.Words.{App, app_of, with_subcommand}
+use Rattle.lrc_words.proofs.commands.taking_questions.Goals as goal
+
+pub returns : goal.returns
+returns c =
+    let trace_is = ap (λ (a : App). a.top) c.in_ok-trace_command.ensures.app in
+    let judge_is = ap (λ (a : App). a.top) c.in_ok-judge_command.ensures.app in
+    let one = c.in_ok-subcommand.ensures.shape c.in_ok-trace_command.ensures.local ∙ ap (with_subcommand (app_of c.args.command)) trace_is in
+    IfOk-weaker c.subcommand-2.result _ _ (λ r h. h.shape c.in_ok-judge_command.ensures.local ∙ ap₂ with_subcommand one judge_is) c.subcommand-2.ensures

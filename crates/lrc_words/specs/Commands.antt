@@ -1,0 +1,97 @@
+-- The commands and their options, as clap sees them.
+use Rattle.std.specs.Prelude.{true, [], ◌∷◌, Some, codes}
+use Rattle.clap.specs.Words.{App, Rule, Shape, Text, new_app, new_rule, with_rule, with_subcommand}
+use Rattle.clap.specs.declared.builder.action.ArgAction.TheVariants.{SetTrue}
+use Rattle.clap.specs.declared.builder.value_parser.ValueParser.TheVariants.{Unsigned}
+
+-- FILE, which each command has to have
+abbrev pub file : Rule
+file = record (new_rule (codes "FILE")) { required = true }
+
+-- an option that takes a value
+abbrev pub option : Text → Rule
+option name = record (new_rule name) { long = Some name; value_names = 1 }
+
+-- one that has this value where the words give it none
+abbrev pub defaulted : Text → Text → Rule
+defaulted name value = record (option name) { defaults = value ∷ [] }
+
+-- an option that takes a number of 64 bits
+abbrev pub bare_number : Text → Rule
+bare_number name = record (option name) { parser = Some (Unsigned 0 18446744073709551615) }
+
+-- one that is this number where the words give it none
+abbrev pub number : Text → Text → Rule
+number name value = record (bare_number name) { defaults = value ∷ [] }
+
+-- an option that takes no value: `true` where the words name it, else `false`
+abbrev pub flag : Text → Rule
+flag name = record (new_rule name) { long = Some name; action = Some SetTrue }
+
+abbrev pub nodes : Rule
+nodes = number (codes "nodes") (codes "1")
+
+abbrev pub steps : Rule
+steps = number (codes "steps") (codes "1000000")
+
+abbrev pub collect : Rule
+collect = number (codes "collect") (codes "0")
+
+-- `order`, `page` and `as` take one of few words, which are looked at once clap has read them
+abbrev pub order : Rule
+order = defaulted (codes "order") (codes "oldest")
+
+abbrev pub page : Rule
+page = defaulted (codes "page") (codes "64")
+
+abbrev pub form : Rule
+form = defaulted (codes "as") (codes "acts")
+
+abbrev pub check : App
+check = with_rule (new_app (codes "check")) file
+
+abbrev pub plain : App
+plain = with_rule (with_rule (with_rule (new_app (codes "plain")) file) nodes) steps
+
+-- what all runs of the nodes have in common
+abbrev pub with_run_options : App → App
+with_run_options command = with_rule (with_rule (with_rule (with_rule (with_rule (with_rule command file) nodes) steps) collect) order) page
+
+abbrev pub run : App
+run = with_run_options (new_app (codes "run"))
+
+-- what those have beside it that may go on by events, or at random
+abbrev pub with_way_options : App → App
+with_way_options command = with_rule (with_rule (with_run_options command) (option (codes "events"))) (bare_number (codes "seed"))
+
+abbrev pub sim : App
+sim = with_way_options (new_app (codes "sim"))
+
+-- and those that show something of a run in any way
+abbrev pub with_showing_options : App → App
+with_showing_options command = with_rule (with_way_options command) (flag (codes "threads"))
+
+abbrev pub trace : App
+trace = with_rule (with_showing_options (new_app (codes "trace"))) form
+
+-- the number of nodes need not be given
+abbrev pub judge : App
+judge = with_rule (with_rule (with_rule (new_app (codes "judge")) file) (bare_number (codes "nodes"))) (flag (codes "pairs"))
+
+-- The words begin with no program's name, and name one of the commands; the program has a version.
+abbrev pub treadmarks_shape : Shape
+treadmarks_shape = record (new_app (codes "treadmarks")).top {
+  has_version = true;
+  no_binary_name = true;
+  subcommand_required = true;
+  disable_help_subcommand = true;
+}
+
+abbrev pub with_reports : App → App
+with_reports command = with_subcommand (with_subcommand (with_subcommand (with_subcommand command check.top) plain.top) sim.top) run.top
+
+abbrev pub with_questions : App → App
+with_questions command = with_subcommand (with_subcommand command trace.top) judge.top
+
+unfoldable pub treadmarks : App
+treadmarks = with_questions (with_reports (record { top = treadmarks_shape; subs = [] }))

@@ -1,0 +1,289 @@
+// The commands and their options, as clap is told of them.
+
+ghost use Rattle.std.specs.Prelude.{◌≡◌, [], IfOk, false};
+ghost use Rattle.clap.specs.Words.{app_of, rule_of};
+ghost use Rattle.clap.specs.declared.builder.command.Command.TheViews.{out-Command as fields_of};
+ghost use Rattle.lrc_words.specs.Commands.{bare_number, check, collect, file, flag, form, judge, nodes, number, option, order};
+ghost use Rattle.lrc_words.specs.Commands.{page, plain, run, sim, steps, trace, treadmarks, treadmarks_shape};
+ghost use Rattle.lrc_words.specs.Commands.{with_questions, with_reports, with_run_options, with_showing_options, with_way_options};
+
+use clap::{Arg, ArgAction, Command, value_parser};
+use std::alloc::{AllocError, Global};
+
+const FILE_HELP: &str = "The program's text; `-` is standard input";
+
+const ACTS_FILE_HELP: &str = "The text of acts; `-` is standard input";
+
+const NODES_HELP: &str = "How many nodes run the program: 1 to 16";
+
+const STEPS_HELP: &str = "How many statements each node may begin: 1 to 1000000";
+
+const COLLECT_HELP: &str =
+    "From how many stored intervals on a node asks for a collection: 0 to 1000000, 0 for never";
+
+const RUN_ORDER_HELP: &str =
+    "Which message is delivered next: oldest, newest or twice (the oldest, and each two times)";
+
+const ORDER_HELP: &str =
+    "Which message is delivered next: oldest, newest or twice (the oldest, and each two times); random: any event is next";
+
+const PAGE_HELP: &str = "How many words a page has: 64 or 256";
+
+const EVENTS_HELP: &str =
+    "A file of events to play, `run N`, `deliver I` or `repeat I` on each line; without it all nodes run in turn";
+
+const SEED_HELP: &str = "With `--order random`: from which number it starts. Left out it is 0";
+
+const THREADS_HELP: &str =
+    "Runs each node on a thread of its own; not with events or a random order";
+
+const FORM_HELP: &str = "How the acts are shown: acts, or rapid (for race detectors)";
+
+const ACTS_NODES_HELP: &str =
+    "How many nodes there are: 1 to 16. Left out it is one more than the greatest that acts";
+
+const PAIRS_HELP: &str = "Names every pair of acts that race, in place of the races";
+
+// The version of the program. The message bytes have versions of their own.
+const VERSION: &str = "0.1.0";
+
+// What the help says of the exit status, and of the one line that cannot say which option it means.
+const STATUSES: &str = "Exit status:
+  0  all nodes ended, and no race was found (check: the text is a program; judge: nothing was found)
+  1  a fault of the text, a file, the events, memory or the output
+  2  a fault of the words, or a help text. `number out of range` says that a number is not in the range that the help of
+     its command gives
+  3  a race was found
+  4  no race, and a node trapped or is unfinished (judge: the acts are of no run)";
+
+/// The command line of the program.
+pub(crate) fn command_line<'w>(alloc: Global) -> Result<Command<'w>, AllocError>
+    ensures { IfOk result (λ command. app_of command ≡ treadmarks) }
+{
+    taking_questions(alloc, taking_reports(alloc, bare_command_line(alloc)?)?)
+}
+
+// The command line without its commands.
+fn bare_command_line<'w>(alloc: Global) -> Result<Command<'w>, AllocError>
+    ensures { IfOk result (λ command. app_of command ≡ record { top = treadmarks_shape; subs = [] }) }
+{
+    Ok(
+        Command::new(alloc, "treadmarks")
+            .bin_name("treadmarks")?
+            .about("Runs programs on lazy-release-consistent shared memory. With no words: `sim -`")
+            .after_help(STATUSES)
+            .version(VERSION)
+            .no_binary_name(true)
+            .subcommand_required(true)
+            .disable_help_subcommand(true),
+    )
+}
+
+// Adds the commands that check, and that report of a run.
+fn taking_reports<'w>(alloc: Global, command: Command<'w>) -> Result<Command<'w>, AllocError>
+    ensures { IfOk result (λ given. app_of given ≡ with_reports (app_of command.entry)) }
+{
+    command
+        .subcommand(check_command(alloc)?)?
+        .subcommand(plain_command(alloc)?)?
+        .subcommand(sim_command(alloc)?)?
+        .subcommand(run_command(alloc)?)
+}
+
+// Adds those that ask more of a run, or of acts.
+fn taking_questions<'w>(alloc: Global, command: Command<'w>) -> Result<Command<'w>, AllocError>
+    ensures { IfOk result (λ given. app_of given ≡ with_questions (app_of command.entry)) }
+{
+    command
+        .subcommand(trace_command(alloc)?)?
+        .subcommand(judge_command(alloc)?)
+}
+
+fn check_command<'w>(alloc: Global) -> Result<Command<'w>, AllocError>
+    ensures app { IfOk result (λ command. app_of command ≡ check) }
+    ensures local { IfOk result (λ command. (fields_of command).has_globals ≡ false) }
+{
+    Command::new(alloc, "check")
+        .about("Prints `ok` if the text of FILE is a program")
+        .arg(file(alloc, FILE_HELP))
+}
+
+fn plain_command<'w>(alloc: Global) -> Result<Command<'w>, AllocError>
+    ensures app { IfOk result (λ command. app_of command ≡ plain) }
+    ensures local { IfOk result (λ command. (fields_of command).has_globals ≡ false) }
+{
+    Command::new(alloc, "plain")
+        .about(
+            "Runs the program of FILE over one flat memory, each node in turn, and looks for no race",
+        )
+        .arg(file(alloc, FILE_HELP))?
+        .arg(nodes(alloc))?
+        .arg(steps(alloc))
+}
+
+fn sim_command<'w>(alloc: Global) -> Result<Command<'w>, AllocError>
+    ensures app { IfOk result (λ command. app_of command ≡ sim) }
+    ensures local { IfOk result (λ command. (fields_of command).has_globals ≡ false) }
+{
+    let command = Command::new(alloc, "sim").about(
+        "Runs the program of FILE, one event after the other",
+    );
+    taking_way_options(alloc, command)
+}
+
+fn run_command<'w>(alloc: Global) -> Result<Command<'w>, AllocError>
+    ensures app { IfOk result (λ command. app_of command ≡ run) }
+    ensures local { IfOk result (λ command. (fields_of command).has_globals ≡ false) }
+{
+    let command = Command::new(alloc, "run").about(
+        "Runs the program of FILE, each node on a thread of its own",
+    );
+    taking_run_options(alloc, command, RUN_ORDER_HELP)
+}
+
+fn trace_command<'w>(alloc: Global) -> Result<Command<'w>, AllocError>
+    ensures app { IfOk result (λ command. app_of command ≡ trace) }
+    ensures local { IfOk result (λ command. (fields_of command).has_globals ≡ false) }
+{
+    let command = Command::new(alloc, "trace").about("Shows the acts of a run, one on each line");
+    taking_showing_options(alloc, command)?.arg(form(alloc))
+}
+
+fn judge_command<'w>(alloc: Global) -> Result<Command<'w>, AllocError>
+    ensures app { IfOk result (λ command. app_of command ≡ judge) }
+    ensures local { IfOk result (λ command. (fields_of command).has_globals ≡ false) }
+{
+    Command::new(alloc, "judge")
+        .about(
+            "Says whether the acts of FILE, in the form of `trace`, are a run of this memory, and which race",
+        )
+        .arg(file(alloc, ACTS_FILE_HELP))?
+        .arg(bare_number(alloc, "nodes", "N", ACTS_NODES_HELP))?
+        .arg(flag(alloc, "pairs", PAIRS_HELP))
+}
+
+// Adds what the commands have in common that show something of a run in any way.
+fn taking_showing_options<'w>(
+    alloc: Global,
+    command: Command<'w>,
+) -> Result<Command<'w>, AllocError>
+    requires { (fields_of command).has_globals ≡ false }
+    ensures app { IfOk result (λ given. app_of given ≡ with_showing_options (app_of command.entry)) }
+    ensures local { IfOk result (λ given. (fields_of given).has_globals ≡ false) }
+{
+    taking_way_options(alloc, command)?.arg(flag(alloc, "threads", THREADS_HELP))
+}
+
+// Adds what they have in common with `sim`.
+fn taking_way_options<'w>(alloc: Global, command: Command<'w>) -> Result<Command<'w>, AllocError>
+    requires { (fields_of command).has_globals ≡ false }
+    ensures app { IfOk result (λ given. app_of given ≡ with_way_options (app_of command.entry)) }
+    ensures local { IfOk result (λ given. (fields_of given).has_globals ≡ false) }
+{
+    taking_run_options(alloc, command, ORDER_HELP)?
+        .arg(text(alloc, "events", "PATH", EVENTS_HELP))?
+        .arg(bare_number(alloc, "seed", "X", SEED_HELP))
+}
+
+// Adds what they have in common with `run`, whose orders are others.
+fn taking_run_options<'w>(
+    alloc: Global,
+    command: Command<'w>,
+    orders: &'w str,
+) -> Result<Command<'w>, AllocError>
+    requires { (fields_of command).has_globals ≡ false }
+    ensures app { IfOk result (λ given. app_of given ≡ with_run_options (app_of command.entry)) }
+    ensures local { IfOk result (λ given. (fields_of given).has_globals ≡ false) }
+{
+    command
+        .arg(file(alloc, FILE_HELP))?
+        .arg(nodes(alloc))?
+        .arg(steps(alloc))?
+        .arg(collect(alloc))?
+        .arg(order(alloc, orders))?
+        .arg(page(alloc))
+}
+
+fn file<'w>(alloc: Global, help: &'w str) -> Arg<'w>
+    ensures rule { rule_of result ≡ file }
+    ensures local { result.global ≡ false }
+{
+    Arg::new(alloc, "FILE").required(true).help(help)
+}
+
+fn text<'w>(alloc: Global, name: &'w str, value: &'w str, help: &'w str) -> Arg<'w>
+    ensures rule { rule_of result ≡ option name.entry.now }
+    ensures local { result.global ≡ false }
+{
+    Arg::new(alloc, name)
+        .long(name)
+        .value_name(value)
+        .help(help)
+}
+
+fn nodes<'w>(alloc: Global) -> Arg<'w>
+    ensures rule { rule_of result ≡ nodes }
+    ensures local { result.global ≡ false }
+{
+    number(alloc, "nodes", "1", NODES_HELP)
+}
+
+fn steps<'w>(alloc: Global) -> Arg<'w>
+    ensures rule { rule_of result ≡ steps }
+    ensures local { result.global ≡ false }
+{
+    number(alloc, "steps", "1000000", STEPS_HELP)
+}
+
+fn collect<'w>(alloc: Global) -> Arg<'w>
+    ensures rule { rule_of result ≡ collect }
+    ensures local { result.global ≡ false }
+{
+    number(alloc, "collect", "0", COLLECT_HELP)
+}
+
+fn order<'w>(alloc: Global, help: &'w str) -> Arg<'w>
+    ensures rule { rule_of result ≡ order }
+    ensures local { result.global ≡ false }
+{
+    text(alloc, "order", "ORDER", help).default_value("oldest")
+}
+
+fn page<'w>(alloc: Global) -> Arg<'w>
+    ensures rule { rule_of result ≡ page }
+    ensures local { result.global ≡ false }
+{
+    text(alloc, "page", "WORDS", PAGE_HELP).default_value("64")
+}
+
+fn number<'w>(alloc: Global, name: &'w str, default: &'w str, help: &'w str) -> Arg<'w>
+    ensures rule { rule_of result ≡ number name.entry.now default.entry.now }
+    ensures local { result.global ≡ false }
+{
+    bare_number(alloc, name, "N", help).default_value(default)
+}
+
+// An option whose number need not be given.
+fn bare_number<'w>(alloc: Global, name: &'w str, value: &'w str, help: &'w str) -> Arg<'w>
+    ensures rule { rule_of result ≡ bare_number name.entry.now }
+    ensures local { result.global ≡ false }
+{
+    text(alloc, name, value, help).value_parser(value_parser!(u64))
+}
+
+fn form<'w>(alloc: Global) -> Arg<'w>
+    ensures rule { rule_of result ≡ form }
+    ensures local { result.global ≡ false }
+{
+    text(alloc, "as", "FORM", FORM_HELP).default_value("acts")
+}
+
+fn flag<'w>(alloc: Global, name: &'w str, help: &'w str) -> Arg<'w>
+    ensures rule { rule_of result ≡ flag name.entry.now }
+    ensures local { result.global ≡ false }
+{
+    Arg::new(alloc, name)
+        .long(name)
+        .action(ArgAction::SetTrue)
+        .help(help)
+}
