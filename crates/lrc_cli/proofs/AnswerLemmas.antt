@@ -1,10 +1,18 @@
 -- What is answered to a choice: what is printed, or a fault.
-use Rattle.std.proofs.Common.{◌≡◌, ℕ, List, Option, Result, Ok, Err, IfErr, IfOk, IsErrAnd, sym, subst}
-use Rattle.lrc_cli.specs.Answer.{Answers, IsFault, Prints}
-use Rattle.lrc_report.specs.ReportText.{whole_text}
+use Rattle.std.proofs.Common.{◌≡◌, ◌⊎◌, inl, inr, ℕ, List, Option, Result, Ok, Err, IfErr, IfOk, IsErrAnd, sym, subst}
+use Rattle.lrc_lang.specs.Faults.{HasFirstFault}
+use Rattle.lrc_lang.specs.Parser.SeenParser.{IsOutOfMemory}
+use Rattle.lrc_lang.specs.declared.fault.FaultKind.{FaultKind}
+use Rattle.lrc_lang.specs.declared.fault.FaultKind.TheVariants as faults
+use Rattle.lrc_lang.specs.declared.fault.ParseFault.{ParseFault}
+use Rattle.lrc_cli.specs.Answer.{Answers, IsFault, IsTextFault, Prints}
+use Rattle.lrc_cli.specs.FaultLine.{fault_of_kind, fault_of_text}
+use Rattle.lrc_text.specs.Parts.{whole_text}
 use Rattle.lrc_cli.specs.declared.answer.Printout.{Printout}
 use Rattle.lrc_words.specs.declared.choice.Choice.{Choice}
+use Rattle.lrc_words.specs.declared.choice.Choice.TheVariants.{Check, Plain, Show, Judge}
 use Rattle.lrc_cli.specs.declared.fault.Fault.{Fault}
+use Rattle.lrc_cli.specs.declared.fault.Fault.TheVariants.{NoMemory}
 
 -- what holds of what is printed and of the fault, in one
 pub answers_of : (choice : Choice) (text : List ℕ) (events : Option (List ℕ)) (r : Result Printout Fault)
@@ -17,3 +25,33 @@ answers_of choice text events (Err fault) prints faults = faults
 pub fault_up : {T : Type 0} (r : Result T Fault) (fault : Fault) (P : Fault → Type 0) → IsErrAnd r (λ f. f ≡ fault) → P fault → IfErr r P
 fault_up (Ok x) fault P is h = tt
 fault_up (Err f) fault P is h = subst P (sym is) h
+
+-- memory may run out at any choice
+pub memory_ran_out : (choice : Choice) (text : List ℕ) (events : Option (List ℕ)) → IsFault choice text events NoMemory
+memory_ran_out (Check file) text events = tt
+memory_ran_out (Plain run) text events = tt
+memory_ran_out (Show run shape) text events = inl tt
+memory_ran_out (Judge judging) text events = tt
+
+-- the first fault of a text, as it is told
+text_fault_at : (text : List ℕ) (line : ℕ) (kind : FaultKind) → ((kind ≡ faults.NoMemory) × (line ≡ 0)) ⊎ HasFirstFault text line kind
+    → IsTextFault text (fault_of_kind line kind)
+text_fault_at text line faults.NoMemory h = tt
+text_fault_at text line kind (inl e) = subst (λ (k : FaultKind). IsTextFault text (fault_of_kind line k)) (sym e.0) tt
+text_fault_at text line _ (inr h) = h
+
+pub text_fault : (text : List ℕ) (fault : ParseFault) → IsOutOfMemory fault ⊎ HasFirstFault text fault.line fault.kind
+    → IsTextFault text (fault_of_text fault)
+text_fault text fault h = text_fault_at text fault.line fault.kind h
+
+-- what holds for a choice holds for the same choice
+pub printed_for : (r : Result Printout Fault) (choice other : Choice) (text : List ℕ) (events : Option (List ℕ)) → choice ≡ other
+    → IfOk r (λ printout. Prints other text events (whole_text printout.parts.items) printout.status)
+    → IfOk r (λ printout. Prints choice text events (whole_text printout.parts.items) printout.status)
+printed_for r choice other text events same h =
+    subst (λ (chosen : Choice). IfOk r (λ printout. Prints chosen text events (whole_text printout.parts.items) printout.status)) (sym same) h
+
+pub faulty_for : (r : Result Printout Fault) (choice other : Choice) (text : List ℕ) (events : Option (List ℕ)) → choice ≡ other
+    → IfErr r (λ fault. IsFault other text events fault) → IfErr r (λ fault. IsFault choice text events fault)
+faulty_for r choice other text events same h =
+    subst (λ (chosen : Choice). IfErr r (λ fault. IsFault chosen text events fault)) (sym same) h

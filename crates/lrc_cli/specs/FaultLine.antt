@@ -3,17 +3,20 @@ use Rattle.std.specs.Prelude.{◌++◌, ℕ, List, codes, decimal}
 use Rattle.lrc_lang.specs.declared.fault.FaultKind.{FaultKind}
 use Rattle.lrc_lang.specs.declared.fault.FaultKind.TheVariants.{TooLong, BadByte, BadNumber, Unexpected, TooDeep, TooManyNames, OverLimit, NoMemory}
 use Rattle.lrc_lang.specs.declared.fault.ParseFault.{ParseFault}
+use Rattle.lrc_acts.specs.declared.reading.ActsFault.{ActsFault}
+use Rattle.lrc_acts.specs.declared.reading.ActsFault.TheVariants.{BadAct}
+use Rattle.lrc_acts.specs.declared.reading.ActsFault.TheVariants as acts_faults
 use Rattle.lrc_world.specs.declared.report.SimFault.{SimFault}
 use Rattle.lrc_world.specs.declared.report.SimFault.TheVariants.{Worn}
 use Rattle.lrc_run.specs.declared.fault.RunFault.{RunFault}
 use Rattle.lrc_run.specs.declared.fault.RunFault.TheVariants as threads
-use Rattle.lrc_report.specs.declared.events.EventsFault.{EventsFault}
-use Rattle.lrc_report.specs.declared.events.EventsFault.TheVariants.{BadEvent}
-use Rattle.lrc_report.specs.declared.events.EventsFault.TheVariants as events_faults
+use Rattle.lrc_events.specs.declared.events.EventsFault.{EventsFault}
+use Rattle.lrc_events.specs.declared.events.EventsFault.TheVariants.{BadEvent}
+use Rattle.lrc_events.specs.declared.events.EventsFault.TheVariants as events_faults
 use Rattle.lrc_cli.specs.declared.fault.Fault.{Fault}
 use Rattle.lrc_cli.specs.declared.fault.Fault.TheVariants as faults
 
--- the fault of a text, of the text of events, of a run, and of a run on threads
+-- the fault of a text, of a text of events, of a text of acts, of a run, and of a run on threads
 abbrev pub fault_of_kind : ℕ → FaultKind → Fault
 fault_of_kind line NoMemory = faults.NoMemory
 fault_of_kind line kind = faults.Text line kind
@@ -24,6 +27,10 @@ fault_of_text fault = fault_of_kind fault.line fault.kind
 abbrev pub fault_of_events : EventsFault → Fault
 fault_of_events (BadEvent line) = faults.Events line
 fault_of_events events_faults.NoMemory = faults.NoMemory
+
+abbrev pub fault_of_acts : ActsFault → Fault
+fault_of_acts (BadAct line) = faults.Acts line
+fault_of_acts acts_faults.NoMemory = faults.NoMemory
 
 abbrev pub fault_of_run : SimFault → Fault
 fault_of_run Worn = faults.Worn
@@ -47,6 +54,7 @@ kind_words NoMemory = codes "out of memory"
 abbrev pub fault_words : Fault → List ℕ
 fault_words (faults.Text line kind) = codes "line " ++ decimal line ++ codes ": " ++ kind_words kind
 fault_words (faults.Events line) = codes "events line " ++ decimal line ++ codes ": bad event"
+fault_words (faults.Acts line) = codes "acts line " ++ decimal line ++ codes ": bad act"
 fault_words faults.Worn = codes "message numbers used up"
 fault_words faults.Mismatch = codes "logs and wires differ"
 fault_words faults.NoMemory = codes "out of memory"

@@ -1,3 +1,5 @@
 pub mod Answer
 pub mod FaultLine
 pub mod Performance
+pub mod Runs
+pub mod Shown

@@ -2,11 +2,12 @@
 
 ghost use Rattle.std.specs.Prelude.{◌≡◌, ◌≢◌, IfOk, Some};
 ghost use Rattle.std.specs.String.{string_bytes};
-ghost use Rattle.lrc_cli.specs.FaultLine.{fault_line, fault_of_events, fault_of_run, fault_of_text, fault_of_threads, fault_words, kind_words};
+ghost use Rattle.lrc_cli.specs.FaultLine.{fault_line, fault_of_acts, fault_of_events, fault_of_run, fault_of_text, fault_of_threads, fault_words, kind_words};
 ghost use Rattle.lrc_cli.specs.declared.fault.Fault.TheVariants.{NoMemory};
 
+use lrc_acts::reading::ActsFault;
+use lrc_events::events::EventsFault;
 use lrc_lang::fault::{FaultKind, ParseFault};
-use lrc_report::events::EventsFault;
 use lrc_run::RunFault;
 use lrc_world::report::SimFault;
 use std::alloc::{AllocError, AllocFailed, Global};
@@ -21,6 +22,8 @@ pub enum Fault {
     Text(u32, FaultKind),
     /// The line of this number in the text of events names no event.
     Events(u32),
+    /// The line of this number in the text of acts says no act.
+    Acts(u32),
     /// The numbers of messages were used up.
     Worn,
     /// What the nodes of a run on threads say that they sent and took is not what went through the post.
@@ -39,6 +42,7 @@ impl Display for Fault {
                 write!(f, "line {line}: {words}")
             }
             Fault::Events(line) => write!(f, "events line {line}: bad event"),
+            Fault::Acts(line) => write!(f, "acts line {line}: bad act"),
             Fault::Worn => write!(f, "message numbers used up"),
             Fault::Mismatch => write!(f, "logs and wires differ"),
             Fault::NoMemory => write!(f, "out of memory"),
@@ -66,6 +70,17 @@ impl From<EventsFault> for Fault {
         match fault {
             EventsFault::BadEvent(line) => Fault::Events(line),
             EventsFault::NoMemory => Fault::NoMemory,
+        }
+    }
+}
+
+impl From<ActsFault> for Fault {
+    ghost from_gives = { λ fault made. made ≡ fault_of_acts fault };
+
+    fn from(fault: ActsFault) -> Fault {
+        match fault {
+            ActsFault::BadAct(line) => Fault::Acts(line),
+            ActsFault::NoMemory => Fault::NoMemory,
         }
     }
 }

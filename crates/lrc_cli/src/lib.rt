@@ -3,7 +3,11 @@
 
 pub mod answer;
 pub mod fault;
+mod judged;
 mod performance;
+mod runs;
+mod shown;
 mod threads;
+mod trace;
 
 pub use performance::{answer_any, execute, perform, tell};

@@ -5,15 +5,17 @@ ghost use Rattle.lrc_cli.specs.Answer.{Answers};
 ghost use Rattle.lrc_words.specs.Files.{names_events, starts_threads};
 ghost use Rattle.lrc_cli.specs.FaultLine.{fault_line};
 ghost use Rattle.lrc_cli.specs.Performance.{IsWritten, Performs};
-ghost use Rattle.lrc_report.specs.ReportText.{whole_text};
+ghost use Rattle.lrc_text.specs.Parts.{whole_text};
 ghost use Rattle.lrc_words.specs.declared.choice.Choice.{Choice as AnyChoice};
+ghost use Rattle.lrc_words.specs.declared.choice.Choice.TheVariants.{Show};
 ghost use Rattle.lrc_cli.specs.declared.fault.Fault.TheVariants.{NoMemory};
 
 use crate::answer::{Printout, answer};
 use crate::fault::{Fault, NO_MEMORY_LINE, line_of};
-use crate::threads::answer_on_threads;
+use crate::shown::show;
+use crate::threads::show_on_threads;
 use lrc_report::output::{Output, put, put_parts};
-use lrc_words::choice::Choice;
+use lrc_words::choice::{Choice, RunChoice, Shape, Way};
 use std::alloc::Global;
 use std::io::Write;
 use std::sync::Wait;
@@ -70,10 +72,30 @@ pub fn answer_any<R: Threads + Wait + Sync>(
     ensures { Answers choice.now text.now (option_map (λ e. e.now) events.entry) result }
 {
     match choice {
-        Choice::Run(options) => answer_on_threads(rt, alloc, options, text),
-        Choice::Check(_) | Choice::Plain(_) | Choice::Simulate(_) => {
+        Choice::Show(run, shape) => show_any(rt, alloc, run, *shape, text, events),
+        Choice::Check(_) | Choice::Plain(_) | Choice::Judge(_) => {
             answer(alloc, choice, text, events)
         }
+    }
+}
+
+// Answers a choice of a run, on threads or not.
+fn show_any<R: Threads + Wait + Sync>(
+    rt: &R,
+    alloc: Global,
+    choice: &RunChoice<'_>,
+    shape: Shape,
+    text: &[u8],
+    events: Option<&[u8]>,
+) -> Result<Printout, Fault>
+    requires { is_some events ≡ names_events (Show choice.now shape) }
+    ensures { Answers (Show choice.now shape) text.now (option_map (λ e. e.now) events.entry) result }
+{
+    match choice.way {
+        Way::Threads(order) => show_on_threads(rt, alloc, choice, order, shape, text),
+        Way::Events(_) | Way::Rounds(_) | Way::Random(_) => show(
+            alloc, choice, shape, text, events,
+        ),
     }
 }
 

@@ -1,34 +1,43 @@
-// What the program answers to the command `run`.
+// What the program answers to a run whose nodes are on threads.
 
-ghost use Rattle.std.specs.Prelude.{IfErr, IfOk, None};
-ghost use Rattle.lrc_cli.specs.Answer.{IsFault, IsThreadedFault, IsThreadedRunOf, Prints};
-ghost use Rattle.lrc_report.specs.ReportText.{whole_text};
-ghost use Rattle.lrc_words.specs.declared.choice.Choice.TheVariants.{Run};
+ghost use Rattle.std.specs.Prelude.{◌≡◌, IfErr, IfOk, None};
+ghost use Rattle.lrc_cli.specs.Answer.{IsFault, Prints};
+ghost use Rattle.lrc_cli.specs.Runs.{IsThreaded, IsThreadedFault};
+ghost use Rattle.lrc_text.specs.Parts.{whole_text};
+ghost use Rattle.lrc_words.specs.declared.choice.Choice.TheVariants.{Show};
+ghost use Rattle.lrc_words.specs.declared.choice.Way.TheVariants.{Threads as OnThreads};
 
-use crate::answer::{Printout, options_of, printout_of_run};
+use crate::answer::Printout;
 use crate::fault::{Fault, fault_of_threads};
+use crate::runs::options_of;
+use crate::shown::shown;
 use lrc_lang::parse;
 use lrc_lang::program::Program;
 use lrc_run::run;
-use lrc_words::choice::RunOptions;
+use lrc_wire::Picker;
+use lrc_words::choice::{RunChoice, RunOptions, Shape};
 use lrc_world::report::Report;
 use std::alloc::Global;
 use std::sync::Wait;
 use std::thread::Threads;
 
-/// Answers the command `run`, with the text of its FILE.
-pub(crate) fn answer_on_threads<R: Threads + Wait + Sync>(
+/// Answers a choice of a run whose nodes are on threads, with the text of its program. `order` says which message a mailbox gives next.
+pub(crate) fn show_on_threads<R: Threads + Wait + Sync>(
     rt: &R,
     alloc: Global,
-    options: &RunOptions<'_>,
+    choice: &RunChoice<'_>,
+    order: Picker,
+    shape: Shape,
     text: &[u8],
 ) -> Result<Printout, Fault>
-    ensures ok { IfOk result (λ printout. Prints (Run options.now) text.now None (whole_text printout.parts.items) printout.status) }
-    ensures err { IfErr result (λ fault. IsFault (Run options.now) text.now None fault) }
+    requires { choice.now.way ≡ OnThreads order }
+    ensures ok { IfOk result (λ printout. Prints (Show choice.now shape) text.now None
+        (whole_text printout.parts.items) printout.status) }
+    ensures err { IfErr result (IsFault (Show choice.now shape) text.now None) }
 {
     let program = parse(alloc, text)?;
-    let report = run_on_threads(rt, alloc, options, &program)?;
-    Ok(printout_of_run(alloc, &report)?)
+    let report = run_on_threads(rt, alloc, &choice.options, order, &program)?;
+    Ok(shown(alloc, shape, text, &program, &choice.options, &report)?)
 }
 
 // The run of a program whose nodes are on threads of their own.
@@ -36,20 +45,14 @@ fn run_on_threads<R: Threads + Wait + Sync>(
     rt: &R,
     alloc: Global,
     options: &RunOptions<'_>,
+    order: Picker,
     program: &Program,
 ) -> Result<Report, Fault>
-    ensures ok { IfOk result (IsThreadedRunOf program.now options.now) }
+    ensures ok { IfOk result (IsThreaded program.now options.now order) }
     ensures err { IfErr result (IsThreadedFault program.now options.now) }
 {
     let nodes = options.nodes.count;
-    let run = run(
-        rt,
-        alloc,
-        program,
-        nodes,
-        &options_of(options),
-        options.order,
-    );
+    let run = run(rt, alloc, program, nodes, &options_of(options), order);
     let (report, _wires) = run.map_err(fault_of_threads)?;
     Ok(report)
 }

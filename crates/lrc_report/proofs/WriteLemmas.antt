@@ -4,7 +4,7 @@ use Rattle.std.proofs.Common.{Ok, Err, OnErr, ◌==◌, true, false, length-appe
 use Rattle.std.specs.Io.KnownBytes.{Appends, Keeps}
 use Rattle.std.proofs.lemmas.List.{append_assoc, drop_more, take_at, take-append-drop}
 use Rattle.lrc_report.specs.Output.{AppendsFront}
-use Rattle.lrc_report.specs.ReportText.{whole_text}
+use Rattle.lrc_text.specs.Parts.{whole_text}
 use Rattle.std.specs.declared.alloc.Global.{Global}
 
 -- of the text, so much is written, and the rest is to come

@@ -1,3 +1,2 @@
-pub mod EventsText
 pub mod Output
 pub mod ReportText

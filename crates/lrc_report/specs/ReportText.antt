@@ -1,23 +1,14 @@
 -- What a run prints, and the status with which the program ends after it.
-use Rattle.std.specs.Prelude.{◌+◌, ◌==◌, ℕ, Bool, true, false, Option, Some, None, List, [], ◌∷◌, ◌++◌, codes, decimal, if◌then◌else◌, map, Vec}
-use Rattle.std.specs.declared.alloc.Global.{Global}
+use Rattle.std.specs.Prelude.{◌+◌, ◌==◌, ℕ, Bool, true, false, Option, Some, None, List, [], ◌∷◌, ◌++◌, codes, decimal, if◌then◌else◌}
 use Rattle.std.specs.List.{flat_map, list_all}
 use Rattle.lrc_trace.specs.declared.act.Act.{Act}
-use Rattle.lrc_trace.specs.declared.act.Cause.{Cause}
-use Rattle.lrc_trace.specs.declared.act.Cause.TheVariants.{DivisionByZero, WordOutOfRange, LockOutOfRange, LockHeld, LockNotHeld}
 use Rattle.lrc_trace.specs.declared.act.Deed.{Deed}
 use Rattle.lrc_trace.specs.declared.act.Deed.TheVariants.{Print}
-use Rattle.lrc_trace.specs.declared.race.Race.{Race}
+use Rattle.lrc_text.specs.ActText.{cause_number}
+use Rattle.lrc_text.specs.RaceText.{first_race_text, races_text}
 use Rattle.lrc_node.specs.declared.end.End.{End}
 use Rattle.lrc_node.specs.declared.end.End.TheVariants.{Ended, Trapped, Unfinished}
 use Rattle.lrc_world.specs.declared.report.Report.{Report}
-
--- the bytes of each part of a text, and of the whole
-abbrev pub texts_of : List (Vec ℕ Global) → List (List ℕ)
-texts_of parts = map (λ part. part.items) parts
-
-abbrev pub whole_text : List (Vec ℕ Global) → List ℕ
-whole_text parts = flat_map (λ part. part.items) parts
 
 -- a line on a node
 abbrev pub line_on : ℕ → List ℕ → List ℕ
@@ -31,13 +22,6 @@ deed_line node _ = []
 -- what an act prints on the lines of this node
 abbrev pub line_of_act : ℕ → Act → List ℕ
 line_of_act node act = if act.node == node then deed_line node act.deed else []
-
-abbrev pub cause_number : Cause → ℕ
-cause_number DivisionByZero = 1
-cause_number WordOutOfRange = 2
-cause_number LockOutOfRange = 3
-cause_number LockHeld = 4
-cause_number LockNotHeld = 5
 
 -- how a node ended
 abbrev pub end_words : End → List ℕ
@@ -65,19 +49,6 @@ is_ended _ = false
 -- the status without a race: 0 where every node came to the end of the text, and else 4
 abbrev pub status_of : List End → ℕ
 status_of ends = if list_all is_ended ends then 0 else 4
-
--- the line of a race, and those of races
-abbrev pub race_line : Race → List ℕ
-race_line race = codes "race word " ++ decimal race.word ++ codes ": node " ++ decimal race.node_a ++ codes " interval " ++ decimal race.interval_a
-    ++ codes ", node " ++ decimal race.node_b ++ codes " interval " ++ decimal race.interval_b ++ codes "\n"
-
-abbrev pub races_text : List Race → List ℕ
-races_text races = flat_map race_line races
-
--- the last line of a run with a race: the least position that races with an earlier one
-abbrev pub first_race_text : Option ℕ → List ℕ
-first_race_text None = []
-first_race_text (Some position) = codes "first race at act " ++ decimal position ++ codes "\n"
 
 -- what is printed of a run: the lines of its nodes, its races, and the first of its acts that races with an earlier one
 abbrev pub run_text : Report → List ℕ

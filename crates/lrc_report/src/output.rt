@@ -4,7 +4,7 @@ ghost use Rattle.std.specs.Prelude.{◌≡◌, OnErr, OnOk, false, true};
 ghost use Rattle.std.specs.Io.{WritesAtMost};
 ghost use Rattle.std.specs.Io.KnownBytes.{Appends, WriteAppends};
 ghost use Rattle.lrc_report.specs.Output.{AppendsFront};
-ghost use Rattle.lrc_report.specs.ReportText.{whole_text};
+ghost use Rattle.lrc_text.specs.Parts.{whole_text};
 
 use std::io;
 use std::io::{ErrorKind, Write};

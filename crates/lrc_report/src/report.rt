@@ -1,14 +1,13 @@
 // What a run prints.
 
-ghost use Rattle.std.specs.Prelude.{◌≡◌, ◌++◌, [], IfOk, OnOk, decimal, replicate};
+ghost use Rattle.std.specs.Prelude.{◌≡◌, ◌++◌, [], IfOk, OnOk, replicate};
+ghost use Rattle.lrc_text.specs.Parts.{texts_of, whole_text};
 ghost use Rattle.lrc_trace.specs.declared.act.Deed.TheVariants.{Print};
-ghost use Rattle.lrc_report.specs.ReportText.{deed_line, end_words, first_race_text, line_on, race_line, races_text, report_text, run_status_of};
-ghost use Rattle.lrc_report.specs.ReportText.{run_text, status_of, texts_of, whole_text};
+ghost use Rattle.lrc_report.specs.ReportText.{deed_line, end_words, line_on, report_text, run_status_of, run_text, status_of};
 
-use itoa::Buffer;
 use lrc_node::End;
+use lrc_text::{first_race_part, push_number, races_part};
 use lrc_trace::act::{Act, Deed};
-use lrc_trace::race::Race;
 use lrc_world::report::Report;
 use std::alloc::{AllocError, Global};
 
@@ -53,39 +52,6 @@ pub fn run_parts(alloc: Global, report: &Report) -> Result<Vec<Vec<u8>>, AllocEr
     Ok(parts)
 }
 
-// The lines of races, one for each.
-fn races_part(alloc: Global, races: &[Race]) -> Result<Vec<u8>, AllocError>
-    ensures { IfOk result (λ part. part.items ≡ races_text races.now) }
-{
-    let mut text = Vec::new(alloc);
-    for race in races {
-        push_race(&mut text, *race)?;
-    }
-    Ok(text)
-}
-
-fn push_race(text: &mut Vec<u8>, race: Race) -> Result<(), AllocError>
-    ensures { OnOk result (text.new.items ≡ text.old.items ++ race_line race) }
-{
-    push_number(text, b"race word ", u64::from(race.word))?;
-    push_number(text, b": node ", u64::from(race.node_a))?;
-    push_number(text, b" interval ", race.interval_a)?;
-    push_number(text, b", node ", u64::from(race.node_b))?;
-    push_number(text, b" interval ", race.interval_b)?;
-    text.extend_from_slice(b"\n")
-}
-
-fn first_race_part(alloc: Global, first: Option<usize>) -> Result<Vec<u8>, AllocError>
-    ensures { IfOk result (λ part. part.items ≡ first_race_text first) }
-{
-    let mut text = Vec::new(alloc);
-    if let Some(position) = first {
-        push_number(&mut text, b"first race at act ", position as u64)?;
-        text.extend_from_slice(b"\n")?;
-    }
-    Ok(text)
-}
-
 /// The status with which the program ends after a run: 3 where there is a race.
 pub fn status_after_run(report: &Report) -> u8
     ensures { result ≡ run_status_of report.now.first_race report.now.ends.items }
@@ -125,13 +91,4 @@ fn push_end(text: &mut Vec<u8>, node: usize, end: End) -> Result<(), AllocError>
         End::Unfinished => text.extend_from_slice(b" unfinished")?,
     }
     text.extend_from_slice(b"\n")
-}
-
-// Adds a word and the number behind it.
-fn push_number(text: &mut Vec<u8>, word: &[u8], number: u64) -> Result<(), AllocError>
-    ensures { OnOk result (text.new.items ≡ text.old.items ++ word.now ++ decimal number) }
-{
-    let mut digits = Buffer::new();
-    text.extend_from_slice(word)?;
-    text.extend_from_slice(digits.format(number).as_bytes())
 }

@@ -42,7 +42,8 @@ fn each_fault_has_its_line(rt: HostRuntime) {
 
 #[test]
 fn each_fault_of_events_and_of_a_run_has_its_line(rt: HostRuntime) {
-    let cases: [(Fault, &[u8]); 4] = [
+    let cases: [(Fault, &[u8]); 5] = [
+        (Fault::Acts(12), b"treadmarks: acts line 12: bad act\n"),
         (Fault::Events(7), b"treadmarks: events line 7: bad event\n"),
         (Fault::Worn, b"treadmarks: message numbers used up\n"),
         (Fault::Mismatch, b"treadmarks: logs and wires differ\n"),

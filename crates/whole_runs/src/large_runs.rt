@@ -86,7 +86,6 @@ fn options_of(case: Case) -> RunOptions<'static> {
     RunOptions {
         nodes: case.nodes,
         collect: case.collect,
-        order: case.order,
         size: case.size,
         ..ON_ONE_NODE
     }
@@ -96,7 +95,7 @@ fn options_of(case: Case) -> RunOptions<'static> {
 fn is_printed(alloc: Global, case: Case) -> Result<bool, AllocError> {
     let out = printed(alloc, case)?;
     let rounds = in_rounds(alloc, case.nodes, ALL_STEPS, case.text);
-    let driven = simulated(alloc, options_of(case), case.text);
+    let driven = simulated(alloc, options_of(case), case.order, case.text);
     Ok(rounds.prints(&out, 0) && driven.prints(&out, 0))
 }
 
@@ -114,7 +113,7 @@ fn is_printed_on_threads<R: Threads + Wait + Sync + AllocGlobal>(
     case: Case,
 ) -> Result<bool, AllocError> {
     let out = printed(rt.alloc(), case)?;
-    Ok(on_threads(rt, options_of(case), case.text).prints(&out, 0))
+    Ok(on_threads(rt, options_of(case), case.order, case.text).prints(&out, 0))
 }
 
 #[test]
@@ -141,7 +140,7 @@ fn the_longest_text_is_run(rt: HostRuntime) -> Result<(), AllocError> {
     let text = longest_text(alloc)?;
     let out = b"node 0 prints 10918\nnode 0 ended\n";
     let rounds = in_rounds(alloc, ALONE, ALL_STEPS, &text);
-    let driven = simulated(alloc, ON_ONE_NODE, &text);
+    let driven = simulated(alloc, ON_ONE_NODE, Picker::Oldest, &text);
     assert!(rt; text.len() == 65_536 && rounds.prints(out, 0) && driven.prints(out, 0));
     Ok(())
 }
@@ -182,7 +181,7 @@ fn thousands_of_races_are_named(rt: HostRuntime) {
         ..ON_ONE_NODE
     };
     let text = b"words 4096; locks 0; while x < 64 { [x * 64] = me; x = x + 1; }";
-    let run = simulated(rt.alloc(), options, text);
+    let run = simulated(rt.alloc(), options, Picker::Oldest, text);
     let last = b"node 15 interval 1\nfirst race at act 17\n";
     assert!(rt; (races_in(&run.out), run.out.ends_with(last), run.status) == (7_680, true, 3));
 }

@@ -15,19 +15,18 @@ const ORDERS: [Picker; 3] = [Picker::Oldest, Picker::Newest, Picker::Twice];
 
 const SIZES: [Size; 2] = [Size::Words64, Size::Words256];
 
-// The options of a case, with this order and size.
-fn options_of(case: Case, order: Picker, size: Size) -> RunOptions<'static> {
+// The options of a case, with this size.
+fn options_of(case: Case, size: Size) -> RunOptions<'static> {
     RunOptions {
         nodes: case.0,
         collect: case.1,
-        order,
         size,
         ..ON_ONE_NODE
     }
 }
 
 fn one_way(alloc: Global, case: Case, order: Picker, size: Size) -> Outcome {
-    simulated(alloc, options_of(case, order, size), case.2)
+    simulated(alloc, options_of(case, size), order, case.2)
 }
 
 // Whether a program does so whose nodes are on threads, in every order.
@@ -36,9 +35,9 @@ fn prints_on_threads<R: Threads + Wait + Sync + AllocGlobal>(
     case: Case,
     status: u8,
 ) -> bool {
+    let options = options_of(case, Size::Words64);
     for order in ORDERS {
-        let options = options_of(case, order, Size::Words64);
-        if !on_threads(rt, options, case.2).prints(case.3, status) {
+        if !on_threads(rt, options, order, case.2).prints(case.3, status) {
             return false;
         }
     }
@@ -257,18 +256,17 @@ fn largest_printed(out: &[u8]) -> usize {
 }
 
 // The options of sixteen nodes.
-fn sixteen(collect: Collect, order: Picker) -> RunOptions<'static> {
+fn sixteen(collect: Collect) -> RunOptions<'static> {
     RunOptions {
         nodes: Nodes { count: 16 },
         collect,
-        order,
         ..ON_ONE_NODE
     }
 }
 
 // How many of sixteen nodes print the largest number.
 fn readers_of_the_last_word(alloc: Global, collect: Collect, order: Picker) -> usize {
-    largest_printed(&simulated(alloc, sixteen(collect, order), LAST_WORD).out)
+    largest_printed(&simulated(alloc, sixteen(collect), order, LAST_WORD).out)
 }
 
 #[test]
@@ -282,7 +280,7 @@ fn sixteen_nodes_read_the_last_word(rt: HostRuntime) {
 #[test]
 fn sixteen_nodes_on_threads_read_the_last_word(rt: HostRuntime) {
     for order in ORDERS {
-        let outcome = on_threads(&rt, sixteen(Collect { count: 1 }, order), LAST_WORD);
+        let outcome = on_threads(&rt, sixteen(Collect { count: 1 }), order, LAST_WORD);
         assert!(rt; largest_printed(&outcome.out) == 16);
     }
 }

@@ -2,12 +2,16 @@
 
 ghost use Rattle.std.specs.Prelude.{◌≡◌, false, is_some};
 ghost use Rattle.lrc_words.specs.Files.{names_events, starts_threads};
+ghost use Rattle.lrc_words.specs.declared.choice.Choice.TheVariants.{Show};
+ghost use Rattle.lrc_words.specs.declared.choice.Shape.TheVariants.{Report};
 
 use lrc_cli::fault::Fault;
 use lrc_cli::{execute, perform, tell};
 use lrc_page::Size;
 use lrc_wire::Picker;
-use lrc_words::choice::{Choice, Collect, Nodes, PlainRun, RunOptions, Simulation, Steps};
+use lrc_words::choice::{
+    Choice, Collect, Nodes, PlainRun, RunChoice, RunOptions, Shape, Steps, Way,
+};
 use std::alloc::Global;
 use std::sync::Wait;
 use std::thread::Threads;
@@ -78,42 +82,49 @@ pub const ON_ONE_NODE: RunOptions<'static> = RunOptions {
     nodes: ALONE,
     steps: ALL_STEPS,
     collect: Collect { count: 0 },
-    order: Picker::Oldest,
     size: Size::Words64,
 };
 
-/// What `sim` makes of a text.
-pub fn simulated(alloc: Global, options: RunOptions<'static>, text: &[u8]) -> Outcome {
-    let choice = Choice::Simulate(Simulation {
-        options,
-        events: None,
-    });
+// The report of a run that goes on in this way.
+fn reported(options: RunOptions<'static>, way: Way<'static>) -> Choice<'static>
+    ensures { result ≡ Show (record { options = options; way = way }) Report }
+{
+    Choice::Show(RunChoice { options, way }, Shape::Report)
+}
+
+/// What `sim` makes of a text in this order.
+pub fn simulated(
+    alloc: Global,
+    options: RunOptions<'static>,
+    order: Picker,
+    text: &[u8],
+) -> Outcome {
+    let choice = reported(options, Way::Rounds(order));
     performed(alloc, &choice, text, None)
 }
 
-/// What `run` makes of a text.
+/// What `run` makes of a text in this order.
 pub fn on_threads<R: Threads + Wait + Sync + AllocGlobal>(
     rt: &R,
     options: RunOptions<'static>,
+    order: Picker,
     text: &[u8],
 ) -> Outcome {
     let alloc = rt.alloc();
     let mut out = Vec::new(alloc);
     let mut err = Vec::new(alloc);
-    let choice = Choice::Run(options);
+    let choice = reported(options, Way::Threads(order));
     let status = execute(rt, alloc, &choice, text, None, &mut out, &mut err);
     Outcome { out, err, status }
 }
 
 /// What `sim` on so many nodes makes of a text with these events.
 pub fn played(alloc: Global, nodes: Nodes, text: &[u8], events: &[u8]) -> Outcome {
-    let choice = Choice::Simulate(Simulation {
-        options: RunOptions {
-            nodes,
-            ..ON_ONE_NODE
-        },
-        events: Some("events"),
-    });
+    let options = RunOptions {
+        nodes,
+        ..ON_ONE_NODE
+    };
+    let choice = reported(options, Way::Events("events"));
     performed(alloc, &choice, text, Some(events))
 }
 
@@ -125,6 +136,7 @@ pub fn driven(alloc: Global, steps: Steps, text: &[u8]) -> Outcome {
             steps,
             ..ON_ONE_NODE
         },
+        Picker::Oldest,
         text,
     )
 }

@@ -2,7 +2,7 @@
 
 use lrc_page::Size;
 use lrc_wire::Picker;
-use lrc_words::choice::{Choice, ChooseFault, RunOptions};
+use lrc_words::choice::{Choice, ChooseFault, Form, RunOptions, Shape, Way};
 use lrc_words::choose;
 use std::alloc::Global;
 
@@ -14,24 +14,53 @@ fn ask_for_plain(alloc: Global, words: &[&str], file: &str, nodes: u32, steps: u
 
 // Whether the words ask for a run of the file on three nodes, with these options.
 fn ask_for_options(alloc: Global, words: &[&str], collect: u32, order: Picker, size: Size) -> bool {
-    matches!(choose(alloc, words), Ok(Choice::Simulate(run))
-        if are_options(&run.options, collect, order, size))
+    matches!(choose(alloc, words), Ok(Choice::Show(run, Shape::Report))
+        if are_options(&run.options, collect, size) && goes_in_rounds(&run.way, order))
 }
 
 // Whether the words ask for such a run on threads.
 fn ask_for_threads(alloc: Global, words: &[&str], collect: u32, order: Picker, size: Size) -> bool {
-    matches!(choose(alloc, words), Ok(Choice::Run(run)) if are_options(&run, collect, order, size))
+    matches!(choose(alloc, words), Ok(Choice::Show(run, Shape::Report))
+        if are_options(&run.options, collect, size) && goes_on_threads(&run.way, order))
+}
+
+fn goes_in_rounds(way: &Way<'_>, order: Picker) -> bool {
+    matches!(way, Way::Rounds(picker) if *picker == order)
+}
+
+fn goes_on_threads(way: &Way<'_>, order: Picker) -> bool {
+    matches!(way, Way::Threads(picker) if *picker == order)
 }
 
 // Whether these are the options of a run on three nodes, with these.
-fn are_options(run: &RunOptions<'_>, collect: u32, order: Picker, size: Size) -> bool {
-    run.nodes.count == 3 && run.collect.count == collect && run.order == order && run.size == size
+fn are_options(run: &RunOptions<'_>, collect: u32, size: Size) -> bool {
+    run.nodes.count == 3 && run.collect.count == collect && run.size == size
 }
 
-// Whether the words ask for a run of this file on one node, with these events.
+// Whether the words ask for a run of this file on one node in rounds, or with these events.
 fn ask_for_run(alloc: Global, words: &[&str], file: &str, events: Option<&str>) -> bool {
-    matches!(choose(alloc, words), Ok(Choice::Simulate(run))
-        if run.options.file == file && run.events == events && run.options.nodes.count == 1)
+    match choose(alloc, words) {
+        Ok(choice) => choice.file() == file && choice.events() == events,
+        Err(_fault) => false,
+    }
+}
+
+// Whether the words ask for a run at random from this seed.
+fn ask_for_random(alloc: Global, words: &[&str], seed: u64) -> bool {
+    matches!(choose(alloc, words), Ok(Choice::Show(run, Shape::Report))
+        if matches!(run.way, Way::Random(number) if number == seed))
+}
+
+// Whether the words ask for the trace of a run on threads, in the form for race detectors.
+fn ask_for_trace(alloc: Global, words: &[&str]) -> bool {
+    matches!(choose(alloc, words), Ok(Choice::Show(run, Shape::Trace(Form::Rapid)))
+        if goes_on_threads(&run.way, Picker::Newest))
+}
+
+// Whether the words ask to judge the acts of so many nodes, by pairs or not.
+fn ask_to_judge(alloc: Global, words: &[&str], nodes: Option<u32>, pairs: bool) -> bool {
+    matches!(choose(alloc, words), Ok(Choice::Judge(judging))
+        if judging.nodes.map(|nodes| nodes.count) == nodes && judging.pairs == pairs)
 }
 
 fn ask_for_check(alloc: Global, words: &[&str]) -> bool {
@@ -95,7 +124,27 @@ fn options_of_a_run_are_read(rt: HostRuntime) {
     assert!(rt; ask_for_threads(rt.alloc(), &threads, 7, Picker::Twice, Size::Words256));
 }
 
-const OUT_OF_RANGE: [[&str; 4]; 8] = [
+#[test]
+fn random_orders_and_traces_are_read(rt: HostRuntime) {
+    let alloc = rt.alloc();
+    let seeded = ["sim", "a.tm", "--seed=7", "--order=random"];
+    assert!(rt; ask_for_random(alloc, &seeded, 7));
+    assert!(rt; ask_for_random(alloc, &["sim", "a.tm", "--order", "random"], 0));
+    let played = ["sim", "a.tm", "--order=random", "--events=e"];
+    assert!(rt; ask_for_run(alloc, &played, "a.tm", Some("e")));
+    let traced = ["trace", "a.tm", "--as=rapid", "--threads", "--order=newest"];
+    assert!(rt; ask_for_trace(alloc, &traced));
+}
+
+#[test]
+fn what_is_to_be_judged_is_read(rt: HostRuntime) {
+    let alloc = rt.alloc();
+    assert!(rt; ask_to_judge(alloc, &["judge", "a.acts"], None, false));
+    let counted = ["judge", "a.acts", "--nodes", "3", "--pairs"];
+    assert!(rt; ask_to_judge(alloc, &counted, Some(3), true));
+}
+
+const OUT_OF_RANGE: [[&str; 4]; 10] = [
     ["plain", "a.tm", "--nodes", "17"],
     ["plain", "a.tm", "--nodes", "0"],
     ["plain", "a.tm", "--steps", "0"],
@@ -104,9 +153,11 @@ const OUT_OF_RANGE: [[&str; 4]; 8] = [
     ["sim", "a.tm", "--collect", "1000001"],
     ["sim", "a.tm", "--nodes", "18446744073709551615"],
     ["run", "a.tm", "--nodes", "17"],
+    ["trace", "a.tm", "--nodes", "17"],
+    ["judge", "a.acts", "--nodes", "0"],
 ];
 
-const MISUSED: [[&str; 4]; 11] = [
+const MISUSED: [[&str; 4]; 18] = [
     ["plain", "a.tm", "--nodes", "18446744073709551616"],
     ["plain", "a.tm", "--nodes", "x"],
     ["plain", "a.tm", "--events", "e"],
@@ -118,6 +169,13 @@ const MISUSED: [[&str; 4]; 11] = [
     ["sim", "a.tm", "--page", "064"],
     ["run", "a.tm", "--events", "e"],
     ["sim", "--nodes=17", "--page=128", "a.tm"],
+    ["sim", "a.tm", "--seed", "1"],
+    ["sim", "a.tm", "--events=e", "--seed=1"],
+    ["run", "a.tm", "--order", "random"],
+    ["trace", "a.tm", "--threads", "--order=random"],
+    ["trace", "a.tm", "--threads", "--events=e"],
+    ["trace", "a.tm", "--as", "xml"],
+    ["judge", "a.acts", "--steps", "1"],
 ];
 
 fn are_out_of_range(alloc: Global, words: &[&str]) -> bool {

@@ -2,7 +2,8 @@
 
 use crate::shell::ON_ONE_NODE;
 use lrc_cli::{execute, perform};
-use lrc_words::choice::{Choice, Nodes, RunOptions};
+use lrc_wire::Picker;
+use lrc_words::choice::{Choice, Nodes, RunChoice, RunOptions, Shape, Way};
 use std::alloc::Global;
 use std::io;
 use std::io::{ErrorKind, Write};
@@ -58,10 +59,12 @@ fn refused_out<R: Threads + Wait + Sync + AllocGlobal>(
     refused: u64,
 ) -> (u8, u64, u64, usize) {
     let alloc = rt.alloc();
-    let run = Choice::Run(RunOptions {
+    let options = RunOptions {
         nodes: Nodes { count: 2 },
         ..ON_ONE_NODE
-    });
+    };
+    let way = Way::Threads(Picker::Oldest);
+    let run = Choice::Show(RunChoice { options, way }, Shape::Report);
     let mut out = Refusing::at(refused);
     let mut err = Vec::new(alloc);
     let status = execute(rt, alloc, &run, PROGRAM, None, &mut out, &mut err);

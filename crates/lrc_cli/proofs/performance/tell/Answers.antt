@@ -6,6 +6,7 @@ use Rattle.lrc_cli.specs.Performance.{IsWritten, Performs, faults, prints}
 use Rattle.lrc_words.specs.declared.choice.Choice.{Choice}
 use Rattle.lrc_cli.specs.declared.fault.Fault.{Fault}
 use Rattle.lrc_cli.specs.declared.fault.Fault.TheVariants.{NoMemory}
+use Rattle.lrc_cli.proofs.AnswerLemmas.{memory_ran_out}
 use Rattle.lrc_cli.proofs.performance.tell.Goals as goal
 
 same : (held : Option (List ℕ)) → Keeps held held
@@ -15,7 +16,7 @@ same (Some bytes) = refl
 complained : (choice : Choice) (text : List ℕ) (events out err err' : Option (List ℕ)) (result : ℕ) (fault : Fault) → IsFault choice text events fault
     → IsWritten err err' (fault_line fault) 1 result ⊎ IsWritten err err' (fault_line NoMemory) 1 result → Performs choice text events out out err err' result
 complained choice text events out err err' result fault is (inl line) = faults fault is line (same out)
-complained choice text events out err err' result fault is (inr line) = faults NoMemory tt line (same out)
+complained choice text events out err err' result fault is (inr line) = faults NoMemory (memory_ran_out choice text events) line (same out)
 
 pub returns-in-Ok : goal.returns-in-Ok
 returns-in-Ok g c choice text events answers =

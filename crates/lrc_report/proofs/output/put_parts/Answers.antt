@@ -1,5 +1,5 @@
 use Rattle.std.proofs.Common.{◌≡◌, ◌∙◌, ◌+◌, ◌++◌, ℕ, List, drop, sym, ap, subst}
-use Rattle.lrc_report.specs.ReportText.{whole_text}
+use Rattle.lrc_text.specs.Parts.{whole_text}
 use Rattle.lrc_report.proofs.WriteLemmas.{IsUnderWay, on_err, parts_at, way_part, way_stops}
 use Rattle.lrc_report.proofs.output.put_parts.Goals as goal
 

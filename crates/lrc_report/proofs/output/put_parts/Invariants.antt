@@ -1,5 +1,5 @@
 use Rattle.std.proofs.Common.{◌≡◌, drop, false}
-use Rattle.lrc_report.specs.ReportText.{whole_text}
+use Rattle.lrc_text.specs.Parts.{whole_text}
 use Rattle.lrc_report.proofs.WriteLemmas.{IsUnderWay}
 use Rattle.lrc_report.proofs.output.put_parts.Given as goal
 

@@ -1,6 +1,6 @@
 use Rattle.std.proofs.Common.{◌≡◌, []}
 use Rattle.std.specs.Prelude.{replicate}
-use Rattle.lrc_report.specs.ReportText.{texts_of}
+use Rattle.lrc_text.specs.Parts.{texts_of}
 use Rattle.lrc_report.proofs.report.empty_parts.Given as goal
 
 abbrev pub invariant-loop-node : goal.invariant-loop-node

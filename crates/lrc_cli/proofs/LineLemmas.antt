@@ -1,0 +1,11 @@
+-- The lines of acts.
+use Rattle.std.proofs.Common.{◌≡◌, ℕ, suc, List, [], ◌∷◌, ◌++◌, length, refl, ap}
+use Rattle.lrc_lang.specs.declared.program.Program.{Program}
+use Rattle.lrc_trace.specs.declared.act.Act.{Act}
+use Rattle.lrc_lines.specs.Walks.{lines_behind}
+
+-- there is one for each act
+pub lines_count : (program : Program) (nodes : ℕ) (places : List ℕ) (before acts : List Act)
+    → length (lines_behind program nodes places before acts) ≡ length acts
+lines_count program nodes places before [] = refl
+lines_count program nodes places before (act ∷ acts) = ap suc (lines_count program nodes places (before ++ act ∷ []) acts)

@@ -1,0 +1,36 @@
+// What the program answers to the command `judge`.
+
+ghost use Rattle.std.specs.Prelude.{◌≡◌, ◌≤◌, IfErr, IfOk, IfSome};
+ghost use Rattle.lrc_cli.specs.Answer.{IsActsFault, nodes_of};
+ghost use Rattle.lrc_text.specs.Parts.{whole_text};
+ghost use Rattle.lrc_verdict.specs.Judgement.{Judges};
+
+use crate::answer::Printout;
+use crate::fault::Fault;
+use lrc_verdict::judge::judge;
+use lrc_words::choice::Judging;
+use std::alloc::Global;
+
+/// Answers the command `judge`, with a text of acts.
+pub(crate) fn judged(alloc: Global, judging: &Judging<'_>, text: &[u8]) -> Result<Printout, Fault>
+    ensures ok { IfOk result (λ printout. Judges (nodes_of judging.now) judging.now.pairs text.now
+        (whole_text printout.parts.items) printout.status) }
+    ensures err { IfErr result (IsActsFault (nodes_of judging.now) text.now) }
+{
+    let judged = judge(alloc, text, nodes_of(judging), judging.pairs)?;
+    Ok(Printout {
+        parts: judged.parts,
+        status: judged.status,
+    })
+}
+
+// How many nodes the acts are of, where that is said.
+fn nodes_of(judging: &Judging<'_>) -> Option<u32>
+    ensures value { result ≡ nodes_of judging.now }
+    ensures few { IfSome result (λ count. count ≤ 16) }
+{
+    match judging.nodes {
+        Some(nodes) => Some(nodes.count),
+        None => None,
+    }
+}

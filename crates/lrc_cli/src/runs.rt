@@ -1,0 +1,102 @@
+// The run that a choice asks for, by the way in which it goes on.
+
+ghost use Rattle.std.specs.Prelude.{◌≡◌, IfErr, IfOk, false, is_some, option_map};
+ghost use Rattle.lrc_cli.specs.Runs.{IsDriven, IsLedFault, IsPlayed, IsPlayedFault, IsRunFault, IsRunOf, IsWandered, options_of};
+ghost use Rattle.lrc_words.specs.Files.{events_along, is_on_threads};
+ghost use Rattle.lrc_world.specs.Random.{WanderingWearsOut};
+ghost use Rattle.lrc_world.specs.Rounds.{RoundsWearOut};
+
+use crate::fault::{Fault, fault_of_run};
+use lrc_events::events::events_of;
+use lrc_lang::program::Program;
+use lrc_node::Options;
+use lrc_wire::Picker;
+use lrc_words::choice::{RunChoice, RunOptions, Way};
+use lrc_world::report::Report;
+use lrc_world::simulate::{drive, simulate, wander};
+use std::alloc::Global;
+
+/// The run of a program that goes on without threads, by the text of its events where it names them.
+pub(crate) fn run_of(
+    alloc: Global,
+    choice: &RunChoice<'_>,
+    program: &Program,
+    events: Option<&[u8]>,
+) -> Result<Report, Fault>
+    requires threadless { is_on_threads choice.now.way ≡ false }
+    requires events { is_some events ≡ is_some (events_along choice.now.way) }
+    ensures ok { IfOk result (IsRunOf choice.now.way program.now choice.now.options (option_map (λ e. e.now) events.entry)) }
+    ensures err { IfErr result (IsRunFault choice.now.way program.now choice.now.options (option_map (λ e. e.now) events.entry)) }
+{
+    let options = &choice.options;
+    match choice.way {
+        Way::Events(_) => {
+            let Some(text) = events else { unreachable!() };
+            played(alloc, options, program, text)
+        }
+        Way::Rounds(order) => driven(alloc, options, program, order),
+        Way::Random(seed) => wandered(alloc, options, program, seed),
+        Way::Threads(_) => unreachable!(),
+    }
+}
+
+// The run of the events that a text names.
+fn played(
+    alloc: Global,
+    options: &RunOptions<'_>,
+    program: &Program,
+    text: &[u8],
+) -> Result<Report, Fault>
+    ensures ok { IfOk result (IsPlayed program.now options.now text.now) }
+    ensures err { IfErr result (IsPlayedFault program.now options.now text.now) }
+{
+    let events = events_of(alloc, text)?;
+    let nodes = options.nodes.count;
+    let report = simulate(alloc, program, nodes, &options_of(options), &events);
+    report.map_err(fault_of_run)
+}
+
+// The run in rounds.
+fn driven(
+    alloc: Global,
+    options: &RunOptions<'_>,
+    program: &Program,
+    order: Picker,
+) -> Result<Report, Fault>
+    ensures ok { IfOk result (IsDriven program.now options.now order) }
+    ensures err { IfErr result (IsLedFault
+        (RoundsWearOut program.now options.now.nodes.count (options_of options.now) order)) }
+{
+    let nodes = options.nodes.count;
+    let driven = drive(alloc, program, nodes, &options_of(options), order);
+    let (_events, report) = driven.map_err(fault_of_run)?;
+    Ok(report)
+}
+
+// The run in a random order.
+fn wandered(
+    alloc: Global,
+    options: &RunOptions<'_>,
+    program: &Program,
+    seed: u64,
+) -> Result<Report, Fault>
+    ensures ok { IfOk result (IsWandered program.now options.now seed) }
+    ensures err { IfErr result (IsLedFault
+        (WanderingWearsOut program.now options.now.nodes.count (options_of options.now) seed)) }
+{
+    let nodes = options.nodes.count;
+    let wandered = wander(alloc, program, nodes, &options_of(options), seed);
+    let (_events, report) = wandered.map_err(fault_of_run)?;
+    Ok(report)
+}
+
+pub(crate) fn options_of(options: &RunOptions<'_>) -> Options
+    ensures { result ≡ options_of options.now }
+{
+    Options {
+        steps: options.steps.count,
+        collect: options.collect.count,
+        first: 0,
+        size: options.size,
+    }
+}
