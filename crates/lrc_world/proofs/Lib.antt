@@ -14,5 +14,6 @@ pub mod Theorem
 pub mod Made
 pub mod Over
 pub mod Moments
+pub mod Epochs
 pub mod Unskipped
 pub mod Walked

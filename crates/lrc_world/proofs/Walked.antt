@@ -4,7 +4,7 @@ use Rattle.std.proofs.Common.{refl, sym, ap, subst, append-nil, append_assoc, in
 use Rattle.std.specs.Prelude.{◌&&◌, ◌==◌, fold, nat_lt, remove, option_map, slice_get, slice_set, slice_index_or}
 use Rattle.std.specs.List.{enumerate_from, range_with_len}
 use Rattle.std.proofs.lemmas.Bool.{lt-ltb, and_from}
-use Rattle.std.proofs.lemmas.Option.{same_Some, slice_get_within, slice_get-map, slice_get_past, get_or_from_slice_get}
+use Rattle.std.proofs.lemmas.Option.{none-some, same_Some, slice_get_within, slice_get-map, slice_get_past, get_or_from_slice_get}
 use Rattle.std.proofs.lemmas.List.{length-append, length-map, length-set, length_push, map-append, get_or_past}
 use Rattle.std.proofs.lemmas.List.FromFn.{length-range_with_len}
 use Rattle.std.proofs.lemmas.List.Sums.{fold-append}
@@ -20,11 +20,12 @@ use Rattle.lrc_protocol.specs.World.{event_on, step_of, played, run_of}
 use Rattle.lrc_protocol.proofs.Worlds.{run-whole, get_set_same}
 use Rattle.lrc_world.specs.declared.turned.Turned.{Turned}
 use Rattle.lrc_world.specs.Moments.{RefusesNone}
-use Rattle.lrc_world.specs.Turned.{node_if, node_by, taker, turner, turned_by, turned_of, HaveLogs}
-use Rattle.lrc_world.specs.Walk.{come_of, next_entry, is_run, is_own, next_turner, left_by, receivers_of, come_after, come_with, flight_with}
+use Rattle.lrc_world.specs.Turned.{node_if, node_by, taker, turner, turned_by, turned_from, turned_of, HaveLogs}
+use Rattle.lrc_world.specs.Walk.{Leads, come_of, next_entry, is_run, is_own, next_turner, left_by, receivers_of, come_after, come_with, flight_with}
 use Rattle.lrc_world.proofs.Events.{split_at}
 use Rattle.lrc_world.proofs.Lists.{map-set, map-remove, map-map}
-use Rattle.lrc_world.proofs.Made.{Made, TurnsOrNot, GoesLater, Later, by_event, goes_later, is_entry, left_in, nowhere, still_refused, turned_more, turned_last}
+use Rattle.lrc_world.proofs.Made.{Made, TurnsOrNot, GoesLater, Later, by_event, goes_later, is_entry, left_in, nowhere, still_refused}
+use Rattle.lrc_world.proofs.Made.{turned_more, turned_last}
 use Rattle.lrc_world.proofs.Unskipped.{taken_turns, welcome_at}
 
 -- a walk has come to this moment of a run
@@ -215,6 +216,69 @@ module _ (now end : Run) (logs : List (List EntryRecord)) (come flight : List �
         (at_made next rest event made.0 made.2 made.3 plays)
   ]
 
+-- ---- turns that lead through the logs
+
+no_more : (now end : Run) (logs : List (List EntryRecord)) (come flight : List ℕ) → map (λ (l : Logged). l.log) end.nodes ≡ logs
+    → length end.nodes ≡ length now.nodes → IsAt come flight now → now ≡ end → (n : ℕ) (o : Option Logged) → slice_get now.nodes n ≡ o
+    → next_entry logs come n ≡ None
+no_more now end logs come flight has same at is n None there = none_next now end logs come flight has same at n there
+no_more now end logs come flight has same at is n (Some l) there =
+    next_is now end logs come flight has same at n l l [] there (ap (λ (w : Run). slice_get w.nodes n) (sym is) ∙ there) (sym (append-nil l.log))
+
+same_nodes : (now next : Run) (fl : List Sent) (n : ℕ) (input : Input) → Made now next fl n input → length next.nodes ≡ length now.nodes
+same_nodes now next fl n input made = ap (λ (w : Run). length w.nodes) made.next_is ∙ length-set now.nodes n made.after
+
+module _ (end : Run) (logs : List (List EntryRecord)) (has : map (λ (l : Logged). l.log) end.nodes ≡ logs) where
+  -- how the rest of a run leads on, wherever a walk has come
+  record LeadsOn (world : Run) (more : List Turned) : Type 0 where
+    pub from : (come flight : List ℕ) → length end.nodes ≡ length world.nodes → IsAt come flight world → Leads logs come more
+
+  led_turn : (now next : Run) (event : Event) (more : List Event) (n : ℕ) (input : Input) → Made now next (left_in now event) n input
+      → played next more ≡ Some end → LeadsOn next (turned_from (Some next) more)
+      → LeadsOn now (turned_by event (Some n) ++ turned_from (Some next) more)
+  led_turn now next event more n input made plays rest = record {
+    from = λ come flight same at.
+        let first = made_next now end logs come flight has same at next more (left_in now event) n input made plays in
+        let after = at_made now end logs come flight has same at next more event n input made plays in
+        let goes : come_with logs come (Some n) ≡ come_after come n (Some made.entry) = ap (come_after come n) first in
+        let stays : length end.nodes ≡ length next.nodes = same ∙ sym (same_nodes now next (left_in now event) n input made) in (
+          made.entry,
+          first,
+          subst (λ c. Leads logs c (turned_from (Some next) more)) goes (rest.from _ _ stays after),
+        );
+  }
+
+  led_one : (now next : Run) (event : Event) (more : List Event) (o : Option ℕ) → TurnsOrNot now next (left_in now event) o
+      → played next more ≡ Some end → LeadsOn next (turned_from (Some next) more)
+      → LeadsOn now (turned_by event o ++ turned_from (Some next) more)
+  led_one now next event more o either plays rest = elim either [
+    | inl none ↦
+        subst (λ x. LeadsOn now (turned_by event x ++ turned_from (Some next) more)) (sym none.0)
+        (subst (λ w. LeadsOn w (turned_from (Some next) more)) none.1 rest)
+    | inr made ↦
+        subst (λ x. LeadsOn now (turned_by event x ++ turned_from (Some next) more)) (sym made.1)
+        (led_turn now next event more made.0 made.2 made.3 plays rest)
+  ]
+
+  led_from : (now : Run) (event : Event) (more : List Event) (o : Option Run) → event_on now event ≡ o → fold step_of o more ≡ Some end
+      → ((next : Run) → played next more ≡ Some end → LeadsOn next (turned_from (Some next) more))
+      → LeadsOn now (turned_by event (turner now event) ++ turned_from o more)
+  led_from now event more None is plays rest = absurd (none-some end (sym (nowhere more) ∙ plays))
+  led_from now event more (Some next) is plays rest =
+      led_one now next event more (turner now event) (by_event now next event is) plays (rest next plays)
+
+  leads_from : (events : List Event) (now : Run) → played now events ≡ Some end → LeadsOn now (turned_from (Some now) events)
+  leads_from [] now plays = record {
+    from = λ come flight same at n.
+        no_more now end logs come flight has same at (same_Some now end plays) n (slice_get now.nodes n) refl;
+  }
+  leads_from (event ∷ more) now plays = led_from now event more (event_on now event) refl plays (λ next rest. leads_from more next rest)
+
+leads_on : (events : List Event) (now end : Run) (logs : List (List EntryRecord)) (come flight : List ℕ)
+    → map (λ (l : Logged). l.log) end.nodes ≡ logs → length end.nodes ≡ length now.nodes → IsAt come flight now → played now events ≡ Some end
+    → Leads logs come (turned_from (Some now) events)
+leads_on events now end logs come flight has same at plays = (leads_from end logs has events now plays).from come flight same at
+
 -- ---- the whole walk
 
 come_length : (logs : List (List EntryRecord)) (come : List ℕ) (n : ℕ) (o : Option EntryRecord) → length (come_after come n o) ≡ length come
@@ -242,19 +306,31 @@ module _ (program : Program) (nodes : ℕ) (options : OptionsRecord) (events : L
   log_count has =
       ap length (sym has.2) ∙ length-map has.0.nodes (λ (l : Logged). l.log) ∙ (run-whole program nodes options events has.0 has.1).count
 
+  at_start : HaveLogs program nodes options events logs → IsAt (replicate (length logs) 0) [] (fresh_world program nodes options)
+  at_start has =
+      let fresh : List Node = map (fresh_node program nodes options) (range_with_len 0 nodes) in
+      let count : length fresh ≡ nodes = length-map (range_with_len 0 nodes) (fresh_node program nodes options) ∙ length-range_with_len 0 nodes in
+      record {
+        counts = ap (λ n. replicate n 0) (log_count has ∙ sym count) ∙ sym (fresh_counts fresh);
+        receivers = refl;
+      }
+
+  -- the turns of the run lead through its logs
+  pub leads_through : HaveLogs program nodes options events logs → Leads logs (replicate (length logs) 0) (turned_of program nodes options events)
+  leads_through has =
+      let ends = (run-whole program nodes options events has.0 has.1).count in
+      let stands = (run-whole program nodes options [] (fresh_world program nodes options) refl).count in
+      leads_on events (fresh_world program nodes options) has.0 logs (replicate (length logs) 0) [] has.2 (ends ∙ sym stands) (at_start has) has.1
+
   pub walk_begins : (come flight : List ℕ) (turned : List Turned) → come ≡ replicate (length logs) 0 → flight ≡ [] → turned ≡ []
       → Walks program nodes options events logs 0 come flight turned
-  walk_begins come flight turned come_is flight_is turned_is = λ few has.
-      let fresh : List Node = map (fresh_node program nodes options) (range_with_len 0 nodes) in
-      let count : length fresh ≡ nodes = length-map (range_with_len 0 nodes) (fresh_node program nodes options) ∙ length-range_with_len 0 nodes in (
-        fresh_world program nodes options,
-        refl,
-        record {
-          counts = come_is ∙ ap (λ n. replicate n 0) (log_count has ∙ sym count) ∙ sym (fresh_counts fresh);
-          receivers = flight_is;
-        },
-        turned_is,
-      )
+  walk_begins come flight turned come_is flight_is turned_is = λ few has. (
+    fresh_world program nodes options,
+    refl,
+    subst (λ c. IsAt c flight (fresh_world program nodes options)) (sym come_is)
+        (subst (λ f. IsAt (replicate (length logs) 0) f (fresh_world program nodes options)) (sym flight_is) (at_start has)),
+    turned_is,
+  )
 
   module _ (k : ℕ) (event : Event) (there : slice_get events k ≡ Some event) (come flight new_come new_flight : List ℕ) (turned more : List Turned)
       (node : Option ℕ) (node_so : node ≡ next_turner logs come flight event) (come_so : new_come ≡ come_with logs come node)

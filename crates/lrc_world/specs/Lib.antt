@@ -7,5 +7,6 @@ pub mod Rounds
 pub mod Random
 pub mod Driven
 pub mod Moments
+pub mod Epochs
 pub mod Turned
 pub mod Walk

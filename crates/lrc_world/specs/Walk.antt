@@ -1,10 +1,11 @@
 -- A walk along the logs of a run.
-use Rattle.std.specs.Prelude.{ℕ, ◌+◌, ◌++◌, ◌&&◌, Bool, true, false, Option, Some, None, List, [], map, nat_lt}
+use Rattle.std.specs.Prelude.{◌≡◌, ℕ, ◌+◌, ◌++◌, ◌&&◌, Bool, true, false, Option, Some, None, List, [], ◌∷◌, map, nat_lt}
 use Rattle.std.specs.Prelude.{remove, slice_get, slice_index_or, slice_set, if◌then◌else◌}
 use Rattle.lrc_protocol.specs.declared.event.Event.{Event}
 use Rattle.lrc_protocol.specs.declared.event.Event.TheVariants as events
 use Rattle.lrc_protocol.specs.Log.{Input, EntryRecord}
 use Rattle.lrc_protocol.specs.Log as log
+use Rattle.lrc_world.specs.declared.turned.Turned.{Turned}
 
 -- how many turns of a node have come
 abbrev pub come_of : List ℕ → ℕ → ℕ
@@ -56,3 +57,10 @@ come_with logs come (Some n) = come_after come n (next_entry logs come n)
 abbrev pub flight_with : List (List EntryRecord) → List ℕ → List ℕ → Option ℕ → List ℕ
 flight_with logs come left None = left
 flight_with logs come left (Some n) = left ++ receivers_of (next_entry logs come n)
+
+-- Turns of all nodes lead through the logs, where so many of each node have come: each is the next one of its node's log, and behind the
+-- last no log has one more.
+abbrev pub Leads : List (List EntryRecord) → List ℕ → List Turned → Type 0
+Leads logs come [] = (n : ℕ) → next_entry logs come n ≡ None
+Leads logs come (turn ∷ more) =
+    (entry : EntryRecord) × (next_entry logs come turn.node ≡ Some entry) × Leads logs (come_after come turn.node (Some entry)) more

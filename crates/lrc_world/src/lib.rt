@@ -4,6 +4,7 @@
 
 pub mod ends;
 mod flying;
+pub mod laws;
 mod random;
 pub mod report;
 mod rounds;

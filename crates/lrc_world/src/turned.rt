@@ -5,12 +5,13 @@ ghost use Rattle.lrc_lang.specs.declared.program.Program.{Program};
 ghost use Rattle.lrc_node.specs.Logged.{seen_input};
 ghost use Rattle.lrc_protocol.specs.declared.event.Event.{Event as AnyEvent};
 ghost use Rattle.lrc_protocol.specs.declared.event.Event.TheVariants as events;
+ghost use Rattle.lrc_protocol.specs.Log.{EntryRecord};
 ghost use Rattle.lrc_protocol.specs.Node.{OptionsRecord};
 ghost use Rattle.lrc_protocol.specs.World.{World as Run, run_of};
 ghost use Rattle.lrc_world.specs.declared.report.Report.{Report as AnyReport};
 ghost use Rattle.lrc_world.specs.Report.{IsReportOf};
 ghost use Rattle.lrc_world.specs.Turned.{AreAllTurned, HaveLogs, events_in, turned_by, turned_of};
-ghost use Rattle.lrc_world.specs.Walk.{come_after, come_with, flight_with, is_run, left_by, next_entry, next_turner, receivers_of};
+ghost use Rattle.lrc_world.specs.Walk.{Leads, come_after, come_with, flight_with, is_run, left_by, next_entry, next_turner, receivers_of};
 
 use lrc_node::{Entry, Input};
 use lrc_protocol::Event;
@@ -57,6 +58,14 @@ pub fn skipped_events_may_be_left_out()
         → IsReportOf program nodes options (events_in (turned_of program nodes options events)) report }
     ensures unskipped { (program : Program) (nodes : ℕ) (options : OptionsRecord) (events : List AnyEvent)
         → AreAllTurned program nodes options (events_in (turned_of program nodes options events)) }
+{}
+
+/// The turns of a run lead through its logs: the first turn of each node that is among them is the first of its log, and so on, up to
+/// the last of each log.
+pub fn turns_lead_through_the_logs()
+    ensures { (program : Program) (nodes : ℕ) (options : OptionsRecord) (events : List AnyEvent) (logs : List (List EntryRecord))
+        → HaveLogs program nodes options events logs
+        → Leads logs (replicate (length logs) 0) (turned_of program nodes options events) }
 {}
 
 // How far along the logs of a run a walk has come.

@@ -38,6 +38,7 @@ returns-in_err-lead-clause-worn c = λ e.
 
 pub returns-in_err-lead-clause-bad_nodes : goal.returns-in_err-lead-clause-bad_nodes
 returns-in_err-lead-clause-bad_nodes c =
+    let met = c.from_residual-in_err-lead in
     let s = schedule_of c.in_ok-count.count c.args.order in
     let d = first s c.args.program.now c.in_ok-code.code c.args.nodes c.in_ok-count.count c.args.options.now c.new-driver.result c.in_ok-world.world
     c.in_ok-code.ensures c.in_ok-count.ensures.0 c.in_ok-world.ensures c.new-driver.ensures.world c.new-driver.ensures.events in
@@ -45,12 +46,13 @@ returns-in_err-lead-clause-bad_nodes c =
     (fresh_world c.args.program.now c.args.nodes c.args.options.now) c.in_err-lead.field-0.0 d
     c.in_err-lead.ensures.goes.1 in (
       λ e good.
-          ranged.0 (handed_on c.from_residual-in_err-lead.result c.in_err-lead.field-0.0 BadNodes c.from_residual-in_err-lead.ensures.1 e),
+          ranged.0 (handed_on met.result c.in_err-lead.field-0.0 BadNodes met.ensures.1 e),
       λ bad. absurd (bad c.in_ok-count.ensures.1),
     )
 
 pub returns-in_err-lead-clause-bad_steps : goal.returns-in_err-lead-clause-bad_steps
 returns-in_err-lead-clause-bad_steps c =
+    let met = c.from_residual-in_err-lead in
     let s = schedule_of c.in_ok-count.count c.args.order in
     let d = first s c.args.program.now c.in_ok-code.code c.args.nodes c.in_ok-count.count c.args.options.now c.new-driver.result c.in_ok-world.world
     c.in_ok-code.ensures c.in_ok-count.ensures.0 c.in_ok-world.ensures c.new-driver.ensures.world c.new-driver.ensures.events in
@@ -59,7 +61,7 @@ returns-in_err-lead-clause-bad_steps c =
     c.in_err-lead.ensures.goes.1 in (
       λ e.
           absurd
-          (ranged.1 (handed_on c.from_residual-in_err-lead.result c.in_err-lead.field-0.0 BadSteps c.from_residual-in_err-lead.ensures.1 e)),
+          (ranged.1 (handed_on met.result c.in_err-lead.field-0.0 BadSteps met.ensures.1 e)),
       λ bad. absurd (bad.1 c.in_ok-count.ensures.2),
     )
 

@@ -1,0 +1,25 @@
+// What holds of every run. Each function is a theorem: its body is empty, and its clauses are the law.
+
+ghost use Rattle.std.specs.Prelude.{◌≡◌, ℕ, List, Some, Contains, slice_get};
+ghost use Rattle.lrc_lang.specs.declared.program.Program.{Program};
+ghost use Rattle.lrc_trace.specs.Conflict.{Accesses};
+ghost use Rattle.lrc_trace.specs.declared.trace.Segment.{Segment};
+ghost use Rattle.lrc_protocol.specs.declared.event.Event.{Event};
+ghost use Rattle.lrc_protocol.specs.Log.{Logged};
+ghost use Rattle.lrc_protocol.specs.Node.{OptionsRecord, fresh_node};
+ghost use Rattle.lrc_protocol.specs.Traced.{trace_of};
+ghost use Rattle.lrc_protocol.specs.World.{World as Run, run_of};
+ghost use Rattle.lrc_world.specs.Epochs.{IsOfAccess};
+
+/// The epoch of a segment of a node's trace is the number of departs that the node has made before the accesses of the segment.
+pub fn epochs_count_departs()
+    ensures of_segment { (program : Program) (nodes : ℕ) (options : OptionsRecord) (events : List Event) (run : Run) (n : ℕ) (l : Logged)
+        (segment : Segment) → run_of program nodes options events ≡ Some run → slice_get run.nodes n ≡ Some l
+        → Contains (trace_of (fresh_node program nodes options n) l.log).segments segment
+        → (position : ℕ) × (word : ℕ) × Accesses run.acts position n word × IsOfAccess run.acts n position segment }
+    ensures of_access { (program : Program) (nodes : ℕ) (options : OptionsRecord) (events : List Event) (run : Run) (n : ℕ) (l : Logged)
+        (position word : ℕ) → run_of program nodes options events ≡ Some run → slice_get run.nodes n ≡ Some l
+        → Accesses run.acts position n word
+        → (segment : Segment) × Contains (trace_of (fresh_node program nodes options n) l.log).segments segment
+        × IsOfAccess run.acts n position segment }
+{}
