@@ -1,0 +1,4 @@
+pub mod Finding
+pub mod Holding
+pub mod Standing
+pub mod Ways

@@ -1,0 +1,15 @@
+//! What keeps the nodes of a run from going on: what comes next of each, and circles of waiting.
+#![tactic(auto)]
+
+mod circles;
+mod counts;
+mod holder;
+mod missing;
+mod stand;
+mod stuck;
+mod words;
+
+pub use circles::push_deadlocks;
+pub use holder::Holder;
+pub use stand::{Coming, Fate, Stand, stands_of};
+pub use stuck::{push_end, stuck_part};

@@ -1,0 +1,53 @@
+// Who has not come to a barrier.
+
+ghost use Rattle.std.specs.Prelude.{◌≡◌, IfOk};
+ghost use Rattle.lrc_stuck.specs.Missing.{first_of, is_missing, missing_of};
+
+use crate::stand::{Fate, Stand};
+use std::alloc::{AllocError, Global};
+
+/// A node that has not come to a barrier.
+#[derive(Clone, Copy)]
+pub struct Missing {
+    pub node: usize,
+    pub fate: Fate,
+}
+
+// Whether a node has not come to the barrier of node `me`, another one, that has this number.
+fn is_missing(number: usize, me: usize, node: usize, stand: Stand) -> bool
+    ensures { result ≡ is_missing number me node stand }
+{
+    node != me && stand.arrives < number
+}
+
+// The nodes that have not come to the barrier of node `me` that has this number, ascending.
+pub(crate) fn missing_of(
+    alloc: Global,
+    number: usize,
+    me: usize,
+    stands: &[Stand],
+) -> Result<Vec<Missing>, AllocError>
+    ensures { IfOk result (λ missing. missing.items ≡ missing_of number me stands.now) }
+{
+    let mut missing = Vec::new(alloc);
+    for node in 0..stands.len() {
+        let stand = stands[node];
+        if is_missing(number, me, node, stand) {
+            missing.push(Missing {
+                node,
+                fate: stand.fate,
+            })?;
+        }
+    }
+    Ok(missing)
+}
+
+// The first of these nodes.
+pub(crate) fn first_of(missing: &[Missing]) -> Option<usize>
+    ensures { result ≡ first_of missing.now }
+{
+    match missing {
+        [first, ..] => Some(first.node),
+        [] => None,
+    }
+}

@@ -1,0 +1,115 @@
+// How nodes ended and why, in words.
+
+ghost use Rattle.std.specs.Prelude.{◌≡◌, ◌++◌, IfOk, OnOk};
+ghost use Rattle.lrc_stuck.specs.Stand.{stands_of};
+ghost use Rattle.lrc_stuck.specs.Stuck.{end_text, fate_words, reason_text, stuck_line, stuck_lines, stuck_text};
+
+use crate::circles::push_deadlocks;
+use crate::stand::{Fate, Stand, stands_of};
+use crate::words::{push_coming, words_of};
+use lrc_exec::code::Code;
+use lrc_lines::walks::follow_acts;
+use lrc_text::push_number;
+use lrc_trace::act::Act;
+use std::alloc::{AllocError, Global};
+
+// Adds how a node ended.
+fn push_fate(text: &mut Vec<u8>, fate: Fate) -> Result<(), AllocError>
+    ensures { OnOk result (text.new.items ≡ text.old.items ++ fate_words fate) }
+{
+    match fate {
+        Fate::Ended => text.extend_from_slice(b" ended\n"),
+        Fate::Trapped(cause) => {
+            push_number(text, b" trapped ", u64::from(cause as u8))?;
+            text.extend_from_slice(b"\n")
+        }
+        Fate::Unfinished => text.extend_from_slice(b" unfinished\n"),
+    }
+}
+
+// Adds the line on why a node ended so, which came to no end of the text.
+fn push_reason(
+    alloc: Global,
+    text: &mut Vec<u8>,
+    stands: &[Stand],
+    me: usize,
+    stand: Stand,
+) -> Result<(), AllocError>
+    ensures { OnOk result (text.new.items ≡ text.old.items ++ reason_text stands.now me stand) }
+{
+    match stand.fate {
+        Fate::Ended => Ok(()),
+        Fate::Trapped(cause) => {
+            push_number(text, b"  line ", u64::from(stand.line))?;
+            text.extend_from_slice(b": ")?;
+            text.extend_from_slice(words_of(cause))?;
+            text.extend_from_slice(b"\n")
+        }
+        Fate::Unfinished => {
+            push_number(text, b"  next, line ", u64::from(stand.line))?;
+            text.extend_from_slice(b": ")?;
+            push_coming(alloc, text, stands, me, stand.coming)?;
+            text.extend_from_slice(b"\n")
+        }
+    }
+}
+
+/// Adds how node `me` ended, and why.
+pub fn push_end(
+    alloc: Global,
+    text: &mut Vec<u8>,
+    stands: &[Stand],
+    me: usize,
+    stand: Stand,
+) -> Result<(), AllocError>
+    ensures { OnOk result (text.new.items ≡ text.old.items ++ end_text stands.now me stand) }
+{
+    push_number(text, b"node ", me as u64)?;
+    push_fate(text, stand.fate)?;
+    push_reason(alloc, text, stands, me, stand)
+}
+
+// Adds the two lines of a node that is unfinished.
+fn push_stuck(
+    alloc: Global,
+    text: &mut Vec<u8>,
+    stands: &[Stand],
+    me: usize,
+    stand: Stand,
+) -> Result<(), AllocError>
+    ensures { OnOk result (text.new.items ≡ text.old.items ++ stuck_line stands.now me stand) }
+{
+    match stand.fate {
+        Fate::Unfinished => push_end(alloc, text, stands, me, stand),
+        _ => Ok(()),
+    }
+}
+
+fn stuck_lines(alloc: Global, stands: &[Stand]) -> Result<Vec<u8>, AllocError>
+    ensures { IfOk result (λ part. part.items ≡ stuck_lines stands.now) }
+{
+    let mut text = Vec::new(alloc);
+    for me in 0..stands.len() {
+        push_stuck(alloc, &mut text, stands, me, stands[me])?;
+    }
+    Ok(text)
+}
+
+/// What is printed of the nodes that are unfinished after acts: of each two lines, and then a line for each circle of waiting. The
+/// program's statements, and the text's end behind them, have these lines; a node has so many steps, where that is given.
+pub fn stuck_part(
+    alloc: Global,
+    code: &Code<'_>,
+    lines: &[u32],
+    nodes: u8,
+    steps: Option<u32>,
+    acts: &[Act],
+) -> Result<Vec<u8>, AllocError>
+    ensures { IfOk result (λ part. part.items ≡ stuck_text (stands_of code.now nodes lines.now steps acts.now)) }
+{
+    let followed = follow_acts(alloc, code, lines, nodes, acts)?;
+    let stands = stands_of(alloc, &followed, nodes, steps, acts)?;
+    let mut text = stuck_lines(alloc, &stands)?;
+    push_deadlocks(alloc, &mut text, &stands)?;
+    Ok(text)
+}
