@@ -1,5 +1,6 @@
 -- What one act more leaves for the times of the next.
-use Rattle.std.proofs.Common.{◌≡◌, ◌≢◌, ℕ, ◌+◌, ◌<◌, ◌≤◌, Bool, true, false, List, [], ◌∷◌, ◌++◌, zero, suc, length, get_or, set, take, replicate}
+use Rattle.std.proofs.Common.{◌≡◌, ◌≢◌, ℕ, zero, suc, ◌+◌, ◌<◌, ◌≤◌, Bool, true, false, List, [], ◌∷◌, ◌++◌}
+use Rattle.std.proofs.Common.{length, get_or, set, take, replicate}
 use Rattle.std.proofs.Common.{inl, inr, refl, sym, subst, ap, ◌∙◌, arith, length-set}
 use Rattle.std.proofs.lemmas.Bool.{cases_Bool, cases_eq}
 use Rattle.std.proofs.lemmas.List.{get_or_append_left, get_or_push, length_push, get_or-set_same, get_or-set_other, take-append-le}
@@ -11,7 +12,7 @@ use Rattle.lrc_trace.specs.Run.{Does, arrives_before, count_of}
 use Rattle.lrc_trace.proofs.Positions.{Does-last, Does-node, Does-one_node, Does-one_deed, arrives_before-prefix}
 use Rattle.lrc_trace.proofs.Counts.{bound_same, bound_next, counts_same, counts_next}
 use Rattle.lrc_time.specs.Time.{zeros, joined}
-use Rattle.lrc_clock.specs.Times.{time_at, acts_at, releases_at, time_before, released_time, arrived_time, time_or_zeros}
+use Rattle.lrc_clock.specs.Times.{time_at, acts_at, releases_at, time_before, released_time, arrived_time}
 use Rattle.lrc_clock.specs.Keeping.{KeepsTime, next_time}
 use Rattle.lrc_clock.proofs.Computing.{arrived-here, arrived-other}
 use Rattle.lrc_clock.proofs.Lasting.{last-here, last-not_here}
@@ -119,7 +120,9 @@ module _ (nodes : ℕ) (run : List Act) (times : List (List ℕ)) (act : Act) (t
   module _ (table : List (Option ℕ)) (old new : ℕ → List ℕ)
       (were : (x : ℕ) → x < length table → IsTimeAt nodes times (get_or table x None) (old x)) where
     same_at : (x : ℕ) → x < length table → new x ≡ old x → IsTimeAt nodes later (get_or table x None) (new x)
-    same_at x lt same = subst (λ t. IsTimeAt nodes later (get_or table x None) t) (sym same) (at-earlier (get_or table x None) (old x) (were x lt))
+    same_at x lt same =
+        let position = get_or table x None in
+        subst (λ t. IsTimeAt nodes later position t) (sym same) (at-earlier position (old x) (were x lt))
 
     -- a table stays, where no time changes,
     pub table-same : ((x : ℕ) → new x ≡ old x) → (x : ℕ) → x < length table → IsTimeAt nodes later (get_or table x None) (new x)
@@ -181,7 +184,8 @@ module _ (nodes : ℕ) (run : List Act) (times : List (List ℕ)) (act : Act) (t
         → ((q : ℕ) → q < length counts → get_or counts q 0 ≡ before q) → (q : ℕ) → q < length (set counts place (get_or counts place 0 + 1))
         → get_or (set counts place (get_or counts place 0 + 1)) q 0 ≡ after q
     counts-next place is counts passes wide old q lt =
-        counts_next grown (length run) place act.deed (Does-node (sym is) here) kind counts passes wide (λ k less. old k less ∙ sym (at_run k)) q lt
+        counts_next grown (length run) place act.deed (Does-node (sym is) here) kind counts passes wide
+        (λ k less. old k less ∙ sym (at_run k)) q lt
         ∙ at_grown q
 
     pub bound-same : (m : ℕ) → kind act.deed ≡ false → ((q : ℕ) → before q ≤ m) → (q : ℕ) → after q ≤ m
@@ -191,7 +195,8 @@ module _ (nodes : ℕ) (run : List Act) (times : List (List ℕ)) (act : Act) (t
         let d = at_grown q in
         omega arith
 
-    pub bound-next : (m more : ℕ) → kind act.deed ≡ true → m ≤ more → before act.node < more → ((q : ℕ) → before q ≤ m) → (q : ℕ) → after q ≤ more
+    pub bound-next : (m more : ℕ) → kind act.deed ≡ true → m ≤ more → before act.node < more → ((q : ℕ) → before q ≤ m) → (q : ℕ)
+        → after q ≤ more
     bound-next m more passes le lt old q =
         let within : (k : ℕ) → count_of kind k (take (length run) grown) ≤ m = λ k. (let a = at_run k in let b = old k in omega arith) in
         let less : count_of kind act.node (take (length run) grown) < more = (let a = at_run act.node in omega arith) in

@@ -2,7 +2,6 @@
 use Rattle.std.proofs.Common.{◌≡◌, ◌<◌, ℕ, List, get_or}
 use Rattle.std.specs.Prelude.{All, Some}
 use Rattle.lrc_lang.specs.declared.program.Program.{Program}
-use Rattle.lrc_trace.specs.declared.act.Act.{Act}
 use Rattle.lrc_trace.proofs.Positions.{Does-read}
 use Rattle.lrc_clock.specs.Keeping.{KeepsTime}
 use Rattle.lrc_clock.proofs.Deciding.{one_list}

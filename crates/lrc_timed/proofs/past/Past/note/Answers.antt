@@ -1,6 +1,6 @@
 -- Each arm keeps what the definition of the past says, one act further.
-use Rattle.std.proofs.Common.{◌≡◌, ◌≢◌, ◌≤◌, ◌+◌, ◌<◌, ◌++◌, ◌∷◌, [], ℕ, List, ap, refl, sym, ◌∙◌, arith, length, get_or, set}
-use Rattle.std.specs.Prelude.{Some, None, true, false, slice_index, slice_index_or}
+use Rattle.std.proofs.Common.{◌≡◌, ◌≤◌, ◌+◌, ◌<◌, ◌++◌, ◌∷◌, [], ℕ, List, ap, refl, sym, ◌∙◌, arith, length, set}
+use Rattle.std.specs.Prelude.{Some, None, false, slice_index, slice_index_or}
 use Rattle.std.proofs.lemmas.Result.{on_ok_weaker}
 use Rattle.lrc_trace.specs.declared.act.Act.{Act}
 use Rattle.lrc_trace.specs.declared.act.Deed.{Deed}
@@ -11,8 +11,8 @@ use Rattle.lrc_time.specs.Time.{zeros}
 use Rattle.lrc_clock.specs.Times.{arrived_time, released_time, time_before}
 use Rattle.lrc_clock.proofs.Computing.{arrived-length}
 use Rattle.lrc_timed.specs.Past.{IsTimeAt}
-use Rattle.lrc_timed.proofs.NextPast.{arrived-next, arrived-rest, before-other, before-own, bound-next, bound-same, counts-next, counts-same}
-use Rattle.lrc_timed.proofs.NextPast.{next-long, released-other, released-own, table-next, table-same}
+use Rattle.lrc_timed.proofs.NextPast.{arrived-next, arrived-rest, before-other, before-own, bound-next, bound-same, counts-next}
+use Rattle.lrc_timed.proofs.NextPast.{counts-same, next-long, released-other, released-own, table-next, table-same}
 use Rattle.lrc_timed.proofs.past.Past.note.Goals as goal
 use Rattle.lrc_timed.proofs.past.Past.note.Goals.{After-from-node}
 
@@ -54,7 +54,8 @@ module _ (c : After-from-node) where
       c.requires.past.acted c.from-node.result (length c.args.times.now) refl
       (ap (λ q. time_before nodes grown later q (length grown)) c.from-node.ensures
       ∙ before-own nodes c.args.acts.now c.args.times.now c.args.act c.args.time.now timed)
-      (λ q other. before-other nodes c.args.acts.now c.args.times.now c.args.act c.args.time.now timed q (λ e. other (e ∙ sym c.from-node.ensures)))
+      (λ q other. before-other nodes c.args.acts.now c.args.times.now c.args.act c.args.time.now timed q
+      (λ e. other (e ∙ sym c.from-node.ensures)))
 
   -- what an act of another kind leaves as it is
   released-stays : ((l : ℕ) → c.args.act.deed ≡ Release l → ⊥) → (l : ℕ) → l < length c.args.self.now.released
@@ -71,7 +72,8 @@ module _ (c : After-from-node) where
       → slice_index_or c.args.self.now.arrived.items number (zeros nodes) ≡ arrived_time nodes grown later number (length grown)
   arrived-stays other number =
       c.requires.past.arrived number
-      ∙ sym (arrived-rest nodes c.args.acts.now c.args.times.now c.args.act c.args.time.now c.requires.keeps.timed number (λ is same. other is))
+      ∙ sym (arrived-rest nodes c.args.acts.now c.args.times.now c.args.act c.args.time.now c.requires.keeps.timed number
+      (λ is same. other is))
 
   kept-stays : is_arrive c.args.act.deed ≡ false → (q : ℕ) → arrives_before grown q (length grown) ≤ length c.args.self.now.arrived.items
   kept-stays fails = bound-same nodes c.args.acts.now c.args.times.now c.args.act c.args.time.now c.requires.keeps.timed is_arrive
@@ -115,7 +117,8 @@ returns-in-Depart c =
       kept = kept-stays b (ap is_arrive e);
       arrives = arrives-stay b (ap is_arrive e);
       departs = counts-next c.args.nodes c.args.acts.now c.args.times.now c.args.act c.args.time.now c.requires.keeps.timed is_depart
-          c.from-node.result c.from-node.ensures c.args.self.now.departs (ap is_depart e) (omega (arith, within, c.args.self.now.all_departs))
+          c.from-node.result c.from-node.ensures c.args.self.now.departs (ap is_depart e)
+          (omega (arith, within, c.args.self.now.all_departs))
           c.requires.past.departs;
     }
 
@@ -159,7 +162,8 @@ returns-in-Arrive c =
     on_ok_weaker c.join_at.result (λ joins. let kept = joins.kept in let there = joins.there in record {
       acted = acted b;
       released = released-stays b (λ l r. (cc));
-      arrived = arrived-next c.args.nodes run times c.args.act time timed c.args.self.now.arrived.items _ number e counted c.requires.past.arrived joins;
+      arrived = arrived-next c.args.nodes run times c.args.act time timed c.args.self.now.arrived.items _ number e counted
+          c.requires.past.arrived joins;
       kept = bound-next c.args.nodes run times c.args.act time timed is_arrive (length c.args.self.now.arrived.items) _ (ap is_arrive e)
           kept (omega arith) c.requires.past.kept;
       arrives = counts-next c.args.nodes run times c.args.act time timed is_arrive

@@ -47,6 +47,7 @@ close-requires-in-Release-clause-few c =
 pub join-requires-in-Depart : goal.join-requires-in-Depart
 join-requires-in-Depart c =
     let acts = c.args.acts.now in
+    let number = departs_before acts c.args.act.node (length acts) in
     ap length c.of_node-time.ensures
     ∙ long-before c.requires.keeps c.args.act.node (length acts)
-    ∙ sym (ap length c.of_barrier.ensures ∙ arrived-length c.requires.keeps (departs_before acts c.args.act.node (length acts)) (length acts))
+    ∙ sym (ap length c.of_barrier.ensures ∙ arrived-length c.requires.keeps number (length acts))
