@@ -1,0 +1,5 @@
+pub mod Logs
+pub mod Ranges
+pub mod Sizes
+pub mod SoFar
+pub mod SeenNumbers

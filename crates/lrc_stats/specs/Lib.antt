@@ -1,0 +1,5 @@
+pub mod Learned
+pub mod Seen
+pub mod Sent
+pub mod StatsText
+pub mod Turns

@@ -1,0 +1,43 @@
+-- Messages that were sent, and their bytes.
+use Rattle.std.specs.Prelude.{ℕ, ◌==◌, Bool, true, List, ◌++◌, if◌then◌else◌, length, map, nat_lt, count_by, sum_by}
+use Rattle.std.specs.List.{flat_map}
+use Rattle.lrc_wire.specs.declared.limits.TheConstants.{MOST_BODY_BYTES}
+use Rattle.lrc_wire.specs.declared.version.Version.TheVariants.{Two}
+use Rattle.lrc_wire.specs.Envelope.{EnvelopeRecord}
+use Rattle.lrc_wire.specs.Runs.{runs_of}
+use Rattle.lrc_wire.specs.Spelling.{body, header, kind}
+use Rattle.lrc_protocol.specs.Log.{EntryRecord}
+use Rattle.lrc_stats.specs.declared.sent.Sent.{Sent}
+use Rattle.lrc_stats.specs.declared.sent.Wanted.{Wanted}
+use Rattle.lrc_stats.specs.declared.sent.Wanted.TheVariants.{Kind, Each, ToItself}
+
+-- the bytes of an envelope, header and body
+abbrev pub bytes_of : EnvelopeRecord → List ℕ
+bytes_of envelope = header Two runs_of envelope ++ body Two runs_of envelope.message
+
+-- how many bytes are sent for an envelope: all that it has, and none where its body is longer than may be sent
+abbrev pub size_of : EnvelopeRecord → ℕ
+size_of envelope = if nat_lt MOST_BODY_BYTES (length (body Two runs_of envelope.message)) then 0 else length (bytes_of envelope)
+
+-- what is counted of a message: its kind, whether its sender is its receiver, and its bytes
+abbrev pub sent_of : EnvelopeRecord → Sent
+sent_of envelope = record { kind = kind envelope.message; to_itself = envelope.from == envelope.to; bytes = size_of envelope }
+
+abbrev pub sent_in : EntryRecord → List Sent
+sent_in entry = map sent_of entry.turn.out
+
+-- all messages that the nodes sent
+abbrev pub all_sent : List (List EntryRecord) → List Sent
+all_sent logs = flat_map (flat_map sent_in) logs
+
+abbrev pub is_wanted : Wanted → Sent → Bool
+is_wanted (Kind kind) sent = sent.kind == kind
+is_wanted Each sent = true
+is_wanted ToItself sent = sent.to_itself
+
+-- how many of the messages are wanted, and their bytes
+abbrev pub count_of : Wanted → List Sent → ℕ
+count_of wanted sent = count_by (is_wanted wanted) sent
+
+abbrev pub bytes_in : Wanted → List Sent → ℕ
+bytes_in wanted sent = sum_by (λ (s : Sent). if is_wanted wanted s then s.bytes else 0) sent

@@ -1,0 +1,100 @@
+-- The counts of a run in words, a line for each.
+use Rattle.std.specs.Prelude.{ℕ, ◌-◌, ◌==◌, List, ◌++◌, codes, decimal, if◌then◌else◌}
+use Rattle.std.specs.List.{flat_map, range_with_len}
+use Rattle.lrc_protocol.specs.Log.{EntryRecord}
+use Rattle.lrc_stats.specs.declared.sent.Sent.{Sent}
+use Rattle.lrc_stats.specs.declared.sent.Wanted.{Wanted}
+use Rattle.lrc_stats.specs.declared.sent.Wanted.TheVariants.{Kind, Each, ToItself}
+use Rattle.lrc_stats.specs.Learned.{collections, learned_intervals, learned_notices, repeats}
+use Rattle.lrc_stats.specs.Sent.{all_sent, bytes_in, count_of}
+use Rattle.lrc_stats.specs.Turns.{is_miss, makes, turns, turns_with}
+
+-- words, and a number behind them
+unfoldable pub count_line : List ℕ → ℕ → List ℕ
+count_line words count = words ++ codes " " ++ decimal count ++ codes "\n"
+
+-- ---- turns
+
+-- how many events there were, how many of them made no turn, and how many turns
+unfoldable pub turns_lines : ℕ → ℕ → List ℕ
+turns_lines events turns =
+    count_line (codes "events") events ++ count_line (codes "skipped") (events - turns) ++ count_line (codes "turns") turns
+
+-- a kind of deeds in words
+abbrev pub deed_words : ℕ → List ℕ
+deed_words kind =
+    if kind == 0 then codes "quiet"
+    else if kind == 1 then codes "print"
+    else if kind == 2 then codes "read"
+    else if kind == 3 then codes "write"
+    else if kind == 4 then codes "acquire"
+    else if kind == 5 then codes "release"
+    else if kind == 6 then codes "arrive"
+    else if kind == 7 then codes "depart"
+    else if kind == 8 then codes "trap"
+    else codes "end"
+
+-- how many acts there are of a kind, and of each
+unfoldable pub acts_line : List (List EntryRecord) → ℕ → List ℕ
+acts_line logs kind = codes "acts " ++ count_line (deed_words kind) (turns_with (makes kind) logs)
+
+abbrev pub acts_text : List (List EntryRecord) → List ℕ
+acts_text logs = flat_map (acts_line logs) (range_with_len 0 10)
+
+-- how often a node missed
+unfoldable pub misses_line : List (List EntryRecord) → List ℕ
+misses_line logs = count_line (codes "misses") (turns_with is_miss logs)
+
+-- ---- what was learned
+
+-- how many repeats were taken; how many intervals were learned of, and how many pages these name
+unfoldable pub learned_lines : ℕ → ℕ → ℕ → List ℕ
+learned_lines repeats intervals notices =
+    count_line (codes "repeats") repeats ++ count_line (codes "intervals learned") intervals ++ count_line (codes "notices learned") notices
+
+-- how many episodes collected
+unfoldable pub collections_line : List (List EntryRecord) → List ℕ
+collections_line logs = count_line (codes "collections") (collections logs)
+
+unfoldable pub learned_text : List (List EntryRecord) → List ℕ
+learned_text logs = learned_lines (repeats logs) (learned_intervals logs) (learned_notices logs) ++ collections_line logs
+
+-- ---- messages
+
+-- a kind of messages in words, by its number
+abbrev pub kind_words : ℕ → List ℕ
+kind_words kind =
+    if kind == 1 then codes "lock-request"
+    else if kind == 2 then codes "lock-forward"
+    else if kind == 3 then codes "lock-grant"
+    else if kind == 4 then codes "arrive"
+    else if kind == 5 then codes "depart"
+    else if kind == 6 then codes "clean"
+    else if kind == 7 then codes "discard"
+    else if kind == 8 then codes "changes-request"
+    else if kind == 9 then codes "changes-reply"
+    else if kind == 10 then codes "page-request"
+    else codes "page-reply"
+
+-- how many messages of those that are wanted were sent, and their bytes
+unfoldable pub sent_line : List ℕ → Wanted → List Sent → List ℕ
+sent_line words wanted sent =
+    codes "messages " ++ words ++ codes " " ++ decimal (count_of wanted sent) ++ codes " " ++ decimal (bytes_in wanted sent) ++ codes "\n"
+
+abbrev pub kind_line : List Sent → ℕ → List ℕ
+kind_line sent kind = sent_line (kind_words kind) (Kind kind) sent
+
+-- of each kind
+unfoldable pub kinds_text : List Sent → List ℕ
+kinds_text sent = flat_map (kind_line sent) (range_with_len 1 11)
+
+-- of each kind, of all, and of those whose sender is their receiver
+unfoldable pub messages_text : List Sent → List ℕ
+messages_text sent = kinds_text sent ++ sent_line (codes "all") Each sent ++ sent_line (codes "to itself") ToItself sent
+
+-- ---- all
+
+-- the counts of a run of so many events, by the logs of its nodes
+abbrev pub stats_text : ℕ → List (List EntryRecord) → List ℕ
+stats_text events logs =
+    turns_lines events (turns logs) ++ acts_text logs ++ misses_line logs ++ learned_text logs ++ messages_text (all_sent logs)

@@ -1,0 +1,12 @@
+//! Counts of a run, as the nodes' logs have them: turns, acts, misses, what was learned, and messages with their bytes. (TreadMarks
+//! printed such counts at exit: Keleher, Cox, Dwarkadas and Zwaenepoel 1994.)
+#![tactic(auto)]
+
+mod learned;
+mod seen;
+mod sent;
+mod stats;
+mod turns;
+
+pub use stats::stats_part;
+pub use turns::turns_made;

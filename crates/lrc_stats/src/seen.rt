@@ -1,0 +1,57 @@
+// Which messages a node has taken.
+
+ghost use Rattle.std.specs.Prelude.{◌≡◌, ◌++◌, ◌∷◌, [], List, IfOk, OnOk, false, vec_len};
+ghost use Rattle.lrc_wire.specs.declared.limits.TheConstants.{MOST_NODES};
+
+use lrc_mail::Numbers;
+use lrc_node::{Entry, Input};
+use lrc_wire::MOST_NODES;
+use std::alloc::{AllocError, Global};
+
+/// The messages that a node has taken: the numbers of each sender's.
+#[derive(Drop)]
+pub(crate) struct Seen {
+    numbers: Vec<Numbers>,
+    ghost all: { vec_len numbers ≡ MOST_NODES },
+}
+
+impl Seen {
+    ghost use Rattle.lrc_protocol.specs.Log.{EntryRecord};
+    ghost use Rattle.lrc_stats.specs.Seen.{HasSeen, has_seen};
+
+    /// None.
+    pub(crate) fn new(alloc: Global) -> Result<Seen, AllocError>
+        ensures { IfOk result (HasSeen []) }
+    {
+        let mut numbers = Vec::new(alloc);
+        for _sender in 0..MOST_NODES {
+            numbers.push(Numbers::empty(alloc))?;
+        }
+        Ok(Seen { numbers })
+    }
+
+    /// Whether the message is among them that makes a turn.
+    pub(crate) fn has(&self, entry: &Entry) -> bool
+        ensures { result ≡ has_seen self.now entry.now.input }
+    {
+        match &entry.input {
+            Input::Run => false,
+            Input::Taken(envelope) => {
+                self.numbers[usize::from(envelope.from)].contains(envelope.number)
+            }
+        }
+    }
+
+    /// Adds the message that makes a turn, if one does, and is not among them.
+    pub(crate) fn add(&mut self, entry: &Entry) -> Result<(), AllocError>
+        requires { has_seen self.old entry.now.input ≡ false }
+        ensures { (before : List EntryRecord) → HasSeen before self.old → OnOk result (HasSeen (before ++ entry.now ∷ []) self.new) }
+    {
+        match &entry.input {
+            Input::Run => Ok(()),
+            Input::Taken(envelope) => {
+                self.numbers[usize::from(envelope.from)].add(envelope.number)
+            }
+        }
+    }
+}

@@ -1,0 +1,136 @@
+// Messages that were sent, and their bytes.
+
+ghost use Rattle.std.specs.Prelude.{◌≡◌, ◌++◌, IfOk, OnOk, map};
+ghost use Rattle.std.specs.List.{flat_map};
+ghost use Rattle.lrc_wire.specs.Spelling as spelling;
+ghost use Rattle.lrc_stats.specs.Sent.{all_sent, bytes_in, count_of, is_wanted, sent_in, sent_of, size_of};
+
+use crate::turns::add;
+use lrc_node::Entry;
+use lrc_wire::{EncodeFault, Envelope, Message, encode};
+use std::alloc::{AllocError, Global};
+
+/// What is counted of a message.
+#[derive(Clone, Copy)]
+pub(crate) struct Sent {
+    /// The number of its kind, from 1.
+    pub kind: u8,
+    /// Whether its sender is its receiver.
+    pub to_itself: bool,
+    pub bytes: u64,
+}
+
+/// Which messages are counted.
+#[derive(Clone, Copy)]
+pub(crate) enum Wanted {
+    /// Those of the kind with this number.
+    Kind(u8),
+    /// Each.
+    Each,
+    /// Those whose sender is their receiver.
+    ToItself,
+}
+
+/// How many messages were sent, and their bytes.
+#[derive(Clone, Copy)]
+pub(crate) struct Total {
+    pub count: u64,
+    pub bytes: u64,
+}
+
+// The number of a message's kind.
+fn kind(message: &Message) -> u8
+    ensures { result ≡ spelling.kind message.now }
+{
+    match message {
+        Message::LockRequest(_) => 1,
+        Message::LockForward(_) => 2,
+        Message::LockGrant(_) => 3,
+        Message::Arrive(_) => 4,
+        Message::Depart(_) => 5,
+        Message::Clean(_) => 6,
+        Message::Discard(_) => 7,
+        Message::ChangesRequest(_) => 8,
+        Message::ChangesReply(_) => 9,
+        Message::PageRequest(_) => 10,
+        Message::PageReply(_) => 11,
+    }
+}
+
+// How many bytes are sent for an envelope: none where it is longer than may be sent.
+#[tactic(auto, using(crate::proofs::Sizes::written_size))]
+fn size_of(alloc: Global, envelope: &Envelope) -> Result<u64, AllocError>
+    ensures { IfOk result (λ size. size ≡ size_of envelope.now) }
+{
+    match encode(alloc, envelope) {
+        Ok(bytes) => Ok(bytes.len() as u64),
+        Err(EncodeFault::TooLong) => Ok(0),
+        Err(EncodeFault::NoMemory) => Err(AllocError),
+    }
+}
+
+fn sent_of(alloc: Global, envelope: &Envelope) -> Result<Sent, AllocError>
+    ensures { IfOk result (λ sent. sent ≡ sent_of envelope.now) }
+{
+    let bytes = size_of(alloc, envelope)?;
+    Ok(Sent {
+        kind: kind(&envelope.message),
+        to_itself: envelope.from == envelope.to,
+        bytes,
+    })
+}
+
+/// All messages that the nodes sent.
+#[tactic(auto, using(crate::proofs::Logs::flat_more))]
+pub(crate) fn all_sent(alloc: Global, logs: &[Vec<Entry>]) -> Result<Vec<Sent>, AllocError>
+    ensures { IfOk result (λ sent. sent.items ≡ all_sent (map (λ log. log.items) logs.now)) }
+{
+    let mut sent = Vec::new(alloc);
+    for log in logs {
+        add_log(alloc, &mut sent, log)?;
+    }
+    Ok(sent)
+}
+
+fn add_log(alloc: Global, sent: &mut Vec<Sent>, log: &[Entry]) -> Result<(), AllocError>
+    ensures { OnOk result (sent.new.items ≡ sent.old.items ++ flat_map sent_in log.now) }
+{
+    for entry in log {
+        add_messages(alloc, sent, &entry.turn.out)?;
+    }
+    Ok(())
+}
+
+fn add_messages(alloc: Global, sent: &mut Vec<Sent>, out: &[Envelope]) -> Result<(), AllocError>
+    ensures { OnOk result (sent.new.items ≡ sent.old.items ++ map sent_of out.now) }
+{
+    for envelope in out {
+        sent.push(sent_of(alloc, envelope)?)?;
+    }
+    Ok(())
+}
+
+fn is_wanted(wanted: Wanted, sent: Sent) -> bool
+    ensures { result ≡ is_wanted wanted sent }
+{
+    match wanted {
+        Wanted::Kind(kind) => sent.kind == kind,
+        Wanted::Each => true,
+        Wanted::ToItself => sent.to_itself,
+    }
+}
+
+/// How many of the messages are wanted, and their bytes.
+pub(crate) fn total_of(wanted: Wanted, sent: &[Sent]) -> Result<Total, AllocError>
+    ensures count { IfOk result (λ total. total.count ≡ count_of wanted sent.now) }
+    ensures bytes { IfOk result (λ total. total.bytes ≡ bytes_in wanted sent.now) }
+{
+    let count = sent.iter().filter(|one| is_wanted(wanted, **one)).count() as u64;
+    let mut bytes = 0;
+    for one in sent {
+        if is_wanted(wanted, *one) {
+            bytes = add(bytes, one.bytes)?;
+        }
+    }
+    Ok(Total { count, bytes })
+}

@@ -1,0 +1,198 @@
+// The counts of a run in words.
+
+ghost use Rattle.std.specs.Prelude.{◌≡◌, ◌++◌, IfOk, OnOk, map};
+ghost use Rattle.lrc_stats.specs.Learned.{learned_intervals, learned_notices, repeats};
+ghost use Rattle.lrc_stats.specs.Sent.{all_sent};
+ghost use Rattle.lrc_stats.specs.StatsText.{acts_line, acts_text, collections_line, count_line, deed_words, kind_line, kind_words, kinds_text};
+ghost use Rattle.lrc_stats.specs.StatsText.{learned_lines, learned_text, messages_text, misses_line, sent_line, stats_text, turns_lines};
+ghost use Rattle.lrc_stats.specs.Turns.{turns};
+
+use crate::learned::{Learned, collections, learned_by_all};
+use crate::sent::{Sent, Wanted, all_sent, total_of};
+use crate::turns::{misses, turns_made, turns_making};
+use lrc_node::Entry;
+use lrc_text::push_number;
+use std::alloc::{AllocError, Global};
+
+/// The counts of a run of so many events, by the logs of its nodes from node 0 up, a line each: events, those that made no turn, and
+/// turns; acts by their deeds; misses, repeats, what was learned, collections; and messages by their kinds, with their bytes.
+pub fn stats_part(alloc: Global, events: u64, logs: &[Vec<Entry>]) -> Result<Vec<u8>, AllocError>
+    ensures { IfOk result (λ part. part.items ≡ stats_text events (map (λ log. log.items) logs.now)) }
+{
+    let mut text = Vec::new(alloc);
+    push_turns(&mut text, events, logs)?;
+    push_acts(&mut text, logs)?;
+    push_misses(&mut text, logs)?;
+    push_learned(alloc, &mut text, logs)?;
+    push_all_sent(alloc, &mut text, logs)?;
+    Ok(text)
+}
+
+#[tactic(auto, unfolding(crate::specs::StatsText::count_line))]
+fn push_count(text: &mut Vec<u8>, words: &[u8], count: u64) -> Result<(), AllocError>
+    ensures { OnOk result (text.new.items ≡ text.old.items ++ count_line words.now count) }
+{
+    text.extend_from_slice(words)?;
+    push_number(text, b" ", count)?;
+    text.extend_from_slice(b"\n")
+}
+
+fn push_turns(text: &mut Vec<u8>, events: u64, logs: &[Vec<Entry>]) -> Result<(), AllocError>
+    ensures { OnOk result (text.new.items ≡ text.old.items ++ turns_lines events (turns (map (λ log. log.items) logs.now))) }
+{
+    let turns = turns_made(logs)?;
+    push_turn_counts(text, events, turns)
+}
+
+#[tactic(auto, unfolding(crate::specs::StatsText::turns_lines))]
+fn push_turn_counts(text: &mut Vec<u8>, events: u64, turns: u64) -> Result<(), AllocError>
+    ensures { OnOk result (text.new.items ≡ text.old.items ++ turns_lines events turns) }
+{
+    push_count(text, b"events", events)?;
+    push_count(text, b"skipped", events.saturating_sub(turns))?;
+    push_count(text, b"turns", turns)
+}
+
+fn deed_words(kind: u8) -> &'static [u8]
+    ensures { result.now ≡ deed_words kind }
+{
+    match kind {
+        0 => b"quiet",
+        1 => b"print",
+        2 => b"read",
+        3 => b"write",
+        4 => b"acquire",
+        5 => b"release",
+        6 => b"arrive",
+        7 => b"depart",
+        8 => b"trap",
+        _ => b"end",
+    }
+}
+
+fn push_acts(text: &mut Vec<u8>, logs: &[Vec<Entry>]) -> Result<(), AllocError>
+    ensures { OnOk result (text.new.items ≡ text.old.items ++ acts_text (map (λ log. log.items) logs.now)) }
+{
+    for kind in 0..10 {
+        push_acts_of(text, kind, logs)?;
+    }
+    Ok(())
+}
+
+#[tactic(auto, unfolding(crate::specs::StatsText::acts_line))]
+fn push_acts_of(text: &mut Vec<u8>, kind: u8, logs: &[Vec<Entry>]) -> Result<(), AllocError>
+    ensures { OnOk result (text.new.items ≡ text.old.items ++ acts_line (map (λ log. log.items) logs.now) kind) }
+{
+    text.extend_from_slice(b"acts ")?;
+    push_count(text, deed_words(kind), turns_making(kind, logs)?)
+}
+
+#[tactic(auto, unfolding(crate::specs::StatsText::misses_line))]
+fn push_misses(text: &mut Vec<u8>, logs: &[Vec<Entry>]) -> Result<(), AllocError>
+    ensures { OnOk result (text.new.items ≡ text.old.items ++ misses_line (map (λ log. log.items) logs.now)) }
+{
+    push_count(text, b"misses", misses(logs)?)
+}
+
+#[tactic(auto, unfolding(crate::specs::StatsText::learned_text))]
+fn push_learned(alloc: Global, text: &mut Vec<u8>, logs: &[Vec<Entry>]) -> Result<(), AllocError>
+    ensures { OnOk result (text.new.items ≡ text.old.items ++ learned_text (map (λ log. log.items) logs.now)) }
+{
+    push_told(alloc, text, logs)?;
+    push_collections(alloc, text, logs)
+}
+
+fn push_told(alloc: Global, text: &mut Vec<u8>, logs: &[Vec<Entry>]) -> Result<(), AllocError>
+    ensures { let all = map (λ log. log.items) logs.now in
+        OnOk result (text.new.items ≡ text.old.items ++ learned_lines (repeats all) (learned_intervals all) (learned_notices all)) }
+{
+    let learned = learned_by_all(alloc, logs)?;
+    push_learned_counts(text, learned)
+}
+
+#[tactic(auto, unfolding(crate::specs::StatsText::learned_lines))]
+fn push_learned_counts(text: &mut Vec<u8>, learned: Learned) -> Result<(), AllocError>
+    ensures { OnOk result (text.new.items ≡ text.old.items ++ learned_lines learned.repeats learned.intervals learned.notices) }
+{
+    push_count(text, b"repeats", learned.repeats)?;
+    push_count(text, b"intervals learned", learned.intervals)?;
+    push_count(text, b"notices learned", learned.notices)
+}
+
+#[tactic(auto, unfolding(crate::specs::StatsText::collections_line))]
+fn push_collections(
+    alloc: Global,
+    text: &mut Vec<u8>,
+    logs: &[Vec<Entry>],
+) -> Result<(), AllocError>
+    ensures { OnOk result (text.new.items ≡ text.old.items ++ collections_line (map (λ log. log.items) logs.now)) }
+{
+    push_count(text, b"collections", collections(alloc, logs)?)
+}
+
+fn kind_words(kind: u8) -> &'static [u8]
+    ensures { result.now ≡ kind_words kind }
+{
+    match kind {
+        1 => b"lock-request",
+        2 => b"lock-forward",
+        3 => b"lock-grant",
+        4 => b"arrive",
+        5 => b"depart",
+        6 => b"clean",
+        7 => b"discard",
+        8 => b"changes-request",
+        9 => b"changes-reply",
+        10 => b"page-request",
+        _ => b"page-reply",
+    }
+}
+
+fn push_all_sent(alloc: Global, text: &mut Vec<u8>, logs: &[Vec<Entry>]) -> Result<(), AllocError>
+    ensures { OnOk result (text.new.items ≡ text.old.items ++ messages_text (all_sent (map (λ log. log.items) logs.now))) }
+{
+    let sent = all_sent(alloc, logs)?;
+    push_messages(text, &sent)
+}
+
+#[tactic(auto, unfolding(crate::specs::StatsText::messages_text))]
+fn push_messages(text: &mut Vec<u8>, sent: &[Sent]) -> Result<(), AllocError>
+    ensures { OnOk result (text.new.items ≡ text.old.items ++ messages_text sent.now) }
+{
+    push_kinds(text, sent)?;
+    push_sent(text, b"all", Wanted::Each, sent)?;
+    push_sent(text, b"to itself", Wanted::ToItself, sent)
+}
+
+// A line for each kind.
+fn push_kinds(text: &mut Vec<u8>, sent: &[Sent]) -> Result<(), AllocError>
+    ensures { OnOk result (text.new.items ≡ text.old.items ++ kinds_text sent.now) }
+{
+    for kind in 1..12 {
+        push_kind(text, kind, sent)?;
+    }
+    Ok(())
+}
+
+fn push_kind(text: &mut Vec<u8>, kind: u8, sent: &[Sent]) -> Result<(), AllocError>
+    ensures { OnOk result (text.new.items ≡ text.old.items ++ kind_line sent.now kind) }
+{
+    push_sent(text, kind_words(kind), Wanted::Kind(kind), sent)
+}
+
+#[tactic(auto, unfolding(crate::specs::StatsText::sent_line))]
+fn push_sent(
+    text: &mut Vec<u8>,
+    words: &[u8],
+    wanted: Wanted,
+    sent: &[Sent],
+) -> Result<(), AllocError>
+    ensures { OnOk result (text.new.items ≡ text.old.items ++ sent_line words.now wanted sent.now) }
+{
+    let total = total_of(wanted, sent)?;
+    text.extend_from_slice(b"messages ")?;
+    text.extend_from_slice(words)?;
+    push_number(text, b" ", total.count)?;
+    push_number(text, b" ", total.bytes)?;
+    text.extend_from_slice(b"\n")
+}

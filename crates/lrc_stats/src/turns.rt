@@ -1,0 +1,127 @@
+// How many turns there are of which kind.
+
+ghost use Rattle.std.specs.Prelude.{◌≡◌, ◌+◌, IfOk, count_by, length, map};
+ghost use Rattle.std.specs.List.{list_any};
+ghost use Rattle.lrc_stats.specs.Turns.{asks, deed_kind, is_miss, makes, turns, turns_with};
+
+use lrc_node::{Entry, Input};
+use lrc_trace::act::Deed;
+use lrc_wire::{Envelope, Message};
+use std::alloc::AllocError;
+
+/// The sum of two counts. There is no memory for what a greater number counts.
+pub(crate) fn add(a: u64, b: u64) -> Result<u64, AllocError>
+    ensures { IfOk result (λ sum. sum ≡ a + b) }
+{
+    a.checked_add(b).ok_or(AllocError)
+}
+
+/// How many turns the nodes made.
+#[tactic(auto, using(crate::proofs::Logs::sum_more))]
+pub fn turns_made(logs: &[Vec<Entry>]) -> Result<u64, AllocError>
+    ensures { IfOk result (λ count. count ≡ turns (map (λ log. log.items) logs.now)) }
+{
+    let mut count = 0;
+    for log in logs {
+        count = add(count, log.len() as u64)?;
+    }
+    Ok(count)
+}
+
+/// The kinds of deeds, counted from 0.
+fn deed_kind(deed: Deed) -> u8
+    ensures { result ≡ deed_kind deed }
+{
+    match deed {
+        Deed::Quiet => 0,
+        Deed::Print(_) => 1,
+        Deed::Read(_, _) => 2,
+        Deed::Write(_, _) => 3,
+        Deed::Acquire(_) => 4,
+        Deed::Release(_) => 5,
+        Deed::Arrive => 6,
+        Deed::Depart => 7,
+        Deed::Trap(_) => 8,
+        Deed::End => 9,
+    }
+}
+
+// Whether a turn makes an act of this kind.
+fn makes(kind: u8, entry: &Entry) -> bool
+    ensures { result ≡ makes kind entry.now }
+{
+    match entry.turn.act {
+        Some(act) => deed_kind(act.deed) == kind,
+        None => false,
+    }
+}
+
+/// How many turns make an act of this kind.
+#[tactic(auto, using(crate::proofs::Logs::sum_more))]
+pub(crate) fn turns_making(kind: u8, logs: &[Vec<Entry>]) -> Result<u64, AllocError>
+    ensures { IfOk result (λ count. count ≡ turns_with (makes kind) (map (λ log. log.items) logs.now)) }
+{
+    let mut count = 0;
+    for log in logs {
+        count = add(count, making(kind, log) as u64)?;
+    }
+    Ok(count)
+}
+
+fn making(kind: u8, log: &[Entry]) -> usize
+    ensures { result ≡ count_by (makes kind) log.now }
+{
+    log.iter().filter(|entry| makes(kind, *entry)).count()
+}
+
+// Whether changes of a page, or its base copy, are asked for.
+fn asks(message: &Message) -> bool
+    ensures { result ≡ asks message.now }
+{
+    matches!(
+        message,
+        Message::ChangesRequest(_) | Message::PageRequest(_)
+    )
+}
+
+// Whether one of the messages asks for what a page needs.
+fn some_asks(out: &[Envelope]) -> bool
+    ensures { result ≡ list_any (λ envelope. asks envelope.message) out.now }
+{
+    out.iter().any(|envelope| asks(&envelope.message))
+}
+
+// Whether a turn is a miss.
+#[tactic(auto, unfolding(crate::specs::Turns::is_miss))]
+fn is_miss(entry: &Entry) -> bool
+    ensures { result ≡ is_miss entry.now }
+{
+    match &entry.input {
+        Input::Run => some_asks(&entry.turn.out),
+        Input::Taken(_) => false,
+    }
+}
+
+/// How many turns are misses: a node goes on by itself, and asks for what a page needs.
+#[tactic(auto, using(crate::proofs::Logs::sum_more))]
+pub(crate) fn misses(logs: &[Vec<Entry>]) -> Result<u64, AllocError>
+    ensures { IfOk result (λ count. count ≡ turns_with is_miss (map (λ log. log.items) logs.now)) }
+{
+    let mut count = 0;
+    for log in logs {
+        count = add(count, missing(log) as u64)?;
+    }
+    Ok(count)
+}
+
+fn missing(log: &[Entry]) -> usize
+    ensures { result ≡ count_by is_miss log.now }
+{
+    let mut count = 0;
+    for entry in log {
+        if is_miss(entry) {
+            count += 1;
+        }
+    }
+    count
+}
