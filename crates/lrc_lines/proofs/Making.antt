@@ -1,5 +1,6 @@
 -- Where acts that follow the text lead a node's walk, and what its next deed is of.
-use Rattle.std.proofs.Common.{◌≡◌, ◌≢◌, ◌∙◌, ◌<◌, ℕ, zero, suc, Bool, true, false, Option, Some, None, List, [], ◌∷◌, ◌++◌, append-nil, append_assoc, fold, map, take, refl, sym, ap, ap₂, subst}
+use Rattle.std.proofs.Common.{◌≡◌, ◌≢◌, ◌∙◌, ◌<◌, ℕ, zero, suc, Bool, true, false, Option, Some, None, List, [], ◌∷◌, ◌++◌, append-nil}
+use Rattle.std.proofs.Common.{append_assoc, fold, map, take, refl, sym, ap, ap₂, subst}
 use Rattle.std.specs.Prelude.{if◌then◌else◌, filter, ◌==◌, slice_get, nat_lt}
 use Rattle.std.proofs.lemmas.Bool.{eq-eqb, lt-ltb}
 use Rattle.std.proofs.lemmas.Option.{same_Some}
@@ -15,12 +16,14 @@ use Rattle.lrc_exec.specs.Ask.{answered, ask_of, done}
 use Rattle.lrc_exec.specs.Condition.{condition_holds}
 use Rattle.lrc_exec.specs.Plain.{start_of}
 use Rattle.lrc_trace.specs.Run.{Does}
-use Rattle.lrc_theory.specs.Follows.{FollowsText, Goes, Makes, deeds_of, quietly, printing, reading, writing, acquiring, releasing, arriving, departing, trapping, ending}
-use Rattle.lrc_theory.specs.Follows.{nothing_more, and_then}
+use Rattle.lrc_theory.specs.Follows.{FollowsText, Goes, Makes, deeds_of, quietly, printing, reading, writing, acquiring, releasing}
+use Rattle.lrc_theory.specs.Follows.{arriving, departing, trapping, ending}
+use Rattle.lrc_theory.specs.Follows.{and_then}
 use Rattle.lrc_lines.specs.Makes.{MakesNext, statement, barrier, end}
 use Rattle.lrc_lines.specs.Standing.{Agrees}
 use Rattle.lrc_lines.specs.Tasks.{Task, passed}
-use Rattle.lrc_lines.specs.Walks.{Walk, goes_on, led, led_by, onward, end_of, line_at, line_behind, lines_behind, lines_of, walk_at_start, walk_behind}
+use Rattle.lrc_lines.specs.Walks.{Walk, goes_on, led, led_by, onward, end_of, line_at, line_behind, lines_behind, lines_of, walk_at_start}
+use Rattle.lrc_lines.specs.Walks.{walk_behind}
 use Rattle.lrc_lines.proofs.Agreeing.{agrees_led, agrees_start, on_value, on_if}
 use Rattle.lrc_lines.proofs.Following.{onward_going}
 
@@ -94,7 +97,8 @@ onward_thread value walk next is goes =
     (ap (λ n. goes_on (ask_of n)) is ∙ goes) refl refl refl)
 
 -- from the walk's thread on
-step_at : (walk : Walk) (next : Next) (d : Deed) (after : Option Thread) → next_of walk.thread ≡ next → Goes next d after → Beside (led walk d) after
+step_at : (walk : Walk) (next : Next) (d : Deed) (after : Option Thread) → next_of walk.thread ≡ next → Goes next d after
+    → Beside (led walk d) after
 step_at walk (quiet u) d after is quietly = together (onward_thread 0 walk (quiet u) is refl)
 step_at walk (prints v u) d after is printing = together (onward_thread 0 walk (prints v u) is refl)
 step_at walk (reads w f) d after is (reading {v = v}) = together (onward_thread v walk (reads w f) is refl)
@@ -173,7 +177,8 @@ departs_alone walk t (arrives u) d after w next_is goes = cc
 departs_alone walk t (traps c) d after w next_is goes = cc
 departs_alone walk t ends d after w next_is goes = cc
 
-makes : (walk : Walk) (t : Thread) (d : Deed) (after : Option Thread) → Beside walk (Some t) → Agrees walk → Goes (next_of t) d after → MakesNext walk d
+makes : (walk : Walk) (t : Thread) (d : Deed) (after : Option Thread) → Beside walk (Some t) → Agrees walk → Goes (next_of t) d after
+    → MakesNext walk d
 makes walk t d after (together same) agrees goes =
     made_in walk walk.todo d after refl
     (subst (λ next. Goes next d after) (ap next_of same ∙ next_is walk agrees) goes)
@@ -186,10 +191,13 @@ makes walk t d after (at_barrier is) agrees goes =
 -- the deeds of a node with one act more in front
 deeds_on : (n : ℕ) (act : Act) (acts : List Act) (b : Bool) → (act.node == n) ≡ b
     → deeds_of n (act ∷ acts) ≡ (if b then act.deed ∷ deeds_of n acts else deeds_of n acts)
-deeds_on n act acts true is = ap (λ b. map (λ (a : Act). a.deed) (if b then act ∷ filter (λ a. a.node == n) acts else filter (λ a. a.node == n) acts)) is
-deeds_on n act acts false is = ap (λ b. map (λ (a : Act). a.deed) (if b then act ∷ filter (λ a. a.node == n) acts else filter (λ a. a.node == n) acts)) is
+deeds_on n act acts true is =
+    ap (λ b. map (λ (a : Act). a.deed) (if b then act ∷ filter (λ a. a.node == n) acts else filter (λ a. a.node == n) acts)) is
+deeds_on n act acts false is =
+    ap (λ b. map (λ (a : Act). a.deed) (if b then act ∷ filter (λ a. a.node == n) acts else filter (λ a. a.node == n) acts)) is
 
-first_made : (walk : Walk) (o : Option Thread) (d : Deed) (ds : List Deed) → Beside walk o → Agrees walk → Makes o (d ∷ ds) → MakesNext walk d
+first_made : (walk : Walk) (o : Option Thread) (d : Deed) (ds : List Deed) → Beside walk o → Agrees walk → Makes o (d ∷ ds)
+    → MakesNext walk d
 first_made walk None d ds beside agrees made = elim made [ ]
 first_made walk (Some t) d ds beside agrees (and_then {after = after} goes more) = makes walk t d after beside agrees goes
 
@@ -199,7 +207,8 @@ record Onward (walk : Walk) (d : Deed) (ds : List Deed) : Type 0 where
   beside : Beside (led walk d) after
   more : Makes after ds
 
-goes_onward : (walk : Walk) (o : Option Thread) (d : Deed) (ds : List Deed) → Beside walk o → Agrees walk → Makes o (d ∷ ds) → Onward walk d ds
+goes_onward : (walk : Walk) (o : Option Thread) (d : Deed) (ds : List Deed) → Beside walk o → Agrees walk → Makes o (d ∷ ds)
+    → Onward walk d ds
 goes_onward walk None d ds beside agrees made = elim made [ ]
 goes_onward walk (Some t) d ds beside agrees (and_then {after = after} goes more) =
     record { after = after; beside = steps walk t d after beside agrees goes; more = more }
@@ -217,7 +226,8 @@ behind_act n i act acts d walk o go beside agrees made false other =
     subst (λ w. MakesNext (fold (led_by n) w (take i acts)) d) (sym (ap (λ b. if b then led walk act.deed else walk) other))
     (go walk o beside agrees (subst (Makes o) (deeds_on n act acts false other) made))
 
-makes_along : (acts : List Act) (i n : ℕ) (d : Deed) (walk : Walk) (o : Option Thread) → slice_get acts i ≡ Some (record { node = n; deed = d })
+makes_along : (acts : List Act) (i n : ℕ) (d : Deed) (walk : Walk) (o : Option Thread)
+    → slice_get acts i ≡ Some (record { node = n; deed = d })
     → Beside walk o → Agrees walk → Makes o (deeds_of n acts) → MakesNext (fold (led_by n) walk (take i acts)) d
 makes_along [] i n d walk o there beside agrees made = cc
 makes_along (act ∷ acts) zero n d walk o there beside agrees made =

@@ -1,5 +1,6 @@
 -- What is still to do stands in the program's text, with the lines from its place on.
-use Rattle.std.proofs.Common.{◌≡◌, ◌∙◌, ◌+◌, ℕ, zero, suc, Bool, true, false, List, [], ◌∷◌, ◌++◌, append-nil, append_assoc, arith, drop, fold, length, refl, sym, ap}
+use Rattle.std.proofs.Common.{◌≡◌, ◌∙◌, ◌+◌, ℕ, Bool, true, false, List, [], ◌∷◌, ◌++◌, append-nil, append_assoc, arith, drop}
+use Rattle.std.proofs.Common.{fold, length, refl, sym, ap}
 use Rattle.std.specs.Prelude.{if◌then◌else◌, ◌==◌}
 use Rattle.std.specs.List.{AllByRecursion}
 use Rattle.std.proofs.lemmas.List.{drop-drop, length-append}
@@ -45,7 +46,8 @@ mutual
   block_is : {m : _} (row : Row_of-Statement m) (lines : List ℕ) → behind_block row lines ≡ drop (length (within_block row)) lines
   block_is end_of-Statement lines = refl
   block_is (more_of-Statement first more) lines =
-      block_is more (behind first lines) ∙ ap (drop (length (within_block more))) (behind_is first lines ∙ over 1 (length (within first)) _ lines refl)
+      block_is more (behind first lines)
+      ∙ ap (drop (length (within_block more))) (behind_is first lines ∙ over 1 (length (within first)) _ lines refl)
       ∙ over (1 + length (within first)) (length (within_block more)) (length (first ∷ (within first ++ within_block more))) lines
       (omega (arith, length-append (within first) (within_block more)))
 
@@ -64,7 +66,8 @@ module _ (all : List Statement) (lines : List ℕ) where
     place : all ≡ before ++ (these ++ after)
     left_is : left ≡ drop (length before) lines
 
-  stand_tasks : (ss : List Statement) (before after : List Statement) (left : List ℕ) → From before after (in_order ss) left → Stand (tasks ss left)
+  stand_tasks : (ss : List Statement) (before after : List Statement) (left : List ℕ) → From before after (in_order ss) left
+      → Stand (tasks ss left)
   stand_tasks [] before after left from = tt
   stand_tasks (s ∷ ss) before after left from =
       let here = before ++ (s ∷ within s) in
@@ -74,9 +77,9 @@ module _ (all : List Statement) (lines : List ℕ) where
       behind_is s left ∙ ap (λ l. drop (length (within s)) (drop 1 l)) from.left_is
       ∙ ap (drop (length (within s))) (over (length before) 1 (length before + 1) lines refl)
       ∙ over (length before + 1) (length (within s)) (length here) lines (omega (arith, length-append before (s ∷ within s))) in
-      (
+      let further : all ≡ here ++ (in_order ss ++ after) = place ∙ sym (append_assoc before (s ∷ within s) (in_order ss ++ after)) in (
         record { before = before; after = in_order ss ++ after; place = place; lines_from = from.left_is },
-        stand_tasks ss here after (behind s left) (record { place = place ∙ sym (append_assoc before (s ∷ within s) (in_order ss ++ after)); left_is = next }),
+        stand_tasks ss here after (behind s left) (record { place = further; left_is = next }),
       )
 
   -- the first block of a statement, and the second one
@@ -87,16 +90,17 @@ module _ (all : List Statement) (lines : List ℕ) where
       stand_tasks (block row) here (more ++ stands.after) (drop 1 task.lines) (record {
         place =
             stands.place
-                ∙ ap (λ l. stands.before ++ (task.statement ∷ l))
-                (ap (λ t. within t ++ stands.after) is ∙ ap (λ l. l ++ stands.after) (parts ∙ ap (λ l. l ++ more) (in_block row))
-                ∙ append_assoc (in_order (block row)) more stands.after)
-                ∙ sym (append_assoc stands.before (task.statement ∷ []) (in_order (block row) ++ (more ++ stands.after)));
+            ∙ ap (λ l. stands.before ++ (task.statement ∷ l))
+            (ap (λ t. within t ++ stands.after) is ∙ ap (λ l. l ++ stands.after) (parts ∙ ap (λ l. l ++ more) (in_block row))
+            ∙ append_assoc (in_order (block row)) more stands.after)
+            ∙ sym (append_assoc stands.before (task.statement ∷ []) (in_order (block row) ++ (more ++ stands.after)));
         left_is =
             ap (drop 1) stands.lines_from
-                ∙ over (length stands.before) 1 (length here) lines (sym (length-append stands.before (task.statement ∷ [])));
+            ∙ over (length stands.before) 1 (length here) lines (sym (length-append stands.before (task.statement ∷ [])));
       })
 
-  stand_second : {m k : _} (first : Row_of-Statement m) (row : Row_of-Statement k) (s : Statement) (task : Task) → StandsAmong all lines task
+  stand_second : {m k : _} (first : Row_of-Statement m) (row : Row_of-Statement k) (s : Statement) (task : Task)
+      → StandsAmong all lines task
       → task.statement ≡ s → within s ≡ within_block first ++ within_block row
       → Stand (tasks (block row) (behind_block first (drop 1 task.lines)))
   stand_second first row s task stands is parts =
@@ -104,18 +108,19 @@ module _ (all : List Statement) (lines : List ℕ) where
       stand_tasks (block row) here stands.after (behind_block first (drop 1 task.lines)) (record {
         place =
             stands.place
-                ∙ ap (λ l. stands.before ++ (task.statement ∷ l))
-                (ap (λ t. within t ++ stands.after) is ∙ ap (λ l. l ++ stands.after) (parts ∙ ap (λ l. within_block first ++ l) (in_block row))
-                ∙ append_assoc (within_block first) (in_order (block row)) stands.after)
-                ∙ sym (append_assoc stands.before (task.statement ∷ within_block first) (in_order (block row) ++ stands.after));
+            ∙ ap (λ l. stands.before ++ (task.statement ∷ l))
+            (ap (λ t. within t ++ stands.after) is ∙ ap (λ l. l ++ stands.after) (parts ∙ ap (λ l. within_block first ++ l) (in_block row))
+            ∙ append_assoc (within_block first) (in_order (block row)) stands.after)
+            ∙ sym (append_assoc stands.before (task.statement ∷ within_block first) (in_order (block row) ++ stands.after));
         left_is =
             block_is first (drop 1 task.lines) ∙ ap (λ l. drop (length (within_block first)) (drop 1 l)) stands.lines_from
-                ∙ ap (drop (length (within_block first))) (over (length stands.before) 1 (length stands.before + 1) lines refl)
-                ∙ over (length stands.before + 1) (length (within_block first)) (length here) lines
-                (omega (arith, length-append stands.before (task.statement ∷ within_block first)));
+            ∙ ap (drop (length (within_block first))) (over (length stands.before) 1 (length stands.before + 1) lines refl)
+            ∙ over (length stands.before + 1) (length (within_block first)) (length here) lines
+            (omega (arith, length-append stands.before (task.statement ∷ within_block first)));
       })
 
-  stand_beyond : (holds : Bool) (s : Statement) (left : List ℕ) (rest : List Task) → StandsAmong all lines (record { statement = s; lines = left })
+  stand_beyond : (holds : Bool) (s : Statement) (left : List ℕ) (rest : List Task)
+      → StandsAmong all lines (record { statement = s; lines = left })
       → Stand rest → Stand (beyond holds s left rest)
   stand_beyond true (If' e p a q b) left rest stands others =
       stand_append (tasks (block a) (drop 1 left)) rest (stand_first a (If' e p a q b) (within_block b) _ stands refl refl) others
@@ -164,7 +169,8 @@ module _ (all : List Statement) (lines : List ℕ) where
   stand_fold : (node : ℕ) (acts : List Act) (walk : Walk) → Stand walk.todo → Stand (fold (led_by node) walk acts).todo
   stand_fold node [] walk stand = stand
   stand_fold node (act ∷ acts) walk stand =
-      stand_fold node acts (led_by node walk act) (stand_if (act.node == node) (led walk act.deed) walk (stand_led walk act.deed stand) stand)
+      stand_fold node acts (led_by node walk act)
+      (stand_if (act.node == node) (led walk act.deed) walk (stand_led walk act.deed stand) stand)
 
 pub stand_behind : (program : Program) (nodes : ℕ) (lines : List ℕ) (acts : List Act) (node : ℕ)
     → All (StandsAmong (in_order program.statements.items) lines) (walk_behind program nodes lines acts node).todo

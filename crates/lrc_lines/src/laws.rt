@@ -13,7 +13,8 @@ ghost use Rattle.lrc_lines.specs.Walks.{end_of, line_at, lines_of, walk_behind};
 
 /// Whatever the acts are, the statements still to do with their lines are those that the node's thread has still to do.
 pub fn walks_agree_with_their_threads()
-    ensures { (program : Program) (nodes : ℕ) (lines : List ℕ) (acts : List Act) (node : ℕ) → Agrees (walk_behind program nodes lines acts node) }
+    ensures { (program : Program) (nodes : ℕ) (lines : List ℕ) (acts : List Act) (node : ℕ)
+        → Agrees (walk_behind program nodes lines acts node) }
 {}
 
 /// What a node has still to do stands in the program's text, with the lines from its own place on: the first of them is its line.

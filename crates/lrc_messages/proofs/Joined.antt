@@ -14,12 +14,15 @@ each_next of items i x start now next there so_far more =
     ∙ ap (λ y. start ++ (each of (take i items) ++ of i y)) (sym (get_or_from_slice_get items i x x there))
     ∙ ap (λ l. start ++ l) (sym (each_more of items i x (slice_get_within items i x there)))
 
-pub joined_next : {X : Type 0} (sign : List ℕ) (of : X → List ℕ) (items : List X) (i : ℕ) (x : X) (start now next : List ℕ) → slice_get items i ≡ Some x
-    → now ≡ start ++ joined sign of (take i items) → next ≡ now ++ before i sign ++ of x → next ≡ start ++ joined sign of (take (i + 1) items)
+pub joined_next : {X : Type 0} (sign : List ℕ) (of : X → List ℕ) (items : List X) (i : ℕ) (x : X) (start now next : List ℕ)
+    → slice_get items i ≡ Some x
+    → now ≡ start ++ joined sign of (take i items) → next ≡ now ++ before i sign ++ of x
+    → next ≡ start ++ joined sign of (take (i + 1) items)
 joined_next sign of items i x start now next there so_far more =
     each_next (λ place item. before place sign ++ of item) items i x start now next there so_far
     (more ∙ append_assoc now (before i sign) (of x))
 
-pub commas_next : (items : List ℕ) (i n : ℕ) (start now next : List ℕ) → slice_get items i ≡ Some n → now ≡ start ++ with_commas (take i items)
+pub commas_next : (items : List ℕ) (i n : ℕ) (start now next : List ℕ) → slice_get items i ≡ Some n
+    → now ≡ start ++ with_commas (take i items)
     → next ≡ now ++ entry_text i n → next ≡ start ++ with_commas (take (i + 1) items)
 commas_next items i n start now next there so_far more = each_next entry_text items i n start now next there so_far more

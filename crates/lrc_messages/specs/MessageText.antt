@@ -21,7 +21,8 @@ time_text time = codes " time " ++ with_commas time
 
 -- an interval: its node, its number among those of that node, and the pages that it wrote
 abbrev pub interval_text : IntervalRecord → List ℕ
-interval_text interval = decimal interval.node ++ codes "." ++ decimal (index_of interval) ++ codes "[" ++ with_commas interval.pages ++ codes "]"
+interval_text interval =
+    decimal interval.node ++ codes "." ++ decimal (index_of interval) ++ codes "[" ++ with_commas interval.pages ++ codes "]"
 
 -- a time, and intervals
 abbrev pub news_text : List ℕ → List IntervalRecord → List ℕ
@@ -86,7 +87,8 @@ abbrev pub changes_reply_text : ChangesReplyRecord → List ℕ
 changes_reply_text m = named kinds.ChangesReply (codes " page ") m.page ++ codes " changes " ++ joined (codes " ") part_text m.parts
 
 abbrev pub page_reply_text : PageReplyRecord → List ℕ
-page_reply_text m = named kinds.PageReply (codes " page ") m.page ++ codes " words " ++ joined_or_dash (codes ",") change_text (words_in m.values)
+page_reply_text m =
+    named kinds.PageReply (codes " page ") m.page ++ codes " words " ++ joined_or_dash (codes ",") change_text (words_in m.values)
 
 -- a message: its kind, and what it says
 abbrev pub message_text : Message → List ℕ

@@ -1,7 +1,7 @@
 -- What is known of the turns that were told, with one turn more.
-use Rattle.std.proofs.Common.{◌≡◌, ◌∙◌, ◌+◌, ◌<◌, ◌≤◌, ◌++◌, ◌∷◌, [], ℕ, List, ap, ap₂, sym, arith, refl, subst, inl, inr, length}
+use Rattle.std.proofs.Common.{◌≡◌, ◌∙◌, ◌+◌, ◌<◌, ◌++◌, ◌∷◌, [], ℕ, List, ap, sym, arith, refl, inl, inr, length}
 use Rattle.std.specs.Prelude.{Bool, true, false, cond, ◌==◌, ◌&&◌, ◌||◌, is_some, replicate, slice_index, slice_set}
-use Rattle.std.specs.List.{count_by, list_any, sum_by}
+use Rattle.std.specs.List.{count_by}
 use Rattle.std.proofs.lemmas.Bool.{cases_eq, eq-eqb, ne_eqb}
 use Rattle.std.proofs.lemmas.List.{get_or-set_same, get_or-set_other}
 use Rattle.std.proofs.lemmas.List.Folds.{list_any-append}
@@ -43,7 +43,8 @@ noted_more false c = refl
 
 -- a message more is noted, by its receiver, its sender and its number
 pub noted_one : (other from number node : ℕ) (envelope : EnvelopeRecord) (sender message : ℕ) (keys new : List (ℕ × (ℕ × ℕ)))
-    → has_key new other from number ≡ cond ((node == other) && ((sender == from) && (message == number))) true (has_key keys other from number)
+    → has_key new other from number
+    ≡ cond ((node == other) && ((sender == from) && (message == number))) true (has_key keys other from number)
     → sender ≡ envelope.from → message ≡ envelope.number
     → has_key new other from number ≡ (takes other from number node (taken envelope) || has_key keys other from number)
 noted_one other from number node envelope sender message keys new is sender_is message_is =

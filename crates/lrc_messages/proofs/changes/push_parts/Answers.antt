@@ -5,5 +5,5 @@ use Rattle.lrc_messages.proofs.changes.push_parts.Goals as goal
 
 pub loop-place-preserved : goal.loop-place-preserved
 loop-place-preserved c =
-    joined_next (codes " ") part_text c.args.parts.now c.loop-place.place c.at.result.now c.args.text.now.items c.loop-place.text.items c.push_part.new.text.items
-    c.at.ensures c.loop-place.invariant c.in_ok-push_part.ensures
+    joined_next (codes " ") part_text c.args.parts.now c.loop-place.place c.at.result.now c.args.text.now.items
+    c.loop-place.text.items c.push_part.new.text.items c.at.ensures c.loop-place.invariant c.in_ok-push_part.ensures
