@@ -4,13 +4,9 @@
 #[cfg(test)]
 mod gates;
 #[cfg(test)]
-mod orders;
-#[cfg(test)]
 mod rows;
 #[cfg(test)]
 mod shell;
-#[cfg(test)]
-mod spins;
 #[cfg(test)]
 mod weaves;
 #[cfg(test)]
