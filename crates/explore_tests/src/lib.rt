@@ -3,3 +3,5 @@
 
 #[cfg(test)]
 mod orders;
+#[cfg(test)]
+mod told;

@@ -1,0 +1,5 @@
+pub mod Naming
+pub mod Reports
+pub mod Led
+pub mod Listed
+pub mod Telling

@@ -1,0 +1,4 @@
+pub mod Explored
+pub mod LastRaces
+pub mod Orders
+pub mod Outcomes
