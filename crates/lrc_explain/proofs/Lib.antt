@@ -1,0 +1,3 @@
+mod Counting
+mod Held
+mod Left

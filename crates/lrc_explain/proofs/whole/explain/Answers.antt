@@ -1,0 +1,44 @@
+-- The parts are those of the nodes' stands and of the first pairs.
+use Rattle.std.proofs.Common.{◌≡◌, ◌∙◌, ◌++◌, List, Some, ap}
+use Rattle.lrc_judge.specs.declared.lanes.Pair.{Pair}
+use Rattle.lrc_lines.specs.Walks.{lines_of}
+use Rattle.lrc_stuck.specs.declared.stand.Stand.{Stand}
+use Rattle.lrc_stuck.specs.Circles.{deadlocks_text}
+use Rattle.lrc_stuck.specs.Followed.{AreFollowed}
+use Rattle.lrc_stuck.specs.Stand.{stands_of}
+use Rattle.lrc_text.specs.RaceText.{first_race_text}
+use Rattle.lrc_explain.specs.Explain.{nodes_text}
+use Rattle.lrc_explain.specs.Groups.{groups_text}
+use Rattle.lrc_explain.proofs.whole.explain.Goals as goal
+
+pub returns : goal.returns
+returns c =
+    let program = c.args.code.now in
+    let nodes = c.args.nodes in
+    let lines = c.args.lines.now in
+    let acts = c.args.acts.now in
+    let followed = c.in_ok-followed.followed in
+    let pairs = c.in_ok-pairs.pairs.items in
+    let told = c.in_ok-told.told.items in
+    let deadlocks = c.in_ok-deadlocks.deadlocks.items in
+    let first = first_race_text c.args.first_race in
+    let are : AreFollowed program nodes lines acts followed = record {
+      lines_are = c.in_ok-followed.ensures.lines;
+      walks_are = c.in_ok-followed.ensures.walks;
+      end_is = c.in_ok-followed.ensures.end;
+    } in
+    let stands = stands_of program nodes lines (Some c.args.steps) acts in
+    let stands_are : c.in_ok-stands.stands.items ≡ stands = c.in_ok-stands.ensures program lines are in
+    let told_is : told ≡ nodes_text acts stands =
+    c.in_ok-told.ensures ∙ ap (λ (s : List Stand). nodes_text acts s) (c.deref.ensures.value ∙ stands_are) in
+    let deadlocks_are : deadlocks ≡ deadlocks_text stands =
+    c.in_ok-deadlocks.ensures ∙ ap (λ (s : List Stand). deadlocks_text s) (c.deref-2.ensures.value ∙ stands_are) in
+    let groups_are : c.in_ok-groups.groups.items ≡ groups_text acts (lines_of program nodes lines acts) pairs =
+    c.in_ok-groups.ensures ∙ ap (λ l. groups_text acts l c.deref-4.result.now) (c.deref-3.ensures.value ∙ are.lines_are)
+    ∙ ap (λ (ps : List Pair). groups_text acts (lines_of program nodes lines acts) ps) c.deref-4.ensures.value in (
+      pairs,
+      c.in_ok-pairs.ensures,
+      c.in_ok-parts.ensures ∙ ap (λ t. t ++ deadlocks ++ c.in_ok-groups.groups.items ++ first) told_is
+          ∙ ap (λ t. nodes_text acts stands ++ t ++ c.in_ok-groups.groups.items ++ first) deadlocks_are
+          ∙ ap (λ t. nodes_text acts stands ++ deadlocks_text stands ++ t ++ first) groups_are,
+    )

@@ -1,0 +1,40 @@
+-- What is printed of a run, with reasons.
+use Rattle.std.specs.Prelude.{ℕ, ◌==◌, List, [], ◌++◌, Option, Some, codes, decimal, if◌then◌else◌}
+use Rattle.std.specs.List.{flat_map}
+use Rattle.lrc_lang.specs.declared.program.Program.{Program}
+use Rattle.lrc_trace.specs.declared.act.Act.{Act}
+use Rattle.lrc_trace.specs.declared.act.Deed.{Deed}
+use Rattle.lrc_trace.specs.declared.act.Deed.TheVariants.{Print}
+use Rattle.lrc_lines.specs.Walks.{lines_of}
+use Rattle.lrc_judge.specs.declared.lanes.Pair.{Pair}
+use Rattle.lrc_text.specs.RaceText.{first_race_text}
+use Rattle.lrc_show.specs.Each.{each}
+use Rattle.lrc_stuck.specs.declared.stand.Stand.{Stand}
+use Rattle.lrc_stuck.specs.Circles.{deadlocks_text}
+use Rattle.lrc_stuck.specs.Stand.{stands_of}
+use Rattle.lrc_stuck.specs.Stuck.{end_text}
+use Rattle.lrc_explain.specs.Access.{node_words}
+use Rattle.lrc_explain.specs.Groups.{groups_text}
+
+-- a print is a line, and any other deed none
+abbrev pub print_text : (node : ℕ) → Deed → List ℕ
+print_text node (Print value) = node_words node ++ codes " prints " ++ decimal value ++ codes "\n"
+print_text node _ = []
+
+abbrev pub print_of : (node : ℕ) → Act → List ℕ
+print_of node act = if act.node == node then print_text node act.deed else []
+
+-- what a node printed
+abbrev pub prints_text : (node : ℕ) → List Act → List ℕ
+prints_text node acts = flat_map (print_of node) acts
+
+-- what each node printed, how it ended and why
+abbrev pub nodes_text : List Act → List Stand → List ℕ
+nodes_text acts stands = each (λ node stand. prints_text node acts ++ end_text stands node stand) stands
+
+-- What is printed of the acts of a program whose statements, and the text's end behind them, have these lines: the lines of the nodes,
+-- those of the circles of waiting, the groups of these first pairs of races, and the first race.
+abbrev pub explain_text : Program → (nodes : ℕ) → (lines : List ℕ) → (steps : ℕ) → List Act → List Pair → (first : Option ℕ) → List ℕ
+explain_text program nodes lines steps acts pairs first =
+    let stands = stands_of program nodes lines (Some steps) acts in
+    nodes_text acts stands ++ deadlocks_text stands ++ groups_text acts (lines_of program nodes lines acts) pairs ++ first_race_text first

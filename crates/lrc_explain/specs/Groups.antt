@@ -1,0 +1,62 @@
+-- The races of a run by groups: those whose first pairs are of the same lines and kinds.
+use Rattle.std.specs.Prelude.{ℕ, Bool, true, false, List, [], ◌++◌, Option, Some, None, codes, count_by, decimal, if◌then◌else◌, take}
+use Rattle.std.specs.List.{list_any}
+use Rattle.std.specs.Ordering.{eq_by_cmp}
+use Rattle.lrc_trace.specs.declared.act.Act.{Act}
+use Rattle.lrc_judge.specs.Races.{word_of}
+use Rattle.lrc_judge.specs.declared.lanes.Pair.{Pair}
+use Rattle.lrc_show.specs.Each.{each}
+use Rattle.lrc_explain.specs.declared.site.Site.{Site}
+use Rattle.lrc_explain.specs.Access.{access_text}
+use Rattle.lrc_explain.specs.Site.{act_at, site_cmp, site_of}
+
+-- whether a pair is of this site
+abbrev pub is_of : List Act → (lines : List ℕ) → Site → Pair → Bool
+is_of acts lines site pair = eq_by_cmp site_cmp (site_of acts lines pair) site
+
+-- the kind of an access that writes, or not
+abbrev pub kind_text : Bool → List ℕ
+kind_text true = codes " write"
+kind_text false = codes " read"
+
+-- numbers with what they are of
+unfoldable pub line_words : ℕ → List ℕ
+line_words number = codes "race line " ++ decimal number
+
+unfoldable pub later_line_words : ℕ → List ℕ
+later_line_words number = codes ", line " ++ decimal number
+
+unfoldable pub count_words : ℕ → List ℕ
+count_words number = codes ": " ++ decimal number
+
+unfoldable pub word_words : ℕ → List ℕ
+word_words number = codes "  word " ++ decimal number
+
+-- the lines and kinds of a group, and how many races it has
+abbrev pub site_line : Site → ℕ → List ℕ
+site_line site count = line_words site.line ++ kind_text site.writes ++ later_line_words site.later_line ++ kind_text site.later_writes
+    ++ count_words count ++ codes "\n"
+
+-- the two acts of a pair
+abbrev pub pair_text : List Act → Pair → List ℕ
+pair_text acts pair = word_words (word_of (act_at acts pair.later).deed) ++ codes ": " ++ access_text acts pair.earlier
+    ++ codes ", " ++ access_text acts pair.later ++ codes "\n"
+
+-- the two lines of a group of so many races, of which this is the least pair
+abbrev pub group_text : List Act → (lines : List ℕ) → Pair → ℕ → List ℕ
+group_text acts lines pair count = site_line (site_of acts lines pair) count ++ pair_text acts pair
+
+-- the same, if there is such a number
+abbrev pub group_if : List Act → (lines : List ℕ) → Pair → Option ℕ → List ℕ
+group_if acts lines pair None = []
+group_if acts lines pair (Some count) = group_text acts lines pair count
+
+-- a group at the first of its pairs, where none of those before is of it
+abbrev pub group_at : List Act → (lines : List ℕ) → List Pair → ℕ → Pair → List ℕ
+group_at acts lines pairs at pair =
+    let here = is_of acts lines (site_of acts lines pair) in
+    if list_any here (take at pairs) then [] else group_text acts lines pair (count_by here pairs)
+
+-- The groups of these pairs, each with its number of pairs and the first of them, in the order of the first ones.
+abbrev pub groups_text : List Act → (lines : List ℕ) → List Pair → List ℕ
+groups_text acts lines pairs = each (λ at pair. group_at acts lines pairs at pair) pairs

@@ -1,0 +1,5 @@
+pub mod Access
+pub mod Explain
+pub mod Groups
+pub mod Held
+pub mod Site

@@ -1,0 +1,58 @@
+// Where the two acts of a racing pair stand.
+
+ghost use Rattle.std.specs.Prelude.{◌≡◌, slice_index};
+ghost use Rattle.lrc_explain.specs.Site.{act_at, site_of, writes};
+
+use lrc_judge::first_pairs::Pair;
+use lrc_trace::act::{Act, Deed};
+
+/// The lines of two acts, the earlier first, and whether they write.
+#[derive(Clone, Copy, PartialEq, Eq, PartialOrd, Ord)]
+pub struct Site {
+    pub line: u32,
+    pub writes: bool,
+    pub later_line: u32,
+    pub later_writes: bool,
+}
+
+// The act at a position; past the last one an act that does nothing.
+pub(crate) fn act_at(acts: &[Act], position: usize) -> Act
+    ensures { result ≡ act_at acts.now position }
+{
+    if position < acts.len() {
+        acts[position]
+    } else {
+        Act {
+            node: 0,
+            deed: Deed::Quiet,
+        }
+    }
+}
+
+fn line_at(lines: &[u32], position: usize) -> u32
+    ensures { result ≡ slice_index lines.now position }
+{
+    if position < lines.len() {
+        lines[position]
+    } else {
+        0
+    }
+}
+
+fn writes(deed: Deed) -> bool
+    ensures { result ≡ writes deed }
+{
+    matches!(deed, Deed::Write(_, _))
+}
+
+// The site of the acts at two positions.
+pub(crate) fn site_of(acts: &[Act], lines: &[u32], pair: Pair) -> Site
+    ensures { result ≡ site_of acts.now lines.now pair }
+{
+    Site {
+        line: line_at(lines, pair.earlier),
+        writes: writes(act_at(acts, pair.earlier).deed),
+        later_line: line_at(lines, pair.later),
+        later_writes: writes(act_at(acts, pair.later).deed),
+    }
+}

@@ -1,0 +1,118 @@
+// What is printed of a run, with reasons.
+
+ghost use Rattle.std.specs.Prelude.{◌≡◌, ◌<◌, ◌++◌, List, All, IfOk, OnOk};
+ghost use Rattle.lrc_judge.specs.declared.TheConstants.{NODES};
+ghost use Rattle.lrc_judge.specs.declared.lanes.Pair.{Pair as PairRecord};
+ghost use Rattle.lrc_judge.specs.FirstPairs.{AreFirstPairs};
+ghost use Rattle.lrc_text.specs.Parts.{whole_text};
+ghost use Rattle.lrc_text.specs.RaceText.{first_race_text};
+ghost use Rattle.lrc_explain.specs.Explain.{explain_text, nodes_text, print_of, print_text, prints_text};
+ghost use Rattle.lrc_stuck.specs.Circles.{deadlocks_text};
+
+use crate::access::push_node;
+use crate::groups::groups_part;
+use lrc_exec::code::Code;
+use lrc_judge::NODES;
+use lrc_judge::first_pairs::first_pairs;
+use lrc_lines::walks::follow_acts;
+use lrc_stuck::{Stand, push_deadlocks, push_end, stands_of};
+use lrc_text::{first_race_part, push_number};
+use lrc_trace::act::{Act, Deed};
+use std::alloc::{AllocError, Global};
+
+fn push_print(text: &mut Vec<u8>, node: usize, deed: Deed) -> Result<(), AllocError>
+    ensures { OnOk result (text.new.items ≡ text.old.items ++ print_text node deed) }
+{
+    match deed {
+        Deed::Print(value) => {
+            push_node(text, node as u64)?;
+            push_number(text, b" prints ", value)?;
+            text.extend_from_slice(b"\n")
+        }
+        _ => Ok(()),
+    }
+}
+
+fn push_print_of(text: &mut Vec<u8>, node: usize, act: Act) -> Result<(), AllocError>
+    ensures { OnOk result (text.new.items ≡ text.old.items ++ print_of node act) }
+{
+    if usize::from(act.node) == node {
+        push_print(text, node, act.deed)
+    } else {
+        Ok(())
+    }
+}
+
+// Adds what a node printed.
+fn push_prints(text: &mut Vec<u8>, node: usize, acts: &[Act]) -> Result<(), AllocError>
+    ensures { OnOk result (text.new.items ≡ text.old.items ++ prints_text node acts.now) }
+{
+    for act in acts {
+        push_print_of(text, node, *act)?;
+    }
+    Ok(())
+}
+
+// What each node printed, how it ended and why.
+fn nodes_part(alloc: Global, acts: &[Act], stands: &[Stand]) -> Result<Vec<u8>, AllocError>
+    ensures { IfOk result (λ part. part.items ≡ nodes_text acts.now stands.now) }
+{
+    let mut text = Vec::new(alloc);
+    for node in 0..stands.len() {
+        push_prints(&mut text, node, acts)?;
+        push_end(alloc, &mut text, stands, node, stands[node])?;
+    }
+    Ok(text)
+}
+
+fn deadlocks_part(alloc: Global, stands: &[Stand]) -> Result<Vec<u8>, AllocError>
+    ensures { IfOk result (λ part. part.items ≡ deadlocks_text stands.now) }
+{
+    let mut text = Vec::new(alloc);
+    push_deadlocks(alloc, &mut text, stands)?;
+    Ok(text)
+}
+
+fn parts_of(
+    alloc: Global,
+    told: Vec<u8>,
+    deadlocks: Vec<u8>,
+    groups: Vec<u8>,
+    first_race: Option<usize>,
+) -> Result<Vec<Vec<u8>>, AllocError>
+    ensures { IfOk result (λ parts. whole_text parts.items
+        ≡ told.items ++ deadlocks.items ++ groups.items ++ first_race_text first_race) }
+{
+    let mut parts = Vec::new(alloc);
+    parts.push(told)?;
+    parts.push(deadlocks)?;
+    parts.push(groups)?;
+    parts.push(first_race_part(alloc, first_race)?)?;
+    Ok(parts)
+}
+
+/// What is printed of a run with reasons, in parts: of each node what it printed, how it ended and why; the circles of waiting; the
+/// races by groups; and the first race. The program's statements, and the text's end behind them, have these lines; each node has so
+/// many steps.
+pub fn explain(
+    alloc: Global,
+    code: &Code<'_>,
+    lines: &[u32],
+    nodes: u8,
+    steps: u32,
+    acts: &[Act],
+    first_race: Option<usize>,
+) -> Result<Vec<Vec<u8>>, AllocError>
+    requires { All (λ act. act.node < NODES) acts.now }
+    ensures { IfOk result (λ parts. (pairs : List PairRecord) × AreFirstPairs acts.now pairs
+        × (whole_text parts.items ≡ explain_text code.now nodes lines.now steps acts.now pairs first_race)) }
+{
+    let followed = follow_acts(alloc, code, lines, nodes, acts)?;
+    let stands = stands_of(alloc, &followed, nodes, Some(steps), acts)?;
+    let pairs = first_pairs(alloc, acts)?;
+    let told = nodes_part(alloc, acts, &stands)?;
+    let deadlocks = deadlocks_part(alloc, &stands)?;
+    let groups = groups_part(alloc, acts, &followed.lines, &pairs)?;
+    let parts = parts_of(alloc, told, deadlocks, groups, first_race)?;
+    Ok(parts)
+}
