@@ -50,7 +50,7 @@ fn damage(bytes: &mut Vec<u8>, random: &mut Random) -> Result<(), AllocError> {
             bytes.truncate(rest);
             Ok(())
         }
-        1 => bytes.push(random.byte()),
+        1 => Ok(bytes.push(random.byte())?),
         _ => Ok(()),
     }
 }

@@ -1,6 +1,6 @@
 // Random numbers.
 
-ghost use Rattle.std.specs.Prelude.{◌<◌, length};
+ghost use Rattle.std.specs.Prelude.{◌≤◌};
 
 /// The generator SplitMix64 (Steele, Lea and Flood 2014).
 #[derive(Drop)]
@@ -22,11 +22,13 @@ impl Random {
     }
 
     pub fn byte(&mut self) -> u8 {
-        self.number() as u8
+        (self.number() % 256) as u8
     }
 
     /// A number below this one; 0 below none.
-    pub fn below(&mut self, count: usize) -> usize {
+    pub fn below(&mut self, count: usize) -> usize
+        ensures { result ≤ count }
+    {
         if count == 0 {
             return 0;
         }
