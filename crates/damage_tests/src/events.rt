@@ -15,10 +15,12 @@ use lrc_world::report::Report;
 use lrc_world::simulate::simulate;
 use std::alloc::{AllocError, Global};
 
-const COUNTER: &[u8] = b"words 2; locks 1; i = 0; while i < 2 { acquire 0; x = [0]; [0] = x + 1; release 0; i = i + 1; }
+const COUNTER: &[u8] =
+    b"words 2; locks 1; i = 0; while i < 2 { acquire 0; x = [0]; [0] = x + 1; release 0; i = i + 1; }
     [1] = me; barrier; y = [0]; print y;";
 
-const SHARING: &[u8] = b"words 130; locks 2; [me] = 1; [64 + me] = 2; barrier; x = [0]; acquire 1; [128] = x; release 1;
+const SHARING: &[u8] =
+    b"words 130; locks 2; [me] = 1; [64 + me] = 2; barrier; x = [0]; acquire 1; [128] = x; release 1;
     barrier; y = [65]; z = [128]; print y + z;";
 
 const OPTIONS: [Options; 2] = [
@@ -45,11 +47,7 @@ fn event_of(random: &mut Random) -> Event {
     }
 }
 
-fn events_of(
-    alloc: Global,
-    random: &mut Random,
-    count: usize,
-) -> Result<Vec<Event>, AllocError> {
+fn events_of(alloc: Global, random: &mut Random, count: usize) -> Result<Vec<Event>, AllocError> {
     let mut events = Vec::new(alloc);
     for _ in 0..count {
         events.push(event_of(random))?;
@@ -81,8 +79,10 @@ fn is_as_judged(alloc: Global, report: &Report) -> Result<bool, AllocError> {
     let Some(before) = said.as_slice().strip_suffix(first.as_slice()) else {
         return Ok(false);
     };
-    Ok(before.ends_with(races.as_slice())
-        && before.starts_with(b"well synchronized\nreads lazily\n"))
+    Ok(
+        before.ends_with(races.as_slice())
+            && before.starts_with(b"well synchronized\nreads lazily\n"),
+    )
 }
 
 fn is_fine(
