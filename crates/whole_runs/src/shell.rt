@@ -2,8 +2,6 @@
 
 ghost use Rattle.std.specs.Prelude.{◌≡◌, false, is_some};
 ghost use Rattle.lrc_words.specs.Files.{names_events, starts_threads};
-ghost use Rattle.lrc_words.specs.declared.choice.Choice.TheVariants.{Show};
-ghost use Rattle.lrc_words.specs.declared.choice.Shape.TheVariants.{Report};
 
 use lrc_cli::fault::Fault;
 use lrc_cli::{execute, perform, tell};
@@ -85,13 +83,6 @@ pub const ON_ONE_NODE: RunOptions<'static> = RunOptions {
     size: Size::Words64,
 };
 
-// The report of a run that goes on in this way.
-fn reported(options: RunOptions<'static>, way: Way<'static>) -> Choice<'static>
-    ensures { result ≡ Show (record { options = options; way = way }) Report }
-{
-    Choice::Show(RunChoice { options, way }, Shape::Report)
-}
-
 /// What `sim` makes of a text in this order.
 pub fn simulated(
     alloc: Global,
@@ -99,7 +90,8 @@ pub fn simulated(
     order: Picker,
     text: &[u8],
 ) -> Outcome {
-    let choice = reported(options, Way::Rounds(order));
+    let way = Way::Rounds(order);
+    let choice = Choice::Show(RunChoice { options, way }, Shape::Report);
     performed(alloc, &choice, text, None)
 }
 
@@ -113,7 +105,8 @@ pub fn on_threads<R: Threads + Wait + Sync + AllocGlobal>(
     let alloc = rt.alloc();
     let mut out = Vec::new(alloc);
     let mut err = Vec::new(alloc);
-    let choice = reported(options, Way::Threads(order));
+    let way = Way::Threads(order);
+    let choice = Choice::Show(RunChoice { options, way }, Shape::Report);
     let status = execute(rt, alloc, &choice, text, None, &mut out, &mut err);
     Outcome { out, err, status }
 }
@@ -124,7 +117,8 @@ pub fn played(alloc: Global, nodes: Nodes, text: &[u8], events: &[u8]) -> Outcom
         nodes,
         ..ON_ONE_NODE
     };
-    let choice = reported(options, Way::Events("events"));
+    let way = Way::Events("events");
+    let choice = Choice::Show(RunChoice { options, way }, Shape::Report);
     performed(alloc, &choice, text, Some(events))
 }
 
