@@ -57,9 +57,9 @@ fn events_of(alloc: Global, random: &mut Random, count: usize) -> Result<Vec<Eve
 
 // The acts as a text, each of line 1.
 fn text_of(alloc: Global, acts: &[Act]) -> Result<Vec<u8>, AllocError> {
-    let mut lines = Vec::new(alloc);
-    for _ in 0..acts.len() {
-        lines.push(1)?;
+    let lines = vec![in alloc; 1u32; acts.len()]?;
+    if lines.len() != acts.len() {
+        return Err(AllocError);
     }
     acts_part(alloc, acts, &lines)
 }
