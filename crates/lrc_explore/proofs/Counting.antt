@@ -4,7 +4,7 @@ use Rattle.std.proofs.Common.{length, refl, sym, subst, ◌∙◌, ap, arith, re
 use Rattle.std.specs.Prelude.{Option, Some, None, slice_get, slice_index, slice_set, if◌then◌else◌}
 use Rattle.std.proofs.lemmas.Bool.{cases_lt, cases_eq}
 use Rattle.std.proofs.lemmas.List.{get_or-set_same, get_or-set_other, get_or_past, length-set, length_push}
-use Rattle.std.proofs.lemmas.Option.{same_Some, some_pair_parts, option_and_then_some, slice_get_within}
+use Rattle.std.proofs.lemmas.Option.{same_Some, some_pair_parts, option_and_then_some, get_or_from_slice_get, slice_get_within}
 use Rattle.lrc_lang.specs.declared.program.Program.{Program}
 use Rattle.lrc_trace.specs.declared.act.Deed.{Deed}
 use Rattle.lrc_trace.specs.declared.act.Deed.TheVariants.{Quiet, Print, Read, Write, Acquire, Release, Arrive, Depart, Trap, End}
@@ -19,7 +19,7 @@ use Rattle.lrc_explore.specs.declared.state.State.{State}
 use Rattle.lrc_explore.specs.declared.search.Found.{Found}
 use Rattle.lrc_explore.specs.declared.search.Origin.{Origin}
 use Rattle.lrc_explore.specs.Meeting.{IsReached}
-use Rattle.lrc_explore.specs.States.{plain_at, begun}
+use Rattle.lrc_explore.specs.States.{plain_at, begun, IsState}
 use Rattle.lrc_explore.specs.Search.{Stands, Steps, IsFound}
 use Rattle.lrc_explore.specs.Limit.{AreCounted, HasMoreStates, MeetsMore}
 use Rattle.lrc_explore.proofs.Searching.{stands_one, stands_grown}
@@ -211,5 +211,7 @@ has_more program flat place most first code words locks start m = record {
   states = m.found.states.keys;
   many = m.many;
   distinct = m.distinct;
+  valid = λ k state at. subst (IsState flat) (get_or_from_slice_get m.found.states.keys k state state at)
+      (m.sound.valid k state (slice_get_within m.found.states.keys k state at));
   reached = reached_all program flat m.found m.sound (stands_grown m.grows start);
 }

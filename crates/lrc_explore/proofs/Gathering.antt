@@ -29,7 +29,7 @@ use Rattle.lrc_trace.specs.declared.act.Deed.{Deed}
 use Rattle.lrc_trace.specs.Run.{act_of}
 use Rattle.lrc_theory.proofs.Plainly.{one_more, plain_from-joined}
 use Rattle.lrc_explore.specs.Notes.{noted, notes_of, notes_from}
-use Rattle.lrc_explore.specs.States.{begun, thread_begun, plain_at, IsCopy}
+use Rattle.lrc_explore.specs.States.{begun, thread_begun, plain_at, spot_stopped, IsCopy}
 use Rattle.lrc_explore.specs.Search.{Grows}
 use Rattle.lrc_explore.specs.Outcome.{AreLed, AreSound, AreDone}
 
@@ -120,6 +120,7 @@ copy_state flat a b c s = record {
   arrivals = ap length c.arrivals ∙ s.arrivals;
   spots = ap length c.spots ∙ s.spots;
   within = subst (All (λ (x : Spot). x.place ≤ length flat.code.now)) (sym c.spots) s.within;
+  blank = subst (All (λ (x : Spot). x.stopped ≡ true → x ≡ spot_stopped x.me)) (sym c.spots) s.blank;
 }
 
 -- an order that leads to where no node can make an act has an outcome

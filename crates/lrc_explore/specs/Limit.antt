@@ -10,7 +10,7 @@ use Rattle.lrc_explore.specs.declared.search.ExploreFault.{ExploreFault}
 use Rattle.lrc_explore.specs.declared.search.ExploreFault.TheVariants.{BadNodes, TooMany, NoMemory}
 use Rattle.lrc_explore.specs.contracts.state.StatePartialEq.TheImpl.{eq-value}
 use Rattle.lrc_explore.specs.Meeting.{IsReached}
-use Rattle.lrc_explore.specs.States.{plain_at}
+use Rattle.lrc_explore.specs.States.{plain_at, IsState}
 use Rattle.lrc_explore.specs.Search.{IsFound, Grows}
 
 -- more states than a bound over the program's code, no two of them equal, to each of which some order leads
@@ -23,6 +23,7 @@ pub record HasMoreStates (program : Program) (nodes most : ℕ) : Type 0 where
   pub states : List State
   pub many : most < length states
   pub distinct : IsDistinct eq-value.it states
+  pub valid : (k : ℕ) (state : State) → slice_get states k ≡ Some state → IsState flat state
   pub reached : (k : ℕ) (state : State) → slice_get states k ≡ Some state → IsReached program nodes (plain_at flat state)
 
 -- a search that began with these states met more than a bound
