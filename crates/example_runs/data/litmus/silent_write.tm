@@ -1,5 +1,5 @@
 # Node 1 writes the value that is there already. There is nothing to send, and still the page is named: node 2 reads the right value,
-# and the detector would see a race if the lock were left out.
+# and the detector would see a race if locks and barriers were left out.
 words 1;
 locks 1;
 if me == 0 { acquire 0; [0] = 5; release 0; }
