@@ -1,3 +1,5 @@
+pub mod Ruled
+pub mod Allowed
 pub mod Keeps
 pub mod Numbers
 pub mod Turned

@@ -16,3 +16,4 @@ pub mod Log
 pub mod World
 pub mod Follows
 pub mod Traced
+pub mod Rules

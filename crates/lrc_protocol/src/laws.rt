@@ -13,10 +13,20 @@ ghost use Rattle.lrc_protocol.specs.declared.event.Event.TheVariants.{Run, Deliv
 ghost use Rattle.lrc_protocol.specs.Course.{going, trapped, ended, thread_of};
 ghost use Rattle.lrc_protocol.specs.Mail.{is_idle};
 ghost use Rattle.lrc_protocol.specs.Node.{Node, OptionsRecord};
-ghost use Rattle.lrc_protocol.specs.Turn.{done, not_ready, unexpected, run_turn, take_turn, empty_turn, is_ready, is_addressed, is_repeat};
-ghost use Rattle.lrc_protocol.specs.Log.{Logged, local};
+ghost use Rattle.lrc_protocol.specs.Turn.{TurnRecord, done, not_ready, unexpected, run_turn, take_turn, empty_turn, is_ready, is_addressed, is_repeat};
+ghost use Rattle.lrc_protocol.specs.Log.{Input, Logged, local, outcome_of};
+ghost use Rattle.lrc_protocol.specs.Rules.{TurnRule};
 ghost use Rattle.lrc_protocol.specs.World.{World, Flying, event_on, run_of};
 ghost use Rattle.lrc_protocol.specs.Follows.{MakesTo, inputs_of, turns_of, deeds_in, numbers_to, sent_in};
+
+/// A node makes a turn exactly where one of the protocol's rules has it: where that rule's conditions hold, the turn and
+/// the node after it are what the rule says.
+pub fn turns_are_made_by_the_rules()
+    ensures made { (node : Node) (input : Input) (turn : TurnRecord) (after : Node)
+        → outcome_of node input ≡ done turn after → TurnRule node input turn after }
+    ensures only { (node : Node) (input : Input) (turn : TurnRecord) (after : Node)
+        → TurnRule node input turn after → outcome_of node input ≡ done turn after }
+{}
 
 /// A node that waits, has stopped, or has used its steps before the end of the text is not ready; and a node goes on
 /// when it is named exactly where it is ready.
