@@ -1,3 +1,4 @@
+pub mod Circling
 pub mod Finding
 pub mod Holding
 pub mod Standing

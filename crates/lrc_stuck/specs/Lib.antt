@@ -1,3 +1,4 @@
+pub mod Circle
 pub mod Circles
 pub mod Followed
 pub mod Holder

@@ -4,6 +4,7 @@
 mod circles;
 mod counts;
 mod holder;
+pub mod laws;
 mod missing;
 mod stand;
 mod stuck;
