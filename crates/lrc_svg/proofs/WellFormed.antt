@@ -60,25 +60,25 @@ module _ (reader : Reader) (stays : Stays reader) where
       elim (cases_eq byte 38) [
         | inl is ↦ ap (λ b. reads reader (byte_text b)) is ∙ stays.ampersand
         | inr a ↦ elim (cases_eq byte 60) [
-            | inl is ↦ ap (λ b. reads reader (byte_text b)) is ∙ stays.less
-            | inr l ↦ elim (cases_eq byte 62) [
-                | inl is ↦ ap (λ b. reads reader (byte_text b)) is ∙ stays.greater
-                | inr g ↦ elim (cases_eq byte 34) [
-                    | inl is ↦ ap (λ b. reads reader (byte_text b)) is ∙ stays.quote
-                    | inr q ↦
-                        let no_a = ne_eqb byte 38 a in
-                        let no_l = ne_eqb byte 60 l in
-                        let no_g = ne_eqb byte 62 g in
-                        let no_q = ne_eqb byte 34 q in
-                        elim (cases_Bool (printable byte)) [
-                          | inl shown ↦
-                              ap (reads reader) (by_all byte true no_a no_l no_g no_q shown)
-                              ∙ stays.plain byte no_a no_l no_q (text_byte byte no_g shown)
-                          | inr hidden ↦ ap (reads reader) (by_all byte false no_a no_l no_g no_q hidden) ∙ stays.question
-                        ]
+          | inl is ↦ ap (λ b. reads reader (byte_text b)) is ∙ stays.less
+          | inr l ↦ elim (cases_eq byte 62) [
+            | inl is ↦ ap (λ b. reads reader (byte_text b)) is ∙ stays.greater
+            | inr g ↦ elim (cases_eq byte 34) [
+              | inl is ↦ ap (λ b. reads reader (byte_text b)) is ∙ stays.quote
+              | inr q ↦
+                  let no_a = ne_eqb byte 38 a in
+                  let no_l = ne_eqb byte 60 l in
+                  let no_g = ne_eqb byte 62 g in
+                  let no_q = ne_eqb byte 34 q in
+                  elim (cases_Bool (printable byte)) [
+                    | inl shown ↦
+                        ap (reads reader) (by_all byte true no_a no_l no_g no_q shown)
+                        ∙ stays.plain byte no_a no_l no_q (text_byte byte no_g shown)
+                    | inr hidden ↦ ap (reads reader) (by_all byte false no_a no_l no_g no_q hidden) ∙ stays.question
                   ]
-              ]
+            ]
           ]
+        ]
       ]
 
   stays_behind : (words : List ℕ) → reads reader (escaped words) ≡ reader
