@@ -3,13 +3,13 @@ use Rattle.std.proofs.Common.{◌≡◌, ℕ, ◌+◌, ◌<◌, ◌≤◌, List,
 use Rattle.std.proofs.Common.{zero, suc}
 use Rattle.std.proofs.lemmas.List.FromFn.{length-map-range_with_len}
 use Rattle.lrc_lang.specs.declared.program.Program.{Program}
-use Rattle.std.specs.Prelude.{◌↔◌, Some, All, get_or, slice_get, slice_index, if◌then◌else◌}
+use Rattle.std.specs.Prelude.{◌↔◌, Some, All, get_or, map, slice_get, slice_index, if◌then◌else◌}
 use Rattle.std.proofs.lemmas.Bool.{cases_lt, cases_eq}
-use Rattle.std.proofs.lemmas.List.{length_push, length-map}
-use Rattle.std.proofs.lemmas.Option.{same_Some, slice_get-get_or, some_pair_parts, slice_get_within}
+use Rattle.std.proofs.lemmas.List.{get_or-map, length_push, length-map}
+use Rattle.std.proofs.lemmas.Option.{same_Some, get_or_from_slice_get, slice_get-get_or, some_pair_parts, slice_get_within}
 use Rattle.lrc_trace.proofs.Positions.{slice_get-front, slice_get-seam}
 use Rattle.lrc_explore.specs.States.{IsState}
-use Rattle.lrc_explore.specs.Outcome.{IsLed, CountsUpTo, HasNoted, HasNextBelow, EndsWith, HasOutcome, IsDone, IsDoneAt, IsOutcome}
+use Rattle.lrc_explore.specs.Outcome.{FitsNoted, IsLed, CountsUpTo, HasNoted, HasNextBelow, EndsWith, HasOutcome, IsDone, IsDoneAt, IsOutcome}
 use Rattle.lrc_explore.specs.Stuck.{IsStill}
 use Rattle.lrc_explore.specs.declared.state.State.{State}
 use Rattle.lrc_explore.specs.declared.outcomes.Outcome.{Outcome}
@@ -235,3 +235,31 @@ exact program flat place keys outcomes start first done sound notes = (
       let o = (done has.place has.key within has.there).gathered (subst IsStill (sym has.same) e.still) in
       record { place = o.place; outcome = o.outcome; there = o.there; same = o.same ∙ has.noted ∙ e.are }),
 )
+
+-- a state of the plain machine with notes, and what a state of the search stands for
+abbrev with_notes : Plain → List Act → Plain × List Act
+with_notes machine notes = (machine, notes)
+
+abbrev told : Flat → Noted → Plain × List Act
+told flat key = with_notes (plain_at flat key.state) key.notes.items
+
+-- where all states are done, there are no more than these
+pub fits_noted : (program : Program) (flat : Flat) (place most : ℕ) (keys : List Noted) (outcomes : List Outcome)
+    → begun flat place ≡ plain_start program flat.nodes → HasNoted flat keys (begun flat place) [] → AreDone flat keys outcomes (length keys)
+    → length keys ≤ most → FitsNoted program flat.nodes most
+fits_noted program flat place most keys outcomes start first done few = record {
+  states = map (told flat) keys;
+  few = omega (arith, few, length-map keys (told flat));
+  all = λ order acts machine led.
+      let size : length (begun flat place).threads ≡ flat.nodes = length-map-range_with_len (λ k. Some (thread_begun flat place k)) 0 flat.nodes in
+      let has = noted_all flat keys outcomes done order (begun flat place) [] acts machine size
+      (subst (HasNoted flat keys (begun flat place)) (sym (notes_none flat.nodes 0)) first) (ap (λ m. plain_from m order) start ∙ led) in
+      let within = slice_get_within keys has.place has.key has.there in (
+        has.place,
+        omega (arith, within, length-map keys (told flat)),
+        get_or-map (told flat) keys has.place has.key (with_notes machine (notes_of flat.nodes acts)) within
+            ∙ ap (told flat) (get_or_from_slice_get keys has.place has.key has.key has.there)
+            ∙ ap (λ m. with_notes m has.key.notes.items) has.same
+            ∙ ap (with_notes machine) has.noted,
+      );
+}

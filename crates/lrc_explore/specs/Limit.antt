@@ -1,11 +1,14 @@
 -- What is known of a program whose search met too many states.
-use Rattle.std.specs.Prelude.{◌≡◌, ℕ, ◌<◌, ◌≤◌, List, Some, length, slice_get, slice_index}
+use Rattle.std.specs.Prelude.{◌≡◌, ℕ, ◌<◌, ◌≤◌, List, Some, Contains, length, slice_get, slice_index}
 use Rattle.std.specs.List.{IsDistinct}
 use Rattle.lrc_lang.specs.declared.program.Program.{Program}
+use Rattle.lrc_exec.specs.Plain.{Plain}
 use Rattle.lrc_exec.specs.declared.spot.Flat.{Flat}
 use Rattle.lrc_exec.specs.Flat.{IsCodeOf}
 use Rattle.lrc_explore.specs.declared.state.State.{State}
 use Rattle.lrc_explore.specs.declared.search.Found.{Found}
+use Rattle.lrc_explore.specs.declared.search.End.{End}
+use Rattle.lrc_explore.specs.declared.search.End.TheVariants as end
 use Rattle.lrc_explore.specs.declared.search.ExploreFault.{ExploreFault}
 use Rattle.lrc_explore.specs.declared.search.ExploreFault.TheVariants.{BadNodes, TooMany, NoMemory}
 use Rattle.lrc_explore.specs.contracts.state.StatePartialEq.TheImpl.{eq-value}
@@ -25,6 +28,17 @@ pub record HasMoreStates (program : Program) (nodes most : ℕ) : Type 0 where
   pub distinct : IsDistinct eq-value.it states
   pub valid : (k : ℕ) (state : State) → slice_get states k ≡ Some state → IsState flat state
   pub reached : (k : ℕ) (state : State) → slice_get states k ≡ Some state → IsReached program nodes (plain_at flat state)
+
+-- all states to which some order leads are among so many
+pub record FitsIn (program : Program) (nodes most : ℕ) : Type 0 where
+  pub states : List Plain
+  pub few : length states ≤ most
+  pub all : (machine : Plain) → IsReached program nodes machine → Contains states machine
+
+-- a search that went past all of its states met no more than a bound
+abbrev pub FitsEnd : List State → (most : ℕ) → End → Type 0
+FitsEnd states most (end.Meeting place p q) = Unit {0}
+FitsEnd states most (end.Through stuck) = length states ≤ most
 
 -- a search that began with these states met more than a bound
 pub record MeetsMore (flat : Flat) (first : List State) (most : ℕ) : Type 0 where

@@ -2,7 +2,7 @@
 use Rattle.std.specs.List.{IsDistinct}
 use Rattle.lrc_exec.specs.Flat.{IsCodeOf}
 use Rattle.lrc_explore.specs.contracts.outcomes.NotedPartialEq.TheImpl.{eq-value}
-use Rattle.std.specs.Prelude.{length, ◌≡◌, ℕ, ◌<◌, ◌≤◌, List, Some, slice_get, slice_index}
+use Rattle.std.specs.Prelude.{length, ◌≡◌, ℕ, ◌<◌, ◌≤◌, List, Some, Contains, slice_get, slice_index}
 use Rattle.lrc_lang.specs.declared.program.Program.{Program}
 use Rattle.lrc_trace.specs.declared.act.Act.{Act}
 use Rattle.lrc_trace.specs.declared.act.Deed.{Deed}
@@ -87,6 +87,13 @@ pub record IsCopyAt (flat : Flat) (keys : List Noted) (place : ℕ) (key : Noted
 -- no node has arrived more often than so
 abbrev pub CountsUpTo : (most : ℕ) → Noted → Type 0
 CountsUpTo most key = (node : ℕ) → slice_index key.state.arrivals.items node ≤ most
+
+-- all states to which some order leads, each with what is noted of its acts, are among so many
+pub record FitsNoted (program : Program) (nodes most : ℕ) : Type 0 where
+  pub states : List (Plain × List Act)
+  pub few : length states ≤ most
+  pub all : (order : List ℕ) (acts : List Act) (machine : Plain) → plain_from (plain_start program nodes) order ≡ Some (acts, machine)
+      → Contains states (machine, notes_of nodes acts)
 
 -- a search met more states than a bound, no two of them equal, to each of which some order leads
 pub record MeetsMoreNoted (flat : Flat) (start : Plain) (most : ℕ) : Type 0 where

@@ -3,7 +3,7 @@
 ghost use Rattle.std.specs.Prelude.{◌≡◌, ◌↔◌, List, IfOk, IfErr, Err};
 ghost use Rattle.lrc_trace.specs.declared.act.Act.{Act};
 ghost use Rattle.lrc_explore.specs.Verdict.{AreNodes};
-ghost use Rattle.lrc_explore.specs.Outcome.{HasMoreNoted, HasOutcome, IsOutcome};
+ghost use Rattle.lrc_explore.specs.Outcome.{FitsNoted, HasMoreNoted, HasOutcome, IsOutcome};
 
 use crate::notes::note;
 use crate::search::{ExploreFault, count_of};
@@ -46,6 +46,7 @@ pub fn outcomes(
     ensures exact { IfOk result (λ found. (notes : List Act) → (HasOutcome found.keys notes ↔ IsOutcome program.now nodes notes)) }
     ensures bad_nodes { (result ≡ Err ExploreFault.BadNodes) ↔ (¬ AreNodes nodes) }
     ensures too_many { IfErr result (λ fault. fault ≡ ExploreFault.TooMany → HasMoreNoted program.now nodes most) }
+    ensures fits { IfOk result (λ _. FitsNoted program.now nodes most) }
 {
     let nodes = count_of(nodes)?;
     let code = Code::new(alloc, program)?;
@@ -146,6 +147,7 @@ impl Gathered {
         ensures led { OnOk result (AreLed flat.now (begun flat.now start) self.new.states.keys) }
         ensures sound { OnOk result (AreSound flat.now (begun flat.now start) self.new.outcomes.keys) }
         ensures done { OnOk result (AreDone flat.now self.new.states.keys self.new.outcomes.keys (length self.new.states.keys)) }
+        ensures fits { OnOk result (length self.new.states.keys ≤ most) }
         ensures nodes { IfErr result (λ fault. fault ≢ ExploreFault.BadNodes) }
         ensures faults { IfErr result (λ fault. fault ≡ ExploreFault.TooMany → MeetsMoreNoted flat.now (begun flat.now start) most) }
     {

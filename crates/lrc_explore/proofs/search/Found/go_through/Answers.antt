@@ -12,26 +12,29 @@ loop-place-preserved c =
     let new = c.visit.new.self in
     let place = c.loop-place.place in
     let lt : place < length old.states.keys = omega (arith, c.loop-place-test.true, c.len.ensures.len) in
-    elim c.match-branch-2.branch [
-      | in-Stuck w ↦
-          going_stuck flat first old new place c.loop-place.stuck c.loop-place.invariant c.in_ok-p.ensures.found
-          c.in_ok-p.ensures.counted c.in_ok-p.ensures.grows lt
-          c.match-branch-2.stuck (w.stuck-is ∙ w.or-stuck.ensures) (subst (IsVisit flat new.states.keys place) w.in-Stuck.is c.in_ok-p.ensures.visit)
-      | in-Past w ↦
-          subst (Going flat first new (place + 1)) (sym w.stuck-is)
-          (going_past flat first old new place c.loop-place.stuck c.loop-place.invariant c.in_ok-p.ensures.found
-          c.in_ok-p.ensures.counted c.in_ok-p.ensures.grows lt
-          (subst (IsVisit flat new.states.keys place) w.in-Past.is c.in_ok-p.ensures.visit))
-    ]
+    (
+      elim c.match-branch-2.branch [
+        | in-Stuck w ↦
+            going_stuck flat first old new place c.loop-place.stuck c.loop-place.invariant.0 c.in_ok-p.ensures.found
+            c.in_ok-p.ensures.counted c.in_ok-p.ensures.grows lt
+            c.match-branch-2.stuck (w.stuck-is ∙ w.or-stuck.ensures) (subst (IsVisit flat new.states.keys place) w.in-Stuck.is c.in_ok-p.ensures.visit)
+        | in-Past w ↦
+            subst (Going flat first new (place + 1)) (sym w.stuck-is)
+            (going_past flat first old new place c.loop-place.stuck c.loop-place.invariant.0 c.in_ok-p.ensures.found
+            c.in_ok-p.ensures.counted c.in_ok-p.ensures.grows lt
+            (subst (IsVisit flat new.states.keys place) w.in-Past.is c.in_ok-p.ensures.visit))
+      ],
+      (λ le. omega (arith, le, c.if-len-most.false, c.len-in-loop-place.ensures.len, c.loop-place-test.true, c.len.ensures.len)),
+    )
 
 pub returns-clause-end : goal.returns-clause-end
 returns-clause-end c =
-    gone_through c.args.flat.now c.args.self.now.states.keys c.loop-place.self c.loop-place.place c.loop-place.stuck c.loop-place.invariant
+    gone_through c.args.flat.now c.args.self.now.states.keys c.loop-place.self c.loop-place.place c.loop-place.stuck c.loop-place.invariant.0
     (omega (arith, c.loop-place-test.false, c.len.ensures.len))
 
 pub returns-then-len-most-clause-faults : goal.returns-then-len-most-clause-faults
 returns-then-len-most-clause-faults c =
-    let i = c.loop-place.invariant in
+    let i = c.loop-place.invariant.0 in
     record {
       found = c.loop-place.self;
       sound = i.sound;
@@ -39,3 +42,6 @@ returns-then-len-most-clause-faults c =
       many = omega (arith, c.if-len-most.true, c.len-in-loop-place.ensures.len);
       distinct = c.len-in-loop-place.ensures.unique;
     }
+
+pub returns-clause-fits : goal.returns-clause-fits
+returns-clause-fits c = c.loop-place.invariant.1 (omega (arith, c.loop-place-test.false, c.len.ensures.len))

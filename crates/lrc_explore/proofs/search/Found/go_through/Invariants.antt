@@ -1,10 +1,11 @@
--- The states before the place are expanded.
-use Rattle.std.proofs.Common.{◌-◌}
+-- The states before the place are expanded; past all of them there are no more than there may be.
+use Rattle.std.proofs.Common.{◌≤◌, ◌-◌, length}
 use Rattle.lrc_explore.proofs.Exploring.{Going}
 use Rattle.lrc_explore.proofs.search.Found.go_through.Given as goal
 
 abbrev pub invariant-loop-place : goal.invariant-loop-place
-invariant-loop-place l = Going l.flat l.initial.self.states.keys l.self l.place l.stuck
+invariant-loop-place l =
+    Going l.flat l.initial.self.states.keys l.self l.place l.stuck × (length l.self.states.keys ≤ l.place → length l.self.states.keys ≤ l.most)
 
 abbrev pub decreases-loop-place : goal.decreases-loop-place
 decreases-loop-place l = l.most - l.place

@@ -2,11 +2,12 @@ use Rattle.std.proofs.Common.{◌≡◌, ◌∙◌, [], ◌∷◌, ◌++◌, ap,
 use Rattle.std.specs.Prelude.{Some, None}
 use Rattle.lrc_explore.specs.declared.search.End.TheVariants.{Meeting, Through}
 use Rattle.lrc_explore.specs.Search.{IsEnd}
-use Rattle.lrc_explore.proofs.Exploring.{none_races, none_stuck, gets_stuck, leads_to_race}
+use Rattle.lrc_explore.specs.Limit.{FitsEnd}
+use Rattle.lrc_explore.proofs.Exploring.{fits_in, none_races, none_stuck, gets_stuck, leads_to_race}
 use Rattle.lrc_explore.proofs.search.Found.verdict.Goals as goal
 
-pub returns-in_ok-push-in-Meeting-2 : goal.returns-in_ok-push-in-Meeting-2
-returns-in_ok-push-in-Meeting-2 c = λ program start.
+pub returns-in_ok-push-in-Meeting-2-clause-verdict : goal.returns-in_ok-push-in-Meeting-2-clause-verdict
+returns-in_ok-push-in-Meeting-2-clause-verdict c = λ program start.
     let flat = c.args.flat.now in
     let keys = c.args.self.now.states.keys in
     let place = c.in-Meeting.place in
@@ -18,8 +19,8 @@ returns-in_ok-push-in-Meeting-2 c = λ program start.
     leads_to_race program flat keys start place path c.in_ok-order-in-Meeting.ensures p q c.push-in-Meeting.new.self.items
     (c.in_ok-push-in-Meeting-2.ensures.items ∙ ap (λ l. l ++ q ∷ []) c.in_ok-push-in-Meeting.ensures.items ∙ append_assoc path (p ∷ []) (q ∷ [])) end
 
-pub returns-in_ok-order-in-Through-Some : goal.returns-in_ok-order-in-Through-Some
-returns-in_ok-order-in-Through-Some c = λ program start.
+pub returns-in_ok-order-in-Through-Some-clause-verdict : goal.returns-in_ok-order-in-Through-Some-clause-verdict
+returns-in_ok-order-in-Through-Some-clause-verdict c = λ program start.
     let flat = c.args.flat.now in
     let keys = c.args.self.now.states.keys in
     let place = c.in-Through-Some.place in
@@ -30,11 +31,33 @@ returns-in_ok-order-in-Through-Some c = λ program start.
       gets_stuck program flat keys start place c.in_ok-order-in-Through-Some.order.items c.in_ok-order-in-Through-Some.ensures end.1,
     )
 
-pub returns-in-Through-None : goal.returns-in-Through-None
-returns-in-Through-None c = λ program start.
+pub returns-in-Through-None-clause-verdict : goal.returns-in-Through-None-clause-verdict
+returns-in-Through-None-clause-verdict c = λ program start.
     let flat = c.args.flat.now in
     let keys = c.args.self.now.states.keys in
     let none : c.in-Through-None.stuck ≡ None = rw c.in-Through-None.is at c.in-Through-None.stuck-is in
     let is : c.args.end ≡ Through None = c.in-Through-None.is ∙ ap Through none in
     let end : IsEnd flat keys (Through None) = subst (IsEnd flat keys) is c.requires.end in
     (none_races program flat keys start end.0, none_stuck program flat keys start end.0 end.1)
+
+pub returns-in_ok-push-in-Meeting-2-clause-fits : goal.returns-in_ok-push-in-Meeting-2-clause-fits
+returns-in_ok-push-in-Meeting-2-clause-fits c = λ program most start few free. absurd free
+
+pub returns-in_ok-order-in-Through-Some-clause-fits : goal.returns-in_ok-order-in-Through-Some-clause-fits
+returns-in_ok-order-in-Through-Some-clause-fits c = λ program most start few free.
+    let flat = c.args.flat.now in
+    let keys = c.args.self.now.states.keys in
+    let place = c.in-Through-Some.place in
+    let found : c.in-Through-Some.stuck ≡ Some place = rw c.in-Through-Some.is at c.in-Through-Some.stuck-is in
+    let is : c.args.end ≡ Through (Some place) = c.in-Through-Some.is ∙ ap Through found in
+    let end : IsEnd flat keys (Through (Some place)) = subst (IsEnd flat keys) is c.requires.end in
+    fits_in program flat keys start most end.0 (subst (FitsEnd keys most) is few)
+
+pub returns-in-Through-None-clause-fits : goal.returns-in-Through-None-clause-fits
+returns-in-Through-None-clause-fits c = λ program most start few free.
+    let flat = c.args.flat.now in
+    let keys = c.args.self.now.states.keys in
+    let none : c.in-Through-None.stuck ≡ None = rw c.in-Through-None.is at c.in-Through-None.stuck-is in
+    let is : c.args.end ≡ Through None = c.in-Through-None.is ∙ ap Through none in
+    let end : IsEnd flat keys (Through None) = subst (IsEnd flat keys) is c.requires.end in
+    fits_in program flat keys start most end.0 (subst (FitsEnd keys most) is few)
