@@ -1,3 +1,4 @@
+pub mod Earlier
 mod Counting
 mod Held
 mod Left

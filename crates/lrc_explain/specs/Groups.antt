@@ -1,5 +1,5 @@
 -- The races of a run by groups: those whose first pairs are of the same lines and kinds.
-use Rattle.std.specs.Prelude.{ℕ, Bool, true, false, List, [], ◌++◌, Option, Some, None, codes, count_by, decimal, if◌then◌else◌, take}
+use Rattle.std.specs.Prelude.{ℕ, ◌<◌, Bool, true, false, List, [], ◌++◌, Option, Some, None, codes, count_by, decimal, if◌then◌else◌, length, take}
 use Rattle.std.specs.List.{list_any}
 use Rattle.std.specs.Ordering.{eq_by_cmp}
 use Rattle.lrc_trace.specs.declared.act.Act.{Act}
@@ -13,6 +13,11 @@ use Rattle.lrc_explain.specs.Site.{act_at, site_cmp, site_of}
 -- whether a pair is of this site
 abbrev pub is_of : List Act → (lines : List ℕ) → Site → Pair → Bool
 is_of acts lines site pair = eq_by_cmp site_cmp (site_of acts lines pair) site
+
+-- both positions of a pair are those of acts
+pub record IsWithin (acts : List Act) (pair : Pair) : Type 0 where
+  pub earlier : pair.earlier < length acts
+  pub later : pair.later < length acts
 
 -- the kind of an access that writes, or not
 abbrev pub kind_text : Bool → List ℕ

@@ -1,4 +1,5 @@
 pub mod Access
+pub mod Before
 pub mod Explain
 pub mod Groups
 pub mod Held

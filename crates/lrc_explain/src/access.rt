@@ -1,57 +1,16 @@
 // An access in words.
 
-ghost use Rattle.std.specs.Prelude.{◌≡◌, ◌+◌, ◌++◌, OnOk, take};
-ghost use Rattle.lrc_trace.specs.Run.{count_of};
-ghost use Rattle.lrc_trace.specs.Interval.{closes};
-ghost use Rattle.lrc_explain.specs.Access.{access_of, access_text, access_words, interval_words, left_in};
-ghost use Rattle.lrc_explain.specs.Access.{node_words, place_words, reads_words, stored, unless_last};
+ghost use Rattle.std.specs.Prelude.{◌≡◌, ◌<◌, ◌++◌, List, OnOk, length};
+ghost use Rattle.lrc_trace.specs.declared.act.Act.{Act as ActRecord};
+ghost use Rattle.lrc_judge.specs.Races.{word_of};
+ghost use Rattle.lrc_explain.specs.Access.{access_text, access_words, interval_words, left_in, node_words};
+ghost use Rattle.lrc_explain.specs.Access.{place_words, reads_words, unless_last};
+ghost use Rattle.lrc_explain.specs.Before.{IsBefore};
 
-use crate::site::act_at;
+use crate::before::Before;
 use lrc_text::push_number;
 use lrc_trace::act::{Act, Deed};
 use std::alloc::AllocError;
-
-fn stored(word: u32, value: u64, deed: Deed) -> u64
-    ensures { result ≡ stored word value deed }
-{
-    match deed {
-        Deed::Write(written, new) => { if written == word { new } else { value } }
-        _ => value,
-    }
-}
-
-// What acts leave in a word.
-fn left_in(word: u32, acts: &[Act]) -> u64
-    ensures { result ≡ left_in word acts.now }
-{
-    let mut value = 0;
-    for act in acts {
-        value = stored(word, value, act.deed);
-    }
-    value
-}
-
-fn closes(deed: Deed) -> bool
-    ensures { result ≡ closes deed }
-{
-    matches!(deed, Deed::Acquire(_) | Deed::Release(_) | Deed::Arrive)
-}
-
-// How many intervals acts end of a node.
-fn closed_by(node: u8, acts: &[Act]) -> usize
-    ensures { result ≡ count_of closes node acts.now }
-{
-    acts.iter()
-        .filter(|act| act.node == node && closes(act.deed))
-        .count()
-}
-
-// The interval of a node behind these acts.
-fn interval_after(node: u8, acts: &[Act]) -> u64
-    ensures { result ≡ 1 + count_of closes node acts.now }
-{
-    1 + closed_by(node, acts) as u64
-}
 
 pub(crate) fn push_node(text: &mut Vec<u8>, number: u64) -> Result<(), AllocError>
     ensures { OnOk result (text.new.items ≡ text.old.items ++ node_words number) }
@@ -87,55 +46,35 @@ fn push_read(text: &mut Vec<u8>, value: u64, last: u64) -> Result<(), AllocError
     text.extend_from_slice(b")")
 }
 
-// Adds what a deed did with its word, behind these acts.
-fn push_words(text: &mut Vec<u8>, before: &[Act], deed: Deed) -> Result<(), AllocError>
-    ensures { OnOk result (text.new.items ≡ text.old.items ++ access_words before.now deed) }
+// Adds what a deed did with its word, in which the acts before leave this value.
+fn push_words(text: &mut Vec<u8>, left: u64, deed: Deed) -> Result<(), AllocError>
+    ensures { (before : List ActRecord) → left ≡ left_in (word_of deed) before
+        → OnOk result (text.new.items ≡ text.old.items ++ access_words before deed) }
 {
     match deed {
-        Deed::Read(word, value) => {
+        Deed::Read(_, value) => {
             push_reads(text, value)?;
-            push_read(text, value, left_in(word, before))
+            push_read(text, value, left)
         }
         Deed::Write(_, value) => push_number(text, b" writes ", value),
         _ => Ok(()),
     }
 }
 
-// The acts before a position.
-#[tactic(auto, using(std::proofs::lemmas::List::take_all))]
-fn before(acts: &[Act], position: usize) -> &[Act]
-    ensures { result.now ≡ take position acts.now }
-{
-    if position < acts.len() {
-        &acts[..position]
-    } else {
-        acts
-    }
-}
-
-// Adds an access at a position.
-fn push_access_of(
-    text: &mut Vec<u8>,
-    acts: &[Act],
-    position: usize,
-    act: Act,
-) -> Result<(), AllocError>
-    ensures { OnOk result (text.new.items ≡ text.old.items ++ access_of acts.now position act) }
-{
-    let earlier = before(acts, position);
-    push_node(text, u64::from(act.node))?;
-    push_interval(text, interval_after(act.node, earlier))?;
-    push_place(text, position as u64)?;
-    push_words(text, earlier, act.deed)
-}
-
 /// Adds the access at a position.
 pub(crate) fn push_access(
     text: &mut Vec<u8>,
     acts: &[Act],
+    before: &Before,
     position: usize,
 ) -> Result<(), AllocError>
+    requires within { position < length acts.now }
+    requires before { IsBefore acts.now before.now }
     ensures { OnOk result (text.new.items ≡ text.old.items ++ access_text acts.now position) }
 {
-    push_access_of(text, acts, position, act_at(acts, position))
+    let act = acts[position];
+    push_node(text, u64::from(act.node))?;
+    push_interval(text, before.intervals[position])?;
+    push_place(text, position as u64)?;
+    push_words(text, before.lefts[position], act.deed)
 }

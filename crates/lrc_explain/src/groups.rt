@@ -1,18 +1,20 @@
 // Races by groups: those whose first pairs are of the same lines and kinds.
 
-ghost use Rattle.std.specs.Prelude.{◌≡◌, ◌++◌, count_by, unwrap_or, IfOk, OnOk};
+ghost use Rattle.std.specs.Prelude.{◌≡◌, ◌<◌, ◌++◌, count_by, unwrap_or, All, IfOk, OnOk};
 ghost use Rattle.std.specs.BTreeMap.{get};
 ghost use Rattle.lrc_explain.specs.declared.site.Site.{Site as SiteRecord};
-ghost use Rattle.lrc_explain.specs.Groups.{count_words, group_if, group_text, groups_text, is_of};
+ghost use Rattle.lrc_explain.specs.Groups.{count_words, group_if, group_text, groups_text, is_of, IsWithin};
 ghost use Rattle.lrc_explain.specs.Groups.{kind_text, later_line_words, line_words, pair_text, site_line, word_words};
-ghost use Rattle.lrc_judge.specs.Races.{word_of};
+ghost use Rattle.lrc_judge.specs.declared.TheConstants.{NODES};
+ghost use Rattle.lrc_explain.specs.Before.{IsBefore};
 ghost use Rattle.lrc_explain.specs.Site.{site_cmp};
 
 use crate::access::push_access;
+use crate::before::{Before, word_of};
 use crate::site::{Site, act_at, site_of};
 use lrc_judge::first_pairs::Pair;
 use lrc_text::push_number;
-use lrc_trace::act::{Act, Deed};
+use lrc_trace::act::Act;
 use std::alloc::{AllocError, Global};
 use std::collections::BTreeMap;
 
@@ -87,25 +89,22 @@ fn push_site(text: &mut Vec<u8>, site: Site, count: u64) -> Result<(), AllocErro
     text.extend_from_slice(b"\n")
 }
 
-// The word of an access; of another deed 0.
-fn word_of(deed: Deed) -> u32
-    ensures { result ≡ word_of deed }
-{
-    match deed {
-        Deed::Read(word, _) | Deed::Write(word, _) => word,
-        _ => 0,
-    }
-}
-
-fn push_pair(text: &mut Vec<u8>, acts: &[Act], pair: Pair) -> Result<(), AllocError>
+fn push_pair(
+    text: &mut Vec<u8>,
+    acts: &[Act],
+    before: &Before,
+    pair: Pair,
+) -> Result<(), AllocError>
+    requires within { IsWithin acts.now pair }
+    requires before { IsBefore acts.now before.now }
     ensures { OnOk result (text.new.items ≡ text.old.items ++ pair_text acts.now pair) }
 {
     let word = word_of(act_at(acts, pair.later).deed);
     push_word(text, u64::from(word))?;
     text.extend_from_slice(b": ")?;
-    push_access(text, acts, pair.earlier)?;
+    push_access(text, acts, before, pair.earlier)?;
     text.extend_from_slice(b", ")?;
-    push_access(text, acts, pair.later)?;
+    push_access(text, acts, before, pair.later)?;
     text.extend_from_slice(b"\n")
 }
 
@@ -113,28 +112,34 @@ fn push_pair(text: &mut Vec<u8>, acts: &[Act], pair: Pair) -> Result<(), AllocEr
 fn push_group(
     text: &mut Vec<u8>,
     acts: &[Act],
+    before: &Before,
     lines: &[u32],
     pair: Pair,
     count: u64,
 ) -> Result<(), AllocError>
+    requires within { IsWithin acts.now pair }
+    requires before { IsBefore acts.now before.now }
     ensures { OnOk result (text.new.items ≡ text.old.items ++ group_text acts.now lines.now pair count) }
 {
     push_site(text, site_of(acts, lines, pair), count)?;
-    push_pair(text, acts, pair)
+    push_pair(text, acts, before, pair)
 }
 
 // The same, if there is such a number.
 fn push_group_if(
     text: &mut Vec<u8>,
     acts: &[Act],
+    before: &Before,
     lines: &[u32],
     pair: Pair,
     count: Option<u64>,
 ) -> Result<(), AllocError>
+    requires within { IsWithin acts.now pair }
+    requires before { IsBefore acts.now before.now }
     ensures { OnOk result (text.new.items ≡ text.old.items ++ group_if acts.now lines.now pair count) }
 {
     match count {
-        Some(count) => push_group(text, acts, lines, pair, count),
+        Some(count) => push_group(text, acts, before, lines, pair, count),
         None => Ok(()),
     }
 }
@@ -146,15 +151,18 @@ pub(crate) fn groups_part(
     lines: &[u32],
     pairs: &[Pair],
 ) -> Result<Vec<u8>, AllocError>
+    requires nodes { All (λ act. act.node < NODES) acts.now }
+    requires within { All (IsWithin acts.now) pairs.now }
     ensures { IfOk result (λ part. part.items ≡ groups_text acts.now lines.now pairs.now) }
 {
+    let before = Before::of(alloc, acts)?;
     let mut counts = counts_of(alloc, acts, lines, pairs)?;
     let mut text = Vec::new(alloc);
     for at in 0..pairs.len() {
         let pair = pairs[at];
         let site = site_of(acts, lines, pair);
         let count = counts.remove(&site);
-        push_group_if(&mut text, acts, lines, pair, count)?;
+        push_group_if(&mut text, acts, &before, lines, pair, count)?;
     }
     Ok(text)
 }

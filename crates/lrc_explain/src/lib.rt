@@ -2,6 +2,7 @@
 #![tactic(auto)]
 
 mod access;
+mod before;
 mod groups;
 pub mod laws;
 mod site;

@@ -1,5 +1,5 @@
 -- The parts are those of the nodes' stands and of the first pairs.
-use Rattle.std.proofs.Common.{◌≡◌, ◌∙◌, ◌++◌, List, Some, ap}
+use Rattle.std.proofs.Common.{◌≡◌, ◌∙◌, ◌++◌, All, List, Some, ap, subst, sym}
 use Rattle.lrc_judge.specs.declared.lanes.Pair.{Pair}
 use Rattle.lrc_lines.specs.Walks.{lines_of}
 use Rattle.lrc_stuck.specs.declared.stand.Stand.{Stand}
@@ -8,8 +8,14 @@ use Rattle.lrc_stuck.specs.Followed.{AreFollowed}
 use Rattle.lrc_stuck.specs.Stand.{stands_of}
 use Rattle.lrc_text.specs.RaceText.{first_race_text}
 use Rattle.lrc_explain.specs.Explain.{nodes_text}
-use Rattle.lrc_explain.specs.Groups.{groups_text}
+use Rattle.lrc_explain.specs.Groups.{groups_text, IsWithin}
+use Rattle.lrc_explain.proofs.Earlier.{pairs_within}
 use Rattle.lrc_explain.proofs.whole.explain.Goals as goal
+
+pub groups_part-requires-clause-within : goal.groups_part-requires-clause-within
+groups_part-requires-clause-within c =
+    subst (λ (pairs : List Pair). All (IsWithin c.args.acts.now) pairs) (sym c.deref-4.ensures.value)
+    (pairs_within c.args.acts.now c.in_ok-pairs.pairs.items c.in_ok-pairs.ensures)
 
 pub returns : goal.returns
 returns c =
