@@ -1,11 +1,12 @@
 -- What stands in an element, as a row and as a list.
-use Rattle.std.proofs.Common.{◌≡◌, ◌∙◌, ◌++◌, ℕ, List, [], ◌∷◌, ap, append_assoc, refl, sym}
+use Rattle.std.proofs.Common.{◌≡◌, ◌∙◌, ◌++◌, ℕ, List, ap, append_assoc, refl, sym}
 use Rattle.std.specs.Prelude.{Result, Ok, Err, OnOk}
 use Rattle.std.specs.List.{flat_map}
 use Rattle.lrc_svg.specs.declared.element.Attribute.{Attribute}
-use Rattle.lrc_svg.specs.declared.element.Content.{Content, Row_of-Content, end_of-Content, more_of-Content, items-the_row-Content, items_hidden-the_row-Content-0}
+use Rattle.lrc_svg.specs.declared.element.Content.{Content, Row_of-Content, end_of-Content, more_of-Content}
+use Rattle.lrc_svg.specs.declared.element.Content.{items-the_row-Content, items_hidden-the_row-Content-0}
 use Rattle.lrc_svg.specs.declared.element.Content.TheBlock.{hidden-the_row-Content-0}
-use Rattle.lrc_svg.specs.declared.element.Content.TheVariants.{Text, Element, Element'}
+use Rattle.lrc_svg.specs.declared.element.Content.TheVariants.{Text, Element}
 use Rattle.lrc_svg.specs.Texts.{close_text, content_text, escaped, open_text, row_text}
 
 row_is : (n : _) (row : Row_of-Content n) → row_text row ≡ flat_map content_text (items-the_row-Content n row)
@@ -23,8 +24,8 @@ pub element_is : (c : Content) (tag : _) (a v : _) → c ≡ Element tag a v
 element_is c tag a v is = ap content_text is ∙ ap (λ l. (open_text tag a.items ++ l) ++ close_text tag) (rows_are v)
 
 -- an element is written: what it begins with, what stands in it, and what it ends with
-pub element_pushed : (c : Content) (tag : _) (a v : _) (before begun filled ended : List ℕ) (attributes : List Attribute) (contents : List Content)
-    → c ≡ Element tag a v → attributes ≡ a.items → contents ≡ v.items → begun ≡ before ++ open_text tag attributes
+pub element_pushed : (c : Content) (tag : _) (a v : _) (before begun filled ended : List ℕ)
+    (attributes : List Attribute) (contents : List Content) → c ≡ Element tag a v → attributes ≡ a.items → contents ≡ v.items → begun ≡ before ++ open_text tag attributes
     → filled ≡ begun ++ flat_map content_text contents → ended ≡ filled ++ close_text tag → ended ≡ before ++ content_text c
 element_pushed c tag a v before begun filled ended attributes contents is first second opening filling ending =
     let head = open_text tag a.items in

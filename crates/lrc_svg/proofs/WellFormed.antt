@@ -1,5 +1,5 @@
 -- The text of a picture is read to its end.
-use Rattle.std.proofs.Common.{◌≡◌, ◌∙◌, ◌++◌, ℕ, List, [], ◌∷◌, Bool, true, false, ap, append_assoc, fold, refl, sym, inl, inr}
+use Rattle.std.proofs.Common.{◌≡◌, ◌∙◌, ◌++◌, ℕ, List, [], ◌∷◌, Bool, true, false, ap, append_assoc, fold, refl, inl, inr}
 use Rattle.std.specs.Prelude.{codes, cond, ◌==◌, ◌&&◌, nat_le}
 use Rattle.std.specs.List.{flat_map}
 use Rattle.std.proofs.lemmas.Bool.{cases_Bool, cases_eq, ne_eqb}
@@ -12,8 +12,10 @@ use Rattle.lrc_svg.specs.declared.name.Tag.TheVariants as tags
 use Rattle.lrc_svg.specs.declared.name.Key.{Key}
 use Rattle.lrc_svg.specs.declared.name.Key.TheVariants as keys
 use Rattle.lrc_svg.specs.Names.{key_word, tag_word}
-use Rattle.lrc_svg.specs.Reading.{Reader, begun, broken, done, inside, is_text_byte, key, naming, reads, sign, start, step, value, value_sign, valued}
-use Rattle.lrc_svg.specs.Texts.{attribute_text, attributes_text, byte_text, close_text, content_text, document_text, escaped, open_text, row_text}
+use Rattle.lrc_svg.specs.Reading.{Reader, begun, broken, done, inside, is_text_byte, key, naming, reads, sign, start, step}
+use Rattle.lrc_svg.specs.Reading.{value, value_sign, valued}
+use Rattle.lrc_svg.specs.Texts.{attribute_text, attributes_text, byte_text, close_text, content_text, document_text, escaped}
+use Rattle.lrc_svg.specs.Texts.{open_text, row_text}
 
 fold_append : {A B : Type 0} (f : B → A → B) (from : B) (a b : List A) → fold f from (a ++ b) ≡ fold f (fold f from a) b
 fold_append f from [] b = refl
@@ -106,7 +108,8 @@ stays_value around name = record {
   quote = refl;
   question = refl;
   plain = λ byte a l q is.
-      ap (λ x. cond x (valued around name) (cond (byte == 60) broken (cond (byte == 38) (value_sign around name []) (cond (is_text_byte byte) (value around name) broken)))) q
+      ap (λ x. cond x (valued around name)
+      (cond (byte == 60) broken (cond (byte == 38) (value_sign around name []) (cond (is_text_byte byte) (value around name) broken)))) q
       ∙ ap (λ x. cond x broken (cond (byte == 38) (value_sign around name []) (cond (is_text_byte byte) (value around name) broken))) l
       ∙ ap (λ x. cond x (value_sign around name []) (cond (is_text_byte byte) (value around name) broken)) a
       ∙ ap (λ x. cond x (value around name) broken) is;
@@ -156,7 +159,8 @@ closed_root tags.Line = refl
 closed_root tags.Path = refl
 closed_root tags.Label = refl
 
-closed_inside : (t : Tag) (next : List ℕ) (around : List (List ℕ)) → reads (inside (tag_word t ∷ next ∷ around)) (close_text t) ≡ inside (next ∷ around)
+closed_inside : (t : Tag) (next : List ℕ) (around : List (List ℕ))
+    → reads (inside (tag_word t ∷ next ∷ around)) (close_text t) ≡ inside (next ∷ around)
 unfolding tag_word
 closed_inside tags.Picture next around = refl
 closed_inside tags.Hint next around = refl
@@ -197,7 +201,8 @@ begun_read : (t : Tag) (all : List Attribute) (around : List (List ℕ))
     → reads (begun around) ((tag_word t ++ attributes_text all) ++ codes ">") ≡ inside (tag_word t ∷ around)
 begun_read t all around =
     ap (reads (begun around)) (append_assoc (tag_word t) (attributes_text all) (codes ">"))
-    ∙ after (begun around) (naming around (tag_word t)) (inside (tag_word t ∷ around)) (tag_word t) (attributes_text all ++ codes ">") (tag_read t around)
+    ∙ after (begun around) (naming around (tag_word t)) (inside (tag_word t ∷ around)) (tag_word t) (attributes_text all ++ codes ">")
+    (tag_read t around)
     (attributes_read around (tag_word t) (naming around (tag_word t)) (record { blank = refl; end = refl }) all)
 
 opened_inside : (t : Tag) (all : List Attribute) (around : List (List ℕ)) → reads (inside around) (open_text t all) ≡ inside (tag_word t ∷ around)
@@ -207,7 +212,8 @@ opened_root : (t : Tag) (all : List Attribute) → reads start (open_text t all)
 opened_root t all = begun_read t all []
 
 mutual
-  content_read : (c : Content) (top : List ℕ) (around : List (List ℕ)) → reads (inside (top ∷ around)) (content_text c) ≡ inside (top ∷ around)
+  content_read : (c : Content) (top : List ℕ) (around : List (List ℕ))
+      → reads (inside (top ∷ around)) (content_text c) ≡ inside (top ∷ around)
   content_read (Text words) top around = stays_behind (inside (top ∷ around)) (stays_inside (top ∷ around)) words.items
   content_read (Element' tag attributes shape row) top around =
       let now = inside (top ∷ around) in
@@ -217,7 +223,8 @@ mutual
       (opened_inside tag attributes.items (top ∷ around)) (row_read row (tag_word tag) (top ∷ around)))
       (closed_inside tag top around)
 
-  row_read : {m : _} (row : Row_of-Content m) (top : List ℕ) (around : List (List ℕ)) → reads (inside (top ∷ around)) (row_text row) ≡ inside (top ∷ around)
+  row_read : {m : _} (row : Row_of-Content m) (top : List ℕ) (around : List (List ℕ))
+      → reads (inside (top ∷ around)) (row_text row) ≡ inside (top ∷ around)
   row_read end_of-Content top around = refl
   row_read (more_of-Content first more) top around =
       after (inside (top ∷ around)) (inside (top ∷ around)) (inside (top ∷ around)) (content_text first) (row_text more)

@@ -34,7 +34,8 @@ pub data Reader : Type 0 where
 
 -- a letter, a digit or a hyphen
 abbrev pub is_name_byte : ℕ → Bool
-is_name_byte byte = (nat_le 97 byte && nat_le byte 122) || ((nat_le 65 byte && nat_le byte 90) || ((nat_le 48 byte && nat_le byte 57) || (byte == 45)))
+is_name_byte byte =
+    (nat_le 97 byte && nat_le byte 122) || ((nat_le 65 byte && nat_le byte 90) || ((nat_le 48 byte && nat_le byte 57) || (byte == 45)))
 
 -- a byte that may stand for itself in a text: printable ASCII, and no `>`
 abbrev pub is_text_byte : ℕ → Bool
@@ -48,7 +49,8 @@ same_name (a ∷ first) (b ∷ second) = (a == b) && same_name first second
 
 -- the names of the signs
 abbrev pub is_sign : List ℕ → Bool
-is_sign name = same_name name (codes "amp") || (same_name name (codes "lt") || (same_name name (codes "gt") || same_name name (codes "quot")))
+is_sign name =
+    same_name name (codes "amp") || (same_name name (codes "lt") || (same_name name (codes "gt") || same_name name (codes "quot")))
 
 abbrev pub is_some_name : List ℕ → Bool
 is_some_name [] = false
@@ -85,7 +87,9 @@ step (value around name) byte =
     else if is_text_byte byte then value around name
     else broken
 step (value_sign around name word) byte =
-    if is_name_byte byte then value_sign around name (word ++ byte ∷ []) else if (byte == 59) && is_sign word then value around name else broken
+    if is_name_byte byte then value_sign around name (word ++ byte ∷ [])
+    else if (byte == 59) && is_sign word then value around name
+    else broken
 step (valued around name) byte = if byte == 32 then key around name [] else if byte == 62 then inside (name ∷ around) else broken
 step (ending around name) byte =
     if is_name_byte byte then ending around (name ++ byte ∷ []) else if byte == 62 then closed around name else broken

@@ -1,0 +1,34 @@
+// How many turns each node made.
+
+ghost use Rattle.std.specs.Prelude.{◌≡◌, ◌+◌, ◌<◌, replicate, slice_index, slice_set};
+
+/// For each node a count of its turns.
+#[derive(Drop)]
+pub(crate) struct Made {
+    counts: [usize; 256],
+}
+
+impl Made {
+    /// No turn of any node.
+    pub(crate) fn new() -> Made
+        ensures { result.counts ≡ replicate 256 0 }
+    {
+        Made { counts: [0; 256] }
+    }
+
+    /// How many turns the node made.
+    pub(crate) fn by(&self, node: u8) -> usize
+        ensures made { result ≡ slice_index self.now.counts node }
+        ensures in_range { node < 256 }
+    {
+        self.counts[usize::from(node)]
+    }
+
+    /// The node makes a turn.
+    pub(crate) fn note(&mut self, node: u8)
+        requires { slice_index self.old.counts node < 18446744073709551615 }
+        ensures { self.new.counts ≡ slice_set self.old.counts node (slice_index self.old.counts node + 1) }
+    {
+        self.counts[usize::from(node)] += 1;
+    }
+}
