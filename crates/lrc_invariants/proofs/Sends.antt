@@ -1,12 +1,11 @@
 -- What a turn sends, beside what it does to what a node waits for, its clock and tokens, and its barrier. One case for each
 -- kind of turn, by what came. The contents of letters on pages, and the intervals of others, are left open.
 use Rattle.std.proofs.Common.{◌≡◌, ℕ, ◌+◌, ◌<◌, List, [], ◌∷◌, ◌++◌, Bool, true, false, length, refl, sym, ap, subst, ◌∙◌}
-use Rattle.std.specs.Prelude.{Option, Some, None, ◌==◌, option_map, unwrap_or, nat_lt, nat_le, if◌then◌else◌, fold, map, flat_map, slice_index, slice_set}
-use Rattle.std.specs.List.{list_all, list_any, range_with_len}
-use Rattle.std.proofs.lemmas.Bool.{and_parts, eqb-true, eq-eqb, ltb-true}
+use Rattle.std.specs.Prelude.{Option, Some, None, ◌==◌, option_map, nat_le, if◌then◌else◌, map, flat_map, slice_index, slice_set}
+use Rattle.std.specs.List.{range_with_len}
+use Rattle.std.proofs.lemmas.Bool.{and_parts, eqb-true, eq-eqb}
 use Rattle.lrc_time.specs.Time.{entry, covers}
-use Rattle.lrc_page.specs.Place.{page_of}
-use Rattle.lrc_exec.specs.Meaning.{Thread, Next, quiet, prints, reads, writes, acquires, releases, arrives, departs, traps, ends, next_of}
+use Rattle.lrc_exec.specs.Meaning.{Thread, Next, acquires, releases, arrives, next_of}
 use Rattle.lrc_store.specs.Interval.{IntervalRecord}
 use Rattle.lrc_wire.specs.Envelope.{EnvelopeRecord}
 use Rattle.lrc_wire.specs.Records.{LockRequestRecord, LockForwardRecord, LockGrantRecord, ArriveRecord, DepartRecord}
@@ -17,33 +16,41 @@ use Rattle.lrc_lock.specs.declared.state.Pass.{Pass}
 use Rattle.lrc_lock.specs.declared.fault.LockFault.TheVariants.{NotMine}
 use Rattle.lrc_lock.specs.Lock.{manager_of}
 use Rattle.lrc_lock.specs.Held.{lock_at, is_free, taken, asked, released, forwarded, granted, pass_of, held_after}
-use Rattle.lrc_lock.specs.Managed.{refuses as refuses_request, forwards}
+use Rattle.lrc_lock.specs.Managed.{Requested, refuses as refuses_request, forwards, requested}
 use Rattle.lrc_barrier.specs.declared.arrival.Arrival.{Arrival}
 use Rattle.lrc_barrier.specs.declared.departure.Departure.{Departure}
-use Rattle.lrc_barrier.specs.Barrier.{ManagerRecord, ArriveStep, refuses as refuses_arrival, waits, departs as all_depart}
-use Rattle.lrc_barrier.specs.Barrier.{is_accepted, arrived, CleanStep, refuses_clean, awaits, discards, cleaned}
-use Rattle.lrc_protocol.specs.Copy.{is_readable}
-use Rattle.lrc_protocol.specs.Memory.{copy_at, kept_pages, with_keepers, base_at}
-use Rattle.lrc_protocol.specs.Fetch.{Base, unneeded, due, come, Asked, Need, need_of, is_met, with_changes, with_page}
+use Rattle.lrc_barrier.specs.Barrier.{ManagerRecord, waits, departs as all_depart}
+use Rattle.lrc_barrier.specs.Barrier.{arrived, awaits, discards, cleaned}
+use Rattle.lrc_protocol.specs.Memory.{Memory}
+use Rattle.lrc_protocol.specs.Fetch.{Base, unneeded, due, come, Asked, Need}
 use Rattle.lrc_protocol.specs.Mail.{envelope_of, numbered, Letter, Wait, nothing, grant, departure, access, upkeep, discard}
-use Rattle.lrc_protocol.specs.Mail.{Collection, collection_of, awaits_discard, needs_of, is_idle, MOST_NUMBER}
+use Rattle.lrc_protocol.specs.Mail.{Collection, MOST_NUMBER}
 use Rattle.lrc_protocol.specs.Course.{Course, going, trapped, ended, deed_of, course_of}
 use Rattle.lrc_protocol.specs.Locks.{Locks, ticked, with_time, with_held, with_managed, next_time}
 use Rattle.lrc_protocol.specs.Barrier.{Barrier, with_arrive, with_manager}
-use Rattle.lrc_protocol.specs.Node.{Node, Effect, sends, acts, acts_by, value_read, with_memory, begins_of, may_begin}
+use Rattle.lrc_protocol.specs.Node.{Node, Effect, sends, acts, acts_by, value_read}
 use Rattle.lrc_protocol.specs.Letters.{letter, forward_to, grants_of, own_news, asks_for_collection, departure_of}
 use Rattle.lrc_protocol.specs.Letters.{discards_to, changes_request_of, page_request_of, requests_of}
-use Rattle.lrc_protocol.specs.Waits.{waits_or_goes_on, with_needs}
-use Rattle.lrc_protocol.specs.Expected.{is_expected, is_taken, is_clean}
-use Rattle.lrc_protocol.specs.Run.{own_index, closes, reaches, acquire_at, release_at, arrive_at, run_effect, charged}
-use Rattle.lrc_protocol.specs.Take.{take_departure, request_by, learns, arrive_by, clean_by, discard_by, page_reply_by, take_effect, needs_to_keep, with_part}
-use Rattle.lrc_protocol.specs.Turn.{TurnRecord, Outcome, done, not_ready, unexpected, worn, turn_with, turn_of, turn_if}
-use Rattle.lrc_protocol.specs.Turn.{turn_by, take_anew, take_turn, taking, is_addressed, is_repeat, empty_turn}
+use Rattle.lrc_protocol.specs.Expected.{is_taken, are_arriving}
+use Rattle.lrc_protocol.specs.Run.{charged}
+use Rattle.lrc_protocol.specs.Take.{request_by}
+use Rattle.lrc_protocol.specs.Turn.{TurnRecord, Outcome, done, not_ready, unexpected, worn}
+use Rattle.lrc_protocol.specs.Turn.{taking, is_repeat, empty_turn}
 use Rattle.lrc_protocol.specs.Log.{Input, run, taken as taken_in, outcome_of}
+use Rattle.lrc_protocol.specs.Rules.{IsReadyFor, page_at, need_at, closed_for, IsDeparture, Brings, brings_changes, brings_base_copy}
+use Rattle.lrc_protocol.specs.Rules.{RunRule, run_hit, run_miss, run_repair, run_acquire, run_ask, run_release, run_barrier, run_other}
+use Rattle.lrc_protocol.specs.Rules.{TakeRule, take_request, take_request_unnoted, take_forward, take_token, take_arrive}
+use Rattle.lrc_protocol.specs.Rules.{take_last_arrive}
+use Rattle.lrc_protocol.specs.Rules.{take_depart, take_collect, take_collect_at_once, collection_at, upkeep_at, take_reply}
+use Rattle.lrc_protocol.specs.Rules.{take_last_reply}
+use Rattle.lrc_protocol.specs.Rules.{take_kept_reply, take_last_kept_reply, take_clean, take_last_clean, take_discard}
+use Rattle.lrc_protocol.specs.Rules.{take_changes_request, take_page_request, IsSent, with_numbers, TurnRule, by_run, by_repeat}
+use Rattle.lrc_protocol.specs.Rules.{by_message}
+use Rattle.lrc_protocol.proofs.Ruled.{RuledIf, ruled}
 use Rattle.lrc_invariants.specs.Shape.{HasShape}
-use Rattle.lrc_invariants.specs.Waiting.{next_in, is_access, is_departing, acquiring}
-use Rattle.lrc_invariants.proofs.Shift.{Acted, Moved, is_plain, Part, Learnable, learnable, awaits_lock}
-use Rattle.lrc_invariants.proofs.Shift.{awaits_leave, deed_made, deed_back, AllFrom, FromIf, numbered-from}
+use Rattle.lrc_invariants.specs.Waiting.{next_in, is_access, acquiring}
+use Rattle.lrc_invariants.proofs.Shift.{Acted, Moved, is_plain, Part, Learnable, learnable, next-ready, access-plain, own-plain}
+use Rattle.lrc_invariants.proofs.Shift.{deed_made, deed_back, AllFrom, FromIf, numbered-from}
 
 -- ---- letters
 
@@ -224,15 +231,6 @@ acted : (s : Site) (came : Came) (letters : List Letter) (node : Node) → node.
     → Sends s came true node.mail.wait node.locks node.barrier letters → EffectSends s came (acts letters node)
 acted s came letters node c k = acted_by s came letters node node.course refl c k
 
-either : (s : Site) (came : Came) (b : Bool) (x y : Effect) → (b ≡ true → EffectSends s came x) → (b ≡ false → EffectSends s came y)
-    → EffectSends s came (if b then x else y)
-either s came true x y k l = k refl
-either s came false x y k l = l refl
-
-optional : (s : Site) (came : Came) (b : Bool) (x : Effect) → EffectSends s came x → SendsIf s came (if b then Some x else None)
-optional s came true x k = k
-optional s came false x k = tt
-
 -- ---- letters of pages
 
 others-append : (xs ys : List Letter) → AreOthers xs → AreOthers ys → AreOthers (xs ++ ys)
@@ -269,46 +267,35 @@ idle : (s : Site) (b : Bool) (w : Wait) (locks : Locks) (barrier : Barrier) (let
     → Sends s by_itself b nothing locks barrier letters → Sends s by_itself b w locks barrier letters
 idle s b w locks barrier letters e k = subst (λ w. Sends s by_itself b w locks barrier letters) (sym e) k
 
-plain-sends : (node : Node) (next : Next) → node.mail.wait ≡ nothing → next_in node.course ≡ Some next → is_plain next ≡ true
-    → EffectSends (site_of node) by_itself (acts [] node)
-plain-sends node next w n is =
-    acted (site_of node) by_itself [] node refl (idle _ true node.mail.wait node.locks node.barrier [] w (plain next w n is tt))
+plain-sends : (node : Node) (next : Next) → IsReadyFor node next → is_plain next ≡ true
+    → EffectSends (site_of node) by_itself (acts [] (charged node next))
+plain-sends node next r is =
+    acted (site_of node) by_itself [] (charged node next) refl
+    (idle _ true node.mail.wait node.locks node.barrier [] r.idle (plain next r.idle (next-ready node next r) is tt))
 
-reaches-sends : (node : Node) (next : Next) (page : ℕ) → node.mail.wait ≡ nothing → next_in node.course ≡ Some next
-    → is_plain next ≡ true → is_access (Some next) ≡ true → EffectSends (site_of node) by_itself (reaches node page)
-reaches-sends node next page w n is an =
-    let need : Need = need_of node.setting.nodes node.memory page in
-    either (site_of node) by_itself (is_readable (copy_at node.memory page)) _ _
-    (λ b. plain-sends node next w n is)
-    (λ b. either (site_of node) by_itself (is_met need) _ _
-    (λ met. acted (site_of node) by_itself (requests_of need) _ refl (plain next w n is (requests-others need)))
-    (λ unmet. rested (site_of node) by_itself (requests_of need) _ refl (misses w (ap is_access n ∙ an) (requests-others need))))
-
-acquire-sends : (node : Node) (lock : ℕ) → node.mail.wait ≡ nothing → acquiring (next_in node.course) ≡ Some lock
-    → EffectSends (site_of node) by_itself (acquire_at lock (closes node))
-acquire-sends node lock w n =
-    either (site_of node) by_itself (is_free (lock_at node.locks.held lock)) _ _
-    (λ free. acted (site_of node) by_itself [] _ refl (idle _ true node.mail.wait _ node.barrier [] w (takes lock w n free)))
-    (λ away. rested (site_of node) by_itself _ _ refl (asks lock w n away))
-
-run-sends : (node : Node) (next : Next) → node.mail.wait ≡ nothing → next_in node.course ≡ Some next → is_departing (Some next) ≡ false
-    → SendsIf (site_of node) by_itself (run_effect node next)
-run-sends node (quiet after) w n d = plain-sends node _ w n refl
-run-sends node (prints value after) w n d = plain-sends node _ w n refl
-run-sends node (reads word after) w n d = reaches-sends node _ (page_of word node.options.size) w n refl refl
-run-sends node (writes word value after) w n d = reaches-sends node _ (page_of word node.options.size) w n refl refl
-run-sends node (acquires lock after) w n d =
-    optional (site_of node) by_itself (nat_lt (own_index node) MOST_NUMBER) (acquire_at lock (closes node)) (acquire-sends node lock w (ap acquiring n))
-run-sends node (releases lock after) w n d =
-    optional (site_of node) by_itself (nat_lt (own_index node) MOST_NUMBER) (release_at lock (closes node))
-    (acted (site_of node) by_itself _ _ refl
-    (idle _ true node.mail.wait _ node.barrier _ w (releasing lock after w n (grants-so (closes node) _))))
-run-sends node (arrives after) w n d =
-    optional (site_of node) by_itself (nat_lt (own_index node) MOST_NUMBER) (arrive_at (closes node))
-    (acted (site_of node) by_itself _ _ refl (arriving after (asks_for_collection (closes node)) (own_news (closes node)) w n))
-run-sends node (departs after) w n d = cc
-run-sends node (traps cause) w n d = plain-sends node _ w n refl
-run-sends node ends w n d = plain-sends node _ w n refl
+run-sends : (node : Node) (e : Effect) → RunRule node e → EffectSends (site_of node) by_itself e
+run-sends node e (run_hit {next = next} {word = word} r a here) = plain-sends node next r (access-plain next word a).0
+run-sends node e (run_miss {next = next} {word = word} r a away unmet) =
+    rested (site_of node) by_itself _ _ refl
+    (misses r.idle (ap is_access (next-ready node next r) ∙ (access-plain next word a).1)
+    (requests-others (need_at node (page_at node word))))
+run-sends node e (run_repair {next = next} {word = word} r a away met) =
+    acted (site_of node) by_itself _ _ refl
+    (plain next r.idle (next-ready node next r) (access-plain next word a).0 (requests-others (need_at node (page_at node word))))
+run-sends node e (run_acquire lock after r room free) =
+    acted (site_of node) by_itself [] _ refl
+    (idle _ true node.mail.wait _ node.barrier [] r.idle (takes lock r.idle (ap acquiring (next-ready node (acquires lock after) r)) free))
+run-sends node e (run_ask lock after r room away) =
+    rested (site_of node) by_itself _ _ refl (asks lock r.idle (ap acquiring (next-ready node (acquires lock after) r)) away)
+run-sends node e (run_release lock after r room) =
+    acted (site_of node) by_itself _ _ refl
+    (idle _ true node.mail.wait _ node.barrier _ r.idle
+    (releasing lock after r.idle (next-ready node (releases lock after) r) (grants-so (closed_for node (releases lock after)) _)))
+run-sends node e (run_barrier after r room) =
+    let closed : Node = closed_for node (arrives after) in
+    acted (site_of node) by_itself _ _ refl
+    (arriving after (asks_for_collection closed) (own_news closed) r.idle (next-ready node (arrives after) r))
+run-sends node e (run_other {next = next} r own) = plain-sends node next r (own-plain next own)
 
 -- ---- what a node does with a message
 
@@ -323,151 +310,84 @@ request-sends node from m true is lt counted mine =
     rested (site_of node) (comes from (LockRequest m)) _ _ refl (manages from m lt counted mine)
 request-sends node from m false is lt counted mine = cc
 
-arrive-sends : (node : Node) (from : ℕ) (m : ArriveRecord) (before : ManagerRecord) (step : ArriveStep) → node.barrier.manager ≡ Some before
-    → length m.time ≡ node.setting.nodes → arrived before from (arrival_in m) ≡ step → is_accepted step ≡ true
-    → EffectSends (site_of node) (comes from (Arrive m)) (arrive_by node (Some step))
-arrive-sends node from m before (refuses_arrival fault) at counted is e = cc
-arrive-sends node from m before (waits after) at counted is e =
-    rested (site_of node) (comes from (Arrive m)) [] _ refl (gathers from m before after at counted is)
-arrive-sends node from m before (all_depart departures after) at counted is e =
-    rested (site_of node) (comes from (Arrive m)) _ _ refl (lets_depart from m before after departures at counted is)
+-- a request goes on from a node of this shape, and not otherwise
+requested-sends : (node : Node) (from : ℕ) (m : LockRequestRecord) (r : Requested) → HasShape node.setting node.locks
+    → m.lock < node.setting.locks → length m.time ≡ node.setting.nodes → manager_of node.setting.nodes m.lock ≡ node.setting.me
+    → requested node.locks.managed m.lock from ≡ r
+    → EffectSends (site_of node) (comes from (LockRequest m)) (request_by node from m.lock m.time r)
+requested-sends node from m r h lt counted mine is =
+    subst (λ (r : Requested). EffectSends (site_of node) (comes from (LockRequest m)) (request_by node from m.lock m.time r)) is
+    (request-sends node from m (manager_of node.locks.managed.nodes m.lock == node.locks.managed.me)
+    (eq-eqb _ _ (ap (λ k. manager_of k m.lock) h.managed_nodes ∙ mine ∙ sym h.manager)) lt counted mine)
 
-arrivals-sends : (node : Node) (from : ℕ) (m : ArriveRecord) (o : Option ManagerRecord) → node.barrier.manager ≡ o
-    → length m.time ≡ node.setting.nodes → unwrap_or (option_map is_accepted (option_map (λ manager. arrived manager from (arrival_in m)) o)) false ≡ true
-    → EffectSends (site_of node) (comes from (Arrive m)) (arrive_by node (option_map (λ manager. arrived manager from (arrival_in m)) o))
-arrivals-sends node from m None at counted e = cc
-arrivals-sends node from m (Some before) at counted e = arrive-sends node from m before (arrived before from (arrival_in m)) at counted refl e
-
-clean-sends : (node : Node) (from episode : ℕ) (before : ManagerRecord) (step : CleanStep) → node.barrier.manager ≡ Some before
-    → cleaned before from episode ≡ step → is_clean step ≡ true → EffectSends (site_of node) (comes from (Clean episode)) (clean_by node (Some step))
-clean-sends node from episode before (refuses_clean fault) at is e = cc
-clean-sends node from episode before (awaits after) at is e =
-    rested (site_of node) (comes from (Clean episode)) [] _ refl (notes_clean from episode before after at is)
-clean-sends node from episode before (discards over after) at is e =
-    rested (site_of node) (comes from (Clean episode)) _ _ refl (lets_discard from episode over before after at is)
-
-cleans-sends : (node : Node) (from episode : ℕ) (o : Option ManagerRecord) → node.barrier.manager ≡ o
-    → unwrap_or (option_map is_clean (option_map (λ manager. cleaned manager from episode) o)) false ≡ true
-    → EffectSends (site_of node) (comes from (Clean episode)) (clean_by node (option_map (λ manager. cleaned manager from episode) o))
-cleans-sends node from episode None at e = cc
-cleans-sends node from episode (Some before) at e = clean-sends node from episode before (cleaned before from episode) at refl e
-
-discard-sends : (node : Node) (from episode : ℕ) (w : Wait) → node.mail.wait ≡ w → from ≡ 0 → episode ≡ node.barrier.episode → awaits_discard w ≡ true
-    → EffectSends (site_of node) (comes from (Discard episode)) (discard_by node (collection_of w))
-discard-sends node from episode (discard collection) at f k e =
-    acted (site_of node) (comes from (Discard episode)) [] _ refl (discarding from episode collection at f k)
-discard-sends node from episode nothing at f k e = cc
-discard-sends node from episode (grant lock) at f k e = cc
-discard-sends node from episode departure at f k e = cc
-discard-sends node from episode (access need) at f k e = cc
-discard-sends node from episode (upkeep collection needs) at f k e = cc
-
--- the base copy is here: the request of a page was expected
-page-sends : (node : Node) (from page : ℕ) (base : Option (List ℕ))
-    → EffectSends (site_of node) (comes from (PageRequest page)) (page_reply_by node from page base)
-page-sends node from page None = rested (site_of node) (comes from (PageRequest page)) [] node refl (serves from (PageRequest page) refl tt)
-page-sends node from page (Some values) = rested (site_of node) (comes from (PageRequest page)) _ node refl (serves from (PageRequest page) refl (refl, tt))
-
--- something came for what pages need
-reply-sends : (s : Site) (from : ℕ) (message : Message) (node : Node) (change : Need → Need) (test : Need → Bool) (w : Wait) → is_other message ≡ true
-    → s.wait ≡ w → node.course ≡ s.course → node.locks ≡ s.locks → node.barrier ≡ s.barrier → list_any test (needs_of w) ≡ true
-    → EffectSends s (comes from message) (waits_or_goes_on [] node (with_needs change w))
-reply-sends s from message node change test (access need) is e c l b some =
-    either s (comes from message) (is_met (change need)) _ _
-    (λ met. acted s (comes from message) [] _ c
-    (subst (λ locks. Sends s (comes from message) true nothing locks node.barrier []) (sym l)
-    (subst (λ barrier. Sends s (comes from message) true nothing s.locks barrier []) (sym b) (accessing from message need is e))))
-    (λ unmet. rested s (comes from message) [] _ c
-    (subst (λ locks. Sends s (comes from message) false (access (change need)) locks node.barrier []) (sym l)
-    (subst (λ barrier. Sends s (comes from message) false (access (change need)) s.locks barrier []) (sym b) (still_misses from message need is e))))
-reply-sends s from message node change test (upkeep collection needs) is e c l b some =
-    either s (comes from message) (list_all is_met (map change needs)) _ _
-    (λ met. rested s (comes from message) (letter 0 (Clean node.barrier.episode) ∷ []) _ c
-    (subst (λ locks. Sends s (comes from message) false (discard collection) locks node.barrier (letter 0 (Clean node.barrier.episode) ∷ [])) (sym l)
-    (subst (λ barrier. Sends s (comes from message) false (discard collection) s.locks barrier (letter 0 (Clean barrier.episode) ∷ [])) (sym b)
-    (cleaning from message collection needs is e refl))))
-    (λ unmet. rested s (comes from message) [] _ c
-    (subst (λ locks. Sends s (comes from message) false (upkeep collection (map change needs)) locks node.barrier []) (sym l)
-    (subst (λ barrier. Sends s (comes from message) false (upkeep collection (map change needs)) s.locks barrier []) (sym b)
-    (still_collects from message collection needs is e refl))))
-reply-sends s from message node change test nothing is e c l b some = cc
-reply-sends s from message node change test (grant lock) is e c l b some = cc
-reply-sends s from message node change test departure is e c l b some = cc
-reply-sends s from message node change test (discard collection) is e c l b some = cc
-
-depart-sends : (node : Node) (from : ℕ) (m : DepartRecord) → Accepted (site_of node) from m
-    → EffectSends (site_of node) (comes from (Depart m)) (take_departure node m.collect m.time m.intervals)
-depart-sends node from m a =
-    let knowing : Node = learns m.time m.intervals node in
-    let keeping : Node = with_memory knowing (with_keepers knowing.memory) in
-    let kept : List ℕ = kept_pages node.setting.me keeping.memory in
-    let needs : List Need = needs_to_keep keeping kept in
-    let collection : Collection = record { time = m.time; kept = kept } in
-    either (site_of node) (comes from (Depart m)) m.collect _ _
-    (λ c. either (site_of node) (comes from (Depart m)) (list_all is_met needs) _ _
-    (λ met. rested (site_of node) (comes from (Depart m)) _ _ refl (clean_at_once from m {collection = collection} a c refl))
-    (λ unmet. rested (site_of node) (comes from (Depart m)) _ _ refl
-    (collecting from m {collection = collection} {needs = needs} a c refl (all_requests-others needs))))
-    (λ c. acted (site_of node) (comes from (Depart m)) [] _ refl (departing from m a c))
-
--- an expected message, its number taken
-take-sends : (node : Node) (envelope : EnvelopeRecord) (from : ℕ) (message : Message) → HasShape node.setting node.locks
-    → is_expected node from message ≡ true → EffectSends (site_of node) (comes from message) (take_effect (taking node envelope) from message)
-take-sends node envelope from (LockRequest m) h e =
-    let outer : _ = and_parts _ _ e in
-    let inner : _ = and_parts _ _ outer.0 in
-    let mine : manager_of node.setting.nodes m.lock ≡ node.setting.me = eqb-true _ _ outer.1 in
-    request-sends (taking node envelope) from m (manager_of node.locks.managed.nodes m.lock == node.locks.managed.me)
-    (eq-eqb _ _ (ap (λ k. manager_of k m.lock) h.managed_nodes ∙ mine ∙ sym h.manager))
-    (ltb-true _ _ inner.0) (eqb-true _ _ inner.1) mine
-take-sends node envelope from (LockForward m) h e =
-    let taken : _ = and_parts _ _ e in
-    let managed : _ = and_parts _ _ taken.0 in
-    let timed : _ = and_parts _ _ managed.0 in
-    let askers : _ = and_parts _ _ timed.0 in
-    rested (site_of node) (comes from (LockForward m)) _ _ refl
-    (forwarding from m (ltb-true _ _ askers.0) (ltb-true _ _ askers.1) (eqb-true _ _ timed.1) (eqb-true _ _ managed.1) taken.1
-    (grants-so (taking node envelope) _))
-take-sends node envelope from (LockGrant m) h e =
-    let outer : _ = and_parts _ _ e in
-    let inner : _ = and_parts _ _ outer.0 in
-    acted (site_of node) (comes from (LockGrant m)) [] _ refl
-    (grants from m (ltb-true _ _ inner.0) (awaits_lock m.lock node.mail.wait inner.1) (learnable node m.time m.intervals outer.1))
-take-sends node envelope from (Arrive m) h e =
-    let outer : _ = and_parts _ _ e in
-    let between : _ = and_parts _ _ outer.1 in
+arriving-time : (node : Node) (from : ℕ) (time : List ℕ) (intervals : List IntervalRecord) → are_arriving node from time intervals ≡ true
+    → length time ≡ node.setting.nodes
+arriving-time node from time intervals e =
+    let between : _ = and_parts _ _ e in
     let own : _ = and_parts _ _ between.0 in
     let news : _ = and_parts _ _ own.0 in
     let time_is : _ = and_parts _ _ news.0 in
-    arrivals-sends (taking node envelope) from m node.barrier.manager refl (eqb-true _ _ time_is.0) outer.0
-take-sends node envelope from (Depart m) h e =
-    let outer : _ = and_parts _ _ e in
-    let covered : _ = and_parts _ _ outer.0 in
-    let counted : _ = and_parts _ _ covered.0 in
-    let waited : _ = and_parts _ _ counted.0 in
-    depart-sends (taking node envelope) from m (record {
-      wait = awaits_leave node.mail.wait waited.1;
-      from_manager = eqb-true _ _ waited.0;
-      episode = eqb-true _ _ counted.1;
-      above = covered.1;
-      learnable = learnable node m.time m.intervals outer.1;
-    })
-take-sends node envelope from (Clean episode) h e = cleans-sends (taking node envelope) from episode node.barrier.manager refl e
-take-sends node envelope from (Discard episode) h e =
-    let outer : _ = and_parts _ _ e in
-    let inner : _ = and_parts _ _ outer.0 in
-    discard-sends (taking node envelope) from episode node.mail.wait refl (eqb-true _ _ inner.0) (eqb-true _ _ outer.1) inner.1
-take-sends node envelope from (ChangesRequest m) h e =
-    rested (site_of node) (comes from (ChangesRequest m)) _ (taking node envelope) refl (serves from (ChangesRequest m) refl (refl, tt))
-take-sends node envelope from (ChangesReply m) h e =
-    let outer : _ = and_parts _ _ e in
-    reply-sends (site_of node) from (ChangesReply m)
-    (with_memory (taking node envelope) (record node.memory { store = fold (with_part from m.page) node.memory.store m.parts }))
-    (with_changes m.page from) _ node.mail.wait refl refl refl refl refl outer.1
-take-sends node envelope from (PageRequest page) h e = page-sends (taking node envelope) from page (base_at node.memory page)
-take-sends node envelope from (PageReply m) h e =
-    let outer : _ = and_parts _ _ e in
-    reply-sends (site_of node) from (PageReply m) (taking node envelope) (with_page m.page m.values) _ node.mail.wait refl refl refl refl refl outer.1
+    eqb-true _ _ time_is.0
+
+accepted : (node : Node) (from : ℕ) (m : DepartRecord) → IsDeparture node from m → Accepted (site_of node) from m
+accepted node from m d = record {
+  wait = d.awaited;
+  from_manager = d.from_manager;
+  episode = d.episode;
+  above = d.above;
+  learnable = learnable node m.time m.intervals d.learnable;
+}
+
+brings-other : (node : Node) (from : ℕ) (message : Message) (memory : Memory) (change : Need → Need)
+    → Brings node from message memory change → is_other message ≡ true
+brings-other node from message memory change (brings_changes m lt all some) = refl
+brings-other node from message memory change (brings_base_copy m lt counted some) = refl
+
+take-sends : (node : Node) (from : ℕ) (message : Message) (e : Effect) → HasShape node.setting node.locks → TakeRule node from message e
+    → EffectSends (site_of node) (comes from message) e
+take-sends node from message e h (take_request m to managed lt counted mine is) =
+    requested-sends node from m (forwards to managed) h lt counted mine is
+take-sends node from message e h (take_request_unnoted m fault lt counted mine is) =
+    requested-sends node from m (refuses_request fault) h lt counted mine is
+take-sends node from message e h (take_forward m lt asker counted managed taken) =
+    rested (site_of node) (comes from (LockForward m)) _ _ refl (forwarding from m lt asker counted managed taken (grants-so node _))
+take-sends node from message e h (take_token m lt at news) =
+    acted (site_of node) (comes from (LockGrant m)) [] _ refl (grants from m lt at (learnable node m.time m.intervals news))
+take-sends node from message e h (take_arrive m before after at news is) =
+    rested (site_of node) (comes from (Arrive m)) [] _ refl
+    (gathers from m before after at (arriving-time node from m.time m.intervals news) is)
+take-sends node from message e h (take_last_arrive m before after departures at news is) =
+    rested (site_of node) (comes from (Arrive m)) _ _ refl
+    (lets_depart from m before after departures at (arriving-time node from m.time m.intervals news) is)
+take-sends node from message e h (take_depart m d c) =
+    acted (site_of node) (comes from (Depart m)) [] _ refl (departing from m (accepted node from m d) c)
+take-sends node from message e h (take_collect m d c unmet) =
+    rested (site_of node) (comes from (Depart m)) _ _ refl
+    (collecting from m {collection = collection_at node m} {needs = upkeep_at node m} (accepted node from m d) c refl
+    (all_requests-others (upkeep_at node m)))
+take-sends node from message e h (take_collect_at_once m d c met) =
+    rested (site_of node) (comes from (Depart m)) _ _ refl
+    (clean_at_once from m {collection = collection_at node m} (accepted node from m d) c refl)
+take-sends node from message e h (take_reply need b at unmet) =
+    rested (site_of node) (comes from message) [] _ refl (still_misses from message need (brings-other node from message _ _ b) at)
+take-sends node from message e h (take_last_reply need b at met) =
+    acted (site_of node) (comes from message) [] _ refl (accessing from message need (brings-other node from message _ _ b) at)
+take-sends node from message e h (take_kept_reply collection needs b at unmet) =
+    rested (site_of node) (comes from message) [] _ refl
+    (still_collects from message collection needs (brings-other node from message _ _ b) at refl)
+take-sends node from message e h (take_last_kept_reply collection needs b at met) =
+    rested (site_of node) (comes from message) _ _ refl
+    (cleaning from message collection needs (brings-other node from message _ _ b) at refl)
+take-sends node from message e h (take_clean episode before after at is) =
+    rested (site_of node) (comes from (Clean episode)) [] _ refl (notes_clean from episode before after at is)
+take-sends node from message e h (take_last_clean episode over before after at is) =
+    rested (site_of node) (comes from (Clean episode)) _ _ refl (lets_discard from episode over before after at is)
+take-sends node from message e h (take_discard episode collection f at k) =
+    acted (site_of node) (comes from (Discard episode)) [] _ refl (discarding from episode collection at f k)
+take-sends node from message e h (take_changes_request m lt all) =
+    rested (site_of node) (comes from (ChangesRequest m)) _ node refl (serves from (ChangesRequest m) refl (refl, tt))
+take-sends node from message e h (take_page_request page values lt other at) =
+    rested (site_of node) (comes from (PageRequest page)) _ node refl (serves from (PageRequest page) refl (refl, tt))
 
 -- ---- turns
 
@@ -498,12 +418,6 @@ SendingIf node input not_ready = Unit {0}
 SendingIf node input unexpected = Unit {0}
 SendingIf node input worn = Unit {0}
 
-abbrev SentIf : Node → Came → Outcome → Type 0
-SentIf node came (done turn after) = Sent node came turn after
-SentIf node came not_ready = Unit {0}
-SentIf node came unexpected = Unit {0}
-SentIf node came worn = Unit {0}
-
 abbrev pub LettersIf : List Letter → Option (List EnvelopeRecord × List ℕ) → Type 0
 LettersIf letters None = Unit {0}
 LettersIf letters (Some (out, sent)) = map letter_in out ≡ letters
@@ -525,101 +439,33 @@ numbered-letters me first sent (l ∷ letters) =
     letters-room (l ∷ letters) (nat_le (first + before) MOST_NUMBER) (option_map (λ more. (envelope_of me (first + before) l ∷ more.0, more.1)) more)
     (letters-one me (first + before) l letters more (numbered-letters me first (slice_set sent l.to (before + 1)) letters))
 
-numbered-sends : (node : Node) (came : Came) (e : Effect) → EffectSends (site_of node) came e → (n : Option (List EnvelopeRecord × List ℕ))
-    → LettersIf e.letters n → FromIf e.node.setting.me n → SentIf node came (turn_with e n)
-numbered-sends node came e k None l f = tt
-numbered-sends node came e k (Some (out, sent)) l f = record {
+sent-by : (node : Node) (came : Came) (e : Effect) (turn : TurnRecord) (after : Node) → EffectSends (site_of node) came e
+    → IsSent e turn after → Sent node came turn after
+sent-by node came e turn after k (with_numbers out sent is) = record {
   acts = k.acts;
   letters = e.letters;
   moved = subst (λ d. Moved k.acts node.course d e.node.course) (sym (deed_back e.node.setting.me e.deed)) k.moved;
   sent = k.sent;
-  out = l;
-  from = f;
+  out = subst (LettersIf e.letters) is (numbered-letters e.node.setting.me e.node.options.first e.node.mail.sent e.letters);
+  from = subst (FromIf e.node.setting.me) is (numbered-from e.node.setting.me e.node.options.first e.node.mail.sent e.letters);
 }
 
-effect-sends : (node : Node) (came : Came) (e : Effect) → EffectSends (site_of node) came e → SentIf node came (turn_of e)
-effect-sends node came e k =
-    numbered-sends node came e k (numbered e.node.setting.me e.node.options.first e.node.mail.sent e.letters)
-    (numbered-letters e.node.setting.me e.node.options.first e.node.mail.sent e.letters)
-    (numbered-from e.node.setting.me e.node.options.first e.node.mail.sent e.letters)
+rule-sends : (node : Node) (input : Input) (turn : TurnRecord) (after : Node) → HasShape node.setting node.locks
+    → TurnRule node input turn after → Sending node input turn after
+rule-sends node input turn after shape (by_run {effect = effect} r s) =
+    alone (sent-by node by_itself effect turn after (run-sends node effect r) s)
+rule-sends node input turn after shape (by_repeat envelope f again) = repeats envelope again
+rule-sends node input turn after shape (by_message envelope {effect = effect} f new r s) =
+    anew envelope f.to_it f.from_one new
+    (sent-by node (comes envelope.from envelope.message) effect turn after
+    (take-sends (taking node envelope) envelope.from envelope.message effect shape r) s)
 
-effect_if-sends : (node : Node) (came : Came) (o : Option Effect) → SendsIf (site_of node) came o → SentIf node came (turn_if o)
-effect_if-sends node came None k = tt
-effect_if-sends node came (Some e) k = effect-sends node came e k
-
-begun-sends : (node : Node) (next : Next) (b : Bool) → node.mail.wait ≡ nothing → next_in node.course ≡ Some next
-    → is_departing (Some next) ≡ false → SentIf node by_itself (turn_by node (if b then Some next else None))
-begun-sends node next true w n d =
-    effect_if-sends node by_itself (run_effect (charged node next) next) (run-sends (charged node next) next w n d)
-begun-sends node next false w n d = tt
-
-next-sends : (node : Node) (next : Next) → node.mail.wait ≡ nothing → next_in node.course ≡ Some next
-    → SentIf node by_itself (turn_by node (if may_begin node.left next then Some next else None))
-next-sends node (departs after) w n = tt
-next-sends node (quiet after) w n = begun-sends node (quiet after) (nat_le 1 node.left) w n refl
-next-sends node (prints value after) w n = begun-sends node (prints value after) (nat_le 1 node.left) w n refl
-next-sends node (reads word after) w n = begun-sends node (reads word after) (nat_le 1 node.left) w n refl
-next-sends node (writes word value after) w n = begun-sends node (writes word value after) (nat_le 1 node.left) w n refl
-next-sends node (acquires lock after) w n = begun-sends node (acquires lock after) (nat_le 1 node.left) w n refl
-next-sends node (releases lock after) w n = begun-sends node (releases lock after) (nat_le 1 node.left) w n refl
-next-sends node (arrives after) w n = begun-sends node (arrives after) (nat_le 1 node.left) w n refl
-next-sends node (traps cause) w n = begun-sends node (traps cause) (nat_le 1 node.left) w n refl
-next-sends node ends w n = begun-sends node ends (nat_le 0 node.left) w n refl
-
-course-sends : (node : Node) (c : Course) → node.mail.wait ≡ nothing → node.course ≡ c → SentIf node by_itself (turn_by node (begins_of node.left c))
-course-sends node (going thread) w e = next-sends node (next_of thread) w (ap next_in e)
-course-sends node (trapped cause) w e = tt
-course-sends node ended w e = tt
-
-wait-sends : (node : Node) (w : Wait) → node.mail.wait ≡ w
-    → SentIf node by_itself (turn_by node (if is_idle w then begins_of node.left node.course else None))
-wait-sends node nothing e = course-sends node node.course e refl
-wait-sends node (grant lock) e = tt
-wait-sends node departure e = tt
-wait-sends node (access need) e = tt
-wait-sends node (upkeep collection needs) e = tt
-wait-sends node (discard collection) e = tt
-
-alone-if : (node : Node) (o : Outcome) → SentIf node by_itself o → SendingIf node run o
-alone-if node (done turn after) k = alone k
-alone-if node not_ready k = tt
-alone-if node unexpected k = tt
-alone-if node worn k = tt
-
-anew-if : (node : Node) (envelope : EnvelopeRecord) (o : Outcome) → envelope.to ≡ node.setting.me → envelope.from < node.setting.nodes
-    → is_repeat node envelope ≡ false → SentIf node (comes envelope.from envelope.message) o → SendingIf node (taken_in envelope) o
-anew-if node envelope (done turn after) to from new k = anew envelope to from new k
-anew-if node envelope not_ready to from new k = tt
-anew-if node envelope unexpected to from new k = tt
-anew-if node envelope worn to from new k = tt
-
-addressed_or_not : (node : Node) (input : Input) (b : Bool) (o : Outcome) → (b ≡ true → SendingIf node input o)
-    → SendingIf node input (if b then o else unexpected)
-addressed_or_not node input true o h = h refl
-addressed_or_not node input false o h = tt
-
-expected_or_not : (node : Node) (came : Came) (b : Bool) (o : Outcome) → (b ≡ true → SentIf node came o) → SentIf node came (if b then o else unexpected)
-expected_or_not node came true o h = h refl
-expected_or_not node came false o h = tt
-
-repeated_or_not : (node : Node) (envelope : EnvelopeRecord) (b : Bool) (o : Outcome) → is_repeat node envelope ≡ b
-    → (is_repeat node envelope ≡ false → SendingIf node (taken_in envelope) o)
-    → SendingIf node (taken_in envelope) (if b then done empty_turn node else o)
-repeated_or_not node envelope true o e h = repeats envelope e
-repeated_or_not node envelope false o e h = h e
-
-taken-sends : (node : Node) (envelope : EnvelopeRecord) → HasShape node.setting node.locks → SendingIf node (taken_in envelope) (take_turn node envelope)
-taken-sends node envelope shape =
-    addressed_or_not node (taken_in envelope) (is_addressed node envelope) _
-    (λ a. repeated_or_not node envelope (is_repeat node envelope) (take_anew node envelope) refl
-    (λ new. anew-if node envelope (take_anew node envelope) (eqb-true _ _ (and_parts _ _ a).0) (ltb-true _ _ (and_parts _ _ a).1) new
-    (expected_or_not node (comes envelope.from envelope.message) (is_expected node envelope.from envelope.message)
-    (turn_of (take_effect (taking node envelope) envelope.from envelope.message))
-    (λ e. effect-sends node (comes envelope.from envelope.message) (take_effect (taking node envelope) envelope.from envelope.message)
-    (take-sends node envelope envelope.from envelope.message shape e)))))
+ruled-sends : (node : Node) (input : Input) (o : Outcome) → HasShape node.setting node.locks → RuledIf node input o → SendingIf node input o
+ruled-sends node input (done turn after) shape r = rule-sends node input turn after shape r
+ruled-sends node input not_ready shape r = tt
+ruled-sends node input unexpected shape r = tt
+ruled-sends node input worn shape r = tt
 
 -- each input to a node of this shape sends so, or is no turn
 pub sendings : (node : Node) (input : Input) → HasShape node.setting node.locks → SendingIf node input (outcome_of node input)
-sendings node run shape = alone-if node (turn_by node (if is_idle node.mail.wait then begins_of node.left node.course else None))
-    (wait-sends node node.mail.wait refl)
-sendings node (taken_in envelope) shape = taken-sends node envelope shape
+sendings node input shape = ruled-sends node input (outcome_of node input) shape (ruled node input)

@@ -1,41 +1,40 @@
 -- What a turn does to the part of a node that synchronizes: what it waits for, its clock and tokens, and how often it has
 -- arrived. One case for each kind of turn.
 use Rattle.std.proofs.Common.{◌≡◌, ℕ, ◌+◌, ◌≤◌, List, [], ◌∷◌, Bool, true, false, length, refl, sym, ap, subst, ◌∙◌}
-use Rattle.std.specs.Prelude.{Option, Some, None, option_map, nat_lt, nat_le, if◌then◌else◌, fold, map, slice_index, slice_set}
-use Rattle.std.specs.List.{list_all}
+use Rattle.std.specs.Prelude.{Option, Some, None, option_map, nat_le, if◌then◌else◌, slice_index, slice_set}
 use Rattle.std.proofs.lemmas.Bool.{and_parts, eqb-true, leb-true}
 use Rattle.lrc_trace.specs.declared.act.Act.{Act}
 use Rattle.lrc_trace.specs.declared.act.Deed.{Deed}
 use Rattle.lrc_trace.specs.Run.{act_of}
 use Rattle.lrc_time.specs.Time.{entry}
-use Rattle.lrc_page.specs.Place.{page_of}
-use Rattle.lrc_exec.specs.Meaning.{Thread, Next, quiet, prints, reads, writes, acquires, releases, arrives, departs, traps, ends, next_of}
+use Rattle.lrc_exec.specs.Meaning.{Thread, Next, acquires, releases, arrives, departs, next_of}
 use Rattle.lrc_store.specs.Interval.{IntervalRecord}
 use Rattle.lrc_wire.specs.Envelope.{EnvelopeRecord}
 use Rattle.lrc_wire.specs.declared.message.Message.{Message}
-use Rattle.lrc_wire.specs.declared.message.Message.TheVariants.{LockRequest, LockForward, LockGrant, Arrive, Depart, Clean, Discard}
-use Rattle.lrc_wire.specs.declared.message.Message.TheVariants.{ChangesRequest, ChangesReply, PageRequest, PageReply}
 use Rattle.lrc_lock.specs.Held.{lock_at, is_free, taken, asked, released, forwarded, granted, held_after}
-use Rattle.lrc_lock.specs.Managed.{ManagedRecord, Requested, refuses as refuses_request, forwards, requested}
-use Rattle.lrc_barrier.specs.Barrier.{ArriveStep, refuses as refuses_arrival, waits, departs as all_depart, CleanStep, refuses_clean, awaits, discards}
-use Rattle.lrc_protocol.specs.Copy.{is_readable}
-use Rattle.lrc_protocol.specs.Memory.{copy_at, kept_pages, with_keepers, base_at}
-use Rattle.lrc_protocol.specs.Fetch.{Need, need_of, is_met, with_changes, with_page}
+use Rattle.lrc_lock.specs.Managed.{ManagedRecord, forwards, requested}
+use Rattle.lrc_protocol.specs.Fetch.{Need}
 use Rattle.lrc_protocol.specs.Mail.{envelope_of, numbered, Letter, Wait, nothing, grant, departure, access, upkeep, discard}
-use Rattle.lrc_protocol.specs.Mail.{Collection, collection_of, is_idle, awaits_grant, awaits_departure, MOST_NUMBER}
+use Rattle.lrc_protocol.specs.Mail.{Collection, awaits_grant, awaits_departure, MOST_NUMBER}
 use Rattle.lrc_protocol.specs.Course.{Course, going, trapped, ended, deed_of, course_of}
 use Rattle.lrc_protocol.specs.Locks.{Locks, ticked, with_time, with_held, with_managed, next_time}
-use Rattle.lrc_protocol.specs.Barrier.{clean_step}
-use Rattle.lrc_protocol.specs.Node.{Node, Effect, sends, acts, acts_by, value_read, with_memory, waiting, begins_of, may_begin}
-use Rattle.lrc_protocol.specs.Letters.{requests_of}
-use Rattle.lrc_protocol.specs.Waits.{waits_or_goes_on, with_needs}
-use Rattle.lrc_protocol.specs.Expected.{is_expected, is_learnable}
-use Rattle.lrc_protocol.specs.Run.{own_index, closes, reaches, acquire_at, release_at, arrive_at, run_effect, charged}
-use Rattle.lrc_protocol.specs.Take.{take_departure, request_by, learns, arrive_by, clean_by, discard_by, page_reply_by, take_effect, needs_to_keep, with_part}
-use Rattle.lrc_protocol.specs.Turn.{TurnRecord, Outcome, done, not_ready, unexpected, worn, turn_with, turn_of, turn_if}
-use Rattle.lrc_protocol.specs.Turn.{turn_by, take_anew, take_turn, taking, is_addressed, is_repeat, empty_turn}
-use Rattle.lrc_protocol.specs.Log.{Input, run, taken as taken_in, outcome_of}
-use Rattle.lrc_invariants.specs.Waiting.{next_in, is_access, is_departing, acquiring}
+use Rattle.lrc_protocol.specs.Node.{Node, Effect, sends, acts, acts_by, value_read}
+use Rattle.lrc_protocol.specs.Expected.{is_learnable}
+use Rattle.lrc_protocol.specs.Run.{charged}
+use Rattle.lrc_protocol.specs.Turn.{TurnRecord, Outcome, done, not_ready, unexpected, worn}
+use Rattle.lrc_protocol.specs.Turn.{taking}
+use Rattle.lrc_protocol.specs.Log.{Input, outcome_of}
+use Rattle.lrc_protocol.specs.Rules.{IsReadyFor, Accesses, access_read, access_write, IsOwn, own_quiet, own_print, own_trap, own_end}
+use Rattle.lrc_protocol.specs.Rules.{RunRule, run_hit, run_miss, run_repair, run_acquire, run_ask, run_release, run_barrier, run_other}
+use Rattle.lrc_protocol.specs.Rules.{TakeRule, take_request, take_request_unnoted, take_forward, take_token, take_arrive}
+use Rattle.lrc_protocol.specs.Rules.{take_last_arrive}
+use Rattle.lrc_protocol.specs.Rules.{take_depart, take_collect, take_collect_at_once, collection_at, upkeep_at, take_reply}
+use Rattle.lrc_protocol.specs.Rules.{take_last_reply}
+use Rattle.lrc_protocol.specs.Rules.{take_kept_reply, take_last_kept_reply, take_clean, take_last_clean, take_discard}
+use Rattle.lrc_protocol.specs.Rules.{take_changes_request, take_page_request, IsSent, with_numbers, TurnRule, by_run, by_repeat}
+use Rattle.lrc_protocol.specs.Rules.{by_message}
+use Rattle.lrc_protocol.proofs.Ruled.{RuledIf, ruled}
+use Rattle.lrc_invariants.specs.Waiting.{next_in, is_access, acquiring}
 
 -- ---- the text
 
@@ -176,122 +175,51 @@ acts-shifts : (p : Part) (letters : List Letter) (node : Node) → node.course �
     → Shift p true node.mail.wait node.locks node.barrier.episode → Shifts p (acts letters node)
 acts-shifts p letters node c s = acts_by-shifts p letters node node.course refl c s
 
-either : (p : Part) (b : Bool) (x y : Effect) → (b ≡ true → Shifts p x) → (b ≡ false → Shifts p y) → Shifts p (if b then x else y)
-either p true x y k l = k refl
-either p false x y k l = l refl
-
-optional : (p : Part) (b : Bool) (x : Effect) → Shifts p x → ShiftsIf p (if b then Some x else None)
-optional p true x k = k
-optional p false x k = tt
-
 -- ---- what a node does by itself
 
 -- the wait was for nothing, so it is that still
 idle : (p : Part) (b : Bool) (w : Wait) (locks : Locks) (episode : ℕ) → w ≡ nothing → Shift p b nothing locks episode → Shift p b w locks episode
 idle p b w locks episode e s = subst (λ w. Shift p b w locks episode) (sym e) s
 
-plain-shifts : (node : Node) (next : Next) → node.mail.wait ≡ nothing → next_in node.course ≡ Some next → is_plain next ≡ true
-    → Shifts (part_of node) (acts [] node)
-plain-shifts node next w n is =
-    acts-shifts (part_of node) [] node refl (idle _ true node.mail.wait node.locks node.barrier.episode w (plain _ w n is))
+pub next-ready : (node : Node) (next : Next) → IsReadyFor node next → next_in node.course ≡ Some next
+next-ready node next r = ap next_in r.goes ∙ ap Some r.next_is
 
-reaches-shifts : (node : Node) (next : Next) (page : ℕ) → node.mail.wait ≡ nothing → next_in node.course ≡ Some next
-    → is_plain next ≡ true → is_access (Some next) ≡ true → Shifts (part_of node) (reaches node page)
-reaches-shifts node next page w n is an =
-    let need : Need = need_of node.setting.nodes node.memory page in
-    either (part_of node) (is_readable (copy_at node.memory page)) _ _
-    (λ b. plain-shifts node next w n is)
-    (λ b. either (part_of node) (is_met need) _ _
-    (λ met. acts-shifts (part_of node) (requests_of need) _ refl (plain _ w n is))
-    (λ unmet. sends-shifts (part_of node) (requests_of need) _ refl (misses w (ap is_access n ∙ an))))
+pub access-plain : (next : Next) (word : ℕ) → Accesses next word → (is_plain next ≡ true) × (is_access (Some next) ≡ true)
+access-plain next word (access_read w after) = (refl, refl)
+access-plain next word (access_write w value after) = (refl, refl)
 
-acquire-shifts : (node : Node) (lock : ℕ) → node.mail.wait ≡ nothing → acquiring (next_in node.course) ≡ Some lock
-    → Shifts (part_of node) (acquire_at lock (closes node))
-acquire-shifts node lock w n =
-    either (part_of node) (is_free (lock_at node.locks.held lock)) _ _
-    (λ free. acts-shifts (part_of node) [] _ refl (idle _ true node.mail.wait _ node.barrier.episode w (takes lock w n free)))
-    (λ away. sends-shifts (part_of node) _ _ refl (asks w n away))
+pub own-plain : (next : Next) → IsOwn next → is_plain next ≡ true
+own-plain next (own_quiet after) = refl
+own-plain next (own_print value after) = refl
+own-plain next (own_trap cause) = refl
+own-plain next own_end = refl
 
-run-shifts : (node : Node) (next : Next) → node.mail.wait ≡ nothing → next_in node.course ≡ Some next → is_departing (Some next) ≡ false
-    → ShiftsIf (part_of node) (run_effect node next)
-run-shifts node (quiet after) w n d = plain-shifts node _ w n refl
-run-shifts node (prints value after) w n d = plain-shifts node _ w n refl
-run-shifts node (reads word after) w n d = reaches-shifts node _ (page_of word node.options.size) w n refl refl
-run-shifts node (writes word value after) w n d = reaches-shifts node _ (page_of word node.options.size) w n refl refl
-run-shifts node (acquires lock after) w n d =
-    optional (part_of node) (nat_lt (own_index node) MOST_NUMBER) (acquire_at lock (closes node)) (acquire-shifts node lock w (ap acquiring n))
-run-shifts node (releases lock after) w n d =
-    optional (part_of node) (nat_lt (own_index node) MOST_NUMBER) (release_at lock (closes node))
-    (acts-shifts (part_of node) _ _ refl (idle _ true node.mail.wait _ node.barrier.episode w (releasing lock after w n)))
-run-shifts node (arrives after) w n d =
-    optional (part_of node) (nat_lt (own_index node) MOST_NUMBER) (arrive_at (closes node)) (acts-shifts (part_of node) _ _ refl (arriving after w n))
-run-shifts node (departs after) w n d = cc
-run-shifts node (traps cause) w n d = plain-shifts node _ w n refl
-run-shifts node ends w n d = plain-shifts node _ w n refl
+plain-shifts : (node : Node) (next : Next) → IsReadyFor node next → is_plain next ≡ true
+    → Shifts (part_of node) (acts [] (charged node next))
+plain-shifts node next r is =
+    acts-shifts (part_of node) [] (charged node next) refl
+    (idle _ true node.mail.wait node.locks node.barrier.episode r.idle (plain next r.idle (next-ready node next r) is))
+
+run-shifts : (node : Node) (e : Effect) → RunRule node e → Shifts (part_of node) e
+run-shifts node e (run_hit {next = next} {word = word} r a here) = plain-shifts node next r (access-plain next word a).0
+run-shifts node e (run_miss {next = next} {word = word} r a away unmet) =
+    sends-shifts (part_of node) _ _ refl (misses r.idle (ap is_access (next-ready node next r) ∙ (access-plain next word a).1))
+run-shifts node e (run_repair {next = next} {word = word} r a away met) =
+    acts-shifts (part_of node) _ _ refl (plain next r.idle (next-ready node next r) (access-plain next word a).0)
+run-shifts node e (run_acquire lock after r room free) =
+    acts-shifts (part_of node) [] _ refl
+    (idle _ true node.mail.wait _ node.barrier.episode r.idle
+    (takes lock r.idle (ap acquiring (next-ready node (acquires lock after) r)) free))
+run-shifts node e (run_ask lock after r room away) =
+    sends-shifts (part_of node) _ _ refl (asks r.idle (ap acquiring (next-ready node (acquires lock after) r)) away)
+run-shifts node e (run_release lock after r room) =
+    acts-shifts (part_of node) _ _ refl
+    (idle _ true node.mail.wait _ node.barrier.episode r.idle (releasing lock after r.idle (next-ready node (releases lock after) r)))
+run-shifts node e (run_barrier after r room) =
+    acts-shifts (part_of node) _ _ refl (arriving after r.idle (next-ready node (arrives after) r))
+run-shifts node e (run_other {next = next} r own) = plain-shifts node next r (own-plain next own)
 
 -- ---- what a node does with a message
-
-resting : (node : Node) (letters : List Letter) → Shifts (part_of node) (sends letters node)
-resting node letters = sends-shifts (part_of node) letters node refl rests
-
-request-shifts : (node : Node) (from lock : ℕ) (time : List ℕ) (r : Requested) → requested node.locks.managed lock from ≡ r
-    → Shifts (part_of node) (request_by node from lock time r)
-request-shifts node from lock time (refuses_request fault) e = resting node []
-request-shifts node from lock time (forwards to managed) e = sends-shifts (part_of node) _ _ refl (manages managed lock from to e)
-
-arrive-shifts : (node : Node) (step : Option ArriveStep) → Shifts (part_of node) (arrive_by node step)
-arrive-shifts node None = resting node []
-arrive-shifts node (Some (refuses_arrival fault)) = resting node []
-arrive-shifts node (Some (waits manager)) = sends-shifts (part_of node) _ _ refl rests
-arrive-shifts node (Some (all_depart departures manager)) = sends-shifts (part_of node) _ _ refl rests
-
-clean-shifts : (node : Node) (step : Option CleanStep) → Shifts (part_of node) (clean_by node step)
-clean-shifts node None = resting node []
-clean-shifts node (Some (refuses_clean fault)) = resting node []
-clean-shifts node (Some (awaits manager)) = sends-shifts (part_of node) _ _ refl rests
-clean-shifts node (Some (discards episode manager)) = sends-shifts (part_of node) _ _ refl rests
-
-discard-shifts : (node : Node) (w : Wait) → node.mail.wait ≡ w → Shifts (part_of node) (discard_by node (collection_of w))
-discard-shifts node (discard collection) e = acts-shifts (part_of node) [] _ refl (discarding collection e)
-discard-shifts node nothing e = resting node []
-discard-shifts node (grant lock) e = resting node []
-discard-shifts node departure e = resting node []
-discard-shifts node (access need) e = resting node []
-discard-shifts node (upkeep collection needs) e = resting node []
-
-reply-shifts : (node : Node) (from page : ℕ) (base : Option (List ℕ)) → Shifts (part_of node) (page_reply_by node from page base)
-reply-shifts node from page None = resting node []
-reply-shifts node from page (Some values) = sends-shifts (part_of node) _ node refl rests
-
--- the same wait again
-same_wait : (p : Part) (node : Node) (w : Wait) → p.wait ≡ w → node.course ≡ p.course
-    → node.locks ≡ p.locks → node.barrier.episode ≡ p.episode → Shifts p (sends [] (waiting w node))
-same_wait p node w e c l b =
-    sends-shifts p [] _ c
-    (subst (λ locks. Shift p false w locks node.barrier.episode) (sym l)
-    (subst (Shift p false w p.locks) (sym b) (subst (λ w. Shift p false w p.locks p.episode) e rests)))
-
--- something came for what pages need
-comes-shifts : (p : Part) (node : Node) (change : Need → Need) (w : Wait) → p.wait ≡ w → node.course ≡ p.course
-    → node.locks ≡ p.locks → node.barrier.episode ≡ p.episode
-    → Shifts p (waits_or_goes_on [] node (with_needs change w))
-comes-shifts p node change (access need) e c l b =
-    either p (is_met (change need)) _ _
-    (λ met. acts-shifts p [] _ c (subst (λ locks. Shift p true nothing locks node.barrier.episode) (sym l)
-    (subst (Shift p true nothing p.locks) (sym b) (accessing need e))))
-    (λ unmet. sends-shifts p [] _ c (subst (λ locks. Shift p false (access (change need)) locks node.barrier.episode) (sym l)
-    (subst (Shift p false (access (change need)) p.locks) (sym b) (still_misses need e))))
-comes-shifts p node change (upkeep collection needs) e c l b =
-    either p (list_all is_met (map change needs)) _ _
-    (λ met. sends-shifts p _ _ c (subst (λ locks. Shift p false (discard collection) locks node.barrier.episode) (sym l)
-    (subst (Shift p false (discard collection) p.locks) (sym b) (cleaning collection needs e refl))))
-    (λ unmet. sends-shifts p [] _ c (subst
-    (λ locks. Shift p false (upkeep collection (map change needs)) locks node.barrier.episode) (sym l)
-    (subst (Shift p false (upkeep collection (map change needs)) p.locks) (sym b) (still_collects collection needs e refl))))
-comes-shifts p node change nothing e c l b = same_wait p node nothing e c l b
-comes-shifts p node change (grant lock) e c l b = same_wait p node (grant lock) e c l b
-comes-shifts p node change departure e c l b = same_wait p node departure e c l b
-comes-shifts p node change (discard collection) e c l b = same_wait p node (discard collection) e c l b
 
 -- what a node can learn has an entry for each node, and no more of this node than the node itself
 pub learnable : (node : Node) (time : List ℕ) (intervals : List IntervalRecord) → is_learnable node time intervals ≡ true → Learnable (part_of node) time
@@ -318,45 +246,37 @@ awaits_leave (access need) e = cc
 awaits_leave (upkeep collection needs) e = cc
 awaits_leave (discard collection) e = cc
 
-depart-shifts : (node : Node) (collect : Bool) (time : List ℕ) (intervals : List IntervalRecord)
-    → node.mail.wait ≡ departure → Learnable (part_of node) time → Shifts (part_of node) (take_departure node collect time intervals)
-depart-shifts node collect time intervals w k =
-    let knowing : Node = learns time intervals node in
-    let keeping : Node = with_memory knowing (with_keepers knowing.memory) in
-    let kept : List ℕ = kept_pages node.setting.me keeping.memory in
-    let needs : List Need = needs_to_keep keeping kept in
-    let collection : Collection = record { time = time; kept = kept } in
-    either (part_of node) collect _ _
-    (λ c. either (part_of node) (list_all is_met needs) _ _
-    (λ met. sends-shifts (part_of node) _ _ refl (clean_at_once time {collection = collection} w k refl))
-    (λ unmet. sends-shifts (part_of node) _ _ refl (collecting time {collection = collection} {needs = needs} w k refl)))
-    (λ c. acts-shifts (part_of node) [] _ refl (departing time w k))
-
--- an expected message, its number taken
-take-shifts : (node : Node) (envelope : EnvelopeRecord) (from : ℕ) (message : Message)
-    → is_expected node from message ≡ true → Shifts (part_of node) (take_effect (taking node envelope) from message)
-take-shifts node envelope from (LockRequest m) e = request-shifts (taking node envelope) from m.lock m.time (requested node.locks.managed m.lock from) refl
-take-shifts node envelope from (LockForward m) e = sends-shifts (part_of node) _ _ refl (forwarding m.lock m.asker m.time)
-take-shifts node envelope from (LockGrant m) e =
-    let outer : _ = and_parts _ _ e in
-    let inner : _ = and_parts _ _ outer.0 in
-    acts-shifts (part_of node) [] _ refl (grants m.lock m.time (awaits_lock m.lock node.mail.wait inner.1) (learnable node m.time m.intervals outer.1))
-take-shifts node envelope from (Arrive m) e = arrive-shifts (taking node envelope) _
-take-shifts node envelope from (Depart m) e =
-    let outer : _ = and_parts _ _ e in
-    let covered : _ = and_parts _ _ outer.0 in
-    let counted : _ = and_parts _ _ covered.0 in
-    let waited : _ = and_parts _ _ counted.0 in
-    depart-shifts (taking node envelope) m.collect m.time m.intervals (awaits_leave node.mail.wait waited.1) (learnable node m.time m.intervals outer.1)
-take-shifts node envelope from (Clean episode) e = clean-shifts (taking node envelope) (clean_step node.barrier from episode)
-take-shifts node envelope from (Discard episode) e = discard-shifts (taking node envelope) node.mail.wait refl
-take-shifts node envelope from (ChangesRequest m) e = sends-shifts (part_of node) _ (taking node envelope) refl rests
-take-shifts node envelope from (ChangesReply m) e =
-    comes-shifts (part_of node) (with_memory (taking node envelope) (record node.memory { store = fold (with_part from m.page) node.memory.store m.parts }))
-    (with_changes m.page from) node.mail.wait refl refl refl refl
-take-shifts node envelope from (PageRequest page) e = reply-shifts (taking node envelope) from page (base_at node.memory page)
-take-shifts node envelope from (PageReply m) e =
-    comes-shifts (part_of node) (taking node envelope) (with_page m.page m.values) node.mail.wait refl refl refl refl
+take-shifts : (node : Node) (from : ℕ) (message : Message) (e : Effect) → TakeRule node from message e → Shifts (part_of node) e
+take-shifts node from message e (take_request m to managed lt counted mine is) =
+    sends-shifts (part_of node) _ _ refl (manages managed m.lock from to is)
+take-shifts node from message e (take_request_unnoted m fault lt counted mine is) = sends-shifts (part_of node) _ _ refl rests
+take-shifts node from message e (take_forward m lt asker counted managed taken) =
+    sends-shifts (part_of node) _ _ refl (forwarding m.lock m.asker m.time)
+take-shifts node from message e (take_token m lt at news) =
+    acts-shifts (part_of node) [] _ refl (grants m.lock m.time at (learnable node m.time m.intervals news))
+take-shifts node from message e (take_arrive m before after at news is) = sends-shifts (part_of node) _ _ refl rests
+take-shifts node from message e (take_last_arrive m before after departures at news is) = sends-shifts (part_of node) _ _ refl rests
+take-shifts node from message e (take_depart m d c) =
+    acts-shifts (part_of node) [] _ refl (departing m.time d.awaited (learnable node m.time m.intervals d.learnable))
+take-shifts node from message e (take_collect m d c unmet) =
+    sends-shifts (part_of node) _ _ refl
+    (collecting m.time {collection = collection_at node m} {needs = upkeep_at node m} d.awaited
+    (learnable node m.time m.intervals d.learnable) refl)
+take-shifts node from message e (take_collect_at_once m d c met) =
+    sends-shifts (part_of node) _ _ refl
+    (clean_at_once m.time {collection = collection_at node m} d.awaited (learnable node m.time m.intervals d.learnable) refl)
+take-shifts node from message e (take_reply need b at unmet) = sends-shifts (part_of node) _ _ refl (still_misses need at)
+take-shifts node from message e (take_last_reply need b at met) = acts-shifts (part_of node) [] _ refl (accessing need at)
+take-shifts node from message e (take_kept_reply collection needs b at unmet) =
+    sends-shifts (part_of node) _ _ refl (still_collects collection needs at refl)
+take-shifts node from message e (take_last_kept_reply collection needs b at met) =
+    sends-shifts (part_of node) _ _ refl (cleaning collection needs at refl)
+take-shifts node from message e (take_clean episode before after at is) = sends-shifts (part_of node) _ _ refl rests
+take-shifts node from message e (take_last_clean episode over before after at is) = sends-shifts (part_of node) _ _ refl rests
+take-shifts node from message e (take_discard episode collection f at k) =
+    acts-shifts (part_of node) [] _ refl (discarding collection at)
+take-shifts node from message e (take_changes_request m lt all) = sends-shifts (part_of node) _ _ refl rests
+take-shifts node from message e (take_page_request page values lt other at) = sends-shifts (part_of node) _ _ refl rests
 
 -- ---- turns
 
@@ -406,74 +326,28 @@ pub deed_back : (me : ℕ) (deed : Option Deed) → option_map (λ (act : Act). 
 deed_back me None = refl
 deed_back me (Some d) = refl
 
-numbered-shifts : (node : Node) (e : Effect) → Shifts (part_of node) e → (n : Option (List EnvelopeRecord × List ℕ))
-    → FromIf e.node.setting.me n → ShiftedIf node (turn_with e n)
-numbered-shifts node e s None f = tt
-numbered-shifts node e s (Some (out, sent)) f = record {
+sent-shifts : (node : Node) (e : Effect) (turn : TurnRecord) (after : Node) → Shifts (part_of node) e → IsSent e turn after
+    → Shifted node turn after
+sent-shifts node e turn after s (with_numbers out sent is) = record {
   acts = s.acts;
   moved = subst (λ d. Moved s.acts node.course d e.node.course) (sym (deed_back e.node.setting.me e.deed)) s.moved;
   shift = s.shift;
-  from = f;
+  from = subst (FromIf e.node.setting.me) is (numbered-from e.node.setting.me e.node.options.first e.node.mail.sent e.letters);
 }
 
-effect-shifts : (node : Node) (e : Effect) → Shifts (part_of node) e → ShiftedIf node (turn_of e)
-effect-shifts node e s =
-    numbered-shifts node e s (numbered e.node.setting.me e.node.options.first e.node.mail.sent e.letters)
-    (numbered-from e.node.setting.me e.node.options.first e.node.mail.sent e.letters)
+rule-shifts : (node : Node) (input : Input) (turn : TurnRecord) (after : Node) → TurnRule node input turn after → Shifted node turn after
+rule-shifts node input turn after (by_run {effect = effect} r s) = sent-shifts node effect turn after (run-shifts node effect r) s
+rule-shifts node input turn after (by_repeat envelope f again) =
+    record { acts = false; moved = record { deed_is = refl; course_is = refl }; shift = rests; from = tt }
+rule-shifts node input turn after (by_message envelope {effect = effect} f new r s) =
+    sent-shifts node effect turn after (take-shifts (taking node envelope) envelope.from envelope.message effect r) s
 
-effect_if-shifts : (node : Node) (o : Option Effect) → ShiftsIf (part_of node) o → ShiftedIf node (turn_if o)
-effect_if-shifts node None s = tt
-effect_if-shifts node (Some e) s = effect-shifts node e s
-
-begun-shifts : (node : Node) (next : Next) (b : Bool) → node.mail.wait ≡ nothing → next_in node.course ≡ Some next
-    → is_departing (Some next) ≡ false → ShiftedIf node (turn_by node (if b then Some next else None))
-begun-shifts node next true w n d =
-    effect_if-shifts node (run_effect (charged node next) next) (run-shifts (charged node next) next w n d)
-begun-shifts node next false w n d = tt
-
-next-shifts : (node : Node) (next : Next) → node.mail.wait ≡ nothing → next_in node.course ≡ Some next
-    → ShiftedIf node (turn_by node (if may_begin node.left next then Some next else None))
-next-shifts node (departs after) w n = tt
-next-shifts node (quiet after) w n = begun-shifts node (quiet after) (nat_le 1 node.left) w n refl
-next-shifts node (prints value after) w n = begun-shifts node (prints value after) (nat_le 1 node.left) w n refl
-next-shifts node (reads word after) w n = begun-shifts node (reads word after) (nat_le 1 node.left) w n refl
-next-shifts node (writes word value after) w n = begun-shifts node (writes word value after) (nat_le 1 node.left) w n refl
-next-shifts node (acquires lock after) w n = begun-shifts node (acquires lock after) (nat_le 1 node.left) w n refl
-next-shifts node (releases lock after) w n = begun-shifts node (releases lock after) (nat_le 1 node.left) w n refl
-next-shifts node (arrives after) w n = begun-shifts node (arrives after) (nat_le 1 node.left) w n refl
-next-shifts node (traps cause) w n = begun-shifts node (traps cause) (nat_le 1 node.left) w n refl
-next-shifts node ends w n = begun-shifts node ends (nat_le 0 node.left) w n refl
-
-course-shifts : (node : Node) (c : Course) → node.mail.wait ≡ nothing → node.course ≡ c → ShiftedIf node (turn_by node (begins_of node.left c))
-course-shifts node (going thread) w e = next-shifts node (next_of thread) w (ap next_in e)
-course-shifts node (trapped cause) w e = tt
-course-shifts node ended w e = tt
-
-wait-shifts : (node : Node) (w : Wait) → node.mail.wait ≡ w
-    → ShiftedIf node (turn_by node (if is_idle w then begins_of node.left node.course else None))
-wait-shifts node nothing e = course-shifts node node.course e refl
-wait-shifts node (grant lock) e = tt
-wait-shifts node departure e = tt
-wait-shifts node (access need) e = tt
-wait-shifts node (upkeep collection needs) e = tt
-wait-shifts node (discard collection) e = tt
-
-expected_or_not : (node : Node) (b : Bool) (o : Outcome) → (b ≡ true → ShiftedIf node o) → ShiftedIf node (if b then o else unexpected)
-expected_or_not node true o h = h refl
-expected_or_not node false o h = tt
-
-repeated_or_not : (node : Node) (b : Bool) (o : Outcome) → ShiftedIf node o → ShiftedIf node (if b then done empty_turn node else o)
-repeated_or_not node true o h = record { acts = false; moved = record { deed_is = refl; course_is = refl }; shift = rests; from = tt }
-repeated_or_not node false o h = h
-
-taken-shifts : (node : Node) (envelope : EnvelopeRecord) → ShiftedIf node (take_turn node envelope)
-taken-shifts node envelope =
-    expected_or_not node (is_addressed node envelope) _
-    (λ a. repeated_or_not node (is_repeat node envelope) (take_anew node envelope)
-    (expected_or_not node (is_expected node envelope.from envelope.message) (turn_of (take_effect (taking node envelope) envelope.from envelope.message))
-    (λ e. effect-shifts node (take_effect (taking node envelope) envelope.from envelope.message) (take-shifts node envelope envelope.from envelope.message e))))
+ruled-shifts : (node : Node) (input : Input) (o : Outcome) → RuledIf node input o → ShiftedIf node o
+ruled-shifts node input (done turn after) r = rule-shifts node input turn after r
+ruled-shifts node input not_ready r = tt
+ruled-shifts node input unexpected r = tt
+ruled-shifts node input worn r = tt
 
 -- each input shifts a node so, or is no turn
 pub shifts : (node : Node) (input : Input) → ShiftedIf node (outcome_of node input)
-shifts node run = wait-shifts node node.mail.wait refl
-shifts node (taken_in envelope) = taken-shifts node envelope
+shifts node input = ruled-shifts node input (outcome_of node input) (ruled node input)
