@@ -91,7 +91,7 @@ module _ (waits : List (Option ℕ)) (first : ℕ) where
   one_way {node} (over {next = next} {way = way} w leads) (over {next = next'} {way = way'} v leads') a b =
       let same : next' ≡ next = same_next waits node next' next v w in
       let rest : way ≡ way' =
-          one_way leads (subst (λ n. Leads waits n way' first) same leads') (tail_above next way a) (tail_above next' way' b) in
+      one_way leads (subst (λ n. Leads waits n way' first) same leads') (tail_above next way a) (tail_above next' way' b) in
       cc
 
   -- so a node does not come again on the way behind it
@@ -100,10 +100,10 @@ module _ (waits : List (Option ℕ)) (first : ℕ) where
   differs node behind leads above (straight w) a long = All-nil (λ n. nat_eq node n ≡ false)
   differs node behind leads above (over {next = next} {way = way} w more) a long =
       let other : node ≡ next → ⊥ = λ same.
-          let rest : way ≡ behind =
-              one_way more (subst (λ n. Leads waits n behind first) same leads) (tail_above next way a) above in
-          let long' : length way ≡ length behind = ap length rest in
-          omega arith in
+      let rest : way ≡ behind =
+      one_way more (subst (λ n. Leads waits n behind first) same leads) (tail_above next way a) above in
+      let long' : length way ≡ length behind = ap length rest in
+      omega arith in
       All-cons (λ n. nat_eq node n ≡ false) next way (ne_eqb node next other)
       (differs node behind leads above more (tail_above next way a) (omega arith))
 
@@ -145,11 +145,11 @@ few n numbers once below =
     let long : length range ≡ n = length-range_with_len 0 n in
     subst (λ l. length numbers ≤ l) long
     (length-le_from_is_member nat_eq_equiv numbers range once (λ q member.
-      let at : Contains numbers q = Contains-from_any eqb-true q numbers member in
-      let small : q < n = All-contains (λ x. x < n) numbers q below at in
-      let zero_more : 0 + q ≡ q = omega arith in
-      let inside : q < length range = omega (arith, long, small) in
-      list_any-from_Contains nat_eq_equiv q range (q, inside, get_or-range_with_len 0 n q q small ∙ zero_more)))
+    let at : Contains numbers q = Contains-from_any eqb-true q numbers member in
+    let small : q < n = All-contains (λ x. x < n) numbers q below at in
+    let zero_more : 0 + q ≡ q = omega arith in
+    let inside : q < length range = omega (arith, long, small) in
+    list_any-from_Contains nat_eq_equiv q range (q, inside, get_or-range_with_len 0 n q q small ∙ zero_more)))
 
 module _ (waits : List (Option ℕ)) (first : ℕ) where
   back_at_once : (on : ℕ → Option (List ℕ)) → back_by first on (Some first) ≡ Some []
@@ -174,15 +174,15 @@ module _ (waits : List (Option ℕ)) (first : ℕ) where
   lowest_told : (way : List ℕ) → Leads waits first way first → All (λ n. first < n) way → circle_of waits first ≡ Some way
   lowest_told way leads a =
       let short : length (first ∷ way) ≤ length waits =
-          few (length waits) (first ∷ way) (circle_once waits first leads a) (all_within waits leads) in
+      few (length waits) (first ∷ way) (circle_once waits first leads a) (all_within waits leads) in
       told (length waits) leads a (omega arith)
 
 pub told_exactly : (waits : List (Option ℕ)) (node : ℕ) (others : List ℕ)
     → (circle_of waits node ≡ Some others) ↔ IsCircleFromLowest waits node others
 told_exactly waits node others = (
   (λ is.
-    let at : Found waits node node others = found waits node (length waits) node others is in
-    (record { leads = at.leads; once = circle_once waits node at.leads at.above }, at.above)),
+      let at : Found waits node node others = found waits node (length waits) node others is in
+      (record { leads = at.leads; once = circle_once waits node at.leads at.above }, at.above)),
   λ circle. lowest_told waits node others circle.0.leads circle.1,
 )
 
@@ -236,17 +236,17 @@ greater : (lowest : ℕ) (before behind : List ℕ) → IsDistinct nat_eq (befor
 greater lowest [] behind once least = (
   All-nil (λ n. lowest < n),
   greater_behind lowest behind
-  (All-from_recursion (λ n. nat_eq lowest n ≡ false) behind (IsDistinct-head nat_eq lowest behind once))
-  (All-tail (λ n. lowest ≤ n) lowest behind least),
+      (All-from_recursion (λ n. nat_eq lowest n ≡ false) behind (IsDistinct-head nat_eq lowest behind once))
+      (All-tail (λ n. lowest ≤ n) lowest behind least),
 )
 greater lowest (x ∷ xs) behind once least =
     let rest = greater lowest xs behind (IsDistinct-tail nat_eq x (xs ++ lowest ∷ behind) once)
-        (All-tail (λ n. lowest ≤ n) x (xs ++ lowest ∷ behind) least) in
+    (All-tail (λ n. lowest ≤ n) x (xs ++ lowest ∷ behind) least) in
     let differ : All (λ n. nat_eq x n ≡ false) (xs ++ lowest ∷ behind) =
-        All-from_recursion (λ n. nat_eq x n ≡ false) (xs ++ lowest ∷ behind) (IsDistinct-head nat_eq x (xs ++ lowest ∷ behind) once) in
+    All-from_recursion (λ n. nat_eq x n ≡ false) (xs ++ lowest ∷ behind) (IsDistinct-head nat_eq x (xs ++ lowest ∷ behind) once) in
     let at : Contains (xs ++ lowest ∷ behind) lowest = Contains-append_right xs (lowest ∷ behind) lowest (Contains-get_or (lowest ∷ behind) 0 lowest (omega arith)) in
     let other : x ≡ lowest → ⊥ =
-        eqb-false x lowest (All-contains (λ n. nat_eq x n ≡ false) (xs ++ lowest ∷ behind) lowest differ at) in
+    eqb-false x lowest (All-contains (λ n. nat_eq x n ≡ false) (xs ++ lowest ∷ behind) lowest differ at) in
     let le : lowest ≤ x = All-head (λ n. lowest ≤ n) x (xs ++ lowest ∷ behind) least in
     let lt : lowest < x = omega (arith, other) in
     (All-cons (λ n. lowest < n) x xs lt rest.0, rest.1)

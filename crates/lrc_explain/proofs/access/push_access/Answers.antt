@@ -37,7 +37,7 @@ returns c =
     let inside : position < length intervals = omega (arith, within, intervals_long) in
     let inside-2 : position < length lefts = omega (arith, within, lefts_long) in
     let interval_is = get_or_read intervals position c.index.result.now inside read 0
-        ∙ before.intervals.each position act.node act.deed within (Does-read acts position no_act within) in
+    ∙ before.intervals.each position act.node act.deed within (Does-read acts position no_act within) in
     let left_is = get_or_read lefts position c.index-2.result.now inside-2 read-2 0 ∙ before.lefts.each position within in
     on_ok c.push_words.result
     (λ e. e ∙ ap (λ (l : List ℕ). l ++ words)

@@ -18,8 +18,8 @@ loop-position-preserved c =
     let n = c.loop-position.position in
     let memory = c.loop-position.memory in
     let left_is : c.value_in-left.result ≡ left_in (word_of (act_at acts n).deed) (take n acts) =
-        c.value_in-left.ensures ∙ ap (λ k. unwrap_or (get nat_cmp memory k) 0) c.word_of-word.ensures
-        ∙ c.loop-position.invariant.memory (word_of (act_at acts n).deed) in
+    c.value_in-left.ensures ∙ ap (λ k. unwrap_or (get nat_cmp memory k) 0) c.word_of-word.ensures
+    ∙ c.loop-position.invariant.memory (word_of (act_at acts n).deed) in
     record {
       lefts = lefts-more acts n c.loop-position.lefts.items c.push.new.self.items c.value_in-left.result left_is c.in_ok-push.ensures.items
           c.loop-position.invariant.lefts;

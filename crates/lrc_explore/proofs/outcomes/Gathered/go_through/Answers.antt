@@ -9,8 +9,7 @@ loop-place-preserved c =
     let old = c.loop-place.self in
     let new = c.visit.new.self in
     let place = c.loop-place.place in
-    let lt : place < length old.states.keys = omega (arith, c.loop-place-test.true, c.len.ensures.len) in
-    (
+    let lt : place < length old.states.keys = omega (arith, c.loop-place-test.true, c.len.ensures.len) in (
       record {
         led = c.in_ok-visit.ensures.led;
         grows = grows_again i.grows c.in_ok-visit.ensures.grows;

@@ -11,8 +11,7 @@ loop-place-preserved c =
     let old = c.loop-place.self in
     let new = c.visit.new.self in
     let place = c.loop-place.place in
-    let lt : place < length old.states.keys = omega (arith, c.loop-place-test.true, c.len.ensures.len) in
-    (
+    let lt : place < length old.states.keys = omega (arith, c.loop-place-test.true, c.len.ensures.len) in (
       elim c.match-branch-2.branch [
         | in-Stuck w ↦
             going_stuck flat first old new place c.loop-place.stuck c.loop-place.invariant.0 c.in_ok-p.ensures.found
