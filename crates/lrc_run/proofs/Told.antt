@@ -25,9 +25,8 @@ module _ (program : Program) (nodes : ℕ) (options : OptionsRecord) (logs : Lis
       let same : reported.0 ≡ run.0 = cc in
       reported.2.logs ∙ ap (λ (w : World). map (λ (l : Logged). l.log) w.nodes) same ∙ run.2
 
-  pub is_woven : AreAll program nodes options events → IsWovenReport program nodes options report
+  pub is_woven : AreAll program nodes options events → IsWovenReport program nodes options events report
   is_woven over = record {
-    events = events;
     flight = woven.0;
     reported = reported;
     woven = subst (λ turns. AreWoven turns events woven.0) (sym same_turns) woven.1;

@@ -1,5 +1,5 @@
 -- What a run of nodes on threads answers.
-use Rattle.std.specs.Prelude.{◌≡◌, ℕ, List, length, map}
+use Rattle.std.specs.Prelude.{◌≡◌, ℕ, ◌<◌, ◌^◌, List, length, map}
 use Rattle.lrc_lang.specs.declared.program.Program.{Program}
 use Rattle.lrc_wire.specs.declared.picker.Picker.{Picker}
 use Rattle.lrc_post.specs.Mailbox.{MailboxRecord}
@@ -13,7 +13,7 @@ use Rattle.lrc_weave.specs.declared.fault.WeaveFault.TheVariants as weaving
 use Rattle.lrc_weave.specs.Matched.{AreMatched}
 use Rattle.lrc_weave.specs.Woven.{AreWoven}
 use Rattle.lrc_world.specs.declared.report.Report.{Report}
-use Rattle.lrc_world.specs.Report.{AreAll, IsReportOf}
+use Rattle.lrc_world.specs.Report.{AreAll, IsReportOf, IsWornBy}
 use Rattle.lrc_run.specs.declared.stop.Stop.{Stop}
 use Rattle.lrc_run.specs.declared.stop.Stop.TheVariants as stops
 use Rattle.lrc_run.specs.declared.fault.RunFault.{RunFault}
@@ -23,10 +23,9 @@ use Rattle.lrc_run.specs.declared.fault.RunFault.TheVariants.{BadNodes, BadSteps
 abbrev pub turns_of : Report → List (List EntryRecord)
 turns_of report = map (λ log. log.items) report.logs.items
 
--- The report is that of events which make all turns of its logs, ordered by their stamps and, where those are the same, by their
--- nodes. After them no node is ready, and no message is in flight.
-pub record IsWovenReport (program : Program) (nodes : ℕ) (options : OptionsRecord) (report : Report) : Type 0 where
-  pub events : List Event
+-- The report is that of these events, which make all turns of its logs, ordered by their stamps and, where those are the same, by
+-- their nodes. After them no node is ready, and no message is in flight.
+pub record IsWovenReport (program : Program) (nodes : ℕ) (options : OptionsRecord) (events : List Event) (report : Report) : Type 0 where
   pub flight : List Flying
   pub reported : IsReportOf program nodes options events report
   pub woven : AreWoven (turns_of report) events flight
@@ -41,6 +40,11 @@ pub record AreWiresOf (nodes : ℕ) (picker : Picker) (report : Report) (wires :
   pub matched : AreMatched (turns_of report) wires
 
 -- ---- faults
+
+-- A number, an interval's index or a stamp becomes too large, or a message too long, at one of fewer than 2^64 events of a program's
+-- run. (So many takes of one message alone would use its receiver's stamps up.)
+abbrev pub WearsOutSoon : Program → ℕ → OptionsRecord → Type 0
+WearsOutSoon program nodes options = (events : List Event) × (length events < 2 ^ 64) × IsWornBy program nodes options events
 
 -- what is said of a weave that failed
 abbrev pub of_weaving : WeaveFault → RunFault

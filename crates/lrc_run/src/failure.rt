@@ -1,9 +1,9 @@
 // The fault of a run in which a node failed.
 
-ghost use Rattle.std.specs.Prelude.{◌≡◌, ◌≤◌, List, length};
+ghost use Rattle.std.specs.Prelude.{◌≡◌, ◌≤◌, ◌<◌, ◌^◌, List, length};
 ghost use Rattle.lrc_protocol.specs.declared.event.Event.{Event as AnyEvent};
 ghost use Rattle.lrc_world.specs.Report.{IsWornBy};
-ghost use Rattle.lrc_run.specs.Run.{AnswersStop, IsLate};
+ghost use Rattle.lrc_run.specs.Run.{AnswersStop, IsLate, WearsOutSoon};
 
 use crate::fault::RunFault;
 use crate::life::Failure;
@@ -31,6 +31,7 @@ pub(crate) fn fault_of(
     failure: Failure,
 ) -> RunFault
     ensures worn { result ≡ RunFault.Worn → (events : List AnyEvent) × IsWornBy program.now nodes options.now events }
+    ensures soon { result ≡ RunFault.Worn → WearsOutSoon program.now nodes options.now }
     ensures late { IsLate result }
     ensures stop { AnswersStop failure.stop result }
 {
@@ -51,17 +52,28 @@ fn worn_out(
     node: usize,
 ) -> RunFault
     ensures worn { result ≡ RunFault.Worn → (events : List AnyEvent) × IsWornBy program.now nodes options.now events }
+    ensures soon { result ≡ RunFault.Worn → WearsOutSoon program.now nodes options.now }
     ensures late { IsLate result }
 {
     let Ok(events) = events_until(alloc, logs, wires, node) else {
         return RunFault::NoMemory;
     };
-    match replay(alloc, program, u32::from(nodes), options, events.as_slice()) {
+    let turns = events.as_slice();
+    let _count = count_of(turns);
+    match replay(alloc, program, u32::from(nodes), options, turns) {
         Err(SimFault::Worn) => RunFault::Worn,
         Err(SimFault::NoMemory) => RunFault::NoMemory,
         // The nodes made these turns on their threads, so nothing else comes.
         Ok(_) | Err(_) => RunFault::Mismatch,
     }
+}
+
+/// How many events there are. As of anything in memory, there are fewer than 2^64.
+pub(crate) fn count_of(events: &[Event]) -> usize
+    ensures count { result ≡ length events.now }
+    ensures few { length events.now < 2 ^ 64 }
+{
+    events.len()
 }
 
 // The events that make all turns, and behind them the one at which the node wore out.

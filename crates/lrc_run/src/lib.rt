@@ -18,7 +18,7 @@ pub use fault::RunFault;
 pub use gate::Gate;
 pub use life::Life;
 pub use mail::{Line, Mail};
-pub use runs::{run, run_gated};
+pub use runs::{run, run_gated, run_with_events};
 pub use stop::Stop;
 pub use thread::on_thread;
 pub use worker::work;

@@ -8,15 +8,15 @@ ghost use Rattle.lrc_judge.specs.Races.{AreNamedRaces};
 ghost use Rattle.lrc_exec.specs.Plain.{plain};
 ghost use Rattle.lrc_theory.specs.Follows.{nodes_of};
 ghost use Rattle.lrc_theory.specs.Racing.{HasNoRace, PlainToRace};
-ghost use Rattle.lrc_protocol.specs.declared.event.Event.{Event};
+ghost use Rattle.lrc_protocol.specs.declared.event.Event.{Event as AnyEvent};
 ghost use Rattle.lrc_post.specs.Post.{AreOf};
 ghost use Rattle.lrc_weave.specs.Logs.{AreLogs};
 ghost use Rattle.lrc_weave.specs.Matched.{AreMatched};
 ghost use Rattle.lrc_world.specs.Range.{AreNodes, AreSteps};
 ghost use Rattle.lrc_world.specs.Report.{IsWornBy};
-ghost use Rattle.lrc_run.specs.Run.{AreWiresOf, IsLate, IsWovenReport, turns_of};
+ghost use Rattle.lrc_run.specs.Run.{AreWiresOf, IsLate, IsWovenReport, WearsOutSoon, turns_of};
 
-use crate::failure::fault_of;
+use crate::failure::{count_of, fault_of};
 use crate::fault::RunFault;
 use crate::gate::Gate;
 use crate::nodes::logs_of;
@@ -24,6 +24,7 @@ use lrc_exec::code::Code;
 use lrc_lang::program::Program;
 use lrc_node::{Entry, Options};
 use lrc_post::{Mailbox, Post, Wires};
+use lrc_protocol::Event;
 use lrc_weave::weave;
 use lrc_wire::Picker;
 use lrc_world::report::{MOST_STEPS, Report, SimFault};
@@ -58,7 +59,7 @@ pub fn run<R: Threads + Wait + Sync>(
     options: &Options,
     picker: Picker,
 ) -> Result<(Report, Wires), RunFault>
-    ensures woven { IfOk result (λ done. IsWovenReport program.now nodes options.now done.0) }
+    ensures woven { IfOk result (λ done. (events : List AnyEvent) × IsWovenReport program.now nodes options.now events done.0) }
     ensures wires { IfOk result (λ done. AreWiresOf nodes picker done.0 done.1) }
     ensures races { IfOk result (λ done. AreNamedRaces done.0.acts.items done.0.races.items) }
 
@@ -70,7 +71,8 @@ pub fn run<R: Threads + Wait + Sync>(
         → PlainToRace program.now nodes done.0.acts.items position) }
     ensures unraced { IfOk result (λ done. HasNoRace program.now nodes → IsRaceFree done.0.acts.items) }
 
-    ensures worn { result ≡ Err RunFault.Worn → (events : List Event) × IsWornBy program.now nodes options.now events }
+    ensures worn { result ≡ Err RunFault.Worn → (events : List AnyEvent) × IsWornBy program.now nodes options.now events }
+    ensures soon { result ≡ Err RunFault.Worn → WearsOutSoon program.now nodes options.now }
     ensures bad_nodes { (result ≡ Err RunFault.BadNodes) ↔ (¬ AreNodes nodes) }
     ensures bad_steps { (result ≡ Err RunFault.BadSteps) ↔ (AreNodes nodes × ¬ AreSteps options.now.steps) }
 {
@@ -87,7 +89,7 @@ pub fn run_gated<G: Gate + Sync, R: Threads + Wait + Sync>(
     picker: Picker,
     gate: &G,
 ) -> Result<(Report, Wires), RunFault>
-    ensures woven { IfOk result (λ done. IsWovenReport program.now nodes options.now done.0) }
+    ensures woven { IfOk result (λ done. (events : List AnyEvent) × IsWovenReport program.now nodes options.now events done.0) }
     ensures wires { IfOk result (λ done. AreWiresOf nodes picker done.0 done.1) }
     ensures races { IfOk result (λ done. AreNamedRaces done.0.acts.items done.0.races.items) }
 
@@ -99,13 +101,14 @@ pub fn run_gated<G: Gate + Sync, R: Threads + Wait + Sync>(
         → PlainToRace program.now nodes done.0.acts.items position) }
     ensures unraced { IfOk result (λ done. HasNoRace program.now nodes → IsRaceFree done.0.acts.items) }
 
-    ensures worn { result ≡ Err RunFault.Worn → (events : List Event) × IsWornBy program.now nodes options.now events }
+    ensures worn { result ≡ Err RunFault.Worn → (events : List AnyEvent) × IsWornBy program.now nodes options.now events }
+    ensures soon { result ≡ Err RunFault.Worn → WearsOutSoon program.now nodes options.now }
     ensures bad_nodes { (result ≡ Err RunFault.BadNodes) ↔ (¬ AreNodes nodes) }
     ensures bad_steps { (result ≡ Err RunFault.BadSteps) ↔ (AreNodes nodes × ¬ AreSteps options.now.steps) }
 {
     let count = check(nodes, options)?;
     let (logs, wires) = live(rt, alloc, program, count, options, picker, gate)?;
-    let report = told(
+    let (report, _events) = told(
         alloc,
         program,
         nodes,
@@ -114,6 +117,45 @@ pub fn run_gated<G: Gate + Sync, R: Threads + Wait + Sync>(
         wires.mailboxes(),
     )?;
     Ok((report, wires))
+}
+
+/// The same run as [`run`] makes, and the events that make the turns of its nodes: those of which the report is.
+pub fn run_with_events<R: Threads + Wait + Sync>(
+    rt: &R,
+    alloc: Global,
+    program: &Program,
+    nodes: u32,
+    options: &Options,
+    picker: Picker,
+) -> Result<(Report, Wires, Vec<Event>), RunFault>
+    ensures woven { IfOk result (λ done. IsWovenReport program.now nodes options.now done.2.items done.0) }
+    ensures wires { IfOk result (λ done. AreWiresOf nodes picker done.0 done.1) }
+    ensures races { IfOk result (λ done. AreNamedRaces done.0.acts.items done.0.races.items) }
+
+    ensures synchronized { IfOk result (λ done. IsWellSynchronized nodes done.0.acts.items) }
+    ensures lazy { IfOk result (λ done. ReadsLazily done.0.acts.items) }
+    ensures consistent { IfOk result (λ done. IsRaceFree done.0.acts.items
+        → plain program.now nodes (nodes_of done.0.acts.items) ≡ Some done.0.acts.items) }
+    ensures first { IfOk result (λ done. (position : ℕ) → IsFirstRace done.0.acts.items position
+        → PlainToRace program.now nodes done.0.acts.items position) }
+    ensures unraced { IfOk result (λ done. HasNoRace program.now nodes → IsRaceFree done.0.acts.items) }
+
+    ensures worn { result ≡ Err RunFault.Worn → (events : List AnyEvent) × IsWornBy program.now nodes options.now events }
+    ensures soon { result ≡ Err RunFault.Worn → WearsOutSoon program.now nodes options.now }
+    ensures bad_nodes { (result ≡ Err RunFault.BadNodes) ↔ (¬ AreNodes nodes) }
+    ensures bad_steps { (result ≡ Err RunFault.BadSteps) ↔ (AreNodes nodes × ¬ AreSteps options.now.steps) }
+{
+    let count = check(nodes, options)?;
+    let (logs, wires) = live(rt, alloc, program, count, options, picker, &OpenGate)?;
+    let (report, events) = told(
+        alloc,
+        program,
+        nodes,
+        options,
+        logs.as_slice(),
+        wires.mailboxes(),
+    )?;
+    Ok((report, wires, events))
 }
 
 // The turns of all nodes, and what the post between them kept.
@@ -130,7 +172,8 @@ fn live<G: Gate + Sync, R: Threads + Wait + Sync>(
     ensures logs { IfOk result (λ lived. AreLogs program.now nodes options.now (map (λ log. log.items) lived.0.items)) }
     ensures wires { IfOk result (λ lived. length lived.1 ≡ nodes) }
     ensures picker { IfOk result (λ lived. AreOf picker lived.1) }
-    ensures worn { result ≡ Err RunFault.Worn → (events : List Event) × IsWornBy program.now nodes options.now events }
+    ensures worn { result ≡ Err RunFault.Worn → (events : List AnyEvent) × IsWornBy program.now nodes options.now events }
+    ensures soon { result ≡ Err RunFault.Worn → WearsOutSoon program.now nodes options.now }
     ensures late { IfErr result IsLate }
 {
     let post = Post::new(alloc, nodes, picker)?;
@@ -151,7 +194,7 @@ fn live<G: Gate + Sync, R: Threads + Wait + Sync>(
     }
 }
 
-// The report of the nodes' turns, where what the post kept agrees with them, and nothing was left to do.
+// The report of the nodes' turns and the events that make them, where what the post kept agrees with them, and nothing was left to do.
 fn told(
     alloc: Global,
     program: &Program,
@@ -159,28 +202,31 @@ fn told(
     options: &Options,
     logs: &[Vec<Entry>],
     wires: &[Mailbox],
-) -> Result<Report, RunFault>
+) -> Result<(Report, Vec<Event>), RunFault>
     requires few { nodes ≤ 16 }
     requires logs { AreLogs program.now nodes options.now (map (λ log. log.items) logs.now) }
     requires wires { length wires.now ≡ nodes }
-    ensures woven { IfOk result (λ report. IsWovenReport program.now nodes options.now report) }
-    ensures matched { IfOk result (λ report. AreMatched (turns_of report) wires.now) }
-    ensures races { IfOk result (λ report. AreNamedRaces report.acts.items report.races.items) }
+    ensures woven { IfOk result (λ told. IsWovenReport program.now nodes options.now told.1.items told.0) }
+    ensures matched { IfOk result (λ told. AreMatched (turns_of told.0) wires.now) }
+    ensures races { IfOk result (λ told. AreNamedRaces told.0.acts.items told.0.races.items) }
 
-    ensures synchronized { IfOk result (λ report. IsWellSynchronized nodes report.acts.items) }
-    ensures lazy { IfOk result (λ report. ReadsLazily report.acts.items) }
-    ensures consistent { IfOk result (λ report. IsRaceFree report.acts.items
-        → plain program.now nodes (nodes_of report.acts.items) ≡ Some report.acts.items) }
-    ensures first { IfOk result (λ report. (position : ℕ) → IsFirstRace report.acts.items position
-        → PlainToRace program.now nodes report.acts.items position) }
-    ensures unraced { IfOk result (λ report. HasNoRace program.now nodes → IsRaceFree report.acts.items) }
+    ensures synchronized { IfOk result (λ told. IsWellSynchronized nodes told.0.acts.items) }
+    ensures lazy { IfOk result (λ told. ReadsLazily told.0.acts.items) }
+    ensures consistent { IfOk result (λ told. IsRaceFree told.0.acts.items
+        → plain program.now nodes (nodes_of told.0.acts.items) ≡ Some told.0.acts.items) }
+    ensures first { IfOk result (λ told. (position : ℕ) → IsFirstRace told.0.acts.items position
+        → PlainToRace program.now nodes told.0.acts.items position) }
+    ensures unraced { IfOk result (λ told. HasNoRace program.now nodes → IsRaceFree told.0.acts.items) }
 
-    ensures worn { result ≡ Err RunFault.Worn → (events : List Event) × IsWornBy program.now nodes options.now events }
+    ensures worn { result ≡ Err RunFault.Worn → (events : List AnyEvent) × IsWornBy program.now nodes options.now events }
+    ensures soon { result ≡ Err RunFault.Worn → WearsOutSoon program.now nodes options.now }
     ensures late { IfErr result IsLate }
 {
     let events = weave(alloc, logs, wires)?;
-    match replay(alloc, program, nodes, options, events.as_slice()) {
-        Ok((report, true)) => Ok(report),
+    let turns = events.as_slice();
+    let _count = count_of(turns);
+    match replay(alloc, program, nodes, options, turns) {
+        Ok((report, true)) => Ok((report, events)),
         Err(SimFault::NoMemory) => Err(RunFault::NoMemory),
         // The events are those of a run, and each message was sent, so no other fault comes.
         Err(SimFault::Worn) => Err(RunFault::Worn),
