@@ -10,7 +10,7 @@ use Rattle.lrc_cli.specs.FaultLine.{fault_of_kind, fault_of_text}
 use Rattle.lrc_text.specs.Parts.{whole_text}
 use Rattle.lrc_cli.specs.declared.answer.Printout.{Printout}
 use Rattle.lrc_words.specs.declared.choice.Choice.{Choice}
-use Rattle.lrc_words.specs.declared.choice.Choice.TheVariants.{Check, Plain, Show, Judge}
+use Rattle.lrc_words.specs.declared.choice.Choice.TheVariants.{Check, Plain, Show, Judge, Explore}
 use Rattle.lrc_cli.specs.declared.fault.Fault.{Fault}
 use Rattle.lrc_cli.specs.declared.fault.Fault.TheVariants.{NoMemory}
 
@@ -32,6 +32,7 @@ memory_ran_out (Check file) text events = tt
 memory_ran_out (Plain run) text events = tt
 memory_ran_out (Show run shape) text events = inl tt
 memory_ran_out (Judge judging) text events = tt
+memory_ran_out (Explore exploring) text events = inl tt
 
 -- the first fault of a text, as it is told
 text_fault_at : (text : List ℕ) (line : ℕ) (kind : FaultKind) → ((kind ≡ faults.NoMemory) × (line ≡ 0)) ⊎ HasFirstFault text line kind

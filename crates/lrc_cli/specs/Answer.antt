@@ -4,10 +4,13 @@ use Rattle.lrc_acts.specs.ActsText.{Reads}
 use Rattle.lrc_acts.specs.declared.reading.ActsFault.TheVariants.{BadAct}
 use Rattle.lrc_exec.specs.Rounds.{AreActsOfRounds}
 use Rattle.lrc_lang.specs.Faults.{HasFirstFault, IsText}
+use Rattle.lrc_lang.specs.Lines.{HasLines}
 use Rattle.lrc_lang.specs.Tree.{program_of}
 use Rattle.lrc_lang.specs.declared.program.Program.{Program}
 use Rattle.lrc_trace.specs.declared.act.Act.{Act}
 use Rattle.lrc_text.specs.Parts.{whole_text}
+use Rattle.lrc_explored.specs.Explored.{Explores, MeetsTooMany}
+use Rattle.lrc_protocol.specs.declared.event.Event.{Event}
 use Rattle.lrc_verdict.specs.Judgement.{Judges}
 use Rattle.lrc_world.specs.Ends.{ends_of}
 use Rattle.lrc_world.specs.declared.report.Report.{Report}
@@ -16,12 +19,13 @@ use Rattle.lrc_cli.specs.Runs.{IsRunFault, IsRunOf}
 use Rattle.lrc_cli.specs.Shown.{IsShown}
 use Rattle.lrc_cli.specs.declared.answer.Printout.{Printout}
 use Rattle.lrc_words.specs.declared.choice.Choice.{Choice}
-use Rattle.lrc_words.specs.declared.choice.Choice.TheVariants.{Check, Plain, Show, Judge}
+use Rattle.lrc_words.specs.declared.choice.Choice.TheVariants.{Check, Plain, Show, Judge, Explore}
+use Rattle.lrc_words.specs.declared.choice.Exploring.{Exploring}
 use Rattle.lrc_words.specs.declared.choice.Judging.{Judging}
 use Rattle.lrc_words.specs.declared.choice.RunChoice.{RunChoice}
 use Rattle.lrc_words.specs.declared.choice.Shape.{Shape}
 use Rattle.lrc_cli.specs.declared.fault.Fault.{Fault}
-use Rattle.lrc_cli.specs.declared.fault.Fault.TheVariants.{Text, Acts, NoMemory}
+use Rattle.lrc_cli.specs.declared.fault.Fault.TheVariants.{Text, Acts, TooManyStates, NoMemory}
 
 -- the text is this program's
 abbrev pub IsTextOf : List ℕ → Program → Type 0
@@ -44,17 +48,23 @@ IsPrintoutOfRounds program nodes steps out status =
 -- the text is what is shown of a run of the program, and the status is that of the run
 pub record IsShowing (run : RunChoice) (shape : Shape) (text : List ℕ) (events_text : Option (List ℕ)) (program : Program)
     (out : List ℕ) (status : ℕ) : Type 0 where
+  pub events : List Event
   pub report : Report
-  pub ran : IsRunOf run.way program run.options events_text report
-  pub shown : IsShown shape text program run.options report out
+  pub ran : IsRunOf run.way program run.options events_text events report
+  pub shown : IsShown shape text program run.options events report out
   pub ended : status ≡ run_status_of report.first_race report.ends.items
 
 -- how many nodes the acts are of, where that is said
 abbrev pub nodes_of : Judging → Option ℕ
 nodes_of judging = option_map (λ nodes. nodes.count) judging.nodes
 
+-- the text and the status are what is said of every order of the program that this text is of
+abbrev pub IsExploration : Exploring → List ℕ → Program → List ℕ → ℕ → Type 0
+IsExploration exploring text program out status = (places : List ℕ) × HasLines text (program_of program) places
+    × Explores program exploring.nodes.count places exploring.outcomes out status
+
 -- What is printed, with the status: `ok` where the text is a program's, the report of what the program does in rounds on
--- the plain machine, what is shown of its run, or a judgement of acts.
+-- the plain machine, what is shown of its run, a judgement of acts, or what every order of the program comes to.
 abbrev pub Prints : Choice → List ℕ → Option (List ℕ) → List ℕ → ℕ → Type 0
 Prints (Check file) text events_text out status = IsChecked text out status
 Prints (Plain run) text events_text out status =
@@ -63,6 +73,8 @@ Prints (Plain run) text events_text out status =
 Prints (Show run shape) text events_text out status =
     (program : Program) × IsTextOf text program × IsShowing run shape text events_text program out status
 Prints (Judge judging) text events_text out status = Judges (nodes_of judging) judging.pairs text out status
+Prints (Explore exploring) text events_text out status =
+    (program : Program) × IsTextOf text program × IsExploration exploring text program out status
 
 -- the fault of a text that is no program
 abbrev pub IsTextFault : List ℕ → Fault → Type 0
@@ -76,13 +88,22 @@ IsActsFault nodes text (Acts line) = Reads nodes text (Err (BadAct line))
 IsActsFault nodes text NoMemory = Unit {0}
 IsActsFault nodes text _ = ⊥
 
--- The first fault: of the text, then of the events, then of the run. Memory may run out at any time.
+-- the fault of a search through every order: it met more states than it might
+abbrev pub IsSearchFault : Exploring → Program → Fault → Type 0
+IsSearchFault exploring program (TooManyStates most) =
+    (most ≡ exploring.most.count) × MeetsTooMany program exploring.nodes.count most exploring.outcomes
+IsSearchFault exploring program NoMemory = Unit {0}
+IsSearchFault exploring program _ = ⊥
+
+-- The first fault: of the text, then of the events, then of the run or the search. Memory may run out at any time.
 abbrev pub IsFault : Choice → List ℕ → Option (List ℕ) → Fault → Type 0
 IsFault (Check file) text events_text fault = IsTextFault text fault
 IsFault (Plain run) text events_text fault = IsTextFault text fault
 IsFault (Show run shape) text events_text fault = IsTextFault text fault
     ⊎ ((program : Program) × IsTextOf text program × IsRunFault run.way program run.options events_text fault)
 IsFault (Judge judging) text events_text fault = IsActsFault (nodes_of judging) text fault
+IsFault (Explore exploring) text events_text fault = IsTextFault text fault
+    ⊎ ((program : Program) × IsTextOf text program × IsSearchFault exploring program fault)
 
 -- What is answered to a choice: what is printed, or the first fault.
 abbrev pub Answers : Choice → List ℕ → Option (List ℕ) → Result Printout Fault → Type 0

@@ -55,6 +55,7 @@ abbrev pub fault_words : Fault → List ℕ
 fault_words (faults.Text line kind) = codes "line " ++ decimal line ++ codes ": " ++ kind_words kind
 fault_words (faults.Events line) = codes "events line " ++ decimal line ++ codes ": bad event"
 fault_words (faults.Acts line) = codes "acts line " ++ decimal line ++ codes ": bad act"
+fault_words (faults.TooManyStates most) = codes "more than " ++ decimal most ++ codes " states"
 fault_words faults.Worn = codes "message numbers used up"
 fault_words faults.Mismatch = codes "logs and wires differ"
 fault_words faults.NoMemory = codes "out of memory"

@@ -1,5 +1,5 @@
 -- The run that a choice asks for: the events that it is made of and its report, or why there is none.
-use Rattle.std.specs.Prelude.{◌<◌, ◌≤◌, ℕ, List, length, Option, None, Some, Ok, Err}
+use Rattle.std.specs.Prelude.{◌≡◌, ◌<◌, ◌≤◌, ℕ, List, length, Option, None, Some, Ok, Err}
 use Rattle.lrc_lang.specs.declared.program.Program.{Program}
 use Rattle.lrc_judge.specs.Races.{AreNamedRaces}
 use Rattle.lrc_wire.specs.declared.picker.Picker.{Picker}
@@ -9,8 +9,10 @@ use Rattle.lrc_protocol.specs.Node.{OptionsRecord}
 use Rattle.lrc_world.specs.Random.{IsWandering, WanderingWearsOut}
 use Rattle.lrc_world.specs.Report.{AreAll, IsReportOf, IsWornBy}
 use Rattle.lrc_world.specs.Rounds.{AreRounds, RoundsWearOut}
+use Rattle.lrc_world.specs.Turned.{turned_of}
 use Rattle.lrc_world.specs.declared.report.Report.{Report}
-use Rattle.lrc_run.specs.Run.{AreWiresOf, IsWovenReport}
+use Rattle.lrc_world.specs.declared.turned.Turned.{Turned}
+use Rattle.lrc_run.specs.Run.{AreWiresOf, IsWovenReport, WearsOutSoon}
 use Rattle.lrc_events.specs.EventsText.{Reads}
 use Rattle.lrc_events.specs.declared.events.EventsFault.TheVariants.{BadEvent}
 use Rattle.lrc_words.specs.declared.choice.RunOptions.{RunOptions}
@@ -23,48 +25,42 @@ use Rattle.lrc_cli.specs.declared.fault.Fault.TheVariants.{Events, Worn, Mismatc
 abbrev pub options_of : RunOptions → OptionsRecord
 options_of options = record { steps = options.steps.count; collect = options.collect.count; first = 0; size = options.size }
 
--- the report is that of the program's run of these events, with the races that its acts name
+-- the program's run of these events
 abbrev pub IsReported : Program → RunOptions → List Event → Report → Type 0
 IsReported program options events report =
     IsReportOf program options.nodes.count (options_of options) events report × AreNamedRaces report.acts.items report.races.items
+
+-- the events of a run that are not skipped, each with the node whose turn it makes
+abbrev pub turns_in : Program → RunOptions → List Event → List Turned
+turns_in program options events = turned_of program options.nodes.count (options_of options) events
 
 -- No node is ready and no message is in flight after the events, unless there are 100,000,000, of which there are no more.
 pub record AreToEnd (program : Program) (options : RunOptions) (events : List Event) : Type 0 where
   pub few : length events ≤ 100000000
   pub over : length events < 100000000 → AreAll program options.nodes.count (options_of options) events
 
--- what a run of the events answers that a text names
-abbrev pub IsPlayed : Program → RunOptions → List ℕ → Report → Type 0
-IsPlayed program options events_text report =
-    (events : List Event) × Reads events_text (Ok events) × IsReported program options events report
-
--- what a run in rounds answers
-abbrev pub IsDriven : Program → RunOptions → Picker → Report → Type 0
-IsDriven program options order report =
-    (events : List Event) × AreRounds program options.nodes.count (options_of options) order events
-    × AreToEnd program options events × IsReported program options events report
-
--- what a run in the random order of a seed answers
-abbrev pub IsWandered : Program → RunOptions → ℕ → Report → Type 0
-IsWandered program options seed report =
-    (events : List Event) × IsWandering program options.nodes.count (options_of options) seed events
-    × AreToEnd program options events × IsReported program options events report
-
--- What a run on threads answers: the report of the events that its nodes' turns make, with the races that its acts name. Its messages
--- went through mailboxes, of which each take was of the parcel that the order names.
-pub record IsThreaded (program : Program) (options : RunOptions) (order : Picker) (report : Report) : Type 0 where
-  pub woven : IsWovenReport program options.nodes.count (options_of options) report
-  pub races : AreNamedRaces report.acts.items report.races.items
+-- The events make the turns of nodes on threads, whose messages went through mailboxes, of which each take was of the parcel that the
+-- order names.
+pub record AreThreaded (program : Program) (options : RunOptions) (order : Picker) (report : Report) (events : List Event) : Type 0 where
+  pub woven : IsWovenReport program options.nodes.count (options_of options) events report
   pub wires : List MailboxRecord
   pub posted : AreWiresOf options.nodes.count order report wires
 
--- what a run of the program answers that goes on in this way, by the text of its events where it names them
-abbrev pub IsRunOf : Way → Program → RunOptions → Option (List ℕ) → Report → Type 0
-IsRunOf (ways.Events file) program options None report = ⊥
-IsRunOf (ways.Events file) program options (Some events_text) report = IsPlayed program options events_text report
-IsRunOf (ways.Rounds order) program options events_text report = IsDriven program options order report
-IsRunOf (ways.Random seed) program options events_text report = IsWandered program options seed report
-IsRunOf (ways.Threads order) program options events_text report = IsThreaded program options order report
+-- The events of a run that goes on in some way: those that a text names, those of its rounds, those of its random order, or those that
+-- its nodes on threads made.
+abbrev pub AreEventsOf : Way → Program → RunOptions → Option (List ℕ) → Report → List Event → Type 0
+AreEventsOf (ways.Events file) program options None report events = ⊥
+AreEventsOf (ways.Events file) program options (Some events_text) report events = Reads events_text (Ok events)
+AreEventsOf (ways.Rounds order) program options events_text report events =
+    AreRounds program options.nodes.count (options_of options) order events × AreToEnd program options events
+AreEventsOf (ways.Random seed) program options events_text report events =
+    IsWandering program options.nodes.count (options_of options) seed events × AreToEnd program options events
+AreEventsOf (ways.Threads order) program options events_text report events = AreThreaded program options order report events
+
+-- what a run of the program answers: the report of its events, with the races that its acts name
+abbrev pub IsRunOf : Way → Program → RunOptions → Option (List ℕ) → List Event → Report → Type 0
+IsRunOf way program options events_text events report =
+    AreEventsOf way program options events_text report events × IsReported program options events report
 
 -- ---- faults
 
@@ -83,11 +79,10 @@ IsLedFault WearsOut Worn = WearsOut
 IsLedFault WearsOut NoMemory = Unit {0}
 IsLedFault WearsOut _ = ⊥
 
--- Why a run on threads answers none: a number or a message becomes too large at one of the events of some run of the program; or the
--- logs differ from what went through the post. Which thread goes on when is not known, and so is no more of its faults.
+-- Why a run on threads answers none: a number or a message becomes too large at one of fewer than 2^64 events of some run of the
+-- program; or the logs differ from what went through the post. Which thread goes on when is not known, and so is no more of its faults.
 abbrev pub IsThreadedFault : Program → RunOptions → Fault → Type 0
-IsThreadedFault program options Worn =
-    (events : List Event) × IsWornBy program options.nodes.count (options_of options) events
+IsThreadedFault program options Worn = WearsOutSoon program options.nodes.count (options_of options)
 IsThreadedFault program options Mismatch = Unit {0}
 IsThreadedFault program options NoMemory = Unit {0}
 IsThreadedFault program options _ = ⊥

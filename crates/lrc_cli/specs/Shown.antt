@@ -1,37 +1,64 @@
 -- What is shown of a run.
-use Rattle.std.specs.Prelude.{◌≡◌, ℕ, List}
+use Rattle.std.specs.Prelude.{◌≡◌, ℕ, List, length, map}
+use Rattle.lrc_clock.specs.Keeping.{KeepsTime}
 use Rattle.lrc_lang.specs.Lines.{HasLines}
 use Rattle.lrc_lang.specs.Tree.{program_of}
 use Rattle.lrc_lang.specs.declared.program.Program.{Program}
 use Rattle.lrc_trace.specs.declared.act.Act.{Act}
 use Rattle.lrc_lines.specs.Walks.{lines_of}
+use Rattle.lrc_events.specs.Writing.{events_text}
 use Rattle.lrc_show.specs.ActsText.{acts_text}
+use Rattle.lrc_show.specs.Json.{json_of_acts}
 use Rattle.lrc_show.specs.Rapid.{rapid_text}
+use Rattle.lrc_protocol.specs.declared.event.Event.{Event}
 use Rattle.lrc_world.specs.declared.report.Report.{Report}
+use Rattle.lrc_run.specs.Run.{turns_of}
+use Rattle.lrc_explain.specs.Explain.{explain_text}
+use Rattle.lrc_judge.specs.FirstPairs.{AreFirstPairs}
+use Rattle.lrc_judge.specs.declared.lanes.Pair.{Pair}
 use Rattle.lrc_report.specs.ReportText.{run_text}
+use Rattle.lrc_stats.specs.StatsText.{stats_text}
+use Rattle.lrc_turns.specs.TurnsText.{messages_text}
 use Rattle.lrc_words.specs.declared.choice.Form.{Form}
-use Rattle.lrc_words.specs.declared.choice.Form.TheVariants.{Acts, Rapid}
+use Rattle.lrc_words.specs.declared.choice.Form.TheVariants.{Acts, Events, Json, Messages, Rapid}
 use Rattle.lrc_words.specs.declared.choice.RunOptions.{RunOptions}
 use Rattle.lrc_words.specs.declared.choice.Shape.{Shape}
 use Rattle.lrc_words.specs.declared.choice.Shape.TheVariants as shapes
-use Rattle.lrc_words.specs.declared.choice.Shape.TheVariants.{Trace}
+use Rattle.lrc_words.specs.declared.choice.Shape.TheVariants.{Explain, Stats, Trace}
+use Rattle.lrc_cli.specs.Runs.{turns_in}
 
 -- of each act the line of the text on which the statement stands that it is of
 abbrev pub AreLinesIn : List ℕ → Program → ℕ → List Act → List ℕ → Type 0
 AreLinesIn text program nodes acts lines =
     (places : List ℕ) × HasLines text (program_of program) places × (lines ≡ lines_of program nodes places acts)
 
--- the acts of a run, each with its line, in one of the forms
-abbrev pub form_text : Form → Program → ℕ → List Act → List ℕ → List ℕ
-form_text Acts program nodes acts lines = acts_text acts lines
-form_text Rapid program nodes acts lines = rapid_text program.locks nodes acts lines
+-- A run in one of the forms, where the acts are of these lines: its acts, also with the messages among them, or as JSON with the time
+-- that its node has just after each, or as accesses and their order; or its events that are not skipped.
+abbrev pub IsWrittenAs : Form → Program → RunOptions → List Event → Report → (lines out : List ℕ) → Type 0
+IsWrittenAs Acts program options events report lines out = out ≡ acts_text report.acts.items lines
+IsWrittenAs Messages program options events report lines out =
+    out ≡ messages_text (turns_of report) (map (λ turn. turn.node) (turns_in program options events)) lines
+IsWrittenAs Events program options events report lines out = out ≡ events_text (map (λ turn. turn.event) (turns_in program options events))
+IsWrittenAs Json program options events report lines out =
+    (times : List (List ℕ)) × KeepsTime options.nodes.count report.acts.items times × (out ≡ json_of_acts report.acts.items lines times)
+IsWrittenAs Rapid program options events report lines out =
+    out ≡ rapid_text program.locks options.nodes.count report.acts.items lines
 
--- a trace of acts of the program that this text is of
-abbrev pub IsTraced : Form → List ℕ → Program → ℕ → List Act → List ℕ → Type 0
-IsTraced form text program nodes acts out =
-    (lines : List ℕ) × AreLinesIn text program nodes acts lines × (out ≡ form_text form program nodes acts lines)
+-- a trace of a run of the program that this text is of
+abbrev pub IsTraced : Form → List ℕ → Program → RunOptions → List Event → Report → List ℕ → Type 0
+IsTraced form text program options events report out =
+    (lines : List ℕ) × AreLinesIn text program options.nodes.count report.acts.items lines
+    × IsWrittenAs form program options events report lines out
+
+-- the report of such a run with reasons
+abbrev pub IsExplained : List ℕ → Program → RunOptions → Report → List ℕ → Type 0
+IsExplained text program options report out = (places : List ℕ) × HasLines text (program_of program) places
+    × ((pairs : List Pair) × AreFirstPairs report.acts.items pairs
+    × (out ≡ explain_text program options.nodes.count places options.steps.count report.acts.items pairs report.first_race))
 
 -- what is shown of a run of that program
-abbrev pub IsShown : Shape → List ℕ → Program → RunOptions → Report → List ℕ → Type 0
-IsShown shapes.Report text program options report out = out ≡ run_text report
-IsShown (Trace form) text program options report out = IsTraced form text program options.nodes.count report.acts.items out
+abbrev pub IsShown : Shape → List ℕ → Program → RunOptions → List Event → Report → List ℕ → Type 0
+IsShown shapes.Report text program options events report out = out ≡ run_text report
+IsShown (Trace form) text program options events report out = IsTraced form text program options events report out
+IsShown Explain text program options events report out = IsExplained text program options report out
+IsShown Stats text program options events report out = out ≡ stats_text (length events) (turns_of report)

@@ -7,6 +7,7 @@ ghost use Rattle.lrc_text.specs.Parts.{whole_text};
 ghost use Rattle.lrc_words.specs.Files.{names_events, starts_threads};
 ghost use Rattle.lrc_words.specs.declared.choice.Choice.TheVariants.{Plain};
 
+use crate::explored::explored;
 use crate::fault::Fault;
 use crate::judged::judged;
 use crate::shown::show;
@@ -46,6 +47,7 @@ pub fn answer(
         Choice::Plain(run) => plain(alloc, run, text),
         Choice::Show(run, shape) => show(alloc, run, *shape, text, events),
         Choice::Judge(judging) => judged(alloc, judging, text),
+        Choice::Explore(exploring) => explored(alloc, exploring, text),
     }
 }
 
@@ -55,9 +57,18 @@ fn checked(alloc: Global, text: &[u8]) -> Result<Printout, Fault>
     ensures err { IfErr result (IsTextFault text.now) }
 {
     let _program = parse(alloc, text)?;
-    let mut parts = Vec::new(alloc);
-    parts.push(Vec::from_slice(alloc, b"ok\n")?)?;
+    let part = Vec::from_slice(alloc, b"ok\n")?;
+    let parts = in_one(alloc, part)?;
     Ok(Printout { parts, status: 0 })
+}
+
+/// A text in one part.
+pub(crate) fn in_one(alloc: Global, part: Vec<u8>) -> Result<Vec<Vec<u8>>, AllocError>
+    ensures { IfOk result (λ parts. whole_text parts.items ≡ part.items) }
+{
+    let mut parts = Vec::new(alloc);
+    parts.push(part)?;
+    Ok(parts)
 }
 
 // What the nodes print on the plain machine, and how they end there.

@@ -26,6 +26,8 @@ pub enum Fault {
     Acts(u32),
     /// The numbers of messages were used up.
     Worn,
+    /// A search through every order met more states than this, which it might.
+    TooManyStates(u32),
     /// What the nodes of a run on threads say that they sent and took is not what went through the post.
     Mismatch,
     /// Memory ran out.
@@ -44,6 +46,7 @@ impl Display for Fault {
             Fault::Events(line) => write!(f, "events line {line}: bad event"),
             Fault::Acts(line) => write!(f, "acts line {line}: bad act"),
             Fault::Worn => write!(f, "message numbers used up"),
+            Fault::TooManyStates(most) => write!(f, "more than {most} states"),
             Fault::Mismatch => write!(f, "logs and wires differ"),
             Fault::NoMemory => write!(f, "out of memory"),
         }

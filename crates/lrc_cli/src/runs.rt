@@ -1,20 +1,30 @@
 // The run that a choice asks for, by the way in which it goes on.
 
-ghost use Rattle.std.specs.Prelude.{◌≡◌, IfErr, IfOk, false, is_some, option_map};
-ghost use Rattle.lrc_cli.specs.Runs.{IsDriven, IsLedFault, IsPlayed, IsPlayedFault, IsRunFault, IsRunOf, IsWandered, options_of};
+ghost use Rattle.std.specs.Prelude.{◌≡◌, IfErr, IfOk, Ok as Was, false, is_some, option_map};
+ghost use Rattle.lrc_cli.specs.Runs.{AreToEnd, IsLedFault, IsPlayedFault, IsReported, IsRunFault, IsRunOf, options_of};
+ghost use Rattle.lrc_events.specs.EventsText.{Reads};
 ghost use Rattle.lrc_words.specs.Files.{events_along, is_on_threads};
-ghost use Rattle.lrc_world.specs.Random.{WanderingWearsOut};
-ghost use Rattle.lrc_world.specs.Rounds.{RoundsWearOut};
+ghost use Rattle.lrc_world.specs.Random.{IsWandering, WanderingWearsOut};
+ghost use Rattle.lrc_world.specs.Rounds.{AreRounds, RoundsWearOut};
 
 use crate::fault::{Fault, fault_of_run};
 use lrc_events::events::events_of;
 use lrc_lang::program::Program;
 use lrc_node::Options;
+use lrc_protocol::Event;
 use lrc_wire::Picker;
 use lrc_words::choice::{RunChoice, RunOptions, Way};
 use lrc_world::report::Report;
 use lrc_world::simulate::{drive, simulate, wander};
 use std::alloc::Global;
+
+/// A run.
+#[derive(Drop)]
+pub(crate) struct Run {
+    /// The events that it was made of, also those that were skipped.
+    pub(crate) events: Vec<Event>,
+    pub(crate) report: Report,
+}
 
 /// The run of a program that goes on without threads, by the text of its events where it names them.
 pub(crate) fn run_of(
@@ -22,10 +32,11 @@ pub(crate) fn run_of(
     choice: &RunChoice<'_>,
     program: &Program,
     events: Option<&[u8]>,
-) -> Result<Report, Fault>
+) -> Result<Run, Fault>
     requires threadless { is_on_threads choice.now.way ≡ false }
     requires events { is_some events ≡ is_some (events_along choice.now.way) }
-    ensures ok { IfOk result (IsRunOf choice.now.way program.now choice.now.options (option_map (λ e. e.now) events.entry)) }
+    ensures ok { IfOk result (λ run. IsRunOf choice.now.way program.now choice.now.options (option_map (λ e. e.now) events.entry)
+        run.events.items run.report) }
     ensures err { IfErr result (IsRunFault choice.now.way program.now choice.now.options (option_map (λ e. e.now) events.entry)) }
 {
     let options = &choice.options;
@@ -46,14 +57,16 @@ fn played(
     options: &RunOptions<'_>,
     program: &Program,
     text: &[u8],
-) -> Result<Report, Fault>
-    ensures ok { IfOk result (IsPlayed program.now options.now text.now) }
+) -> Result<Run, Fault>
+    ensures events { IfOk result (λ run. Reads text.now (Was run.events.items)) }
+    ensures reported { IfOk result (λ run. IsReported program.now options.now run.events.items run.report) }
     ensures err { IfErr result (IsPlayedFault program.now options.now text.now) }
 {
     let events = events_of(alloc, text)?;
     let nodes = options.nodes.count;
-    let report = simulate(alloc, program, nodes, &options_of(options), &events);
-    report.map_err(fault_of_run)
+    let simulated = simulate(alloc, program, nodes, &options_of(options), &events);
+    let report = simulated.map_err(fault_of_run)?;
+    Ok(Run { events, report })
 }
 
 // The run in rounds.
@@ -62,15 +75,17 @@ fn driven(
     options: &RunOptions<'_>,
     program: &Program,
     order: Picker,
-) -> Result<Report, Fault>
-    ensures ok { IfOk result (IsDriven program.now options.now order) }
+) -> Result<Run, Fault>
+    ensures events { IfOk result (λ run. AreRounds program.now options.now.nodes.count (options_of options.now) order run.events.items) }
+    ensures to_end { IfOk result (λ run. AreToEnd program.now options.now run.events.items) }
+    ensures reported { IfOk result (λ run. IsReported program.now options.now run.events.items run.report) }
     ensures err { IfErr result (IsLedFault
         (RoundsWearOut program.now options.now.nodes.count (options_of options.now) order)) }
 {
     let nodes = options.nodes.count;
     let driven = drive(alloc, program, nodes, &options_of(options), order);
-    let (_events, report) = driven.map_err(fault_of_run)?;
-    Ok(report)
+    let (events, report) = driven.map_err(fault_of_run)?;
+    Ok(Run { events, report })
 }
 
 // The run in a random order.
@@ -79,15 +94,17 @@ fn wandered(
     options: &RunOptions<'_>,
     program: &Program,
     seed: u64,
-) -> Result<Report, Fault>
-    ensures ok { IfOk result (IsWandered program.now options.now seed) }
+) -> Result<Run, Fault>
+    ensures events { IfOk result (λ run. IsWandering program.now options.now.nodes.count (options_of options.now) seed run.events.items) }
+    ensures to_end { IfOk result (λ run. AreToEnd program.now options.now run.events.items) }
+    ensures reported { IfOk result (λ run. IsReported program.now options.now run.events.items run.report) }
     ensures err { IfErr result (IsLedFault
         (WanderingWearsOut program.now options.now.nodes.count (options_of options.now) seed)) }
 {
     let nodes = options.nodes.count;
     let wandered = wander(alloc, program, nodes, &options_of(options), seed);
-    let (_events, report) = wandered.map_err(fault_of_run)?;
-    Ok(report)
+    let (events, report) = wandered.map_err(fault_of_run)?;
+    Ok(Run { events, report })
 }
 
 pub(crate) fn options_of(options: &RunOptions<'_>) -> Options

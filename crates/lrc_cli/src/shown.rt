@@ -1,20 +1,27 @@
 // What the program answers to a run without threads, and what is shown of any run.
 
-ghost use Rattle.std.specs.Prelude.{◌≡◌, IfErr, IfOk, false, is_some, option_map};
+ghost use Rattle.std.specs.Prelude.{◌≡◌, ◌<◌, All, IfErr, IfOk, false, is_some, length, option_map};
 ghost use Rattle.lrc_cli.specs.Answer.{IsFault, IsTextOf, Prints};
-ghost use Rattle.lrc_cli.specs.Shown.{IsShown};
+ghost use Rattle.lrc_cli.specs.Runs.{IsReported};
+ghost use Rattle.lrc_cli.specs.Shown.{IsExplained, IsShown};
 ghost use Rattle.lrc_report.specs.ReportText.{run_status_of};
+ghost use Rattle.lrc_run.specs.Run.{turns_of};
+ghost use Rattle.lrc_stats.specs.StatsText.{stats_text};
 ghost use Rattle.lrc_text.specs.Parts.{whole_text};
 ghost use Rattle.lrc_words.specs.Files.{names_events, starts_threads};
 ghost use Rattle.lrc_words.specs.declared.choice.Choice.TheVariants.{Show};
 
-use crate::answer::Printout;
+use crate::answer::{Printout, in_one};
 use crate::fault::Fault;
-use crate::runs::run_of;
+use crate::runs::{Run, run_of};
 use crate::trace::trace_parts;
+use lrc_exec::code::Code;
+use lrc_explain::explain;
+use lrc_lang::lines::lines_of;
 use lrc_lang::parse;
 use lrc_lang::program::Program;
 use lrc_report::report::{run_parts, status_after_run};
+use lrc_stats::stats_part;
 use lrc_words::choice::{RunChoice, RunOptions, Shape};
 use lrc_world::report::Report;
 use std::alloc::{AllocError, Global};
@@ -34,8 +41,8 @@ pub(crate) fn show(
     ensures err { IfErr result (IsFault (Show choice.now shape) text.now (option_map (λ e. e.now) events.entry)) }
 {
     let program = parse(alloc, text)?;
-    let report = run_of(alloc, choice, &program, events)?;
-    Ok(shown(alloc, shape, text, &program, &choice.options, &report)?)
+    let run = run_of(alloc, choice, &program, events)?;
+    Ok(shown(alloc, shape, text, &program, &choice.options, &run)?)
 }
 
 /// What is shown of a run of the program that this text is of.
@@ -45,17 +52,18 @@ pub(crate) fn shown(
     text: &[u8],
     program: &Program,
     options: &RunOptions<'_>,
-    report: &Report,
+    run: &Run,
 ) -> Result<Printout, AllocError>
-    requires { IsTextOf text.now program.now }
-    ensures text { IfOk result (λ printout. IsShown shape text.now program.now options.now report.now
+    requires text { IsTextOf text.now program.now }
+    requires reported { IsReported program.now options.now run.now.events.items run.now.report }
+    ensures text { IfOk result (λ printout. IsShown shape text.now program.now options.now run.now.events.items run.now.report
         (whole_text printout.parts.items)) }
     ensures status { IfOk result (λ printout. printout.status
-        ≡ run_status_of report.now.first_race report.now.ends.items) }
+        ≡ run_status_of run.now.report.first_race run.now.report.ends.items) }
 {
     Ok(Printout {
-        parts: parts_of(alloc, shape, text, program, options, report)?,
-        status: status_after_run(report),
+        parts: parts_of(alloc, shape, text, program, options, run)?,
+        status: status_after_run(&run.report),
     })
 }
 
@@ -65,17 +73,50 @@ fn parts_of(
     text: &[u8],
     program: &Program,
     options: &RunOptions<'_>,
-    report: &Report,
+    run: &Run,
 ) -> Result<Vec<Vec<u8>>, AllocError>
-    requires { IsTextOf text.now program.now }
-    ensures { IfOk result (λ parts. IsShown shape text.now program.now options.now report.now
+    requires text { IsTextOf text.now program.now }
+    requires reported { IsReported program.now options.now run.now.events.items run.now.report }
+    ensures { IfOk result (λ parts. IsShown shape text.now program.now options.now run.now.events.items run.now.report
         (whole_text parts.items)) }
 {
     match shape {
-        Shape::Report => run_parts(alloc, report),
-        Shape::Trace(form) => {
-            let nodes = options.nodes.count as u8;
-            trace_parts(alloc, form, text, program, nodes, &report.acts)
-        }
+        Shape::Report => run_parts(alloc, &run.report),
+        Shape::Trace(form) => trace_parts(alloc, form, text, program, options, run),
+        Shape::Explain => explained(alloc, text, program, options, &run.report),
+        Shape::Stats => counted(alloc, run),
     }
+}
+
+// The report of a run with reasons.
+fn explained(
+    alloc: Global,
+    text: &[u8],
+    program: &Program,
+    options: &RunOptions<'_>,
+    report: &Report,
+) -> Result<Vec<Vec<u8>>, AllocError>
+    requires text { IsTextOf text.now program.now }
+    requires acts { All (λ act. act.node < 16) report.now.acts.items }
+    ensures { IfOk result (λ parts. IsExplained text.now program.now options.now report.now (whole_text parts.items)) }
+{
+    let places = lines_of(alloc, text)?;
+    let code = Code::new(alloc, program)?;
+    explain(
+        alloc,
+        &code,
+        &places,
+        options.nodes.count as u8,
+        options.steps.count,
+        &report.acts,
+        report.first_race,
+    )
+}
+
+// The counts of a run.
+fn counted(alloc: Global, run: &Run) -> Result<Vec<Vec<u8>>, AllocError>
+    ensures { IfOk result (λ parts. whole_text parts.items ≡ stats_text (length run.now.events.items) (turns_of run.now.report)) }
+{
+    let part = stats_part(alloc, run.events.len() as u64, &run.report.logs)?;
+    in_one(alloc, part)
 }

@@ -2,21 +2,20 @@
 
 ghost use Rattle.std.specs.Prelude.{◌≡◌, IfErr, IfOk, None};
 ghost use Rattle.lrc_cli.specs.Answer.{IsFault, Prints};
-ghost use Rattle.lrc_cli.specs.Runs.{IsThreaded, IsThreadedFault};
+ghost use Rattle.lrc_cli.specs.Runs.{AreThreaded, IsReported, IsThreadedFault};
 ghost use Rattle.lrc_text.specs.Parts.{whole_text};
 ghost use Rattle.lrc_words.specs.declared.choice.Choice.TheVariants.{Show};
 ghost use Rattle.lrc_words.specs.declared.choice.Way.TheVariants.{Threads as OnThreads};
 
 use crate::answer::Printout;
 use crate::fault::{Fault, fault_of_threads};
-use crate::runs::options_of;
+use crate::runs::{Run, options_of};
 use crate::shown::shown;
 use lrc_lang::parse;
 use lrc_lang::program::Program;
-use lrc_run::run;
+use lrc_run::run_with_events;
 use lrc_wire::Picker;
 use lrc_words::choice::{RunChoice, RunOptions, Shape};
-use lrc_world::report::Report;
 use std::alloc::Global;
 use std::sync::Wait;
 use std::thread::Threads;
@@ -36,8 +35,8 @@ pub(crate) fn show_on_threads<R: Threads + Wait + Sync>(
     ensures err { IfErr result (IsFault (Show choice.now shape) text.now None) }
 {
     let program = parse(alloc, text)?;
-    let report = run_on_threads(rt, alloc, &choice.options, order, &program)?;
-    Ok(shown(alloc, shape, text, &program, &choice.options, &report)?)
+    let run = run_on_threads(rt, alloc, &choice.options, order, &program)?;
+    Ok(shown(alloc, shape, text, &program, &choice.options, &run)?)
 }
 
 // The run of a program whose nodes are on threads of their own.
@@ -47,12 +46,13 @@ fn run_on_threads<R: Threads + Wait + Sync>(
     options: &RunOptions<'_>,
     order: Picker,
     program: &Program,
-) -> Result<Report, Fault>
-    ensures ok { IfOk result (IsThreaded program.now options.now order) }
+) -> Result<Run, Fault>
+    ensures threaded { IfOk result (λ run. AreThreaded program.now options.now order run.report run.events.items) }
+    ensures reported { IfOk result (λ run. IsReported program.now options.now run.events.items run.report) }
     ensures err { IfErr result (IsThreadedFault program.now options.now) }
 {
     let nodes = options.nodes.count;
-    let run = run(rt, alloc, program, nodes, &options_of(options), order);
-    let (report, _wires) = run.map_err(fault_of_threads)?;
-    Ok(report)
+    let lived = run_with_events(rt, alloc, program, nodes, &options_of(options), order);
+    let (report, _wires, events) = lived.map_err(fault_of_threads)?;
+    Ok(Run { events, report })
 }

@@ -1,52 +1,122 @@
-// The acts of a run, in one of the forms of a trace.
+// Traces of a run.
 
-ghost use Rattle.std.specs.Prelude.{◌≡◌, IfOk, length};
+ghost use Rattle.std.specs.Prelude.{◌≡◌, ◌≤◌, ◌<◌, ℕ, All, IfOk, List, length, map};
 ghost use Rattle.lrc_cli.specs.Answer.{IsTextOf};
-ghost use Rattle.lrc_cli.specs.Shown.{AreLinesIn, IsTraced, form_text};
+ghost use Rattle.lrc_cli.specs.Runs.{IsReported};
+ghost use Rattle.lrc_cli.specs.Shown.{AreLinesIn, IsTraced, IsWrittenAs};
+ghost use Rattle.lrc_clock.specs.Keeping.{KeepsTime};
+ghost use Rattle.lrc_events.specs.Writing.{events_text};
+ghost use Rattle.lrc_show.specs.Json.{json_of_acts};
 ghost use Rattle.lrc_text.specs.Parts.{whole_text};
+ghost use Rattle.lrc_turns.specs.TurnsText.{messages_text};
 
+use crate::answer::in_one;
+use crate::runs::Run;
+use lrc_events::events_part;
 use lrc_exec::code::Code;
 use lrc_lang::lines::lines_of;
 use lrc_lang::program::Program;
 use lrc_lines::walks::lines_of_acts;
-use lrc_show::{acts_part, rapid_part};
+use lrc_node::Entry;
+use lrc_protocol::Event;
+use lrc_show::{acts_part, json_part, rapid_part};
+use lrc_timed::times::times_of_acts;
 use lrc_trace::act::Act;
-use lrc_words::choice::Form;
+use lrc_turns::messages_part;
+use lrc_words::choice::{Form, RunOptions};
+use lrc_world::turned::{Turned, turned_events};
 use std::alloc::{AllocError, Global};
 
-/// A trace of the acts of a run of the program that this text is of, on so many nodes.
+/// A trace of a run of the program that this text is of.
 pub(crate) fn trace_parts(
     alloc: Global,
     form: Form,
     text: &[u8],
     program: &Program,
-    nodes: u8,
-    acts: &[Act],
+    options: &RunOptions<'_>,
+    run: &Run,
 ) -> Result<Vec<Vec<u8>>, AllocError>
-    requires { IsTextOf text.now program.now }
-    ensures { IfOk result (λ parts. IsTraced form text.now program.now nodes acts.now (whole_text parts.items)) }
+    requires text { IsTextOf text.now program.now }
+    requires reported { IsReported program.now options.now run.now.events.items run.now.report }
+    ensures { IfOk result (λ parts. IsTraced form text.now program.now options.now run.now.events.items run.now.report
+        (whole_text parts.items)) }
 {
-    let lines = lines_in(alloc, text, program, nodes, acts)?;
-    let part = form_part(alloc, form, program, nodes, acts, &lines)?;
+    let nodes = options.nodes.count as u8;
+    let lines = lines_in(alloc, text, program, nodes, &run.report.acts)?;
+    let part = form_part(alloc, form, program, options, run, &lines)?;
     in_one(alloc, part)
 }
 
-// The acts with their lines, in one of the forms.
+// A run in one of the forms, with these lines of its acts.
 fn form_part(
     alloc: Global,
     form: Form,
     program: &Program,
-    nodes: u8,
-    acts: &[Act],
+    options: &RunOptions<'_>,
+    run: &Run,
     lines: &[u32],
 ) -> Result<Vec<u8>, AllocError>
-    requires { length lines.now ≡ length acts.now }
-    ensures { IfOk result (λ part. part.items ≡ form_text form program.now nodes acts.now lines.now) }
+    requires reported { IsReported program.now options.now run.now.events.items run.now.report }
+    requires each { length lines.now ≡ length run.now.report.acts.items }
+    ensures { IfOk result (λ part. IsWrittenAs form program.now options.now run.now.events.items run.now.report lines.now part.items) }
 {
+    let acts = run.report.acts.as_slice();
+    let logs = run.report.logs.as_slice();
+    let events = run.events.as_slice();
+    let nodes = options.nodes.count as u8;
     match form {
         Form::Acts => acts_part(alloc, acts, lines),
+        Form::Messages => {
+            let turns = turned_events(alloc, logs, events)?;
+            let order = turns.as_slice();
+            messages_of(alloc, logs, order, lines)
+        }
+        Form::Events => {
+            let turns = turned_events(alloc, logs, events)?;
+            let made = turns.as_slice();
+            events_of(alloc, made)
+        }
+        Form::Json => json_of(alloc, acts, lines, nodes),
         Form::Rapid => rapid_part(alloc, acts, lines, program.locks, nodes),
     }
+}
+
+// The acts of the logs with the messages among them, in the order of these turns.
+fn messages_of(
+    alloc: Global,
+    logs: &[Vec<Entry>],
+    turns: &[Turned],
+    lines: &[u32],
+) -> Result<Vec<u8>, AllocError>
+    ensures { IfOk result (λ part. part.items
+        ≡ messages_text (map (λ log. log.items) logs.now) (map (λ turn. turn.node) turns.now) lines.now) }
+{
+    let order: Vec<u8> = turns.iter().map(|turn| turn.node).collect(alloc)?;
+    messages_part(alloc, logs, &order, lines)
+}
+
+// The events of these turns.
+fn events_of(alloc: Global, turns: &[Turned]) -> Result<Vec<u8>, AllocError>
+    ensures { IfOk result (λ part. part.items ≡ events_text (map (λ turn. turn.event) turns.now)) }
+{
+    let mut events: Vec<Event> = Vec::new(alloc);
+    for turn in turns {
+        events.push(turn.event)?;
+    }
+    events_part(alloc, &events)
+}
+
+// The acts as JSON, each with the time that its node has just after it.
+fn json_of(alloc: Global, acts: &[Act], lines: &[u32], nodes: u8) -> Result<Vec<u8>, AllocError>
+    requires some { 1 ≤ nodes }
+    requires few { nodes ≤ 16 }
+    requires acts { All (λ act. act.node < nodes) acts.now }
+    requires lined { length lines.now ≡ length acts.now }
+    ensures { IfOk result (λ part. (times : List (List ℕ)) × KeepsTime nodes acts.now times
+        × (part.items ≡ json_of_acts acts.now lines.now times)) }
+{
+    let times = times_of_acts(alloc, acts, nodes)?;
+    json_part(alloc, acts, lines, &times)
 }
 
 // Of each act the line of the text on which the statement stands that it is of.
@@ -64,13 +134,4 @@ fn lines_in(
     let places = lines_of(alloc, text)?;
     let code = Code::new(alloc, program)?;
     lines_of_acts(alloc, &code, &places, nodes, acts)
-}
-
-// A text in one part.
-fn in_one(alloc: Global, part: Vec<u8>) -> Result<Vec<Vec<u8>>, AllocError>
-    ensures { IfOk result (λ parts. whole_text parts.items ≡ part.items) }
-{
-    let mut parts = Vec::new(alloc);
-    parts.push(part)?;
-    Ok(parts)
 }

@@ -15,9 +15,9 @@ use Rattle.clap.specs.declared.builder.value_parser.ValueParser.TheVariants.{Uns
 use Rattle.clap.specs.declared.error.kind.ErrorKind.TheVariants.{InvalidValue, ValueValidation}
 use Rattle.clap.proofs.ValueTestLemmas.{accepts-Accepts}
 use Rattle.lrc_words.specs.CommandLine.{IsTaken}
-use Rattle.lrc_words.specs.Commands.{bare_number, check, collect, flag, form, judge, nodes, number, order, page}
-use Rattle.lrc_words.specs.Commands.{plain, run, sim, steps, trace, treadmarks, treadmarks_shape}
-use Rattle.lrc_words.specs.Options.{HasValue, IsBareNumber, IsFlagOption, IsJudgeTaken, IsNumberOption, IsPlainTaken, IsRunTaken}
+use Rattle.lrc_words.specs.Commands.{bare_number, check, collect, explain, explore, flag, form, judge, most, nodes, number, order, page}
+use Rattle.lrc_words.specs.Commands.{plain, run, sim, stats, steps, trace, treadmarks, treadmarks_shape}
+use Rattle.lrc_words.specs.Options.{HasValue, IsBareNumber, IsExploreTaken, IsFlagOption, IsJudgeTaken, IsNumberOption, IsPlainTaken, IsRunTaken}
 use Rattle.lrc_words.specs.Options.{IsShowingTaken, IsSimTaken, IsTraceTaken}
 use Rattle.lrc_words.proofs.RowLemmas.{IsKeyed, IsLevel, first_passes, given_some, level_good, neither, required_given, same_bytes}
 
@@ -36,8 +36,17 @@ run_built = built_leaf (inherited treadmarks_shape run.top)
 abbrev trace_built : Shape
 trace_built = built_leaf (inherited treadmarks_shape trace.top)
 
+abbrev explain_built : Shape
+explain_built = built_leaf (inherited treadmarks_shape explain.top)
+
+abbrev stats_built : Shape
+stats_built = built_leaf (inherited treadmarks_shape stats.top)
+
 abbrev judge_built : Shape
 judge_built = built_leaf (inherited treadmarks_shape judge.top)
+
+abbrev explore_built : Shape
+explore_built = built_leaf (inherited treadmarks_shape explore.top)
 
 check_keyed : AllByRecursion (IsKeyed check_built.rules) check_built.rules
 check_keyed = (
@@ -139,9 +148,78 @@ trace_keyed = (
                   (
                     record { own = refl; acts = inl (refl, lit< tt) },
                     (
-                      record { own = refl; acts = inr (inr refl) },
-                      tt,
+                      record { own = refl; acts = inr (inl (refl, lit< tt)) },
+                      (
+                        record { own = refl; acts = inr (inr refl) },
+                        tt,
+                      ),
                     ),
+                  ),
+                ),
+              ),
+            ),
+          ),
+        ),
+      ),
+    ),
+  ),
+)
+
+explain_keyed : AllByRecursion (IsKeyed explain_built.rules) explain_built.rules
+explain_keyed = (
+  record { own = refl; acts = inl (refl, lit< tt) },
+  (
+    record { own = refl; acts = inl (refl, lit< tt) },
+    (
+      record { own = refl; acts = inl (refl, lit< tt) },
+      (
+        record { own = refl; acts = inl (refl, lit< tt) },
+        (
+          record { own = refl; acts = inl (refl, lit< tt) },
+          (
+            record { own = refl; acts = inl (refl, lit< tt) },
+            (
+              record { own = refl; acts = inl (refl, lit< tt) },
+              (
+                record { own = refl; acts = inl (refl, lit< tt) },
+                (
+                  record { own = refl; acts = inr (inl (refl, lit< tt)) },
+                  (
+                    record { own = refl; acts = inr (inr refl) },
+                    tt,
+                  ),
+                ),
+              ),
+            ),
+          ),
+        ),
+      ),
+    ),
+  ),
+)
+
+stats_keyed : AllByRecursion (IsKeyed stats_built.rules) stats_built.rules
+stats_keyed = (
+  record { own = refl; acts = inl (refl, lit< tt) },
+  (
+    record { own = refl; acts = inl (refl, lit< tt) },
+    (
+      record { own = refl; acts = inl (refl, lit< tt) },
+      (
+        record { own = refl; acts = inl (refl, lit< tt) },
+        (
+          record { own = refl; acts = inl (refl, lit< tt) },
+          (
+            record { own = refl; acts = inl (refl, lit< tt) },
+            (
+              record { own = refl; acts = inl (refl, lit< tt) },
+              (
+                record { own = refl; acts = inl (refl, lit< tt) },
+                (
+                  record { own = refl; acts = inr (inl (refl, lit< tt)) },
+                  (
+                    record { own = refl; acts = inr (inr refl) },
+                    tt,
                   ),
                 ),
               ),
@@ -163,6 +241,24 @@ judge_keyed = (
       (
         record { own = refl; acts = inr (inr refl) },
         tt,
+      ),
+    ),
+  ),
+)
+
+explore_keyed : AllByRecursion (IsKeyed explore_built.rules) explore_built.rules
+explore_keyed = (
+  record { own = refl; acts = inl (refl, lit< tt) },
+  (
+    record { own = refl; acts = inl (refl, lit< tt) },
+    (
+      record { own = refl; acts = inl (refl, lit< tt) },
+      (
+        record { own = refl; acts = inr (inl (refl, lit< tt)) },
+        (
+          record { own = refl; acts = inr (inr refl) },
+          tt,
+        ),
       ),
     ),
   ),
@@ -292,7 +388,22 @@ trace_taken words none =
     record {
       showing = all_showing_taken trace_built rows level (all_sim_taken trace_built rows level (all_run_taken trace_built rows level (all_plain_taken trace_built rows level file refl refl) refl refl refl) refl) refl;
       form = level.there (filled form) refl (lit< tt);
+      messages = flag_taken trace_built rows level (codes "messages") refl;
     }
+
+explain_taken : (words : List Text) → level_fault explain_built [] nothing_held words false [] ≡ [] → IsShowingTaken (rows_after explain_built.rules [] words)
+explain_taken words none =
+    let rows = rows_after explain_built.rules [] words in
+    let level = level_good explain_built words explain_keyed none in
+    let file = given_some explain_built.rules (codes "FILE") rows level.good ((required_given explain_built rows level.checked).0 refl) in
+    all_showing_taken explain_built rows level (all_sim_taken explain_built rows level (all_run_taken explain_built rows level (all_plain_taken explain_built rows level file refl refl) refl refl refl) refl) refl
+
+stats_taken : (words : List Text) → level_fault stats_built [] nothing_held words false [] ≡ [] → IsShowingTaken (rows_after stats_built.rules [] words)
+stats_taken words none =
+    let rows = rows_after stats_built.rules [] words in
+    let level = level_good stats_built words stats_keyed none in
+    let file = given_some stats_built.rules (codes "FILE") rows level.good ((required_given stats_built rows level.checked).0 refl) in
+    all_showing_taken stats_built rows level (all_sim_taken stats_built rows level (all_run_taken stats_built rows level (all_plain_taken stats_built rows level file refl refl) refl refl refl) refl) refl
 
 judge_taken : (words : List Text) → level_fault judge_built [] nothing_held words false [] ≡ [] → IsJudgeTaken (rows_after judge_built.rules [] words)
 judge_taken words none =
@@ -305,11 +416,23 @@ judge_taken words none =
       pairs = flag_taken judge_built rows level (codes "pairs") refl;
     }
 
+explore_taken : (words : List Text) → level_fault explore_built [] nothing_held words false [] ≡ [] → IsExploreTaken (rows_after explore_built.rules [] words)
+explore_taken words none =
+    let rows = rows_after explore_built.rules [] words in
+    let level = level_good explore_built words explore_keyed none in
+    let file = given_some explore_built.rules (codes "FILE") rows level.good ((required_given explore_built rows level.checked).0 refl) in
+    record {
+      file = file;
+      nodes = number_taken explore_built rows level (codes "nodes") (codes "1") refl;
+      most = number_taken explore_built rows level (codes "most") (codes "1000000") refl;
+      outcomes = flag_taken explore_built rows level (codes "outcomes") refl;
+    }
+
 -- the top of the command line, as clap builds it
 abbrev top_built : App
 top_built = record {
   top = built_leaf (record treadmarks_shape { is_leaf = false });
-  subs = check_built ∷ plain_built ∷ sim_built ∷ run_built ∷ trace_built ∷ judge_built ∷ [];
+  subs = check_built ∷ plain_built ∷ sim_built ∷ run_built ∷ trace_built ∷ explain_built ∷ stats_built ∷ judge_built ∷ explore_built ∷ [];
 }
 
 one_named : (rows : List Row) (stop : Option (Text × List Text)) → entered_fault top_built stop ≡ []
@@ -317,21 +440,24 @@ one_named : (rows : List Row) (stop : Option (Text × List Text)) → entered_fa
     → IsTaken (entered top_built stop)
 one_named rows None none checked = absurd cc
 one_named rows (Some p) none checked =
-    go (answers_to p.0 (label_of check_built)) (answers_to p.0 (label_of plain_built)) (answers_to p.0 (label_of sim_built)) (answers_to p.0 (label_of run_built)) (answers_to p.0 (label_of trace_built)) (answers_to p.0 (label_of judge_built)) none checked
+    go (answers_to p.0 (label_of check_built)) (answers_to p.0 (label_of plain_built)) (answers_to p.0 (label_of sim_built)) (answers_to p.0 (label_of run_built)) (answers_to p.0 (label_of trace_built)) (answers_to p.0 (label_of explain_built)) (answers_to p.0 (label_of stats_built)) (answers_to p.0 (label_of judge_built)) (answers_to p.0 (label_of explore_built)) none checked
   where
-    shape : Bool → Bool → Bool → Bool → Bool → Bool → Option Shape
-    shape a b d f h i = cond a (Some check_built) (cond b (Some plain_built) (cond d (Some sim_built) (cond f (Some run_built) (cond h (Some trace_built) (cond i (Some judge_built) (None))))))
+    shape : Bool → Bool → Bool → Bool → Bool → Bool → Bool → Bool → Bool → Option Shape
+    shape a b d f h i k l m = cond a (Some check_built) (cond b (Some plain_built) (cond d (Some sim_built) (cond f (Some run_built) (cond h (Some trace_built) (cond i (Some explain_built) (cond k (Some stats_built) (cond l (Some judge_built) (cond m (Some explore_built) (None)))))))))
 
-    go : (a b d f h i : Bool) → option_map_or (λ s. level_fault s [] nothing_held p.1 false []) (shape a b d f h i) [] ≡ []
-        → check_fault top_built.top rows (is_some (option_map (λ s. rows_at s p.1) (shape a b d f h i))) ≡ []
-        → IsTaken (option_map (λ s. rows_at s p.1) (shape a b d f h i))
-    go true b d f h i e checked = inl (refl, check_taken p.1 e)
-    go false true d f h i e checked = inr (inl (refl, plain_taken p.1 e))
-    go false false true f h i e checked = inr (inr (inr (inl (refl, sim_taken p.1 e))))
-    go false false false true h i e checked = inr (inr (inr (inr (inl (refl, run_taken p.1 e)))))
-    go false false false false true i e checked = inr (inr (inr (inr (inr (refl, trace_taken p.1 e)))))
-    go false false false false false true e checked = inr (inr (inl (refl, judge_taken p.1 e)))
-    go false false false false false false e checked = absurd cc
+    go : (a b d f h i k l m : Bool) → option_map_or (λ s. level_fault s [] nothing_held p.1 false []) (shape a b d f h i k l m) [] ≡ []
+        → check_fault top_built.top rows (is_some (option_map (λ s. rows_at s p.1) (shape a b d f h i k l m))) ≡ []
+        → IsTaken (option_map (λ s. rows_at s p.1) (shape a b d f h i k l m))
+    go true b d f h i k l m e checked = inl (refl, check_taken p.1 e)
+    go false true d f h i k l m e checked = inr (inl (refl, plain_taken p.1 e))
+    go false false true f h i k l m e checked = inr (inr (inr (inr (inl (refl, sim_taken p.1 e)))))
+    go false false false true h i k l m e checked = inr (inr (inr (inr (inr (inl (refl, run_taken p.1 e))))))
+    go false false false false true i k l m e checked = inr (inr (inr (inr (inr (inr (inl (refl, trace_taken p.1 e)))))))
+    go false false false false false true k l m e checked = inr (inr (inr (inr (inr (inr (inr (inl (refl, explain_taken p.1 e))))))))
+    go false false false false false false true l m e checked = inr (inr (inr (inr (inr (inr (inr (inr (refl, stats_taken p.1 e))))))))
+    go false false false false false false false true m e checked = inr (inr (inl (refl, judge_taken p.1 e)))
+    go false false false false false false false false true e checked = inr (inr (inr (inl (refl, explore_taken p.1 e))))
+    go false false false false false false false false false e checked = absurd cc
 
 pub taken : (words : List Text) → fault_of treadmarks words ≡ [] → IsTaken (subcommand_of treadmarks words)
 unfolding treadmarks

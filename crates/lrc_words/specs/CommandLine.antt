@@ -7,22 +7,23 @@ use Rattle.clap.specs.declared.error.kind.ErrorKind.{ErrorKind}
 use Rattle.clap.specs.declared.error.kind.ErrorKind.TheVariants.{ArgumentConflict, InvalidValue, OutOfMemory}
 use Rattle.lrc_wire.specs.declared.picker.Picker.{Picker}
 use Rattle.lrc_words.specs.declared.choice.Choice.{Choice}
-use Rattle.lrc_words.specs.declared.choice.Choice.TheVariants.{Check, Plain, Show, Judge}
+use Rattle.lrc_words.specs.declared.choice.Choice.TheVariants.{Check, Plain, Show, Judge, Explore}
 use Rattle.lrc_words.specs.declared.choice.ChooseFault.{ChooseFault}
 use Rattle.lrc_words.specs.declared.choice.ChooseFault.TheVariants.{Usage, BadNumber, NoMemory}
+use Rattle.lrc_words.specs.declared.choice.Exploring.{Exploring}
 use Rattle.lrc_words.specs.declared.choice.Form.{Form}
 use Rattle.lrc_words.specs.declared.choice.Judging.{Judging}
 use Rattle.lrc_words.specs.declared.choice.PlainRun.{PlainRun}
 use Rattle.lrc_words.specs.declared.choice.RunChoice.{RunChoice}
 use Rattle.lrc_words.specs.declared.choice.Shape.{Shape}
-use Rattle.lrc_words.specs.declared.choice.Shape.TheVariants.{Report, Trace}
+use Rattle.lrc_words.specs.declared.choice.Shape.TheVariants.{Report, Trace, Explain, Stats}
 use Rattle.lrc_words.specs.declared.choice.Way.{Way}
 use Rattle.lrc_words.specs.declared.misfit.Misfit.{Misfit}
-use Rattle.lrc_words.specs.declared.misfit.Misfit.TheVariants.{Order, RunOrder, Page, Form as FormMisfit, Seed, Threads, Number}
+use Rattle.lrc_words.specs.declared.misfit.Misfit.TheVariants.{Order, RunOrder, Page, Form as FormMisfit, Seed, Threads, Messages, Number}
 use Rattle.lrc_words.specs.Commands.{treadmarks}
-use Rattle.lrc_words.specs.Options.{AreOptions, AreRunOptions, HasBadCount, HasBadForm, HasOptionsMisfit, HasValue, HasWayMisfitIn}
-use Rattle.lrc_words.specs.Options.{IsFlag, IsForm, IsJudgeTaken, IsPicker, IsPlainTaken, IsRunTaken}
-use Rattle.lrc_words.specs.Options.{IsSimTaken, IsThreadsWayIn, IsTraceTaken, IsWayIn, some_number_in}
+use Rattle.lrc_words.specs.Options.{AreOptions, AreRunOptions, HasBadCount, HasFormMisfitIn, HasOptionsMisfit, HasValue, HasWayMisfitIn}
+use Rattle.lrc_words.specs.Options.{IsExploreTaken, IsFlag, IsFormIn, IsJudgeTaken, IsPicker, IsPlainTaken, IsRunTaken, IsShowingTaken}
+use Rattle.lrc_words.specs.Options.{IsSimTaken, IsThreadsWayIn, IsTraceTaken, IsWayIn, most_in, nodes_in, some_number_in}
 
 -- no words at all stand for `sim -`
 abbrev pub words_meant : List Text → List Text
@@ -33,7 +34,9 @@ words_meant (word ∷ words) = word ∷ words
 
 -- the command that asks more of a run of the nodes, with what clap makes sure of in its matches
 abbrev pub IsAskTaken : Text × List Row → Type 0
-IsAskTaken found = (found.0 ≡ codes "trace") × IsTraceTaken found.1
+IsAskTaken found = ((found.0 ≡ codes "trace") × IsTraceTaken found.1)
+    ⊎ ((found.0 ≡ codes "explain") × IsShowingTaken found.1)
+    ⊎ ((found.0 ≡ codes "stats") × IsShowingTaken found.1)
 
 -- the command that shows something of a run of the nodes
 abbrev pub IsShowTaken : Text × List Row → Type 0
@@ -47,6 +50,7 @@ IsTaken None = ⊥
 IsTaken (Some found) = ((found.0 ≡ codes "check") × HasValue (codes "FILE") found.1)
     ⊎ ((found.0 ≡ codes "plain") × IsPlainTaken found.1)
     ⊎ ((found.0 ≡ codes "judge") × IsJudgeTaken found.1)
+    ⊎ ((found.0 ≡ codes "explore") × IsExploreTaken found.1)
     ⊎ IsShowTaken found
 
 -- ---- the choice that the matches make
@@ -77,10 +81,19 @@ pub record IsJudging (rows : List Row) (judging : Judging) : Type 0 where
   pub nodes : some_number_in (codes "nodes") rows ≡ option_map (λ nodes. nodes.count) judging.nodes
   pub pairs : IsFlag (codes "pairs") judging.pairs rows
 
+-- what is to be explored
+pub record IsExploring (rows : List Row) (exploring : Exploring) : Type 0 where
+  pub file : first_of (codes "FILE") rows ≡ Some exploring.file.now
+  pub nodes : nodes_in rows ≡ exploring.nodes.count
+  pub most : most_in rows ≡ exploring.most.count
+  pub outcomes : IsFlag (codes "outcomes") exploring.outcomes rows
+
 -- what is shown of a run is chosen by the command that clap found, with its matches
 abbrev pub IsShown : Text × List Row → RunChoice → Shape → Type 0
 IsShown found run Report = ((found.0 ≡ codes "sim") × IsRun false found.1 run) ⊎ ((found.0 ≡ codes "run") × IsThreadsRun found.1 run)
-IsShown found run (Trace form) = (found.0 ≡ codes "trace") × IsForm (first_of (codes "as") found.1) form × IsShowingRun found.1 run
+IsShown found run (Trace form) = (found.0 ≡ codes "trace") × IsFormIn found.1 form × IsShowingRun found.1 run
+IsShown found run Explain = (found.0 ≡ codes "explain") × IsShowingRun found.1 run
+IsShown found run Stats = (found.0 ≡ codes "stats") × IsShowingRun found.1 run
 
 -- the choice is the command that clap found, with its matches
 abbrev pub IsFound : Text × List Row → Choice → Type 0
@@ -88,6 +101,7 @@ IsFound found (Check text) = (found.0 ≡ codes "check") × (first_of (codes "FI
 IsFound found (Plain run) = (found.0 ≡ codes "plain") × IsPlainRun found.1 run
 IsFound found (Show run shape) = IsShown found run shape
 IsFound found (Judge judging) = (found.0 ≡ codes "judge") × IsJudging found.1 judging
+IsFound found (Explore exploring) = (found.0 ≡ codes "explore") × IsExploring found.1 exploring
 
 -- ---- what does not fit
 
@@ -105,8 +119,7 @@ pub record HasShowingMisfit (rows : List Row) (misfit : Misfit) : Type 0 where
   pub why : HasMisfitOfRun threads rows misfit
 
 pub record HasTraceMisfit (rows : List Row) (misfit : Misfit) : Type 0 where
-  pub why : ((misfit ≡ FormMisfit) × HasBadForm rows)
-      ⊎ ((form : Form) × IsForm (first_of (codes "as") rows) form × HasShowingMisfit rows misfit)
+  pub why : HasFormMisfitIn rows misfit ⊎ ((form : Form) × IsFormIn rows form × HasShowingMisfit rows misfit)
 
 -- of the command `run`
 pub record HasThreadsMisfit (rows : List Row) (misfit : Misfit) : Type 0 where
@@ -116,16 +129,22 @@ pub record HasThreadsMisfit (rows : List Row) (misfit : Misfit) : Type 0 where
 abbrev pub HasJudgeMisfit : List Row → Misfit → Type 0
 HasJudgeMisfit rows misfit = (misfit ≡ Number) × IsSomeAnd (some_number_in (codes "nodes") rows) (IsOutOfRange 1 16)
 
+abbrev pub HasExploreMisfit : List Row → Misfit → Type 0
+HasExploreMisfit rows misfit = (misfit ≡ Number) × (IsOutOfRange 1 16 (nodes_in rows) ⊎ IsOutOfRange 1 100000000 (most_in rows))
+
 -- what does not fit in what clap found of a command that shows something of a run
 abbrev pub HasShowMisfit : Text × List Row → Misfit → Type 0
 HasShowMisfit found misfit = ((found.0 ≡ codes "sim") × HasMisfitOfRun false found.1 misfit)
     ⊎ ((found.0 ≡ codes "run") × HasThreadsMisfit found.1 misfit)
     ⊎ ((found.0 ≡ codes "trace") × HasTraceMisfit found.1 misfit)
+    ⊎ ((found.0 ≡ codes "explain") × HasShowingMisfit found.1 misfit)
+    ⊎ ((found.0 ≡ codes "stats") × HasShowingMisfit found.1 misfit)
 
 -- what does not fit in what clap found
 abbrev pub HasMisfit : Text × List Row → Misfit → Type 0
 HasMisfit found misfit = ((found.0 ≡ codes "plain") × HasPlainMisfit found.1 misfit)
     ⊎ ((found.0 ≡ codes "judge") × HasJudgeMisfit found.1 misfit)
+    ⊎ ((found.0 ≡ codes "explore") × HasExploreMisfit found.1 misfit)
     ⊎ HasShowMisfit found misfit
 
 -- ---- faults
@@ -138,6 +157,7 @@ IsUsageKind Page kind = kind ≡ InvalidValue
 IsUsageKind FormMisfit kind = kind ≡ InvalidValue
 IsUsageKind Seed kind = kind ≡ ArgumentConflict
 IsUsageKind Threads kind = kind ≡ ArgumentConflict
+IsUsageKind Messages kind = kind ≡ ArgumentConflict
 IsUsageKind Number kind = ⊥
 
 -- the fault of what does not fit

@@ -37,6 +37,9 @@ steps = number (codes "steps") (codes "1000000")
 abbrev pub collect : Rule
 collect = number (codes "collect") (codes "0")
 
+abbrev pub most : Rule
+most = number (codes "most") (codes "1000000")
+
 -- `order`, `page` and `as` take one of few words, which are looked at once clap has read them
 abbrev pub order : Rule
 order = defaulted (codes "order") (codes "oldest")
@@ -72,11 +75,20 @@ abbrev pub with_showing_options : App → App
 with_showing_options command = with_rule (with_way_options command) (flag (codes "threads"))
 
 abbrev pub trace : App
-trace = with_rule (with_showing_options (new_app (codes "trace"))) form
+trace = with_rule (with_rule (with_showing_options (new_app (codes "trace"))) form) (flag (codes "messages"))
+
+abbrev pub explain : App
+explain = with_showing_options (new_app (codes "explain"))
+
+abbrev pub stats : App
+stats = with_showing_options (new_app (codes "stats"))
 
 -- the number of nodes need not be given
 abbrev pub judge : App
 judge = with_rule (with_rule (with_rule (new_app (codes "judge")) file) (bare_number (codes "nodes"))) (flag (codes "pairs"))
+
+abbrev pub explore : App
+explore = with_rule (with_rule (with_rule (with_rule (new_app (codes "explore")) file) nodes) most) (flag (codes "outcomes"))
 
 -- The words begin with no program's name, and name one of the commands; the program has a version.
 abbrev pub treadmarks_shape : Shape
@@ -91,7 +103,8 @@ abbrev pub with_reports : App → App
 with_reports command = with_subcommand (with_subcommand (with_subcommand (with_subcommand command check.top) plain.top) sim.top) run.top
 
 abbrev pub with_questions : App → App
-with_questions command = with_subcommand (with_subcommand command trace.top) judge.top
+with_questions command = with_subcommand (with_subcommand (with_subcommand
+    (with_subcommand (with_subcommand command trace.top) explain.top) stats.top) judge.top) explore.top
 
 unfoldable pub treadmarks : App
 treadmarks = with_questions (with_reports (record { top = treadmarks_shape; subs = [] }))

@@ -1,7 +1,7 @@
 -- The files that a choice names, and whether it starts threads.
 use Rattle.std.specs.Prelude.{ℕ, Bool, false, true, List, Option, None, Some, is_some}
 use Rattle.lrc_words.specs.declared.choice.Choice.{Choice}
-use Rattle.lrc_words.specs.declared.choice.Choice.TheVariants.{Check, Plain, Show, Judge}
+use Rattle.lrc_words.specs.declared.choice.Choice.TheVariants.{Check, Plain, Show, Judge, Explore}
 use Rattle.lrc_words.specs.declared.choice.Way.{Way}
 use Rattle.lrc_words.specs.declared.choice.Way.TheVariants.{Events, Rounds, Random, Threads}
 
@@ -11,6 +11,7 @@ file_of (Check file) = file.now
 file_of (Plain run) = run.file.now
 file_of (Show run shape) = run.options.file.now
 file_of (Judge judging) = judging.file.now
+file_of (Explore exploring) = exploring.file.now
 
 -- the choice is about acts from anywhere, and its file has a text of acts
 abbrev pub reads_acts : Choice → Bool
@@ -18,6 +19,7 @@ reads_acts (Check file) = false
 reads_acts (Plain run) = false
 reads_acts (Show run shape) = false
 reads_acts (Judge judging) = true
+reads_acts (Explore exploring) = false
 
 -- the file of the events by which a run goes on
 abbrev pub events_along : Way → Option (List ℕ)
@@ -32,6 +34,7 @@ events_of (Check file) = None
 events_of (Plain run) = None
 events_of (Show run shape) = events_along run.way
 events_of (Judge judging) = None
+events_of (Explore exploring) = None
 
 abbrev pub names_events : Choice → Bool
 names_events choice = is_some (events_of choice)
@@ -48,3 +51,4 @@ starts_threads (Check file) = false
 starts_threads (Plain run) = false
 starts_threads (Show run shape) = is_on_threads run.way
 starts_threads (Judge judging) = false
+starts_threads (Explore exploring) = false

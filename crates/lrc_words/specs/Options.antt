@@ -42,6 +42,9 @@ steps_in = number_in (codes "steps")
 abbrev pub collect_in : List Row → ℕ
 collect_in = number_in (codes "collect")
 
+abbrev pub most_in : List Row → ℕ
+most_in = number_in (codes "most")
+
 -- whether the words name this flag
 abbrev pub IsFlag : Text → Bool → List Row → Type 0
 IsFlag name named rows = first_of name rows ≡ Some (bool_text named)
@@ -81,7 +84,7 @@ pub record IsSimTaken (rows : List Row) : Type 0 where
   pub run : IsRunTaken rows
   pub seed : IsBareNumber (codes "seed") rows
 
--- of a command with a flag for threads
+-- of `explain` and `stats`
 pub record IsShowingTaken (rows : List Row) : Type 0 where
   pub sim : IsSimTaken rows
   pub threads : IsFlagOption (codes "threads") rows
@@ -90,12 +93,20 @@ pub record IsShowingTaken (rows : List Row) : Type 0 where
 pub record IsTraceTaken (rows : List Row) : Type 0 where
   pub showing : IsShowingTaken rows
   pub form : HasValue (codes "as") rows
+  pub messages : IsFlagOption (codes "messages") rows
 
 -- of `judge`
 pub record IsJudgeTaken (rows : List Row) : Type 0 where
   pub file : HasValue (codes "FILE") rows
   pub nodes : IsBareNumber (codes "nodes") rows
   pub pairs : IsFlagOption (codes "pairs") rows
+
+-- of `explore`
+pub record IsExploreTaken (rows : List Row) : Type 0 where
+  pub file : HasValue (codes "FILE") rows
+  pub nodes : IsNumberOption (codes "nodes") rows
+  pub most : IsNumberOption (codes "most") rows
+  pub outcomes : IsFlagOption (codes "outcomes") rows
 
 -- ---- words and what they name
 
@@ -115,10 +126,13 @@ abbrev pub IsSize : Option Text → Size → Type 0
 IsSize word Words64 = word ≡ Some (codes "64")
 IsSize word Words256 = word ≡ Some (codes "256")
 
--- the form of a trace that a word names
-abbrev pub IsForm : Option Text → Form → Type 0
-IsForm word forms.Acts = word ≡ Some (codes "acts")
-IsForm word forms.Rapid = word ≡ Some (codes "rapid")
+-- the form that a word names, where messages are asked for or not
+abbrev pub IsForm : Option Text → Bool → Form → Type 0
+IsForm word messages forms.Acts = (word ≡ Some (codes "acts")) × (messages ≡ false)
+IsForm word messages forms.Messages = (word ≡ Some (codes "acts")) × (messages ≡ true)
+IsForm word messages forms.Events = (word ≡ Some (codes "events")) × (messages ≡ false)
+IsForm word messages forms.Json = (word ≡ Some (codes "json")) × (messages ≡ false)
+IsForm word messages forms.Rapid = (word ≡ Some (codes "rapid")) × (messages ≡ false)
 
 -- How a run goes on in this order, with such a seed and such a file of events, on threads or not. A seed is of a random
 -- order alone. Where a file of events is named, the order is not used. On threads there is neither a file of events nor a
@@ -138,6 +152,12 @@ abbrev pub HasWayMisfit : Order → Option ℕ → Option Text → Bool → Misf
 HasWayMisfit order seed events threads misfit =
     ((misfit ≡ unfit.Seed) × IsSome seed × (order ≢ Random))
     ⊎ ((misfit ≡ unfit.Threads) × (threads ≡ true) × (IsSome events ⊎ (order ≡ Random)))
+
+-- what keeps a word from naming a form
+abbrev pub HasWordMisfit : Option Text → Bool → Misfit → Type 0
+HasWordMisfit word messages misfit =
+    ((misfit ≡ unfit.Form) × ((messages : Bool) (form : Form) → ¬ IsForm word messages form))
+    ⊎ ((misfit ≡ unfit.Messages) × (messages ≡ true) × (word ≢ Some (codes "acts")))
 
 -- ---- the choice of the matches
 
@@ -174,6 +194,12 @@ IsThreadsWayIn rows (ways.Rounds picker) = ⊥
 IsThreadsWayIn rows (ways.Random number) = ⊥
 IsThreadsWayIn rows (ways.Threads picker) = IsPicker (first_of (codes "order") rows) picker
 
+-- the form of a trace is chosen by these matches
+pub record IsFormIn (rows : List Row) (form : Form) : Type 0 where
+  pub messages : Bool
+  pub asked : IsFlag (codes "messages") messages rows
+  pub named : IsForm (first_of (codes "as") rows) messages form
+
 -- ---- what does not fit in the matches
 
 -- the number of nodes is not 1 to 16, or that of steps not 1 to 1,000,000
@@ -200,6 +226,7 @@ HasWayMisfitIn threads rows misfit =
     ⊎ ((order : Order) × (seed : Option ℕ) × (events : Option Text) × AreAsked rows order seed events
     × HasWayMisfit order seed events threads misfit)
 
--- no form has the word of the option
-abbrev pub HasBadForm : List Row → Type 0
-HasBadForm rows = (form : Form) → ¬ IsForm (first_of (codes "as") rows) form
+-- what does not fit in the form of a trace
+abbrev pub HasFormMisfitIn : List Row → Misfit → Type 0
+HasFormMisfitIn rows misfit =
+    (messages : Bool) × IsFlag (codes "messages") messages rows × HasWordMisfit (first_of (codes "as") rows) messages misfit

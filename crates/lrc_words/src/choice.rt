@@ -38,6 +38,14 @@ pub struct PlainRun<'w> {
     pub steps: Steps,
 }
 
+/// How many states a search through every order may meet, 1 to 100,000,000.
+#[derive(Clone, Copy)]
+pub struct Most {
+    pub count: u32,
+    pub ghost some: { 1 ≤ count },
+    pub ghost few: { count ≤ 100000000 },
+}
+
 /// What the runs have in common, whichever way they go on.
 #[derive(Clone, Copy)]
 pub struct RunOptions<'w> {
@@ -75,6 +83,12 @@ pub struct RunChoice<'w> {
 pub enum Form {
     /// A line for each act.
     Acts,
+    /// A line for each act, with the messages that are taken and sent between them.
+    Messages,
+    /// The events that `--events` reads.
+    Events,
+    /// A JSON object for each act.
+    Json,
     /// The trace form of the race detectors' framework RAPID.
     Rapid,
 }
@@ -86,6 +100,10 @@ pub enum Shape {
     Report,
     /// Its acts.
     Trace(Form),
+    /// The report, with reasons.
+    Explain,
+    /// How much of each thing happened.
+    Stats,
 }
 
 /// The options of `judge`.
@@ -99,6 +117,18 @@ pub struct Judging<'w> {
     pub pairs: bool,
 }
 
+/// The options of `explore`.
+#[derive(Clone, Copy)]
+pub struct Exploring<'w> {
+    /// The file of the program's text; `-` is standard input.
+    pub file: &'w str,
+    pub nodes: Nodes,
+    /// How many states the search may meet.
+    pub most: Most,
+    /// Whether the outcomes are looked for, in place of a race.
+    pub outcomes: bool,
+}
+
 /// What the words ask for.
 #[derive(Clone, Copy)]
 pub enum Choice<'w> {
@@ -110,6 +140,8 @@ pub enum Choice<'w> {
     Show(RunChoice<'w>, Shape),
     /// What is to be said of acts from anywhere.
     Judge(Judging<'w>),
+    /// What every order of the plain machine comes to.
+    Explore(Exploring<'w>),
 }
 
 /// Why there is no choice.

@@ -4,18 +4,20 @@ ghost use Rattle.std.specs.Prelude.{◌≡◌, [], IfErr, IfOk, IsSomeAnd, Ok, O
 ghost use Rattle.std.specs.Int.{IsOutOfRange};
 ghost use Rattle.clap.specs.Words.{fault_of, found_of, rows_of, subcommand_of, subcommand_rows_of};
 ghost use Rattle.lrc_words.specs.Commands.{treadmarks};
-ghost use Rattle.lrc_words.specs.CommandLine.{Chooses, HasJudgeMisfit, HasMisfit, HasPlainMisfit, HasShowMisfit};
-ghost use Rattle.lrc_words.specs.CommandLine.{IsAskTaken, IsFound, IsFoundFault, IsJudging, IsPlainRun, IsShowTaken};
+ghost use Rattle.lrc_words.specs.CommandLine.{Chooses, HasExploreMisfit, HasJudgeMisfit, HasMisfit, HasPlainMisfit, HasShowMisfit};
+ghost use Rattle.lrc_words.specs.CommandLine.{IsAskTaken, IsExploring, IsFound, IsFoundFault, IsJudging, IsPlainRun, IsShowTaken};
 ghost use Rattle.lrc_words.specs.CommandLine.{IsTaken, fault_from, words_meant};
-ghost use Rattle.lrc_words.specs.Options.{IsJudgeTaken, IsPlainTaken};
+ghost use Rattle.lrc_words.specs.Options.{IsExploreTaken, IsJudgeTaken, IsPlainTaken};
 ghost use Rattle.lrc_words.specs.declared.choice.ChooseFault.TheVariants.{NoMemory};
 ghost use Rattle.lrc_words.specs.declared.misfit.Misfit.TheVariants.{Number};
 
-use crate::choice::{Choice, ChooseFault, Judging, Nodes, PlainRun, Shape};
+use crate::choice::{Choice, ChooseFault, Exploring, Judging, Nodes, PlainRun, Shape};
 use crate::commands::command_line;
 use crate::misfit::{Misfit, fault_of_misfit};
-use crate::reading::{is_named, nodes_of, so_many_nodes, some_number_of, steps_of, text_of};
-use crate::runs::{run_choice, threads_run, traced_run};
+use crate::reading::{
+    is_named, most_of, nodes_of, so_many_nodes, some_number_of, steps_of, text_of,
+};
+use crate::runs::{run_choice, showing_run, threads_run, traced_run};
 use clap::ArgMatches;
 use clap::error::ErrorKind;
 use std::alloc::{AllocError, Global};
@@ -66,6 +68,9 @@ fn choice_from<'w>(matches: &ArgMatches<'w>) -> Result<Choice<'w>, Misfit>
     if let Some(options) = matches.subcommand_matches("judge") {
         return Ok(Choice::Judge(judging(options)?));
     }
+    if let Some(options) = matches.subcommand_matches("explore") {
+        return Ok(Choice::Explore(exploring(options)?));
+    }
     shown_from(matches)
 }
 
@@ -90,9 +95,15 @@ fn asked_from<'w>(matches: &ArgMatches<'w>) -> Result<Choice<'w>, Misfit>
     ensures ok { IfOk result (λ choice. IsSomeAnd (subcommand_rows_of matches.now) (λ found. IsFound found choice)) }
     ensures err { IfErr result (λ misfit. IsSomeAnd (subcommand_rows_of matches.now) (λ found. HasShowMisfit found misfit)) }
 {
-    let options = matches.subcommand_matches("trace").unwrap();
-    let (run, form) = traced_run(options)?;
-    Ok(Choice::Show(run, Shape::Trace(form)))
+    if let Some(options) = matches.subcommand_matches("trace") {
+        let (run, form) = traced_run(options)?;
+        return Ok(Choice::Show(run, Shape::Trace(form)));
+    }
+    if let Some(options) = matches.subcommand_matches("explain") {
+        return Ok(Choice::Show(showing_run(options)?, Shape::Explain));
+    }
+    let options = matches.subcommand_matches("stats").unwrap();
+    Ok(Choice::Show(showing_run(options)?, Shape::Stats))
 }
 
 fn plain_run<'w>(options: &ArgMatches<'w>) -> Result<PlainRun<'w>, Misfit>
@@ -128,6 +139,19 @@ fn some_nodes(count: Option<u64>) -> Result<Option<Nodes>, Misfit>
         Some(count) => Ok(Some(so_many_nodes(count)?)),
         None => Ok(None),
     }
+}
+
+fn exploring<'w>(options: &ArgMatches<'w>) -> Result<Exploring<'w>, Misfit>
+    requires { IsExploreTaken (rows_of (found_of options.now)) }
+    ensures ok { IfOk result (IsExploring (rows_of (found_of options.now))) }
+    ensures err { IfErr result (HasExploreMisfit (rows_of (found_of options.now))) }
+{
+    Ok(Exploring {
+        file: text_of(options, "FILE"),
+        nodes: nodes_of(options)?,
+        most: most_of(options)?,
+        outcomes: is_named(options, "outcomes"),
+    })
 }
 
 impl From<AllocError> for ChooseFault {

@@ -3,8 +3,8 @@
 ghost use Rattle.std.specs.Prelude.{◌≡◌, [], IfOk, false};
 ghost use Rattle.clap.specs.Words.{app_of, rule_of};
 ghost use Rattle.clap.specs.declared.builder.command.Command.TheViews.{out-Command as fields_of};
-ghost use Rattle.lrc_words.specs.Commands.{bare_number, check, collect, file, flag, form, judge, nodes, number, option, order};
-ghost use Rattle.lrc_words.specs.Commands.{page, plain, run, sim, steps, trace, treadmarks, treadmarks_shape};
+ghost use Rattle.lrc_words.specs.Commands.{bare_number, check, collect, explain, explore, file, flag, form, judge, most, nodes, number, option, order};
+ghost use Rattle.lrc_words.specs.Commands.{page, plain, run, sim, stats, steps, trace, treadmarks, treadmarks_shape};
 ghost use Rattle.lrc_words.specs.Commands.{with_questions, with_reports, with_run_options, with_showing_options, with_way_options};
 
 use clap::{Arg, ArgAction, Command, value_parser};
@@ -37,24 +37,31 @@ const SEED_HELP: &str = "With `--order random`: from which number it starts. Lef
 const THREADS_HELP: &str =
     "Runs each node on a thread of its own; not with events or a random order";
 
-const FORM_HELP: &str = "How the acts are shown: acts, or rapid (for race detectors)";
+const FORM_HELP: &str =
+    "How the acts are shown: acts, events (as `--events` reads them), json or rapid (for race detectors)";
+
+const MESSAGES_HELP: &str = "With the acts: the messages that are taken and sent between them";
 
 const ACTS_NODES_HELP: &str =
     "How many nodes there are: 1 to 16. Left out it is one more than the greatest that acts";
 
 const PAIRS_HELP: &str = "Names every pair of acts that race, in place of the races";
 
+const MOST_HELP: &str = "How many states the search may meet: 1 to 100000000";
+
+const OUTCOMES_HELP: &str = "Shows every outcome of the orders, and looks for no race";
+
 // The version of the program. The message bytes have versions of their own.
 const VERSION: &str = "0.1.0";
 
 // What the help says of the exit status, and of the one line that cannot say which option it means.
 const STATUSES: &str = "Exit status:
-  0  all nodes ended, and no race was found (check: the text is a program; judge: nothing was found)
+  0  all nodes ended, and no race was found (check: the text is a program; judge, explore: nothing was found)
   1  a fault of the text, a file, the events, memory or the output
   2  a fault of the words, or a help text. `number out of range` says that a number is not in the range that the help of
      its command gives
   3  a race was found
-  4  no race, and a node trapped or is unfinished (judge: the acts are of no run)";
+  4  no race, and a node trapped or is unfinished (judge: the acts are of no run; explore: some order gets stuck)";
 
 /// The command line of the program.
 pub(crate) fn command_line<'w>(alloc: Global) -> Result<Command<'w>, AllocError>
@@ -90,13 +97,16 @@ fn taking_reports<'w>(alloc: Global, command: Command<'w>) -> Result<Command<'w>
         .subcommand(run_command(alloc)?)
 }
 
-// Adds those that ask more of a run, or of acts.
+// Adds those that ask more of a run, of acts or of a program.
 fn taking_questions<'w>(alloc: Global, command: Command<'w>) -> Result<Command<'w>, AllocError>
     ensures { IfOk result (λ given. app_of given ≡ with_questions (app_of command.entry)) }
 {
     command
         .subcommand(trace_command(alloc)?)?
-        .subcommand(judge_command(alloc)?)
+        .subcommand(explain_command(alloc)?)?
+        .subcommand(stats_command(alloc)?)?
+        .subcommand(judge_command(alloc)?)?
+        .subcommand(explore_command(alloc)?)
 }
 
 fn check_command<'w>(alloc: Global) -> Result<Command<'w>, AllocError>
@@ -146,7 +156,29 @@ fn trace_command<'w>(alloc: Global) -> Result<Command<'w>, AllocError>
     ensures local { IfOk result (λ command. (fields_of command).has_globals ≡ false) }
 {
     let command = Command::new(alloc, "trace").about("Shows the acts of a run, one on each line");
-    taking_showing_options(alloc, command)?.arg(form(alloc))
+    taking_showing_options(alloc, command)?
+        .arg(form(alloc))?
+        .arg(flag(alloc, "messages", MESSAGES_HELP))
+}
+
+fn explain_command<'w>(alloc: Global) -> Result<Command<'w>, AllocError>
+    ensures app { IfOk result (λ command. app_of command ≡ explain) }
+    ensures local { IfOk result (λ command. (fields_of command).has_globals ≡ false) }
+{
+    let command = Command::new(alloc, "explain").about(
+        "Says of a run why nodes trapped or are unfinished, and which lines race",
+    );
+    taking_showing_options(alloc, command)
+}
+
+fn stats_command<'w>(alloc: Global) -> Result<Command<'w>, AllocError>
+    ensures app { IfOk result (λ command. app_of command ≡ stats) }
+    ensures local { IfOk result (λ command. (fields_of command).has_globals ≡ false) }
+{
+    let command = Command::new(alloc, "stats").about(
+        "Counts the events, acts and messages of a run",
+    );
+    taking_showing_options(alloc, command)
 }
 
 fn judge_command<'w>(alloc: Global) -> Result<Command<'w>, AllocError>
@@ -160,6 +192,20 @@ fn judge_command<'w>(alloc: Global) -> Result<Command<'w>, AllocError>
         .arg(file(alloc, ACTS_FILE_HELP))?
         .arg(bare_number(alloc, "nodes", "N", ACTS_NODES_HELP))?
         .arg(flag(alloc, "pairs", PAIRS_HELP))
+}
+
+fn explore_command<'w>(alloc: Global) -> Result<Command<'w>, AllocError>
+    ensures app { IfOk result (λ command. app_of command ≡ explore) }
+    ensures local { IfOk result (λ command. (fields_of command).has_globals ≡ false) }
+{
+    Command::new(alloc, "explore")
+        .about(
+            "Looks at every order in which the nodes may make their acts, for a race and for nodes that get stuck",
+        )
+        .arg(file(alloc, FILE_HELP))?
+        .arg(nodes(alloc))?
+        .arg(number(alloc, "most", "1000000", MOST_HELP))?
+        .arg(flag(alloc, "outcomes", OUTCOMES_HELP))
 }
 
 // Adds what the commands have in common that show something of a run in any way.

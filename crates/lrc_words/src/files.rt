@@ -15,6 +15,7 @@ impl<'w> Choice<'w> {
             Choice::Plain(run) => run.file,
             Choice::Show(run, _) => run.options.file,
             Choice::Judge(judging) => judging.file,
+            Choice::Explore(exploring) => exploring.file,
         }
     }
 
@@ -31,7 +32,7 @@ impl<'w> Choice<'w> {
     {
         match self {
             Choice::Show(run, _) => run.way.events(),
-            Choice::Check(_) | Choice::Plain(_) | Choice::Judge(_) => None,
+            Choice::Check(_) | Choice::Plain(_) | Choice::Judge(_) | Choice::Explore(_) => None,
         }
     }
 }

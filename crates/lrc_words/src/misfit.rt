@@ -1,6 +1,6 @@
 // Why words in which clap finds no fault are no choice.
 
-ghost use Rattle.std.specs.Prelude.{◌≢◌, IfOk};
+ghost use Rattle.std.specs.Prelude.{◌≡◌, ◌≢◌, IfOk};
 ghost use Rattle.clap.specs.Words.{kind_of};
 ghost use Rattle.lrc_words.specs.CommandLine.{IsMisfitFault, IsUsageKind};
 ghost use Rattle.lrc_words.specs.declared.misfit.Misfit.TheVariants.{Number};
@@ -17,12 +17,15 @@ const BAD_RUN_ORDER: &str = "invalid value for '--order <ORDER>': it is oldest, 
 
 const BAD_PAGE: &str = "invalid value for '--page <WORDS>': it is 64 or 256";
 
-const BAD_FORM: &str = "invalid value for '--as <FORM>': it is acts or rapid";
+const BAD_FORM: &str = "invalid value for '--as <FORM>': it is acts, events, json or rapid";
 
 const IDLE_SEED: &str = "the argument '--seed <X>' cannot be used without '--order random'";
 
 const BAD_THREADS: &str =
     "the argument '--threads' cannot be used with '--events <PATH>' or '--order random'";
+
+const BAD_MESSAGES: &str =
+    "the argument '--messages' cannot be used with a form other than '--as acts'";
 
 /// Why the options that clap read are no choice.
 #[derive(Clone, Copy)]
@@ -39,6 +42,8 @@ pub(crate) enum Misfit {
     Seed,
     /// Threads are asked for, and so are given events or a random order.
     Threads,
+    /// Messages are asked for, and so is another form than that of acts.
+    Messages,
     /// A number is not in its option's range.
     Number,
 }
@@ -76,7 +81,7 @@ fn usage_kind(misfit: Misfit) -> ErrorKind
     ensures { IsUsageKind misfit result }
 {
     match misfit {
-        Misfit::Seed | Misfit::Threads => ErrorKind::ArgumentConflict,
+        Misfit::Seed | Misfit::Threads | Misfit::Messages => ErrorKind::ArgumentConflict,
         _ => ErrorKind::InvalidValue,
     }
 }
@@ -89,6 +94,7 @@ fn message_of(misfit: Misfit) -> &'static str {
         Misfit::Form => BAD_FORM,
         Misfit::Seed => IDLE_SEED,
         Misfit::Threads => BAD_THREADS,
+        Misfit::Messages => BAD_MESSAGES,
         Misfit::Number => "number out of range",
     }
 }

@@ -1,14 +1,14 @@
 // The options of a command, one by one, as clap read them.
 
-ghost use Rattle.std.specs.Prelude.{◌≡◌, IfErr, IfOk, Some, codes};
+ghost use Rattle.std.specs.Prelude.{◌≡◌, IfErr, IfOk, Some, codes, option_map};
 ghost use Rattle.std.specs.Int.{IsOutOfRange};
 ghost use Rattle.clap.specs.Words.{first_of, found_of, rows_of};
 ghost use Rattle.lrc_words.specs.Options.{HasBadPage, HasValue, IsBareNumber, IsFlag, IsFlagOption, IsNumberOption, IsSize};
-ghost use Rattle.lrc_words.specs.Options.{collect_in, nodes_in, number_in, some_number_in, steps_in};
+ghost use Rattle.lrc_words.specs.Options.{collect_in, most_in, nodes_in, number_in, some_number_in, steps_in};
 ghost use Rattle.lrc_words.specs.declared.misfit.Misfit.TheVariants as unfit;
 ghost use Rattle.lrc_page.specs.declared.size.Size.{Size};
 
-use crate::choice::{Collect, Nodes, Steps};
+use crate::choice::{Collect, Most, Nodes, Steps};
 use crate::misfit::Misfit;
 use clap::ArgMatches;
 use lrc_page::Size;
@@ -87,6 +87,19 @@ pub(crate) fn collect_of(options: &ArgMatches<'_>) -> Result<Collect, Misfit>
     let count = number_of(options, "collect");
     match u32::try_from(count) {
         Ok(count) if count <= 1_000_000 => Ok(Collect { count }),
+        _ => Err(Misfit::Number),
+    }
+}
+
+pub(crate) fn most_of(options: &ArgMatches<'_>) -> Result<Most, Misfit>
+    requires { IsNumberOption (codes "most") (rows_of (found_of options.now)) }
+    ensures ok { IfOk result (λ most. most_in (rows_of (found_of options.now)) ≡ most.count) }
+    ensures err { IfErr result (λ misfit. (misfit ≡ unfit.Number)
+        × IsOutOfRange 1 100000000 (most_in (rows_of (found_of options.now)))) }
+{
+    let count = number_of(options, "most");
+    match u32::try_from(count) {
+        Ok(count) if 1 <= count && count <= 100_000_000 => Ok(Most { count }),
         _ => Err(Misfit::Number),
     }
 }

@@ -1,11 +1,11 @@
 // The runs of the nodes that the options ask for.
 
-ghost use Rattle.std.specs.Prelude.{◌≡◌, IfErr, IfOk, IfSome, None, Some, codes, option_map};
+ghost use Rattle.std.specs.Prelude.{◌≡◌, Bool, IfErr, IfOk, IfSome, None, Some, codes, false, option_map};
 ghost use Rattle.clap.specs.Words.{first_of, found_of, rows_of};
 ghost use Rattle.lrc_wire.specs.declared.picker.Picker.{Picker as AnyPicker};
 ghost use Rattle.lrc_words.specs.CommandLine.{HasMisfitOfRun, HasShowingMisfit, HasThreadsMisfit, HasTraceMisfit, IsRun, IsShowingRun, IsThreadsRun};
-ghost use Rattle.lrc_words.specs.Options.{AreRunOptions, HasBadForm, HasOptionsMisfit, HasValue, HasWayMisfit, HasWayMisfitIn};
-ghost use Rattle.lrc_words.specs.Options.{IsForm, IsOrder, IsPicker, IsRunTaken, IsShowingTaken, IsSimTaken};
+ghost use Rattle.lrc_words.specs.Options.{AreRunOptions, HasFormMisfitIn, HasOptionsMisfit, HasValue, HasWayMisfit, HasWayMisfitIn};
+ghost use Rattle.lrc_words.specs.Options.{HasWordMisfit, IsForm, IsFormIn, IsOrder, IsPicker, IsRunTaken, IsShowingTaken, IsSimTaken};
 ghost use Rattle.lrc_words.specs.Options.{IsTraceTaken, IsWay, IsWayIn};
 ghost use Rattle.lrc_words.specs.declared.misfit.Misfit.TheVariants as unfit;
 ghost use Rattle.lrc_words.specs.declared.choice.Form.{Form as AnyForm};
@@ -52,7 +52,7 @@ pub(crate) fn run_choice<'w>(
 /// A run, and the form of its trace.
 pub(crate) fn traced_run<'w>(options: &ArgMatches<'w>) -> Result<(RunChoice<'w>, Form), Misfit>
     requires { IsTraceTaken (rows_of (found_of options.now)) }
-    ensures form { IfOk result (λ traced. IsForm (first_of (codes "as") (rows_of (found_of options.now))) traced.1) }
+    ensures form { IfOk result (λ traced. IsFormIn (rows_of (found_of options.now)) traced.1) }
     ensures run { IfOk result (λ traced. IsShowingRun (rows_of (found_of options.now)) traced.0) }
     ensures err { IfErr result (HasTraceMisfit (rows_of (found_of options.now))) }
 {
@@ -196,18 +196,34 @@ fn picker_named(word: &str) -> Option<Picker>
 
 fn form_of(options: &ArgMatches<'_>) -> Result<Form, Misfit>
     requires { IsTraceTaken (rows_of (found_of options.now)) }
-    ensures ok { IfOk result (IsForm (first_of (codes "as") (rows_of (found_of options.now)))) }
-    ensures err { IfErr result (λ misfit. (misfit ≡ unfit.Form) × HasBadForm (rows_of (found_of options.now))) }
+    ensures ok { IfOk result (IsFormIn (rows_of (found_of options.now))) }
+    ensures err { IfErr result (HasFormMisfitIn (rows_of (found_of options.now))) }
 {
-    form_named(text_of(options, "as"))
+    form_named(text_of(options, "as"), is_named(options, "messages"))
 }
 
-fn form_named(word: &str) -> Result<Form, Misfit>
-    ensures ok { IfOk result (IsForm (Some word.now)) }
-    ensures err { IfErr result (λ misfit. (misfit ≡ unfit.Form) × ((form : AnyForm) → ¬ IsForm (Some word.now) form)) }
+fn form_named(word: &str, messages: bool) -> Result<Form, Misfit>
+    ensures ok { IfOk result (IsForm (Some word.now) messages) }
+    ensures err { IfErr result (HasWordMisfit (Some word.now) messages) }
+{
+    match form_without_messages(word)? {
+        Form::Acts if messages => Ok(Form::Messages),
+        _ if messages => Err(Misfit::Messages),
+        form => Ok(form),
+    }
+}
+
+fn form_without_messages(word: &str) -> Result<Form, Misfit>
+    ensures ok { IfOk result (IsForm (Some word.now) false) }
+    ensures err { IfErr result (λ misfit. (misfit ≡ unfit.Form)
+        × ((messages : Bool) (form : AnyForm) → ¬ IsForm (Some word.now) messages form)) }
 {
     if word == "acts" {
         Ok(Form::Acts)
+    } else if word == "events" {
+        Ok(Form::Events)
+    } else if word == "json" {
+        Ok(Form::Json)
     } else if word == "rapid" {
         Ok(Form::Rapid)
     } else {

@@ -4,6 +4,8 @@
 #[cfg(test)]
 mod events;
 #[cfg(test)]
+mod explored;
+#[cfg(test)]
 mod faults;
 #[cfg(test)]
 mod given_events;
@@ -17,6 +19,8 @@ mod plain;
 mod progress;
 #[cfg(test)]
 mod several_nodes;
+#[cfg(test)]
+mod shapes;
 #[cfg(test)]
 mod shell;
 #[cfg(test)]

@@ -8,7 +8,7 @@ use lrc_cli::{execute, perform, tell};
 use lrc_page::Size;
 use lrc_wire::Picker;
 use lrc_words::choice::{
-    Choice, Collect, Nodes, PlainRun, RunChoice, RunOptions, Shape, Steps, Way,
+    Choice, Collect, Exploring, Nodes, PlainRun, RunChoice, RunOptions, Shape, Steps, Way,
 };
 use std::alloc::Global;
 use std::sync::Wait;
@@ -74,6 +74,11 @@ pub fn in_rounds(alloc: Global, nodes: Nodes, steps: Steps, text: &[u8]) -> Outc
     performed(alloc, &choice, text, None)
 }
 
+/// What `explore` says of a text.
+pub fn explored(alloc: Global, exploring: Exploring<'static>, text: &[u8]) -> Outcome {
+    performed(alloc, &Choice::Explore(exploring), text, None)
+}
+
 /// A run on one node, as it is without options.
 pub const ON_ONE_NODE: RunOptions<'static> = RunOptions {
     file: "-",
@@ -102,23 +107,45 @@ pub fn on_threads<R: Threads + Wait + Sync + AllocGlobal>(
     order: Picker,
     text: &[u8],
 ) -> Outcome {
+    shown_on_threads(rt, options, order, Shape::Report, text)
+}
+
+/// What is shown of such a run.
+pub fn shown_on_threads<R: Threads + Wait + Sync + AllocGlobal>(
+    rt: &R,
+    options: RunOptions<'static>,
+    order: Picker,
+    shape: Shape,
+    text: &[u8],
+) -> Outcome {
     let alloc = rt.alloc();
     let mut out = Vec::new(alloc);
     let mut err = Vec::new(alloc);
     let way = Way::Threads(order);
-    let choice = Choice::Show(RunChoice { options, way }, Shape::Report);
+    let choice = Choice::Show(RunChoice { options, way }, shape);
     let status = execute(rt, alloc, &choice, text, None, &mut out, &mut err);
     Outcome { out, err, status }
 }
 
 /// What `sim` on so many nodes makes of a text with these events.
 pub fn played(alloc: Global, nodes: Nodes, text: &[u8], events: &[u8]) -> Outcome {
+    shown_of_played(alloc, nodes, Shape::Report, text, events)
+}
+
+/// What is shown of such a run.
+pub fn shown_of_played(
+    alloc: Global,
+    nodes: Nodes,
+    shape: Shape,
+    text: &[u8],
+    events: &[u8],
+) -> Outcome {
     let options = RunOptions {
         nodes,
         ..ON_ONE_NODE
     };
     let way = Way::Events("events");
-    let choice = Choice::Show(RunChoice { options, way }, Shape::Report);
+    let choice = Choice::Show(RunChoice { options, way }, shape);
     performed(alloc, &choice, text, Some(events))
 }
 

@@ -63,6 +63,30 @@ fn ask_to_judge(alloc: Global, words: &[&str], nodes: Option<u32>, pairs: bool) 
         if judging.nodes.map(|nodes| nodes.count) == nodes && judging.pairs == pairs)
 }
 
+// Whether the words ask to explore with so many nodes and states, by outcomes or not.
+fn ask_to_explore(alloc: Global, words: &[&str], nodes: u32, most: u32, outcomes: bool) -> bool {
+    matches!(choose(alloc, words), Ok(Choice::Explore(exploring))
+        if exploring.nodes.count == nodes && exploring.most.count == most && exploring.outcomes == outcomes)
+}
+
+// Whether the words ask for the messages of a run, for why it ended as it did, and for its counts.
+fn ask_for_messages(alloc: Global, words: &[&str]) -> bool {
+    matches!(
+        choose(alloc, words),
+        Ok(Choice::Show(_, Shape::Trace(Form::Messages)))
+    )
+}
+
+fn ask_to_explain(alloc: Global, words: &[&str], seed: u64) -> bool {
+    matches!(choose(alloc, words), Ok(Choice::Show(run, Shape::Explain))
+        if matches!(run.way, Way::Random(number) if number == seed))
+}
+
+fn ask_for_counts(alloc: Global, words: &[&str]) -> bool {
+    matches!(choose(alloc, words), Ok(Choice::Show(run, Shape::Stats))
+        if goes_on_threads(&run.way, Picker::Twice))
+}
+
 fn ask_for_check(alloc: Global, words: &[&str]) -> bool {
     matches!(choose(alloc, words), Ok(Choice::Check("a.tm")))
 }
@@ -144,7 +168,19 @@ fn what_is_to_be_judged_is_read(rt: HostRuntime) {
     assert!(rt; ask_to_judge(alloc, &counted, Some(3), true));
 }
 
-const OUT_OF_RANGE: [[&str; 4]; 10] = [
+#[test]
+fn what_is_asked_of_a_run_or_a_program_is_read(rt: HostRuntime) {
+    let alloc = rt.alloc();
+    assert!(rt; ask_for_messages(alloc, &["trace", "a.tm", "--messages"]));
+    let explained = ["explain", "a.tm", "--order", "random", "--seed", "9"];
+    assert!(rt; ask_to_explain(alloc, &explained, 9));
+    assert!(rt; ask_for_counts(alloc, &["stats", "a.tm", "--threads", "--order=twice"]));
+    assert!(rt; ask_to_explore(alloc, &["explore", "a.tm"], 1, 1_000_000, false));
+    let most = ["explore", "a.tm", "--nodes=3", "--most=7", "--outcomes"];
+    assert!(rt; ask_to_explore(alloc, &most, 3, 7, true));
+}
+
+const OUT_OF_RANGE: [[&str; 4]; 14] = [
     ["plain", "a.tm", "--nodes", "17"],
     ["plain", "a.tm", "--nodes", "0"],
     ["plain", "a.tm", "--steps", "0"],
@@ -155,9 +191,13 @@ const OUT_OF_RANGE: [[&str; 4]; 10] = [
     ["run", "a.tm", "--nodes", "17"],
     ["trace", "a.tm", "--nodes", "17"],
     ["judge", "a.acts", "--nodes", "0"],
+    ["explain", "a.tm", "--steps", "0"],
+    ["stats", "a.tm", "--collect", "1000001"],
+    ["explore", "a.tm", "--most", "0"],
+    ["explore", "a.tm", "--most", "100000001"],
 ];
 
-const MISUSED: [[&str; 4]; 18] = [
+const MISUSED: [[&str; 4]; 22] = [
     ["plain", "a.tm", "--nodes", "18446744073709551616"],
     ["plain", "a.tm", "--nodes", "x"],
     ["plain", "a.tm", "--events", "e"],
@@ -176,6 +216,10 @@ const MISUSED: [[&str; 4]; 18] = [
     ["trace", "a.tm", "--threads", "--events=e"],
     ["trace", "a.tm", "--as", "xml"],
     ["judge", "a.acts", "--steps", "1"],
+    ["trace", "a.tm", "--messages", "--as=json"],
+    ["explain", "a.tm", "--as", "json"],
+    ["stats", "a.tm", "--threads", "--seed=1"],
+    ["explore", "a.tm", "--steps", "5"],
 ];
 
 fn are_out_of_range(alloc: Global, words: &[&str]) -> bool {

@@ -27,6 +27,14 @@ pub returns-in-Show-clause-err : goal.returns-in-Show-clause-err
 returns-in-Show-clause-err c =
     faulty_for c.show.result _ _ c.args.text.now (option_map (λ (e : Bor (List ℕ)). e.now) c.args.events) c.in-Show.is c.show.ensures.err
 
+pub returns-in-Explore-clause-ok : goal.returns-in-Explore-clause-ok
+returns-in-Explore-clause-ok c =
+    printed_for c.explored.result _ _ c.args.text.now (option_map (λ (e : Bor (List ℕ)). e.now) c.args.events) c.in-Explore.is c.explored.ensures.ok
+
+pub returns-in-Explore-clause-err : goal.returns-in-Explore-clause-err
+returns-in-Explore-clause-err c =
+    faulty_for c.explored.result _ _ c.args.text.now (option_map (λ (e : Bor (List ℕ)). e.now) c.args.events) c.in-Explore.is c.explored.ensures.err
+
 pub returns-in-Judge-clause-ok : goal.returns-in-Judge-clause-ok
 returns-in-Judge-clause-ok c =
     printed_for c.judged.result _ _ c.args.text.now (option_map (λ (e : Bor (List ℕ)). e.now) c.args.events) c.in-Judge.is c.judged.ensures.ok

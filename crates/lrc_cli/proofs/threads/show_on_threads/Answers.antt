@@ -9,14 +9,14 @@ returns-in_err-program-clause-err g c =
     fault_up c.from_residual.result _ _ c.from_residual.ensures.1
     (inl (text_fault c.args.text.now c.in_err-program.field-0.0 c.in_err-program.ensures.fault))
 
-pub returns-in_err-report-clause-err : goal.returns-in_err-report-clause-err
-returns-in_err-report-clause-err g c =
-    fault_up c.from_residual-in_err-report.result _ _ c.from_residual-in_err-report.ensures.1
+pub returns-in_err-run-clause-err : goal.returns-in_err-run-clause-err
+returns-in_err-run-clause-err g c =
+    fault_up c.from_residual-in_err-run.result _ _ c.from_residual-in_err-run.ensures.1
     (inr (
       c.in_ok-program.program,
       c.in_ok-program.ensures.program,
-      subst (λ (way : Way). IsRunFault way c.in_ok-program.program c.args.choice.now.options None c.in_err-report.field-0.0)
-          (sym c.requires) c.in_err-report.ensures.err,
+      subst (λ (way : Way). IsRunFault way c.in_ok-program.program c.args.choice.now.options None c.in_err-run.field-0.0)
+          (sym c.requires) c.in_err-run.ensures.err,
     ))
 
 pub returns-clause-ok : goal.returns-clause-ok
@@ -24,9 +24,10 @@ returns-clause-ok g c = (
   c.in_ok-program.program,
   c.in_ok-program.ensures.program,
   record {
-    report = c.in_ok-report.report;
-    ran = subst (λ (way : Way). IsRunOf way c.in_ok-program.program c.args.choice.now.options None c.in_ok-report.report) (sym c.requires)
-        c.in_ok-report.ensures.ok;
+    events = c.in_ok-run.run'.events.items;
+    report = c.in_ok-run.run'.report;
+    ran = subst (λ (way : Way). IsRunOf way c.in_ok-program.program c.args.choice.now.options None c.in_ok-run.run'.events.items
+        c.in_ok-run.run'.report) (sym c.requires) (c.in_ok-run.ensures.threaded, c.in_ok-run.ensures.reported);
     shown = c.in_ok-shown.ensures.text;
     ended = c.in_ok-shown.ensures.status;
   },

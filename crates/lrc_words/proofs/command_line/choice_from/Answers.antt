@@ -9,7 +9,7 @@ use Rattle.lrc_words.proofs.command_line.choice_from.Goals as goal
 shown : (found : Option (Text × List Row)) (misfit : Misfit) → IsSomeAnd found (λ f. HasShowMisfit f misfit)
     → IsSomeAnd found (λ f. HasMisfit f misfit)
 shown None misfit has = absurd has
-shown (Some f) misfit has = inr (inr has)
+shown (Some f) misfit has = inr (inr (inr has))
 
 pub returns-clause-err : goal.returns-clause-err
 returns-clause-err c = IfErr-weaker c.shown_from.result _ _ (λ misfit has. shown (subcommand_rows_of c.args.matches.now) misfit has) c.shown_from.ensures.err

@@ -1,0 +1,12 @@
+words 1;
+locks 1;
+if me == 0 {
+  acquire 0;
+  barrier;
+  release 0;
+} else {
+  while i < 3 { i = i + 1; }
+  acquire 0;
+  release 0;
+  barrier;
+}

@@ -1,0 +1,54 @@
+// What the program answers to the command `explore`.
+
+ghost use Rattle.std.specs.Prelude.{◌≡◌, IfErr, IfOk, None};
+ghost use Rattle.lrc_cli.specs.Answer.{IsExploration, IsFault, IsSearchFault, IsTextOf, Prints};
+ghost use Rattle.lrc_text.specs.Parts.{whole_text};
+ghost use Rattle.lrc_words.specs.declared.choice.Choice.TheVariants.{Explore};
+
+use crate::answer::Printout;
+use crate::fault::Fault;
+use lrc_explore::search::ExploreFault;
+use lrc_lang::lines::lines_of;
+use lrc_lang::parse;
+use lrc_lang::program::Program;
+use lrc_words::choice::Exploring;
+use std::alloc::Global;
+
+/// Answers the command `explore`, with the text of a program.
+pub(crate) fn explored(
+    alloc: Global,
+    exploring: &Exploring<'_>,
+    text: &[u8],
+) -> Result<Printout, Fault>
+    ensures ok { IfOk result (λ printout. Prints (Explore exploring.now) text.now None (whole_text printout.parts.items) printout.status) }
+    ensures err { IfErr result (IsFault (Explore exploring.now) text.now None) }
+{
+    let program = parse(alloc, text)?;
+    all_orders(alloc, exploring, text, &program)
+}
+
+// What is said of every order of the program that this text is of.
+fn all_orders(
+    alloc: Global,
+    exploring: &Exploring<'_>,
+    text: &[u8],
+    program: &Program,
+) -> Result<Printout, Fault>
+    requires { IsTextOf text.now program.now }
+    ensures ok { IfOk result (λ printout. IsExploration exploring.now text.now program.now (whole_text printout.parts.items) printout.status) }
+    ensures err { IfErr result (IsSearchFault exploring.now program.now) }
+{
+    let lines = lines_of(alloc, text)?;
+    let nodes = exploring.nodes.count;
+    let most = exploring.most.count;
+    let outcomes = exploring.outcomes;
+    match lrc_explored::explored::explored(alloc, program, &lines, nodes, most as usize, outcomes) {
+        Ok(told) => Ok(Printout {
+            parts: told.parts,
+            status: told.status,
+        }),
+        Err(ExploreFault::TooMany) => Err(Fault::TooManyStates(most)),
+        Err(ExploreFault::NoMemory) => Err(Fault::NoMemory),
+        Err(ExploreFault::BadNodes) => unreachable!(),
+    }
+}
