@@ -13,7 +13,7 @@ use lrc_lang::program::Program;
 use lrc_node::{Entry, Input, Options, Turn};
 use lrc_post::{Mailbox, Wire};
 use lrc_protocol::Event;
-use lrc_weave::events_of;
+use lrc_weave::{WeaveFault, events_of};
 use lrc_wire::{WireFault, decode};
 use lrc_world::report::SimFault;
 use lrc_world::simulate::replay;
@@ -55,8 +55,9 @@ fn worn_out(
     ensures soon { result ≡ RunFault.Worn → WearsOutSoon program.now nodes options.now }
     ensures late { IsLate result }
 {
-    let Ok(events) = events_until(alloc, logs, wires, node) else {
-        return RunFault::NoMemory;
+    let events = match events_until(alloc, logs, wires, node) {
+        Ok(events) => events,
+        Err(fault) => return RunFault::from(fault),
     };
     let turns = events.as_slice();
     let _count = count_of(turns);
@@ -82,7 +83,7 @@ fn events_until(
     mut logs: Vec<Vec<Entry>>,
     wires: &[Mailbox],
     node: usize,
-) -> Result<Vec<Event>, AllocError> {
+) -> Result<Vec<Event>, WeaveFault> {
     if let Some(log) = logs.get_mut(node)
         && let Some(mailbox) = wires.get(node)
     {
@@ -91,7 +92,7 @@ fn events_until(
     }
     // There is at most one log for each node, so there are never more.
     if logs.len() > 16 {
-        return Err(AllocError);
+        return Err(WeaveFault::NoMemory);
     }
     events_of(alloc, logs.as_slice())
 }

@@ -140,13 +140,13 @@ bit_is log again place entry b are at is =
 pub turned : (node : ℕ) (log : List EntryRecord) (again : List Bool) (place : ℕ) (old left new : List MessageName) (event : Event)
     (entry : EntryRecord) (b : Bool)
     → place < length log → entry ≡ slice_index_or log place entry → AreAgain log again → b ≡ slice_index_or again place b
-    → IsMadeBy node b old entry.input left (Some event) → new ≡ left ++ map name_of entry.turn.out → IsTurnOf node log place old new event
+    → IsMadeBy node b old entry.input left event → new ≡ left ++ map name_of entry.turn.out → IsTurnOf node log place old new event
 turned node log again place old left new event entry b within is are bit made sent =
     let at : slice_get log place ≡ Some entry = slice_get_read log (length log) place entry refl within is in (
       entry,
       left,
       at,
-      subst (λ x. IsMadeBy node x old entry.input left (Some event)) (bit_is log again place entry b are at bit) made,
+      subst (λ x. IsMadeBy node x old entry.input left event) (bit_is log again place entry b are at bit) made,
       sent,
     )
 

@@ -1,13 +1,13 @@
 -- A turn that the code makes is the next turn of the weave.
 use Rattle.std.proofs.Common.{◌≡◌, ℕ, zero, suc, ◌+◌, ◌<◌, ◌≤◌, Bool, true, false, cond, List, [], ◌∷◌, ◌++◌, length}
 use Rattle.std.proofs.Common.{map, filter, replicate, take, drop, refl, sym, ap, subst, ◌∙◌, arith}
-use Rattle.std.specs.Prelude.{Some, None, ◌==◌, ◌&&◌, remove, slice_get, slice_set, slice_index_or}
-use Rattle.std.specs.List.{enumerate_from}
-use Rattle.std.proofs.lemmas.Bool.{and_parts, eqb-true, eq-eqb, ltb-true}
+use Rattle.std.specs.Prelude.{Some, None, ◌==◌, ◌&&◌, not, nat_lt, remove, position, slice_get, slice_set, slice_index_or}
+use Rattle.std.specs.List.{enumerate_from, position_or_len}
+use Rattle.std.proofs.lemmas.Bool.{and_parts, eqb-true, eq-eqb, ltb-true, lt-ltb}
 use Rattle.std.proofs.lemmas.List.{map-append, length-map}
 use Rattle.std.proofs.lemmas.List.Quantifiers.{position-Some}
 use Rattle.std.proofs.lemmas.Simd.{map-map}
-use Rattle.std.proofs.lemmas.Option.{slice_get-get_or, same_Some}
+use Rattle.std.proofs.lemmas.Option.{slice_get-get_or, slice_get_within, same_Some, none-some}
 use Rattle.lrc_lang.specs.declared.program.Program.{Program}
 use Rattle.lrc_wire.specs.Envelope.{EnvelopeRecord}
 use Rattle.lrc_post.specs.Mailbox.{MailboxRecord}
@@ -24,7 +24,7 @@ use Rattle.lrc_weave.specs.Matched.{AreMatched}
 use Rattle.lrc_weave.specs.Woven.{log_of, come_of, IsNext, is_taken_in, IsTakenAt, Makes, runs, takes_last, takes_again, Woven, nothing_yet, then_one, AreWoven}
 use Rattle.lrc_weave.specs.Next.{IsNextOf}
 use Rattle.lrc_weave.specs.Again.{is_again}
-use Rattle.lrc_weave.specs.Events.{name_of, is_named, taking, left_by, IsTakenFrom, IsMadeBy, IsTurnOf}
+use Rattle.lrc_weave.specs.Events.{name_of, is_named, taking, left_by, IsTakenFrom, IsMadeBy, IsTurnOf, LacksMessage, IsUnsent}
 use Rattle.lrc_weave.proofs.Places.{dropped_less, within_outer}
 use Rattle.lrc_weave.proofs.Members.{in_map, of_map}
 use Rattle.lrc_weave.proofs.Played.{all_played}
@@ -114,6 +114,31 @@ names_removed [] (suc place) = refl
 names_removed (f ∷ flight) zero = refl
 names_removed (f ∷ flight) (suc place) = ap (λ ks. name_at f ∷ ks) (names_removed flight place)
 
+-- a message is known by its name
+named_itself : (e : EnvelopeRecord) → is_named e (name_of e) ≡ true
+named_itself e =
+    ap (λ b. b && ((e.to == e.to) && (e.number == e.number))) (eq-eqb e.from e.from refl)
+    ∙ ap (λ b. b && (e.number == e.number)) (eq-eqb e.to e.to refl) ∙ eq-eqb e.number e.number refl
+
+-- nothing passes a test that finds no place
+upto_by : (b : Bool) (r k : ℕ) → r ≤ k → cond (not b) (1 + r) 0 ≤ suc k
+upto_by true r k le = omega arith
+upto_by false r k le = omega (arith, le)
+
+first_upto : {X : Type 0} (p : X → Bool) (xs : List X) (k : ℕ) (x : X) → slice_get xs k ≡ Some x → p x ≡ true → position_or_len p xs ≤ k
+first_upto p [] k x at passes = cc
+first_upto p (y ∷ ys) zero x at passes =
+    let same : y ≡ x = same_Some y x at in
+    subst (λ b. cond (not b) (1 + position_or_len p ys) 0 ≤ 0) (sym (ap p same ∙ passes)) (omega arith)
+first_upto p (y ∷ ys) (suc k) x at passes = upto_by (p y) (position_or_len p ys) k (first_upto p ys k x at passes)
+
+passes_none : {X : Type 0} (p : X → Bool) (xs : List X) (k : ℕ) (x : X) → position p xs ≡ None → slice_get xs k ≡ Some x → p x ≡ true → ⊥
+passes_none p xs k x none at passes =
+    let upto : position_or_len p xs ≤ k = first_upto p xs k x at passes in
+    let within : k < length xs = slice_get_within xs k x at in
+    let found : nat_lt (position_or_len p xs) (length xs) ≡ true = lt-ltb (position_or_len p xs) (length xs) (omega (arith, upto, within)) in
+    none-some (position_or_len p xs) (sym none ∙ ap (λ b. cond b (Some (position_or_len p xs)) None) found)
+
 -- ---- one turn
 
 -- what the code keeps stands for a part of the weave
@@ -189,7 +214,7 @@ module _ (logs : List (List EntryRecord)) (come : List ℕ) (events : List Event
   )
 
   by_take : (names left : List MessageName) (event : Event) (envelope : EnvelopeRecord) → map name_at flight ≡ names → entry.input ≡ taken envelope
-      → IsTakenFrom names envelope (is_taken_in envelope later) left (Some event) → MadeOf event left
+      → IsTakenFrom names envelope (is_taken_in envelope later) left event → MadeOf event left
   by_take names left event envelope same is t =
       let can = can_take logs program nodes options are wires matched count come flight node entry envelope next is holds in
       let found = position-Some (is_named envelope) names t.0 (name_of envelope) t.1 in
@@ -208,7 +233,7 @@ module _ (logs : List (List EntryRecord)) (come : List ℕ) (events : List Event
       (ap (λ e. is_taken_in e later) can.3) t.2 t.3
 
   made_by : (names left : List MessageName) (event : Event) (input : Input) → map name_at flight ≡ names → entry.input ≡ input
-      → IsMadeBy node (is_again input later) names input left (Some event) → MadeOf event left
+      → IsMadeBy node (is_again input later) names input left event → MadeOf event left
   made_by names left event run same is m =
       (flight, subst (λ e. Makes node before later entry flight e flight) (sym m.0) (runs is), same ∙ sym m.1)
   made_by names left event (taken envelope) same is m = by_take names left event envelope same is m
@@ -219,7 +244,7 @@ module _ (logs : List (List EntryRecord)) (come : List ℕ) (events : List Event
   one_step names new event same t =
       let entry_is : t.0 ≡ entry = same_Some t.0 entry (sym t.2 ∙ next.next) in
       let made = made_by names t.1 event entry.input same refl
-      (subst (λ (e : EntryRecord). IsMadeBy node (is_again e.input later) names e.input t.1 (Some event)) entry_is t.3) in (
+      (subst (λ (e : EntryRecord). IsMadeBy node (is_again e.input later) names e.input t.1 event) entry_is t.3) in (
         made.0 ++ sent_by entry,
         then_one woven next made.1,
         holds_more logs come flight made.0 event node entry counted next.next made.1 holds,
@@ -230,6 +255,15 @@ module _ (logs : List (List EntryRecord)) (come : List ℕ) (events : List Event
             ∙ sym t.4,
       )
 
+  -- what it takes is in flight
+  lacks_none : (names : List MessageName) (input : Input) → map name_at flight ≡ names → entry.input ≡ input → LacksMessage names input → ⊥
+  lacks_none names run same is lacks = lacks
+  lacks_none names (taken envelope) same is lacks =
+      let can = can_take logs program nodes options are wires matched count come flight node entry envelope next is holds in
+      passes_none (is_named envelope) names can.0 (name_at can.1) lacks
+      (ap (λ ks. slice_get ks can.0) (sym same) ∙ in_map name_at flight can.1 can.0 can.2.there)
+      (ap (λ e. is_named envelope (name_of e)) can.3 ∙ named_itself envelope)
+
 -- the next turn is made
 pub so_more : (logs : List (List EntryRecord)) (come : List ℕ) (names new : List MessageName) (events : List Event) (event : Event) (node : ℕ)
     → length come ≡ length logs → IsNextOf logs come (Some node) → IsTurnOf node (log_of logs node) (come_of come node) names new event
@@ -237,3 +271,15 @@ pub so_more : (logs : List (List EntryRecord)) (come : List ℕ) (names new : Li
 so_more logs come names new events event node counted next t so program nodes options wires are matched count =
     let s = so program nodes options wires are matched count in
     one_step logs come events counted node next.0 next.1 program nodes options wires are matched count s.0 s.1 s.2 names new event s.3 t
+
+-- what it takes was sent
+pub so_sent : (logs : List (List EntryRecord)) (come : List ℕ) (names : List MessageName) (events : List Event) (node : ℕ)
+    → length come ≡ length logs → IsNextOf logs come (Some node) → IsUnsent (log_of logs node) (come_of come node) names
+    → WovenSo logs come names events
+    → (program : Program) (nodes : ℕ) (options : OptionsRecord) (wires : List MailboxRecord) → AreLogs program nodes options logs
+    → AreMatched logs wires → length wires ≡ length logs → ⊥
+so_sent logs come names events node counted next unsent so program nodes options wires are matched count =
+    let s = so program nodes options wires are matched count in
+    let same : unsent.0 ≡ next.0 = same_Some unsent.0 next.0 (sym unsent.1 ∙ next.1.next) in
+    lacks_none logs come events counted node next.0 next.1 program nodes options wires are matched count s.0 s.1 s.2 names unsent.0.input s.3
+    (ap (λ (e : EntryRecord). e.input) (sym same)) unsent.2

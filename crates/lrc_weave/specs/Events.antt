@@ -1,5 +1,5 @@
 -- What makes the event of one turn.
-use Rattle.std.specs.Prelude.{◌≡◌, ℕ, ◌+◌, ◌==◌, ◌&&◌, Bool, true, false, Option, Some, None, List, ◌++◌, map, drop, remove, position, slice_get}
+use Rattle.std.specs.Prelude.{◌≡◌, ℕ, ◌+◌, ◌==◌, ◌&&◌, Bool, true, false, Some, None, List, ◌++◌, map, drop, remove, position, slice_get}
 use Rattle.lrc_wire.specs.Envelope.{EnvelopeRecord}
 use Rattle.lrc_protocol.specs.declared.event.Event.{Event}
 use Rattle.lrc_protocol.specs.declared.event.Event.TheVariants.{Run, Deliver, Repeat}
@@ -25,19 +25,26 @@ abbrev pub left_by : Bool → ℕ → List MessageName → List MessageName
 left_by true place flight = flight
 left_by false place flight = remove flight place
 
--- a message is taken from flight by this event, if by any
-abbrev pub IsTakenFrom : List MessageName → EnvelopeRecord → Bool → List MessageName → Option Event → Type 0
-IsTakenFrom old envelope again new None = Unit {0}
-IsTakenFrom old envelope again new (Some event) =
+-- a message is taken from flight by this event
+abbrev pub IsTakenFrom : List MessageName → EnvelopeRecord → Bool → List MessageName → Event → Type 0
+IsTakenFrom old envelope again new event =
     (place : ℕ) × (position (is_named envelope) old ≡ Some place) × (event ≡ taking again place) × (new ≡ left_by again place old)
 
--- an input of a node, which is made again later or not, is made by this event, if by any
-abbrev pub IsMadeBy : ℕ → Bool → List MessageName → Input → List MessageName → Option Event → Type 0
-IsMadeBy node again old run new None = Unit {0}
-IsMadeBy node again old run new (Some event) = (event ≡ Run node) × (new ≡ old)
+-- an input of a node, which is made again later or not, is made by this event
+abbrev pub IsMadeBy : ℕ → Bool → List MessageName → Input → List MessageName → Event → Type 0
+IsMadeBy node again old run new event = (event ≡ Run node) × (new ≡ old)
 IsMadeBy node again old (taken envelope) new event = IsTakenFrom old envelope again new event
+
+-- an input takes a message that is not in flight
+abbrev pub LacksMessage : List MessageName → Input → Type 0
+LacksMessage flight run = ⊥
+LacksMessage flight (taken envelope) = position (is_named envelope) flight ≡ None
+
+-- the turn at a place of a log does
+abbrev pub IsUnsent : List EntryRecord → ℕ → List MessageName → Type 0
+IsUnsent log place flight = (entry : EntryRecord) × (slice_get log place ≡ Some entry) × LacksMessage flight entry.input
 
 -- the turn at a place of a node's log is made by this event, and its messages are in flight then
 abbrev pub IsTurnOf : ℕ → List EntryRecord → ℕ → List MessageName → List MessageName → Event → Type 0
 IsTurnOf node log place old new event = (entry : EntryRecord) × (left : List MessageName) × (slice_get log place ≡ Some entry)
-    × IsMadeBy node (is_again entry.input (drop (place + 1) log)) old entry.input left (Some event) × (new ≡ left ++ map name_of entry.turn.out)
+    × IsMadeBy node (is_again entry.input (drop (place + 1) log)) old entry.input left event × (new ≡ left ++ map name_of entry.turn.out)

@@ -1,10 +1,13 @@
 // The events that make the turns of logs.
 
-ghost use Rattle.std.specs.Prelude.{◌≡◌, ◌<◌, ◌≤◌, ◌++◌, IfOk, OnOk, length, map, position};
+ghost use Rattle.std.specs.Prelude.{◌≡◌, ◌<◌, ◌≤◌, ◌++◌, Err, IfOk, OnOk, length, map, position};
 ghost use Rattle.lrc_node.specs.Logged.{seen_input};
+ghost use Rattle.lrc_protocol.specs.Log.{taken};
+ghost use Rattle.lrc_weave.specs.declared.fault.WeaveFault.TheVariants.{Mismatch};
 ghost use Rattle.lrc_weave.specs.Again.{AreAgain};
-ghost use Rattle.lrc_weave.specs.Events.{is_named, name_of, IsMadeBy, IsTakenFrom, IsTurnOf};
+ghost use Rattle.lrc_weave.specs.Events.{is_named, name_of, IsMadeBy, IsTakenFrom, IsTurnOf, IsUnsent, LacksMessage};
 
+use crate::fault::WeaveFault;
 use lrc_node::{Entry, Input};
 use lrc_protocol::Event;
 use lrc_wire::Envelope;
@@ -21,50 +24,62 @@ pub(crate) struct MessageName {
     pub number: u32,
 }
 
-/// The event that makes the turn at a place of a node's log, with what is in flight before it and after it. None where what the
-/// turn takes is not in flight. For each turn of the log it is given whether a later one takes the same message.
+/// The event that makes the turn at a place of a node's log, with what is in flight before it and after it. `Mismatch` where what
+/// the turn takes is not in flight. For each turn of the log it is given whether a later one takes the same message.
 pub(crate) fn turn(
     flight: &mut Vec<MessageName>,
     node: u8,
     log: &Vec<Entry>,
     again: &Vec<bool>,
     place: usize,
-) -> Result<Event, AllocError>
+) -> Result<Event, WeaveFault>
     requires there { place < length log.now.items }
     requires bits { AreAgain log.now.items again.now.items }
-    ensures { IfOk result (λ event. IsTurnOf node log.now.items place flight.old.items flight.new.items event) }
+    ensures turn { IfOk result (λ event. IsTurnOf node log.now.items place flight.old.items flight.new.items event) }
+    ensures unsent { result ≡ Err Mismatch → IsUnsent log.now.items place flight.old.items }
 {
     let entry = &log[place];
-    let Some(event) = event_of(flight, node, &entry.input, again[place]) else {
-        return Err(AllocError);
-    };
+    let event = event_of(flight, node, &entry.input, again[place])?;
     send(flight, entry.turn.out.as_slice())?;
     Ok(event)
 }
 
-// The event of an input.
-fn event_of(flight: &mut Vec<MessageName>, node: u8, input: &Input, again: bool) -> Option<Event>
-    ensures { IsMadeBy node again flight.old.items (seen_input input.now) flight.new.items result }
+// The event of an input. `Mismatch` where a message is taken that is not in flight.
+fn event_of(
+    flight: &mut Vec<MessageName>,
+    node: u8,
+    input: &Input,
+    again: bool,
+) -> Result<Event, WeaveFault>
+    ensures made { IfOk result (λ event. IsMadeBy node again flight.old.items (seen_input input.now) flight.new.items event) }
+    ensures unsent { result ≡ Err Mismatch → LacksMessage flight.old.items (seen_input input.now) }
 {
     match input {
-        Input::Run => Some(Event::Run(u32::from(node))),
+        Input::Run => Ok(Event::Run(u32::from(node))),
         Input::Taken(envelope) => take(flight, envelope, again),
     }
 }
 
-// Takes a message from flight; it stays there if it is taken again.
-fn take(flight: &mut Vec<MessageName>, envelope: &Envelope, again: bool) -> Option<Event>
-    ensures { IsTakenFrom flight.old.items envelope.now again flight.new.items result }
+// Takes a message from flight; it stays there if it is taken again. An event names none that is further on than a number can say.
+fn take(
+    flight: &mut Vec<MessageName>,
+    envelope: &Envelope,
+    again: bool,
+) -> Result<Event, WeaveFault>
+    ensures takes { IfOk result (λ event. IsTakenFrom flight.old.items envelope.now again flight.new.items event) }
+    ensures unsent { result ≡ Err Mismatch → LacksMessage flight.old.items (taken envelope.now) }
 {
-    let place = place_in(flight.as_slice(), envelope)?;
+    let Some(place) = place_in(flight.as_slice(), envelope) else {
+        return Err(WeaveFault::Mismatch);
+    };
     let Ok(number) = u32::try_from(place) else {
-        return None;
+        return Err(WeaveFault::NoMemory);
     };
     if again {
-        return Some(Event::Repeat(number));
+        return Ok(Event::Repeat(number));
     }
     flight.remove(place);
-    Some(Event::Deliver(number))
+    Ok(Event::Deliver(number))
 }
 
 // The first place in flight of a message.

@@ -18,7 +18,7 @@ use crate::order::next_turn;
 use lrc_node::Entry;
 use lrc_post::Mailbox;
 use lrc_protocol::Event;
-use std::alloc::{AllocError, Global};
+use std::alloc::Global;
 
 /// The events that make all turns of the logs of a program's nodes, ordered by their stamps, and where those are the same by their
 /// nodes. A message's last take is delivered, and each one before it repeated. `Mismatch` exactly where the logs and the mailboxes,
@@ -39,17 +39,24 @@ pub fn weave(
     if !are_matched(alloc, logs, wires)? {
         return Err(WeaveFault::Mismatch);
     }
-    Ok(events_of(alloc, logs)?)
+    match events_of(alloc, logs) {
+        Ok(events) => Ok(events),
+        // The logs match the mailboxes. Where they are those of a program's nodes, as they should be, each message was sent.
+        Err(_fault) => Err(WeaveFault::NoMemory),
+    }
 }
 
-/// The events that make all turns of the logs, in the order of [`weave`], where there are mailboxes that tell of the same messages.
-/// `NoMemory` also comes where a message was taken that none of the logs sent.
-pub fn events_of(alloc: Global, logs: &[Vec<Entry>]) -> Result<Vec<Event>, AllocError>
+/// The events that make all turns of the logs of a program's nodes, in the order of [`weave`], where there are mailboxes that tell
+/// of the same messages. `Mismatch` only where there are none: a message was taken that none of the logs sent before.
+pub fn events_of(alloc: Global, logs: &[Vec<Entry>]) -> Result<Vec<Event>, WeaveFault>
     requires few { length logs.now ≤ 16 }
-    ensures { IfOk result (λ events. (program : Program) (nodes : ℕ) (options : OptionsRecord) (wires : List MailboxRecord)
+    ensures woven { IfOk result (λ events. (program : Program) (nodes : ℕ) (options : OptionsRecord) (wires : List MailboxRecord)
         → AreLogs program nodes options (map (λ log. log.items) logs.now) → AreMatched (map (λ log. log.items) logs.now) wires
         → length wires ≡ length logs.now
         → (flight : List Flying) × AreWoven (map (λ log. log.items) logs.now) events.items flight) }
+    ensures mismatch { result ≡ Err Mismatch → (program : Program) (nodes : ℕ) (options : OptionsRecord) (wires : List MailboxRecord)
+        → AreLogs program nodes options (map (λ log. log.items) logs.now) → AreMatched (map (λ log. log.items) logs.now) wires
+        → length wires ≡ length logs.now → ⊥ }
 {
     let again = all_again(alloc, logs)?;
     let mut come = vec![in alloc; 0usize; logs.len()]?;

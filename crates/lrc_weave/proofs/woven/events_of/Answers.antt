@@ -3,7 +3,7 @@ use Rattle.std.specs.Prelude.{Some}
 use Rattle.std.proofs.lemmas.List.{length-map}
 use Rattle.lrc_weave.specs.Next.{IsNextOf}
 use Rattle.lrc_weave.proofs.Stepping.{so_all}
-use Rattle.lrc_weave.proofs.Coded.{next_node, place_of, below_end, so_begin, so_next, smaller}
+use Rattle.lrc_weave.proofs.Coded.{next_node, place_of, below_end, so_begin, so_next, so_unsent, smaller}
 use Rattle.lrc_weave.proofs.Repeated.{bits_of}
 use Rattle.lrc_weave.proofs.woven.events_of.Goals as goal
 
@@ -50,16 +50,28 @@ loop-node-preserved c =
     so_next (λ log. log.items) c.args.logs.now c.loop-node.come.items c.loop-node.flight.items c.turn.new.flight.items c.loop-node.events.items
     c.push.new.self.items c.in_ok-event.event c.in-Some.node c.index-place.result.now c.after.result c.index-logs-node.result c.loop-node.invariant
     (subst (λ xs. IsNextOf (map (λ log. log.items) c.args.logs.now) xs (Some c.in-Some.node)) c.as_slice.ensures.value c.in-Some.ensures)
-    c.in_ok-event.ensures (search rules)
+    c.in_ok-event.ensures.turn (search rules)
     (place_of (λ log. log.items) c.args.logs.now c.loop-node.come.items c.in-Some.node c.index-place.result.now c.loop-node.invariant.0
     (subst (λ xs. IsNextOf (map (λ log. log.items) c.args.logs.now) xs (Some c.in-Some.node)) c.as_slice.ensures.value c.in-Some.ensures)
     (search rules))
     (search rules) (search rules)
 
-pub returns : goal.returns
-returns c = λ program nodes options wires are matched count.
+pub returns-clause-woven : goal.returns-clause-woven
+returns-clause-woven c = λ program nodes options wires are matched count.
     let w = so_all (map (λ log. log.items) c.args.logs.now) c.loop-node.come.items c.loop-node.flight.items c.loop-node.events.items c.loop-node.invariant.1
     (subst (λ o. IsNextOf (map (λ log. log.items) c.args.logs.now) c.loop-node.come.items o) c.in_default.is
     (subst (λ xs. IsNextOf (map (λ log. log.items) c.args.logs.now) xs c.next_turn.result) c.as_slice.ensures.value c.next_turn.ensures))
     program nodes options wires are matched (count ∙ sym (length-map c.args.logs.now (λ log. log.items))) in
     (w.0, w.1)
+
+pub returns-in_err-event-clause-mismatch : goal.returns-in_err-event-clause-mismatch
+returns-in_err-event-clause-mismatch c = λ e program nodes options wires are matched count.
+    so_unsent (λ log. log.items) c.args.logs.now c.loop-node.come.items c.loop-node.flight.items c.loop-node.events.items c.in-Some.node
+    c.index-place.result.now c.index-logs-node.result c.loop-node.invariant
+    (subst (λ xs. IsNextOf (map (λ log. log.items) c.args.logs.now) xs (Some c.in-Some.node)) c.as_slice.ensures.value c.in-Some.ensures)
+    (search rules)
+    (place_of (λ log. log.items) c.args.logs.now c.loop-node.come.items c.in-Some.node c.index-place.result.now c.loop-node.invariant.0
+    (subst (λ xs. IsNextOf (map (λ log. log.items) c.args.logs.now) xs (Some c.in-Some.node)) c.as_slice.ensures.value c.in-Some.ensures)
+    (search rules))
+    (c.turn.ensures.unsent (search rules))
+    program nodes options wires are matched count
