@@ -47,13 +47,13 @@ pub returns-in_ok-turns-in-Messages : goal.returns-in_ok-turns-in-Messages
 returns-in_ok-turns-in-Messages c =
     let few : c.args.options.now.nodes.count ≤ 16 = c.args.options.now.nodes.few in
     let turns : c.in_ok-turns-in-Messages.turns.items ≡ turns_in c.args.program.now c.args.options.now c.args.run.now.events.items =
-        c.in_ok-turns-in-Messages.ensures c.args.program.now c.args.options.now.nodes.count (options_of c.args.options.now) (omega arith)
-        (subst (λ (events : List Event). HaveLogs c.args.program.now c.args.options.now.nodes.count (options_of c.args.options.now) events
-        (map (λ log. log.items) c.as_slice-logs.result.now)) (sym c.as_slice-events.ensures.value)
-        (subst (λ logs. HaveLogs c.args.program.now c.args.options.now.nodes.count (options_of c.args.options.now) c.args.run.now.events.items
-        (map (λ log. log.items) logs)) (sym c.as_slice-logs.ensures.value)
-        (have_logs c.args.program.now c.args.options.now c.args.run.now.events.items c.args.run.now.report c.requires.reported)))
-        ∙ ap (turned_of c.args.program.now c.args.options.now.nodes.count (options_of c.args.options.now)) c.as_slice-events.ensures.value in
+    c.in_ok-turns-in-Messages.ensures c.args.program.now c.args.options.now.nodes.count (options_of c.args.options.now) (omega arith)
+    (subst (λ (events : List Event). HaveLogs c.args.program.now c.args.options.now.nodes.count (options_of c.args.options.now) events
+    (map (λ log. log.items) c.as_slice-logs.result.now)) (sym c.as_slice-events.ensures.value)
+    (subst (λ logs. HaveLogs c.args.program.now c.args.options.now.nodes.count (options_of c.args.options.now) c.args.run.now.events.items
+    (map (λ log. log.items) logs)) (sym c.as_slice-logs.ensures.value)
+    (have_logs c.args.program.now c.args.options.now c.args.run.now.events.items c.args.run.now.report c.requires.reported)))
+    ∙ ap (turned_of c.args.program.now c.args.options.now.nodes.count (options_of c.args.options.now)) c.as_slice-events.ensures.value in
     subst (λ (form : Form). IfOk c.messages_of.result (λ part. IsWrittenAs form c.args.program.now c.args.options.now
     c.args.run.now.events.items c.args.run.now.report c.args.lines.now part.items)) (sym c.in-Messages.is)
     (subst (λ logs. IfOk c.messages_of.result (λ part. part.items ≡ messages_text (map (λ log. log.items) logs)
@@ -67,13 +67,13 @@ pub returns-in_ok-turns-in-Events : goal.returns-in_ok-turns-in-Events
 returns-in_ok-turns-in-Events c =
     let few : c.args.options.now.nodes.count ≤ 16 = c.args.options.now.nodes.few in
     let turns : c.in_ok-turns-in-Events.turns.items ≡ turns_in c.args.program.now c.args.options.now c.args.run.now.events.items =
-        c.in_ok-turns-in-Events.ensures c.args.program.now c.args.options.now.nodes.count (options_of c.args.options.now) (omega arith)
-        (subst (λ (events : List Event). HaveLogs c.args.program.now c.args.options.now.nodes.count (options_of c.args.options.now) events
-        (map (λ log. log.items) c.as_slice-logs.result.now)) (sym c.as_slice-events.ensures.value)
-        (subst (λ logs. HaveLogs c.args.program.now c.args.options.now.nodes.count (options_of c.args.options.now) c.args.run.now.events.items
-        (map (λ log. log.items) logs)) (sym c.as_slice-logs.ensures.value)
-        (have_logs c.args.program.now c.args.options.now c.args.run.now.events.items c.args.run.now.report c.requires.reported)))
-        ∙ ap (turned_of c.args.program.now c.args.options.now.nodes.count (options_of c.args.options.now)) c.as_slice-events.ensures.value in
+    c.in_ok-turns-in-Events.ensures c.args.program.now c.args.options.now.nodes.count (options_of c.args.options.now) (omega arith)
+    (subst (λ (events : List Event). HaveLogs c.args.program.now c.args.options.now.nodes.count (options_of c.args.options.now) events
+    (map (λ log. log.items) c.as_slice-logs.result.now)) (sym c.as_slice-events.ensures.value)
+    (subst (λ logs. HaveLogs c.args.program.now c.args.options.now.nodes.count (options_of c.args.options.now) c.args.run.now.events.items
+    (map (λ log. log.items) logs)) (sym c.as_slice-logs.ensures.value)
+    (have_logs c.args.program.now c.args.options.now c.args.run.now.events.items c.args.run.now.report c.requires.reported)))
+    ∙ ap (turned_of c.args.program.now c.args.options.now.nodes.count (options_of c.args.options.now)) c.as_slice-events.ensures.value in
     subst (λ (form : Form). IfOk c.events_of.result (λ part. IsWrittenAs form c.args.program.now c.args.options.now
     c.args.run.now.events.items c.args.run.now.report c.args.lines.now part.items)) (sym c.in-Events.is)
     (subst (λ (made : List Turned). IfOk c.events_of.result (λ part. part.items ≡ events_text (map (λ turn. turn.event) made)))
