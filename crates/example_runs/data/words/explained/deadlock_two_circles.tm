@@ -1,0 +1,5 @@
+words 1;
+locks 4;
+acquire me;
+barrier;
+acquire 3 - me;

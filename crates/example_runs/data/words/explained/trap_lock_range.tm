@@ -1,0 +1,4 @@
+words 1; locks 1;
+print 1;
+acquire
+ 1;

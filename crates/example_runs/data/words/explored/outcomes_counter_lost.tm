@@ -1,0 +1,7 @@
+words 2;
+locks 0;
+x = [0];
+[0] = x + 1;
+barrier;
+y = [0];
+print y;

@@ -1,0 +1,11 @@
+words 1;
+locks 1;
+if me == 0 {
+  acquire 0;
+  barrier;
+  release 0;
+} else {
+  acquire 0;
+  release 0;
+  barrier;
+}

@@ -1,0 +1,33 @@
+words 3; locks 2; while 1 {
+while 1 {
+while 1 {
+while 1 {
+while 1 {
+while 1 {
+while 1 {
+while 1 {
+while 1 {
+while 1 {
+while 1 {
+while 1 {
+while 1 {
+while 1 {
+while 1 {
+while 1 {
+while 1 {
+while 1 {
+while 1 {
+while 1 {
+while 1 {
+while 1 {
+while 1 {
+while 1 {
+while 1 {
+while 1 {
+while 1 {
+while 1 {
+while 1 {
+while 1 {
+while 1 {
+while 1 {
+}}}}}}}}}}}}}}}}}}}}}}}}}}}}}}}}

@@ -1,0 +1,34 @@
+words 3; locks 2; while 1 {
+while 1 {
+while 1 {
+while 1 {
+while 1 {
+while 1 {
+while 1 {
+while 1 {
+while 1 {
+while 1 {
+while 1 {
+while 1 {
+while 1 {
+while 1 {
+while 1 {
+while 1 {
+while 1 {
+while 1 {
+while 1 {
+while 1 {
+while 1 {
+while 1 {
+while 1 {
+while 1 {
+while 1 {
+while 1 {
+while 1 {
+while 1 {
+while 1 {
+while 1 {
+while 1 {
+while 1 {
+while 1 {
+}}}}}}}}}}}}}}}}}}}}}}}}}}}}}}}}}

@@ -1,0 +1,1 @@
+words 3; locks 2; if 1 {if 1 {if 1 {if 1 {if 1 {if 1 {if 1 {if 1 {if 1 {if 1 {if 1 {if 1 {if 1 {if 1 {if 1 {if 1 {if 1 {if 1 {if 1 {if 1 {if 1 {if 1 {if 1 {if 1 {if 1 {if 1 {if 1 {if 1 {if 1 {if 1 {if 1 {} else { x = (1); }}}}}}}}}}}}}}}}}}}}}}}}}}}}}}}

@@ -1,0 +1,1 @@
+words 65536; locks 64;

@@ -1,0 +1,1 @@
+words 65537; locks 0;

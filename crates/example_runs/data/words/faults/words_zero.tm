@@ -1,0 +1,1 @@
+words 0; locks 0;

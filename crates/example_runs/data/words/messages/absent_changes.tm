@@ -1,0 +1,1 @@
+words 4; locks 0; if me == 0 { [0] = 1; } barrier; if me == 0 { [1] = 2; } barrier; if me == 0 { [2] = 3; } if me == 1 { [3] = 4; } barrier; if me == 2 { x = [0]; y = [1]; z = [2]; w = [3]; print x + y * 10 + z * 100 + w * 1000; }

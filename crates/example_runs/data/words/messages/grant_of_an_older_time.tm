@@ -1,0 +1,1 @@
+words 3; locks 1; if me == 0 { acquire 0; [0] = 1; release 0; [1] = 2; i = 0; while i < 8 { i = i + 1; } [2] = 3; } if me == 1 { while i < 4 { i = i + 1; } acquire 0; x = [0]; y = [1]; release 0; print x; print y; } if me == 2 { acquire 0; acquire 0; }

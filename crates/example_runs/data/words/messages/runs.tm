@@ -1,0 +1,1 @@
+words 256; locks 0; if me == 0 { i = 0; while i < 40 { [i] = i + 1; i = i + 1; } i = 64; while i < 128 { [i] = i; i = i + 2; } [255] = 1; [254] = 2; [130] = 0; } barrier; i = 0; while i < 256 { x = [i]; s = s + x * (i + 1); i = i + 1; } print s;

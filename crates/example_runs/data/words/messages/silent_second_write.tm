@@ -1,0 +1,1 @@
+words 1; locks 1; if me == 0 { acquire 0; [0] = 5; release 0; } barrier; if me == 1 { acquire 0; [0] = 5; release 0; } barrier; if me == 2 { acquire 0; x = [0]; release 0; print x; }

@@ -1,0 +1,6 @@
+words 2; locks 0;
+[0] = me + 10;
+[1] = 20 - me;
+barrier;
+x = [0]; y = [1];
+print x; print y;

@@ -1,0 +1,1 @@
+words 2; locks 1; acquire 0; x = [0]; [0] = x + 1; release 0; [1] = me; acquire 0; y = [1]; release 0; print x; print y;

@@ -1,0 +1,4 @@
+words 1;
+locks 0;
+print 1;# x
+print 2;

@@ -1,0 +1,7 @@
+words 1;
+locks 0;
+if me == 0 {
+  while
+    1 / x { }
+}
+if 5 % x { }

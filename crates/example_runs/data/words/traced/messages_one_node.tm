@@ -1,0 +1,4 @@
+words 1;
+locks 1;
+barrier;
+acquire 0;
