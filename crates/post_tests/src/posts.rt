@@ -172,6 +172,58 @@ fn post_refuses_once_closed(rt: HostRuntime) -> Result<(), Fail> {
     Ok(())
 }
 
+/// Node 0 puts a parcel for node 1 with stamp 1. Where that is refused: why, and whether it came back alone.
+fn put_one<R: Wait>(
+    rt: &R,
+    alloc: Global,
+    post: &Post,
+) -> Result<Option<(PostFault, bool)>, AllocError> {
+    let parcels = vec![in alloc;
+        Parcel {
+            to: 1,
+            stamp: 1,
+            bytes: Bytes::new(),
+        },
+    ]?;
+    Ok(match post.put_all(rt, 0, parcels) {
+        Ok(()) => None,
+        Err(unput) => Some((unput.fault, is_the_one(&unput.parcels))),
+    })
+}
+
+/// Whether this is one parcel for node 1 with stamp 1.
+fn is_the_one(parcels: &[Parcel]) -> bool {
+    match parcels {
+        [parcel] => parcel.to == 1 && parcel.stamp == 1 && parcel.bytes.is_empty(),
+        _ => false,
+    }
+}
+
+/// What comes of one parcel before the post is closed, whose stamp is polled two times, and what of it after: why it is
+/// refused, and how many of a poll and a take give nothing.
+fn one_before_and_one_after<R: Wait>(
+    rt: &R,
+    alloc: Global,
+    picker: Picker,
+) -> Result<(bool, [u64; 2], Option<(PostFault, bool)>, [bool; 2]), Fail> {
+    let post = Post::new(alloc, 2, picker)?;
+    let put = put_one(rt, alloc, &post)?.is_none();
+    let stamps = [polled(rt, &post)?, polled(rt, &post)?];
+    post.close(rt);
+    let refused = put_one(rt, alloc, &post)?;
+    let nothing = [post.poll(rt, 1)?.is_none(), post.take(rt, 1)?.is_none()];
+    Ok((put, stamps, refused, nothing))
+}
+
+#[test]
+fn a_parcel_is_given_once_and_comes_back_from_a_closed_post(rt: HostRuntime) -> Result<(), Fail> {
+    let oldest = one_before_and_one_after(&rt, rt.alloc(), Picker::Oldest)?;
+    let newest = one_before_and_one_after(&rt, rt.alloc(), Picker::Newest)?;
+    let wanted = (true, [1, 0], Some((PostFault::Closed, true)), [true, true]);
+    assert!(rt; [oldest, newest] == [wanted, wanted]);
+    Ok(())
+}
+
 /// How many parcels node 1 polls whose stamps are 1, 2, 3 and so on.
 fn polled_in_order<R: Wait>(rt: &R, post: &Post) -> Result<u64, PostFault> {
     for before in 0..10_000u64 {
