@@ -299,6 +299,26 @@ fn a_collection_waits_for_every_clean(rt: HostRuntime) -> Result<(), Fail> {
     Ok(())
 }
 
+#[test]
+fn a_manager_of_two_refuses_another_episode_and_a_second_arrival(
+    rt: HostRuntime,
+) -> Result<(), Fail> {
+    let alloc = rt.alloc();
+    let mut manager = Manager::new(alloc, 2);
+    let early = quiet_arrival(&rt, alloc, 0, 2, 9)?;
+    let arrival = quiet_arrival(&rt, alloc, 0, 1, 9)?;
+    let refused = enter(&rt, &mut manager, 0, &early).err();
+    let kept = matches!(enter(&rt, &mut manager, 0, &arrival), Ok(None));
+    let again = enter(&rt, &mut manager, 0, &arrival).err();
+    let wanted = (
+        Some(BarrierFault::WrongEpisode),
+        true,
+        Some(BarrierFault::Twice),
+    );
+    assert!(rt; (refused, kept, again) == wanted);
+    Ok(())
+}
+
 /// An arrival of one of sixteen nodes, with one interval.
 fn arrival_of_sixteen(rt: &impl Abort, alloc: Global, node: u8) -> Result<Arrival, AllocError>
     requires { node < 16 }
