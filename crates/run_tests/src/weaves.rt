@@ -8,7 +8,7 @@ use lrc_post::{Mailbox, Post};
 use lrc_protocol::Event;
 use lrc_run::run;
 use lrc_weave::{WeaveFault, weave};
-use lrc_wire::Picker;
+use lrc_wire::{Envelope, Picker, encode};
 use lrc_world::report::Report;
 use lrc_world::simulate::simulate;
 use std::alloc::Global;
@@ -17,41 +17,76 @@ use std::thread::Threads;
 
 const ONE_WRITES: &[u8] = b"words 1; locks 0; if me == 0 { [0] = 7; } barrier; x = [0]; print x;";
 
-// The sender and the number of the message that a turn takes, if it takes one.
-fn taken_in(entry: &Entry) -> Option<(u8, u32)> {
-    match &entry.input {
-        Input::Run => None,
-        Input::Taken(envelope) => Some((envelope.from, envelope.number)),
+// Whether two messages are the same bytes, for want of memory none.
+fn is_same_message(alloc: Global, envelope: &Envelope, other: &Envelope) -> Option<bool> {
+    let bytes = encode(alloc, envelope).ok()?;
+    let twins = encode(alloc, other).ok()?;
+    Some(bytes[..] == twins[..])
+}
+
+// Whether both turns go on by themselves, or take the same message.
+fn is_same_input(alloc: Global, input: &Input, other: &Input) -> Option<bool> {
+    match (input, other) {
+        (Input::Run, Input::Run) => Some(true),
+        (Input::Taken(envelope), Input::Taken(twin)) => is_same_message(alloc, envelope, twin),
+        _ => Some(false),
     }
 }
 
-// Whether two turns take the same message, have the same stamp and act, and send equally many messages.
-fn is_same_turn(entry: &Entry, other: &Entry) -> bool {
-    taken_in(entry) == taken_in(other)
-        && entry.stamp == other.stamp
+// Whether the same messages were sent, in the same order.
+fn are_same_messages(alloc: Global, out: &[Envelope], other: &[Envelope]) -> Option<bool> {
+    if out.len() != other.len() {
+        return Some(false);
+    }
+    for (envelope, twin) in out.iter().zip(other) {
+        if !is_same_message(alloc, envelope, twin)? {
+            return Some(false);
+        }
+    }
+    Some(true)
+}
+
+// Whether two turns take the same message, have the same stamp and act, and send the same messages.
+fn is_same_turn(alloc: Global, entry: &Entry, other: &Entry) -> Option<bool> {
+    let is = entry.stamp == other.stamp
         && entry.turn.act == other.turn.act
-        && entry.turn.out.len() == other.turn.out.len()
+        && is_same_input(alloc, &entry.input, &other.input)?
+        && are_same_messages(alloc, &entry.turn.out, &other.turn.out)?;
+    Some(is)
 }
 
 // Whether two logs have the same turns.
-fn is_same_log(log: &[Entry], other: &[Entry]) -> bool {
-    log.len() == other.len()
-        && log
-            .iter()
-            .zip(other)
-            .all(|(entry, twin)| is_same_turn(entry, twin))
+fn is_same_log(alloc: Global, log: &[Entry], other: &[Entry]) -> Option<bool> {
+    if log.len() != other.len() {
+        return Some(false);
+    }
+    for (entry, twin) in log.iter().zip(other) {
+        if !is_same_turn(alloc, entry, twin)? {
+            return Some(false);
+        }
+    }
+    Some(true)
 }
 
-// Whether two reports have the same acts, ends and logs.
-fn is_same_report(report: &Report, other: &Report) -> bool {
-    report.acts.as_slice() == other.acts.as_slice()
+// Whether all logs are the same.
+fn are_same_logs(alloc: Global, logs: &[Vec<Entry>], other: &[Vec<Entry>]) -> Option<bool> {
+    if logs.len() != other.len() {
+        return Some(false);
+    }
+    for (log, twin) in logs.iter().zip(other) {
+        if !is_same_log(alloc, log, twin)? {
+            return Some(false);
+        }
+    }
+    Some(true)
+}
+
+// Whether two reports have the same acts, ends and logs, to the bytes of their messages.
+fn is_same_report(alloc: Global, report: &Report, other: &Report) -> Option<bool> {
+    let is = report.acts.as_slice() == other.acts.as_slice()
         && report.ends.as_slice() == other.ends.as_slice()
-        && report.logs.len() == other.logs.len()
-        && report
-            .logs
-            .iter()
-            .zip(&other.logs)
-            .all(|(log, twin)| is_same_log(log, twin))
+        && are_same_logs(alloc, &report.logs, &other.logs)?;
+    Some(is)
 }
 
 // The events of logs and mailboxes, one for each of the three nodes.
@@ -75,7 +110,7 @@ fn is_replayed(
 ) -> Option<bool> {
     let events = woven(alloc, &report.logs, wires)?.ok()?;
     let again = simulate(alloc, program, 3, &options(0), &events).ok()?;
-    Some(is_same_report(report, &again))
+    is_same_report(alloc, report, &again)
 }
 
 // What is answered for the turns of a report with the mailboxes of a post to which nothing was put.
