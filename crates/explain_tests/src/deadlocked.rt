@@ -111,6 +111,40 @@ deadlock: node 1 waits for node 2 waits for node 1
 ",
 };
 
+// Node 0 waits at a barrier for nodes 1 and 2, and each of these for the lock of node 0: of those that have not come it waits for the
+// lowest.
+const LOWEST_MISSING: Case<'static> = Case {
+    text: b"words 1;
+locks 1;
+if me == 0 {
+  acquire 0;
+  barrier;
+  release 0;
+} else {
+  acquire 0;
+  release 0;
+  barrier;
+}
+",
+    nodes: 3,
+    steps: ALL_STEPS,
+    acts: b"0 quiet
+1 quiet
+2 quiet
+0 acquire 0
+0 arrive
+",
+    first_race: None,
+    told: b"node 0 unfinished
+  next, line 5: barrier 1, without node 1, node 2
+node 1 unfinished
+  next, line 8: acquire 0, held by node 0 since line 4
+node 2 unfinished
+  next, line 8: acquire 0, held by node 0 since line 4
+deadlock: node 0 waits for node 1 waits for node 0
+",
+};
+
 const CROSSED: &[u8] = b"words 2;
 locks 2;
 if me == 0 {
@@ -156,7 +190,14 @@ node 1 unfinished
     ..LAST_STEP
 };
 
-const DEADLOCKED: [Case<'static>; 5] = [TWO_CIRCLES, THREE_BACK, TAIL, LAST_STEP, NO_STEP];
+const DEADLOCKED: [Case<'static>; 6] = [
+    TWO_CIRCLES,
+    THREE_BACK,
+    TAIL,
+    LOWEST_MISSING,
+    LAST_STEP,
+    NO_STEP,
+];
 
 #[test]
 fn circles_of_waiting_are_told(rt: HostRuntime) {
