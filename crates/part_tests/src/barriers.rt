@@ -1,9 +1,9 @@
 // Barriers.
 
-ghost use Rattle.std.specs.Prelude.{◌≡◌, ◌<◌, IfOk, length};
-ghost use Rattle.lrc_time.specs.Time.{entry};
+ghost use Rattle.std.specs.Prelude.{◌≡◌, ◌∷◌, ◌<◌, IfOk, length, []};
 ghost use Rattle.lrc_barrier.specs.Barrier.{IsArrival};
 
+use crate::times::of_three;
 use lrc_barrier::{Arrival, BarrierFault, Departure, Departures, Manager};
 use lrc_page::Pages;
 use lrc_store::{Interval, Intervals};
@@ -11,23 +11,6 @@ use lrc_time::Time;
 use std::alloc::{AllocError, Global};
 use std::process::Abort;
 use std::test::Fail;
-
-/// A time of three nodes.
-fn time_of(rt: &impl Abort, entries: [u32; 3]) -> Time
-    ensures { length result ≡ 3 }
-{
-    let mut time = Time::new(3);
-    for node in 0..3u8 {
-        let index = entries[usize::from(node)];
-        if index > 0 {
-            assert!(rt; node < time.nodes());
-            assert!(rt; time.at(node) < index);
-            time.raise(node, index);
-        }
-    }
-    assert!(rt; time.nodes() == 3);
-    time
-}
 
 /// Page 0, or no page.
 fn pages_of(alloc: Global, named: bool) -> Result<Pages, AllocError> {
@@ -44,9 +27,18 @@ fn interval_of(rt: &impl Abort, node: u8, stamp: [u32; 3], pages: Pages) -> Inte
     ensures node { result.node ≡ node }
     ensures stamp { length result.stamp ≡ 3 }
 {
-    let stamp = time_of(rt, stamp);
+    let stamp = of_three(stamp);
     assert!(rt; stamp.at(node) >= 1);
     Interval::new(node, stamp, pages)
+}
+
+/// This interval alone.
+fn only(alloc: Global, interval: Interval) -> Result<Intervals, AllocError>
+    ensures { IfOk result (λ intervals. intervals ≡ interval ∷ []) }
+{
+    let mut intervals = Intervals::empty(alloc);
+    intervals.push(interval)?;
+    Ok(intervals)
 }
 
 /// An arrival of a node that has closed one interval since it last departed.
@@ -55,19 +47,17 @@ fn arrival_of(
     alloc: Global,
     node: u8,
     episode: u32,
-    ask: bool,
     time: [u32; 3],
 ) -> Result<Arrival, AllocError>
     requires { node < 3 }
     ensures { IfOk result (IsArrival 3 node) }
 {
     let pages = pages_of(alloc, node == 0)?;
-    let mut intervals = Intervals::empty(alloc);
-    intervals.push(interval_of(rt, node, time, pages))?;
+    let intervals = only(alloc, interval_of(rt, node, time, pages))?;
     Ok(Arrival {
         episode,
-        ask,
-        time: time_of(rt, time),
+        ask: false,
+        time: of_three(time),
         intervals,
     })
 }
@@ -84,31 +74,59 @@ fn enter(
     ensures { length manager.new.last ≡ length manager.old.last }
 {
     let last = manager.last(from);
-    let answer = manager.arrive(from, arrival);
-    if let Err(BarrierFault::NoMemory) = answer {
-        assert!(rt; manager.last(from) == last);
-        return manager.arrive(from, arrival);
+    match manager.arrive(from, arrival) {
+        Err(BarrierFault::NoMemory) => {
+            assert!(rt; manager.last(from) == last);
+            manager.arrive(from, arrival)
+        }
+        answer => answer,
     }
-    answer
 }
 
-/// A node arrives before others.
+/// Whether a node arrives before others.
+fn is_kept(rt: &impl Abort, manager: &mut Manager, from: u8, arrival: &Arrival) -> bool
+    requires from { from < length manager.old.last }
+    requires own { IsArrival (length manager.old.last) from arrival.now }
+    ensures { length manager.new.last ≡ length manager.old.last }
+{
+    let kept = matches!(enter(rt, manager, from, arrival), Ok(None));
+    kept && manager.last(from) == arrival.time.at(from)
+}
+
+/// The same of an arrival of a node that has closed one interval.
 fn waits(
     rt: &impl Abort,
     alloc: Global,
     manager: &mut Manager,
     from: u8,
     time: [u32; 3],
-) -> Result<(), AllocError>
+) -> Result<bool, AllocError>
     requires nodes { length manager.old.last ≡ 3 }
     requires from { from < 3 }
     ensures { length manager.new.last ≡ 3 }
 {
-    let arrival = arrival_of(rt, alloc, from, 1, false, time)?;
-    let answer = enter(rt, manager, from, &arrival);
-    assert!(rt; matches!(answer, Ok(None)));
-    assert!(rt; manager.last(from) == arrival.time.at(from));
-    Ok(())
+    let arrival = arrival_of(rt, alloc, from, 1, time)?;
+    Ok(is_kept(rt, manager, from, &arrival))
+}
+
+/// Why an arrival is refused, if it is, and the manager knows what it knew.
+fn fault_of(
+    rt: &impl Abort,
+    manager: &mut Manager,
+    from: u8,
+    arrival: &Arrival,
+) -> Option<BarrierFault>
+    requires from { from < length manager.old.last }
+    requires own { IsArrival (length manager.old.last) from arrival.now }
+    ensures { length manager.new.last ≡ length manager.old.last }
+{
+    let last = manager.last(from);
+    let fault = enter(rt, manager, from, arrival).err();
+    if manager.last(from) == last {
+        fault
+    } else {
+        None
+    }
 }
 
 /// Whether a node's arrival is refused with this fault.
@@ -124,21 +142,15 @@ fn is_refused(
     requires from { from < 3 }
     ensures { length manager.new.last ≡ 3 }
 {
-    let arrival = arrival_of(rt, alloc, from, episode, false, [9, 9, 9])?;
-    let last = manager.last(from);
-    let answer = enter(rt, manager, from, &arrival);
-    assert!(rt; manager.last(from) == last);
-    match answer {
-        Ok(_) => Ok(false),
-        Err(given) => Ok(given == fault),
-    }
+    let arrival = arrival_of(rt, alloc, from, episode, [9, 9, 9])?;
+    Ok(fault_of(rt, manager, from, &arrival) == Some(fault))
 }
 
 /// The departures, which the last arrival gives.
-fn leave(rt: &impl Abort, answer: Result<Option<Departures>, BarrierFault>) -> Departures {
+fn told(answer: &Result<Option<Departures>, BarrierFault>) -> Option<&[Departure]> {
     match answer {
-        Ok(Some(departures)) => departures,
-        Ok(None) | Err(_) => panic!(rt; "nobody departs"),
+        Ok(Some(departures)) => Some(departures.as_slice()),
+        Ok(None) | Err(_) => None,
     }
 }
 
@@ -150,18 +162,11 @@ fn are(intervals: &Intervals, wanted: &[(u8, u32, usize)]) -> bool {
         })
 }
 
-/// Whether a departure tells just this.
-fn tells(
-    departure: &Departure,
-    to: u8,
-    episode: u32,
-    collect: bool,
-    time: &Time,
-    wanted: &[(u8, u32, usize)],
-) -> bool {
+/// Whether a departure from the first episode, after which no collection follows, tells just this.
+fn tells(departure: &Departure, to: u8, time: &Time, wanted: &[(u8, u32, usize)]) -> bool {
     departure.to == to
-        && departure.episode == episode
-        && departure.collect == collect
+        && departure.episode == 1
+        && !departure.collect
         && departure.time == *time
         && are(&departure.intervals, wanted)
 }
@@ -173,61 +178,165 @@ fn depart(
     manager: &mut Manager,
     from: u8,
     time: [u32; 3],
-) -> Result<Departures, AllocError>
+) -> Result<Result<Option<Departures>, BarrierFault>, AllocError>
     requires nodes { length manager.old.last ≡ 3 }
     requires from { from < 3 }
     ensures { length manager.new.last ≡ 3 }
 {
-    let arrival = arrival_of(rt, alloc, from, 1, false, time)?;
-    Ok(leave(rt, enter(rt, manager, from, &arrival)))
+    let arrival = arrival_of(rt, alloc, from, 1, time)?;
+    Ok(enter(rt, manager, from, &arrival))
+}
+
+/// Whether arrivals and Cleans out of turn are refused.
+fn refuses_out_of_turn(
+    rt: &impl Abort,
+    alloc: Global,
+    manager: &mut Manager,
+) -> Result<bool, AllocError>
+    requires { length manager.old.last ≡ 3 }
+{
+    let wrong = BarrierFault::WrongEpisode;
+    let first = [
+        manager.last(0) == 0,
+        is_refused(rt, alloc, manager, 0, 2, wrong)?,
+        is_refused(rt, alloc, manager, 0, u32::MAX, wrong)?,
+        waits(rt, alloc, manager, 0, [3, 0, 0])?,
+    ];
+    let later = [
+        is_refused(rt, alloc, manager, 0, 1, BarrierFault::Twice)?,
+        is_refused(rt, alloc, manager, 0, 2, wrong)?,
+        is_refused(rt, alloc, manager, 1, 0, wrong)?,
+        [manager.clean(0, 1), manager.clean(0, 0)] == [Err(wrong), Err(wrong)],
+    ];
+    Ok([first, later] == [[true; 4], [true; 4]])
+}
+
+/// The same of a manager that knows nothing.
+fn refuses_at_first(rt: &impl Abort, alloc: Global) -> Result<bool, AllocError> {
+    let mut manager = Manager::new(alloc, 3);
+    refuses_out_of_turn(rt, alloc, &mut manager)
 }
 
 #[test]
 fn refuses_arrivals_out_of_turn(rt: HostRuntime) -> Result<(), Fail> {
-    let alloc = rt.alloc();
-    let wrong = BarrierFault::WrongEpisode;
-    let mut manager = Manager::new(alloc, 3);
-    assert!(rt; manager.last(0) == 0);
-    assert!(rt; is_refused(&rt, alloc, &mut manager, 0, 2, wrong)?);
-    assert!(rt; is_refused(&rt, alloc, &mut manager, 0, u32::MAX, wrong)?);
-    waits(&rt, alloc, &mut manager, 0, [3, 0, 0])?;
-    assert!(rt; is_refused(&rt, alloc, &mut manager, 0, 1, BarrierFault::Twice)?);
-    assert!(rt; is_refused(&rt, alloc, &mut manager, 0, 2, wrong)?);
-    assert!(rt; is_refused(&rt, alloc, &mut manager, 1, 0, wrong)?);
-    assert!(rt; [manager.clean(0, 1), manager.clean(0, 0)] == [Err(wrong), Err(wrong)]);
+    assert!(rt; refuses_at_first(&rt, rt.alloc())?);
     Ok(())
+}
+
+/// Whether these departures tell each of three nodes of the other two.
+fn tell_of_the_others(told: Option<&[Departure]>) -> bool {
+    let Some(told) = told else {
+        return false;
+    };
+    let time = of_three([1, 1, 1]);
+    told.len() == 3
+        && tells(&told[0], 0, &time, &[(1, 1, 0), (2, 1, 0)])
+        && tells(&told[1], 1, &time, &[(0, 1, 1), (2, 1, 0)])
+        && tells(&told[2], 2, &time, &[(0, 1, 1), (1, 1, 0)])
+}
+
+/// Three nodes that know nothing of each other arrive, and depart.
+fn strangers_depart(
+    rt: &impl Abort,
+    alloc: Global,
+    manager: &mut Manager,
+) -> Result<bool, AllocError>
+    requires { length manager.old.last ≡ 3 }
+{
+    let last = waits(rt, alloc, manager, 2, [0, 0, 1])?;
+    let first = waits(rt, alloc, manager, 0, [1, 0, 0])?;
+    let answer = depart(rt, alloc, manager, 1, [0, 1, 0])?;
+    Ok(last && first && tell_of_the_others(told(&answer)))
+}
+
+/// The same with a manager that knows nothing.
+fn strangers(rt: &impl Abort, alloc: Global) -> Result<bool, AllocError> {
+    let mut manager = Manager::new(alloc, 3);
+    strangers_depart(rt, alloc, &mut manager)
 }
 
 #[test]
 fn tells_each_node_what_it_lacks(rt: HostRuntime) -> Result<(), Fail> {
-    let alloc = rt.alloc();
-    let mut manager = Manager::new(alloc, 3);
-    waits(&rt, alloc, &mut manager, 2, [0, 0, 1])?;
-    waits(&rt, alloc, &mut manager, 0, [1, 0, 0])?;
-    let departures = depart(&rt, alloc, &mut manager, 1, [0, 1, 0])?;
-    let time = time_of(&rt, [1, 1, 1]);
-    let told = departures.as_slice();
-    assert!(rt; told.len() == 3);
-    assert!(rt; tells(&told[0], 0, 1, false, &time, &[(1, 1, 0), (2, 1, 0)]));
-    assert!(rt; tells(&told[1], 1, 1, false, &time, &[(0, 1, 1), (2, 1, 0)]));
-    assert!(rt; tells(&told[2], 2, 1, false, &time, &[(0, 1, 1), (1, 1, 0)]));
+    assert!(rt; strangers(&rt, rt.alloc())?);
     Ok(())
+}
+
+/// Whether these departures tell each of three nodes of what it does not know.
+fn tell_of_what_is_new(told: Option<&[Departure]>) -> bool {
+    let Some(told) = told else {
+        return false;
+    };
+    let time = of_three([3, 2, 5]);
+    told.len() == 3
+        && tells(&told[0], 0, &time, &[(1, 2, 0), (2, 5, 0)])
+        && tells(&told[1], 1, &time, &[(2, 5, 0)])
+        && tells(&told[2], 2, &time, &[(0, 3, 1)])
+}
+
+/// Three nodes, of which the second knows the first, and the third both but for the first's newest interval, arrive, and
+/// depart.
+fn acquainted_depart(
+    rt: &impl Abort,
+    alloc: Global,
+    manager: &mut Manager,
+) -> Result<bool, AllocError>
+    requires { length manager.old.last ≡ 3 }
+{
+    let first = waits(rt, alloc, manager, 0, [3, 0, 0])?;
+    let second = waits(rt, alloc, manager, 1, [3, 2, 0])?;
+    let answer = depart(rt, alloc, manager, 2, [2, 2, 5])?;
+    Ok(first && second && tell_of_what_is_new(told(&answer)))
+}
+
+/// The same with a manager that knows nothing.
+fn acquainted(rt: &impl Abort, alloc: Global) -> Result<bool, AllocError> {
+    let mut manager = Manager::new(alloc, 3);
+    acquainted_depart(rt, alloc, &mut manager)
 }
 
 #[test]
 fn tells_no_node_what_it_knew(rt: HostRuntime) -> Result<(), Fail> {
-    let alloc = rt.alloc();
-    let mut manager = Manager::new(alloc, 3);
-    waits(&rt, alloc, &mut manager, 0, [3, 0, 0])?;
-    waits(&rt, alloc, &mut manager, 1, [3, 2, 0])?;
-    let departures = depart(&rt, alloc, &mut manager, 2, [2, 2, 5])?;
-    let time = time_of(&rt, [3, 2, 5]);
-    let told = departures.as_slice();
-    assert!(rt; told.len() == 3);
-    assert!(rt; tells(&told[0], 0, 1, false, &time, &[(1, 2, 0), (2, 5, 0)]));
-    assert!(rt; tells(&told[1], 1, 1, false, &time, &[(2, 5, 0)]));
-    assert!(rt; tells(&told[2], 2, 1, false, &time, &[(0, 3, 1)]));
+    assert!(rt; acquainted(&rt, rt.alloc())?);
     Ok(())
+}
+
+/// An arrival of one of two nodes that has no interval to tell of.
+fn quiet_arrival(alloc: Global, node: u8, episode: u32, asker: u8) -> Arrival
+    ensures { IsArrival 2 node result }
+{
+    Arrival {
+        episode,
+        ask: node == asker,
+        time: Time::new(2),
+        intervals: Intervals::empty(alloc),
+    }
+}
+
+/// One of two nodes arrives.
+fn arrives(
+    rt: &impl Abort,
+    alloc: Global,
+    manager: &mut Manager,
+    node: u8,
+    episode: u32,
+    asker: u8,
+) -> Result<Option<Departures>, BarrierFault>
+    requires nodes { length manager.old.last ≡ 2 }
+    requires node { node < 2 }
+    ensures { length manager.new.last ≡ 2 }
+{
+    let arrival = quiet_arrival(alloc, node, episode, asker);
+    enter(rt, manager, node, &arrival)
+}
+
+/// Whether a collection follows these departures, if both nodes hear the same.
+fn collection(told: Option<&[Departure]>) -> Option<bool> {
+    let told = told?;
+    if told.len() == 2 && told[0].collect == told[1].collect {
+        Some(told[1].collect)
+    } else {
+        None
+    }
 }
 
 /// Two nodes arrive at an episode, and both depart: whether a collection follows.
@@ -237,54 +346,22 @@ fn collects(
     manager: &mut Manager,
     episode: u32,
     asker: u8,
-) -> Result<bool, AllocError>
+) -> Option<bool>
     requires { length manager.old.last ≡ 2 }
     ensures { length manager.new.last ≡ 2 }
 {
-    let arrival = quiet_arrival(rt, alloc, 0, episode, asker)?;
-    let answer = enter(rt, manager, 0, &arrival);
-    assert!(rt; matches!(answer, Ok(None)));
-    let arrival = quiet_arrival(rt, alloc, 1, episode, asker)?;
-    let departures = leave(rt, enter(rt, manager, 1, &arrival));
-    let told = departures.as_slice();
-    assert!(rt; told.len() == 2);
-    assert!(rt; told[0].collect == told[1].collect);
-    Ok(told[1].collect)
+    let kept = matches!(arrives(rt, alloc, manager, 0, episode, asker), Ok(None));
+    let follows = collection(told(&arrives(rt, alloc, manager, 1, episode, asker)));
+    if kept { follows } else { None }
 }
 
-/// An arrival of one of two nodes that has no interval to tell of.
-fn quiet_arrival(
-    rt: &impl Abort,
-    alloc: Global,
-    node: u8,
-    episode: u32,
-    asker: u8,
-) -> Result<Arrival, AllocError>
-    ensures { IfOk result (IsArrival 2 node) }
+/// Whether a collection keeps arrivals out until both nodes have sent their Cleans.
+fn waits_for_cleans(rt: &impl Abort, alloc: Global, manager: &mut Manager) -> bool
+    requires { length manager.old.last ≡ 2 }
 {
-    let time = Time::new(2);
-    assert!(rt; time.nodes() == 2);
-    Ok(Arrival {
-        episode,
-        ask: node == asker,
-        time,
-        intervals: Intervals::empty(alloc),
-    })
-}
-
-#[test]
-fn a_collection_waits_for_every_clean(rt: HostRuntime) -> Result<(), Fail> {
-    let alloc = rt.alloc();
-    let mut manager = Manager::new(alloc, 2);
-    assert!(rt; collects(&rt, alloc, &mut manager, 1, 1)?);
-    let early = quiet_arrival(&rt, alloc, 0, 2, 9)?;
     let wrong = BarrierFault::WrongEpisode;
-    assert!(rt;
-        matches!(
-            enter(&rt, &mut manager, 0, &early),
-            Err(BarrierFault::WrongEpisode)
-        )
-    );
+    let first = collects(rt, alloc, manager, 1, 1);
+    let early = arrives(rt, alloc, manager, 0, 2, 9).err();
     let answers = [
         manager.clean(0, 2),
         manager.clean(0, 1),
@@ -292,11 +369,46 @@ fn a_collection_waits_for_every_clean(rt: HostRuntime) -> Result<(), Fail> {
         manager.clean(1, 1),
         manager.clean(1, 1),
     ];
+    let second = collects(rt, alloc, manager, 2, 9);
+    let late = manager.clean(1, 2);
     let twice = Err(BarrierFault::Twice);
-    assert!(rt; answers == [Err(wrong), Ok(None), twice, Ok(Some(1)), Err(wrong)]);
-    assert!(rt; !collects(&rt, alloc, &mut manager, 2, 9)?);
-    assert!(rt; manager.clean(1, 2) == Err(wrong));
-    Ok(())
+    [first, second] == [Some(true), Some(false)]
+        && early == Some(wrong)
+        && answers == [Err(wrong), Ok(None), twice, Ok(Some(1)), Err(wrong)]
+        && late == Err(wrong)
+}
+
+/// The same of a manager that knows nothing.
+fn waits_at_first(rt: &impl Abort, alloc: Global) -> bool {
+    let mut manager = Manager::new(alloc, 2);
+    waits_for_cleans(rt, alloc, &mut manager)
+}
+
+#[test]
+fn a_collection_waits_for_every_clean(rt: HostRuntime) {
+    assert!(rt; waits_at_first(&rt, rt.alloc()));
+}
+
+/// The time of sixteen nodes of which one has closed as many intervals as there can be.
+fn largest(rt: &impl Abort, node: u8) -> Time
+    requires { node < 16 }
+    ensures { length result ≡ 16 }
+{
+    let mut time = Time::new(16);
+    assert!(rt; time.at(node) < u32::MAX);
+    time.raise(node, u32::MAX);
+    time
+}
+
+/// The interval of page 0 that one of sixteen nodes closed last of all that it can.
+fn last_interval(rt: &impl Abort, node: u8, pages: Pages) -> Interval
+    requires { node < 16 }
+    ensures node { result.node ≡ node }
+    ensures stamp { length result.stamp ≡ 16 }
+{
+    let stamp = largest(rt, node);
+    assert!(rt; stamp.at(node) >= 1);
+    Interval::new(node, stamp, pages)
 }
 
 #[test]
@@ -324,49 +436,80 @@ fn arrival_of_sixteen(rt: &impl Abort, alloc: Global, node: u8) -> Result<Arriva
     requires { node < 16 }
     ensures { IfOk result (IsArrival 16 node) }
 {
-    let mut time = Time::new(16);
-    assert!(rt; time.at(node) < u32::MAX);
-    time.raise(node, u32::MAX);
-    let stamp = time.copy();
-    let mut intervals = Intervals::empty(alloc);
-    assert!(rt; stamp.at(node) >= 1);
-    intervals.push(Interval::new(node, stamp, pages_of(alloc, true)?))?;
+    let pages = pages_of(alloc, true)?;
+    let intervals = only(alloc, last_interval(rt, node, pages))?;
     Ok(Arrival {
         episode: 1,
         ask: node == 15,
-        time,
+        time: largest(rt, node),
         intervals,
     })
 }
 
+/// Whether one of sixteen nodes arrives before others.
+fn one_waits(
+    rt: &impl Abort,
+    alloc: Global,
+    manager: &mut Manager,
+    node: u8,
+) -> Result<bool, AllocError>
+    requires nodes { length manager.old.last ≡ 16 }
+    requires node { node < 16 }
+    ensures { length manager.new.last ≡ 16 }
+{
+    let arrival = arrival_of_sixteen(rt, alloc, node)?;
+    Ok(is_kept(rt, manager, node, &arrival))
+}
+
 /// All nodes but the last arrive.
-fn fifteen_wait(rt: &impl Abort, alloc: Global, manager: &mut Manager) -> Result<(), AllocError>
+fn fifteen_wait(rt: &impl Abort, alloc: Global, manager: &mut Manager) -> Result<bool, AllocError>
     requires { length manager.old.last ≡ 16 }
     ensures { length manager.new.last ≡ 16 }
 {
     for node in 0..15u8 {
-        let arrival = arrival_of_sixteen(rt, alloc, node)?;
-        let answer = enter(rt, manager, node, &arrival);
-        assert!(rt; matches!(answer, Ok(None)));
+        if !one_waits(rt, alloc, manager, node)? {
+            return Ok(false);
+        }
     }
-    Ok(())
+    Ok(true)
+}
+
+/// Whether these departures tell each of sixteen nodes of all others, and that a collection follows.
+fn tell_of_fifteen(told: Option<&[Departure]>) -> bool {
+    told.is_some_and(|told| {
+        told.len() == 16
+            && told.iter().all(|departure| {
+                departure.collect
+                    && departure.intervals.len() == 15
+                    && departure.time.weight() == 68_719_476_720
+            })
+    })
+}
+
+/// Whether the last of sixteen nodes departs with all others.
+fn last_departs(rt: &impl Abort, alloc: Global, manager: &mut Manager) -> Result<bool, AllocError>
+    requires { length manager.old.last ≡ 16 }
+{
+    let arrival = arrival_of_sixteen(rt, alloc, 15)?;
+    let departs = tell_of_fifteen(told(&enter(rt, manager, 15, &arrival)));
+    Ok(departs && manager.last(15) == u32::MAX)
+}
+
+/// Sixteen nodes arrive, and depart.
+fn sixteen(rt: &impl Abort, alloc: Global, manager: &mut Manager) -> Result<bool, AllocError>
+    requires { length manager.old.last ≡ 16 }
+{
+    Ok(fifteen_wait(rt, alloc, manager)? && last_departs(rt, alloc, manager)?)
+}
+
+/// The same with a manager that knows nothing.
+fn sixteen_at_first(rt: &impl Abort, alloc: Global) -> Result<bool, AllocError> {
+    let mut manager = Manager::new(alloc, 16);
+    sixteen(rt, alloc, &mut manager)
 }
 
 #[test]
 fn sixteen_nodes_depart(rt: HostRuntime) -> Result<(), Fail> {
-    let alloc = rt.alloc();
-    let mut manager = Manager::new(alloc, 16);
-    fifteen_wait(&rt, alloc, &mut manager)?;
-    let arrival = arrival_of_sixteen(&rt, alloc, 15)?;
-    let departures = leave(&rt, enter(&rt, &mut manager, 15, &arrival));
-    let told = departures.as_slice();
-    assert!(rt; told.len() == 16);
-    let all = told.iter().all(|departure| {
-        departure.collect
-            && departure.intervals.len() == 15
-            && departure.time.weight() == 68_719_476_720
-    });
-    assert!(rt; all);
-    assert!(rt; manager.last(15) == u32::MAX);
+    assert!(rt; sixteen_at_first(&rt, rt.alloc())?);
     Ok(())
 }

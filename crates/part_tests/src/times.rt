@@ -1,19 +1,36 @@
 // Vector times.
 
+ghost use Rattle.std.specs.Prelude.{◌≡◌, length};
+
 use lrc_time::Time;
 
 // Sets an entry, if it is there and rises.
-fn raise(time: &mut Time, node: u8, index: u32) {
+fn raise(time: &mut Time, node: u8, index: u32)
+    ensures { length time.new ≡ length time.old }
+{
     if node < time.nodes() && time.at(node) < index {
         time.raise(node, index);
     }
 }
 
-fn of_three(entries: [u32; 3]) -> Time {
+/// A time of two nodes.
+pub fn of_two(entries: [u32; 2]) -> Time
+    ensures { length result ≡ 2 }
+{
+    let mut time = Time::new(2);
+    raise(&mut time, 0, entries[0]);
+    raise(&mut time, 1, entries[1]);
+    time
+}
+
+/// A time of three nodes.
+pub fn of_three(entries: [u32; 3]) -> Time
+    ensures { length result ≡ 3 }
+{
     let mut time = Time::new(3);
-    for node in 0..3u8 {
-        raise(&mut time, node, entries[usize::from(node)]);
-    }
+    raise(&mut time, 0, entries[0]);
+    raise(&mut time, 1, entries[1]);
+    raise(&mut time, 2, entries[2]);
     time
 }
 
