@@ -11,13 +11,14 @@ use Rattle.lrc_lang.specs.declared.program.Statement.TheBlock.{shape-the_row-Sta
 use Rattle.lrc_trace.specs.declared.act.Cause.{Cause}
 use Rattle.lrc_trace.specs.declared.act.Cause.TheVariants.{WordOutOfRange, LockOutOfRange, LockHeld, LockNotHeld}
 use Rattle.lrc_exec.specs.declared.code.Instruction.{Instruction}
-use Rattle.lrc_exec.specs.declared.machine.Machine.TheInside.{Inside}
+use Rattle.lrc_exec.specs.declared.cursor.Cursor.TheInside.{Inside}
 use Rattle.lrc_exec.specs.Meaning.{Thread, Next, or_trap, if_below, value_in, traps, block, holds, then_does}
 use Rattle.lrc_exec.specs.Meaning.{then_keeps, then_holds, chosen, act_of, first_act, next_of, ends}
 use Rattle.lrc_exec.specs.Ask.{GoesOn, done, answered}
 use Rattle.lrc_exec.specs.Condition.{first_is_met, condition_holds}
 use Rattle.lrc_exec.specs.Flat.{rest_at, where_it_holds, where_it_fails, IsSound}
 use Rattle.lrc_exec.specs.Running.{thread_of, IsRunning}
+use Rattle.lrc_exec.specs.Wish.{Completes}
 use Rattle.lrc_exec.proofs.Flat.{if_made, while_made, rest_at-end, rest_at-instruction}
 
 -- at place 0 the thread is at the end
@@ -204,6 +205,21 @@ module _ (m : Inside) (thread : Thread) (d : Instruction) (k : ℕ) (view : thre
       ap next_of (sym view)
       ∙ ap (first_act (thread_of m)) (ap (rest_at m.code.now) place_is ∙ rest_at-instruction m.code.now k (get_or m.code.now k d) at_index sound_at.next_below)
       ∙ ap (λ t. act_of t s rest) view
+
+  -- what its thread has still to do begins with the instruction's statement
+  pub rest-at : thread.rest ≡ (get_or m.code.now k d).statement.now ∷ rest_at m.code.now (get_or m.code.now k d).next
+  rest-at =
+      let place_is : m.place ≡ k + 1 = omega arith in
+      ap (λ (t : Thread). t.rest) (sym view)
+      ∙ ap (rest_at m.code.now) place_is
+      ∙ rest_at-instruction m.code.now k (get_or m.code.now k d) at_index sound_at.next_below
+
+  -- so the number that completes what its thread does is that of the instruction's statement
+  pub completes-at : (number : ℕ) (s : Statement) → (get_or m.code.now k d).statement.now ≡ s → Completes thread thread.rest number
+      → Completes thread (s ∷ rest_at m.code.now (get_or m.code.now k d).next) number
+  completes-at number s is_s completes =
+      subst (λ x. Completes thread (x ∷ rest_at m.code.now (get_or m.code.now k d).next) number) is_s
+      (subst (λ l. Completes thread l number) rest-at completes)
 
   -- whether its condition holds
   pub condition_holds-at : condition_holds thread

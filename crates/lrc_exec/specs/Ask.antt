@@ -1,6 +1,5 @@
 -- What the code of a thread asks for, and where an answer leads.
-use Rattle.std.specs.Prelude.{ℕ, false, Result, Ok, Err}
-use Rattle.lrc_trace.specs.declared.act.Cause.{Cause}
+use Rattle.std.specs.Prelude.{ℕ, false}
 use Rattle.lrc_trace.specs.declared.act.Deed.{Deed}
 use Rattle.lrc_trace.specs.declared.act.Deed.TheVariants as deeds
 use Rattle.lrc_exec.specs.declared.machine.Ask.{Ask}
@@ -76,8 +75,3 @@ done value thread ends = thread
 -- the thread once what it asks for was answered with this value
 abbrev pub answered : ℕ → Thread → Thread
 answered value thread = done value thread (next_of thread)
-
--- what is asked for, or the trap in its place
-abbrev pub ask_or_trap : Result Ask Cause → Ask
-ask_or_trap (Ok ask) = ask
-ask_or_trap (Err cause) = Trap cause

@@ -8,3 +8,4 @@ pub mod Rounds
 pub mod RoundsCode
 pub mod Running
 pub mod Spots
+pub mod Wish

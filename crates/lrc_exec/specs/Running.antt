@@ -1,6 +1,6 @@
 -- The thread that a machine stands for.
 use Rattle.std.specs.Prelude.{◌≤◌, false, length}
-use Rattle.lrc_exec.specs.declared.machine.Machine.TheInside.{Inside}
+use Rattle.lrc_exec.specs.declared.cursor.Cursor.TheInside.{Inside}
 use Rattle.lrc_exec.specs.Meaning.{Thread}
 use Rattle.lrc_exec.specs.Flat.{rest_at, IsSoundFrom}
 

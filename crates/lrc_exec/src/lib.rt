@@ -2,6 +2,7 @@
 #![tactic(auto)]
 
 pub mod code;
+mod cursor;
 mod emit;
 pub mod laws;
 pub mod machine;

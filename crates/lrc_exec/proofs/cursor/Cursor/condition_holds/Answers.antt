@@ -2,7 +2,7 @@
 use Rattle.std.proofs.Common.{◌≡◌, ◌∙◌, get_or, sym, arith}
 use Rattle.lrc_exec.specs.Flat.{rest_at}
 use Rattle.lrc_exec.proofs.Running.{condition_holds-end, condition_holds-at}
-use Rattle.lrc_exec.proofs.machine.Machine.condition_holds.Goals as goal
+use Rattle.lrc_exec.proofs.cursor.Cursor.condition_holds.Goals as goal
 
 pub returns-in_default : goal.returns-in_default
 returns-in_default c =
