@@ -29,13 +29,12 @@ impl Memory {
     }
 
     /// Pages that were named since the last collection get new keepers: of each the lowest node that named it.
-    pub fn take_keepers(&mut self) -> Result<(), AllocError>
-        ensures ok { OnOk result (self.new ≡ with_memory self.old (with_keepers self.old.memory)) }
+    pub fn take_keepers(&mut self)
+        ensures taken { self.new ≡ with_memory self.old (with_keepers self.old.memory) }
         ensures same { SameMemory self.old self.new }
     {
         let _few = self.table.size();
         take_keepers(&self.store, &mut self.keepers);
-        Ok(())
     }
 
     /// The pages that this node keeps and that were named since the last collection, ascending.

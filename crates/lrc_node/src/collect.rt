@@ -131,10 +131,10 @@ impl NodeState<'_> {
     }
 
     /// Pages that were named since the last collection get new keepers.
-    fn take_keepers(&mut self) -> Result<(), AllocError>
-        ensures { OnOk result (self.new ≡ with_node_memory self.old (with_keepers self.old.memory)) }
+    fn take_keepers(&mut self)
+        ensures { self.new ≡ with_node_memory self.old (with_keepers self.old.memory) }
     {
-        self.memory.take_keepers()
+        self.memory.take_keepers();
     }
 
     /// The pages of which the node has to keep a base copy anew.
@@ -158,7 +158,7 @@ impl NodeState<'_> {
         ensures effect { IfOk result (λ effect. collects time.now self.old ≡ seen_effect effect self.new) }
         ensures to { IfOk result (λ effect. AreFor self.new.setting.nodes effect.letters.items) }
     {
-        self.take_keepers()?;
+        self.take_keepers();
         let kept = self.kept_pages()?;
         let needs = self.needs_to_keep(&kept)?;
         let letters = requests(self.alloc, &needs)?;

@@ -9,5 +9,5 @@ take_keepers-requires c = omega (arith, c.self.invariant.keepers, c.size-few.ens
 pub invariant_of-self : goal.invariant_of-self
 invariant_of-self c = kept-renewed (kept c.self.inside) c.take_keepers.new.keepers.items c.self.invariant c.take_keepers.ensures
 
-pub returns-clause-ok : goal.returns-clause-ok
-returns-clause-ok c = seen-renewed (kept c.self.inside) c.take_keepers.new.keepers.items _ c.self.view_is c.take_keepers.ensures
+pub returns-clause-taken : goal.returns-clause-taken
+returns-clause-taken c = seen-renewed (kept c.self.inside) c.take_keepers.new.keepers.items _ c.self.view_is c.take_keepers.ensures

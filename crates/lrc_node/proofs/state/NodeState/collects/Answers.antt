@@ -16,7 +16,7 @@ use Rattle.lrc_node.proofs.state.NodeState.collects.Goals as goal
 pub needs_to_keep-requires : goal.needs_to_keep-requires
 needs_to_keep-requires c =
     subst (λ (kept : List ℕ). All (λ page. page < length c.take_keepers.new.self.memory.copies) kept) (sym c.in_ok-kept.ensures)
-    (subst (λ (n : Node). All (λ page. page < length n.memory.copies) (kept_pages n.setting.me n.memory)) (sym c.in_ok-take_keepers.ensures)
+    (subst (λ (n : Node). All (λ page. page < length n.memory.copies) (kept_pages n.setting.me n.memory)) (sym c.take_keepers.ensures)
     (kept_within c.args.self.now c.requires))
 
 pub keep_up-requires-clause-can : goal.keep_up-requires-clause-can
@@ -25,7 +25,7 @@ keep_up-requires-clause-can c =
     subst (λ (needs : List Need). list_all is_met needs ≡ true → CanClean now c.in_ok-kept.kept needs) (sym c.in_ok-needs.ensures)
     (subst (λ (kept : List ℕ). list_all is_met (needs_to_keep now kept) ≡ true → CanClean now kept (needs_to_keep now kept)) (sym c.in_ok-kept.ensures)
     (subst (λ (n : Node). list_all is_met (needs_to_keep n (kept_pages n.setting.me n.memory)) ≡ true
-    → CanClean n (kept_pages n.setting.me n.memory) (needs_to_keep n (kept_pages n.setting.me n.memory))) (sym c.in_ok-take_keepers.ensures)
+    → CanClean n (kept_pages n.setting.me n.memory) (needs_to_keep n (kept_pages n.setting.me n.memory))) (sym c.take_keepers.ensures)
     (begins_clean c.args.self.now c.requires)))
 
 pub keep_up-requires-clause-to : goal.keep_up-requires-clause-to
@@ -36,7 +36,7 @@ keep_up-requires-clause-to c =
     subst (AreFor now.setting.nodes) (sym sent)
     (subst (λ (needs : List Need). AreFor now.setting.nodes (flat_map requests_of needs)) (sym c.in_ok-needs.ensures)
     (subst (λ (kept : List ℕ). AreFor now.setting.nodes (flat_map requests_of (needs_to_keep now kept))) (sym c.in_ok-kept.ensures)
-    (subst (λ (n : Node). AreFor n.setting.nodes (flat_map requests_of (needs_to_keep n (kept_pages n.setting.me n.memory)))) (sym c.in_ok-take_keepers.ensures)
+    (subst (λ (n : Node). AreFor n.setting.nodes (flat_map requests_of (needs_to_keep n (kept_pages n.setting.me n.memory)))) (sym c.take_keepers.ensures)
     (begins_for c.args.self.now c.requires))))
 
 pub returns-clause-effect : goal.returns-clause-effect
@@ -47,7 +47,7 @@ returns-clause-effect c =
     ∙ ap (flat_map requests_of) c.deref.ensures.value in
     let node = ap (λ (n : Node). let kept = kept_pages n.setting.me n.memory in
     waits_or_goes_on (flat_map requests_of (needs_to_keep n kept)) n
-    (upkeep (record { time = time; kept = kept }) (needs_to_keep n kept))) (sym c.in_ok-take_keepers.ensures) in
+    (upkeep (record { time = time; kept = kept }) (needs_to_keep n kept))) (sym c.take_keepers.ensures) in
     let kept = ap (λ (kept : List ℕ). waits_or_goes_on (flat_map requests_of (needs_to_keep now kept)) now
     (upkeep (record { time = time; kept = kept }) (needs_to_keep now kept)))
     (sym c.in_ok-kept.ensures) in
