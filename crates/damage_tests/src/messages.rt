@@ -2,7 +2,8 @@
 
 use crate::random::Random;
 use bytes::Bytes;
-use lrc_wire::{Envelope, WireFault, decode, encode};
+use lrc_envelope::Envelope;
+use lrc_wire::{WireFault, decode, encode};
 use std::alloc::{AllocError, Global};
 
 /// True messages of both versions: a request, a forward, a grant, an arrival, a request of changes, and changes.

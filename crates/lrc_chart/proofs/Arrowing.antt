@@ -1,7 +1,7 @@
 -- Arrows of messages and turns, with one more.
 use Rattle.std.proofs.Common.{◌≡◌, ◌∙◌, ◌+◌, ◌<◌, ◌++◌, ◌∷◌, [], ℕ, List, ap, ap₂, append_assoc, sym, get_or, length, take}
 use Rattle.std.specs.Prelude.{Bool, cond, if◌then◌else◌}
-use Rattle.lrc_wire.specs.Envelope.{EnvelopeRecord}
+use Rattle.lrc_envelope.specs.Envelope.{EnvelopeRecord}
 use Rattle.lrc_turns.specs.Turns.{Made}
 use Rattle.lrc_show.specs.Each.{each}
 use Rattle.lrc_show.proofs.Each.{each_more}

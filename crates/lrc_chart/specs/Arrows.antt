@@ -1,6 +1,6 @@
 -- Arrows of a picture: each message that is sent, and the turns that take it.
 use Rattle.std.specs.Prelude.{ℕ, Bool, true, false, Some, None, List, [], ◌∷◌, if◌then◌else◌, map}
-use Rattle.lrc_wire.specs.Envelope.{EnvelopeRecord}
+use Rattle.lrc_envelope.specs.Envelope.{EnvelopeRecord}
 use Rattle.lrc_turns.specs.Turns.{Made}
 use Rattle.lrc_turns.specs.TurnsText.{takes}
 use Rattle.lrc_show.specs.Each.{each}

@@ -5,8 +5,8 @@ ghost use Rattle.lrc_show.specs.Each.{each};
 ghost use Rattle.lrc_chart.specs.Arrows.{arrow, arrows_of, arrows_to, message_arrows, takers, takes_it};
 
 use crate::turn::TurnOf;
+use lrc_envelope::Envelope;
 use lrc_node::Input;
-use lrc_wire::Envelope;
 use std::alloc::{AllocError, Global};
 
 /// A message on its way. One that is taken more than once has an arrow for each time.

@@ -8,11 +8,11 @@ ghost use Rattle.lrc_world.specs.Random.{IsWandering, WanderingWearsOut};
 ghost use Rattle.lrc_world.specs.Rounds.{AreRounds, RoundsWearOut};
 
 use crate::fault::{Fault, fault_of_run};
+use lrc_envelope::Picker;
 use lrc_events::events::events_of;
 use lrc_lang::program::Program;
 use lrc_node::Options;
 use lrc_protocol::Event;
-use lrc_wire::Picker;
 use lrc_words::choice::{RunChoice, RunOptions, Way};
 use lrc_world::report::Report;
 use lrc_world::simulate::{drive, simulate, wander};

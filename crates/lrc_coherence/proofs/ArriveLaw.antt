@@ -6,9 +6,9 @@ use lib.Pointwise.{pointwise}
 use Rattle.std.proofs.lemmas.Bool.{and_from, cases_eq, eq-eqb}
 use Rattle.lrc_lang.specs.declared.program.Program.{Program}
 use Rattle.lrc_time.specs.Time.{entry}
-use Rattle.lrc_wire.specs.Envelope.{EnvelopeRecord}
-use Rattle.lrc_wire.specs.Records.{ArriveRecord}
-use Rattle.lrc_wire.specs.declared.message.Message.TheVariants.{Arrive}
+use Rattle.lrc_envelope.specs.Envelope.{EnvelopeRecord}
+use Rattle.lrc_envelope.specs.Records.{ArriveRecord}
+use Rattle.lrc_envelope.specs.declared.message.Message.TheVariants.{Arrive}
 use Rattle.lrc_store.specs.Interval.{IntervalRecord, index_of}
 use Rattle.lrc_store.specs.Store.{StoredRecord, interval_of}
 use Rattle.lrc_copies.proofs.Members.{none_Contains}

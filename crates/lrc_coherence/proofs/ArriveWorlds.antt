@@ -8,11 +8,11 @@ use Rattle.std.proofs.lemmas.Option.{same_Some, slice_get_within}
 use Rattle.lrc_lang.specs.declared.program.Program.{Program}
 use Rattle.lrc_time.specs.Time.{entry}
 use Rattle.lrc_time.proofs.Times.{entry-zeros, entry-set_same, entry-set_other}
-use Rattle.lrc_wire.specs.Envelope.{EnvelopeRecord}
-use Rattle.lrc_wire.specs.Records.{ArriveRecord}
-use Rattle.lrc_wire.specs.declared.message.Message.{Message}
-use Rattle.lrc_wire.specs.declared.message.Message.TheVariants.{LockRequest, LockForward, LockGrant, Arrive, Depart, Clean, Discard}
-use Rattle.lrc_wire.specs.declared.message.Message.TheVariants.{ChangesRequest, ChangesReply, PageRequest, PageReply}
+use Rattle.lrc_envelope.specs.Envelope.{EnvelopeRecord}
+use Rattle.lrc_envelope.specs.Records.{ArriveRecord}
+use Rattle.lrc_envelope.specs.declared.message.Message.{Message}
+use Rattle.lrc_envelope.specs.declared.message.Message.TheVariants.{LockRequest, LockForward, LockGrant, Arrive, Depart, Clean, Discard}
+use Rattle.lrc_envelope.specs.declared.message.Message.TheVariants.{ChangesRequest, ChangesReply, PageRequest, PageReply}
 use Rattle.lrc_copies.proofs.Members.{cases_Contains, none_Contains}
 use Rattle.lrc_barrier.specs.Barrier.{ManagerRecord, first_manager}
 use Rattle.lrc_protocol.specs.Letters.{own_news}

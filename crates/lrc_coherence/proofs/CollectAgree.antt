@@ -6,10 +6,10 @@ use Rattle.std.proofs.lemmas.Bool.{and_from, cases_eq, eq-eqb}
 use Rattle.std.proofs.lemmas.Option.{same_Some}
 use Rattle.lrc_lang.specs.declared.program.Program.{Program}
 use Rattle.lrc_clock.specs.Times.{arrived_time}
-use Rattle.lrc_wire.specs.Envelope.{EnvelopeRecord}
-use Rattle.lrc_wire.specs.Records.{DepartRecord}
-use Rattle.lrc_wire.specs.declared.message.Message.{Message}
-use Rattle.lrc_wire.specs.declared.message.Message.TheVariants.{Depart, Discard}
+use Rattle.lrc_envelope.specs.Envelope.{EnvelopeRecord}
+use Rattle.lrc_envelope.specs.Records.{DepartRecord}
+use Rattle.lrc_envelope.specs.declared.message.Message.{Message}
+use Rattle.lrc_envelope.specs.declared.message.Message.TheVariants.{Depart, Discard}
 use Rattle.lrc_time.specs.Time.{entry}
 use Rattle.lrc_store.specs.Interval.{IntervalRecord, index_of}
 use Rattle.lrc_store.specs.Store.{intervals_of}

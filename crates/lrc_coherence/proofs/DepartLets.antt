@@ -9,9 +9,9 @@ use Rattle.std.proofs.lemmas.Option.{slice_get_within}
 use Rattle.lrc_lang.specs.declared.program.Program.{Program}
 use Rattle.lrc_time.specs.Time.{entry, zeros}
 use Rattle.lrc_store.proofs.Orders.{Contains-first, Contains-later, cases_Contains, none_Contains}
-use Rattle.lrc_wire.specs.Envelope.{EnvelopeRecord}
-use Rattle.lrc_wire.specs.Records.{ArriveRecord, DepartRecord}
-use Rattle.lrc_wire.specs.declared.message.Message.TheVariants.{Arrive, Depart}
+use Rattle.lrc_envelope.specs.Envelope.{EnvelopeRecord}
+use Rattle.lrc_envelope.specs.Records.{ArriveRecord, DepartRecord}
+use Rattle.lrc_envelope.specs.declared.message.Message.TheVariants.{Arrive, Depart}
 use Rattle.lrc_barrier.specs.declared.arrival.Arrival.{Arrival}
 use Rattle.lrc_barrier.specs.declared.departure.Departure.{Departure}
 use Rattle.lrc_barrier.specs.Barrier.{ManagerRecord, with_arrival, arrivals_of, joined_time}

@@ -12,9 +12,9 @@ use Rattle.lrc_time.proofs.Times.{covers-trans, entry-joined, entry-zeros, lengt
 use Rattle.lrc_store.specs.Interval.{IntervalRecord}
 use Rattle.lrc_store.specs.Store.{StoredRecord, interval_of}
 use Rattle.lrc_store.proofs.Orders.{Contains-first, Contains-later, none_Contains}
-use Rattle.lrc_wire.specs.Envelope.{EnvelopeRecord}
-use Rattle.lrc_wire.specs.Records.{ArriveRecord, DepartRecord}
-use Rattle.lrc_wire.specs.declared.message.Message.TheVariants.{Arrive, Depart}
+use Rattle.lrc_envelope.specs.Envelope.{EnvelopeRecord}
+use Rattle.lrc_envelope.specs.Records.{ArriveRecord, DepartRecord}
+use Rattle.lrc_envelope.specs.declared.message.Message.TheVariants.{Arrive, Depart}
 use Rattle.lrc_barrier.specs.declared.arrival.Arrival.{Arrival}
 use Rattle.lrc_barrier.specs.declared.departure.Departure.{Departure}
 use Rattle.lrc_barrier.specs.Barrier.{ManagerRecord, arrivals_of, is_news, intervals_of, joined_time, with_arrival}

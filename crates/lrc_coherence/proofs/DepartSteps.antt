@@ -9,9 +9,9 @@ use Rattle.lrc_exec.specs.Plain.{setting_of}
 use Rattle.lrc_time.specs.Time.{entry}
 use Rattle.lrc_time.proofs.Times.{covers-refl}
 use Rattle.lrc_store.specs.Interval.{IntervalRecord}
-use Rattle.lrc_wire.specs.Envelope.{EnvelopeRecord}
-use Rattle.lrc_wire.specs.Records.{ArriveRecord}
-use Rattle.lrc_wire.specs.declared.message.Message.TheVariants.{Arrive}
+use Rattle.lrc_envelope.specs.Envelope.{EnvelopeRecord}
+use Rattle.lrc_envelope.specs.Records.{ArriveRecord}
+use Rattle.lrc_envelope.specs.declared.message.Message.TheVariants.{Arrive}
 use Rattle.lrc_barrier.specs.declared.arrival.Arrival.{Arrival}
 use Rattle.lrc_barrier.specs.Barrier.{ManagerRecord, is_accepted, arrived}
 use Rattle.lrc_protocol.specs.Expected.{indices_by, is_expected}

@@ -7,8 +7,8 @@ use Rattle.lrc_page.specs.Page.{words_of}
 use Rattle.lrc_page.specs.declared.size.Size.{Size}
 use Rattle.lrc_store.specs.Interval.{IntervalRecord}
 use Rattle.lrc_store.specs.Store.{StoredRecord, interval_of}
-use Rattle.lrc_wire.specs.Records.{PageReplyRecord}
-use Rattle.lrc_wire.specs.declared.message.Message.TheVariants.{PageReply}
+use Rattle.lrc_envelope.specs.Records.{PageReplyRecord}
+use Rattle.lrc_envelope.specs.declared.message.Message.TheVariants.{PageReply}
 use Rattle.lrc_protocol.specs.Locks.{next_time}
 use Rattle.lrc_protocol.specs.Node.{OptionsRecord}
 use Rattle.lrc_invariants.proofs.Sends.{Came, comes}

@@ -7,9 +7,9 @@ use Rattle.std.proofs.lemmas.List.Elements.{Contains-append_left, Contains-appen
 use Rattle.lrc_page.specs.Page.{words_of}
 use Rattle.lrc_store.specs.Store.{StoredRecord}
 use Rattle.lrc_store.proofs.Orders.{Contains-later}
-use Rattle.lrc_wire.specs.Envelope.{EnvelopeRecord}
-use Rattle.lrc_wire.specs.Records.{PageReplyRecord}
-use Rattle.lrc_wire.specs.declared.message.Message.TheVariants.{PageReply}
+use Rattle.lrc_envelope.specs.Envelope.{EnvelopeRecord}
+use Rattle.lrc_envelope.specs.Records.{PageReplyRecord}
+use Rattle.lrc_envelope.specs.declared.message.Message.TheVariants.{PageReply}
 use Rattle.lrc_protocol.specs.Mail.{Wait, access, discard, Collection}
 use Rattle.lrc_protocol.specs.Fetch.{Need}
 use Rattle.lrc_protocol.specs.Node.{Node, OptionsRecord}

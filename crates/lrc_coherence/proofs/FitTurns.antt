@@ -10,8 +10,8 @@ use Rattle.lrc_page.specs.Page.{words_of}
 use Rattle.lrc_store.specs.Interval.{IntervalRecord}
 use Rattle.lrc_store.specs.Store.{StoredRecord, interval_of, intervals_of, notice_of}
 use Rattle.lrc_store.proofs.Orders.{filter-Contains, Contains-first}
-use Rattle.lrc_wire.specs.Records.{PageReplyRecord}
-use Rattle.lrc_wire.specs.declared.message.Message.TheVariants.{PageReply}
+use Rattle.lrc_envelope.specs.Records.{PageReplyRecord}
+use Rattle.lrc_envelope.specs.declared.message.Message.TheVariants.{PageReply}
 use Rattle.lrc_copies.specs.Stamps.{IsBetween}
 use Rattle.lrc_copies.proofs.Stamping.{covered-le}
 use Rattle.lrc_protocol.specs.Copy.{Copy, valid, written, invalid, absent, dropped}

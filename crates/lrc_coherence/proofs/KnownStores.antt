@@ -13,7 +13,7 @@ use Rattle.lrc_store.specs.Interval.{IntervalRecord}
 use Rattle.lrc_store.specs.Store.{StoreRecord, StoredRecord, NoticeRecord, interval_of, is_at, is_covered, unread, without_changes}
 use Rattle.lrc_store.specs.Store.{added, notice_with, stored_with, attached, discarded, stored_at, notice_of, changes_at}
 use Rattle.lrc_store.proofs.Lookups.{passes-find}
-use Rattle.lrc_wire.specs.Records.{IndexedChangesRecord}
+use Rattle.lrc_envelope.specs.Records.{IndexedChangesRecord}
 use Rattle.lrc_copies.specs.Stamps.{index_of}
 use Rattle.lrc_copies.proofs.Members.{Contains-first, Contains-later, cases_Contains, none_Contains, AllPairs-first, AllPairs-rest}
 use Rattle.lrc_protocol.specs.Locks.{next_time}

@@ -9,9 +9,9 @@ use Rattle.lrc_time.specs.Time.{Covers}
 use Rattle.lrc_store.specs.Store.{StoredRecord, notice_of}
 use Rattle.lrc_copies.specs.Page.{PageFits, AgreeOnPage, IsUntouchedBy, IsMadeOf, IsClosedWith}
 use Rattle.lrc_copies.specs.Stamps.{covered, IsBetween}
-use Rattle.lrc_wire.specs.Envelope.{EnvelopeRecord}
-use Rattle.lrc_wire.specs.Records.{PageReplyRecord}
-use Rattle.lrc_wire.specs.declared.message.Message.TheVariants.{PageRequest, PageReply}
+use Rattle.lrc_envelope.specs.Envelope.{EnvelopeRecord}
+use Rattle.lrc_envelope.specs.Records.{PageReplyRecord}
+use Rattle.lrc_envelope.specs.declared.message.Message.TheVariants.{PageRequest, PageReply}
 use Rattle.lrc_protocol.specs.Copy.{written, is_readable, values_of}
 use Rattle.lrc_protocol.specs.Fetch.{Need, due}
 use Rattle.lrc_protocol.specs.Mail.{Wait, access, discard}

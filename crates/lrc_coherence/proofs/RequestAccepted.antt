@@ -9,9 +9,9 @@ use Rattle.lrc_exec.specs.Plain.{setting_of}
 use Rattle.lrc_page.specs.declared.changes.Change.{Change}
 use Rattle.lrc_page.specs.Page.{words_of}
 use Rattle.lrc_page.specs.Place.{pages_of}
-use Rattle.lrc_wire.specs.Envelope.{EnvelopeRecord}
-use Rattle.lrc_wire.specs.Records.{ChangesReplyRecord, IndexedChangesRecord, PageReplyRecord}
-use Rattle.lrc_wire.specs.declared.message.Message.TheVariants.{ChangesReply, PageReply}
+use Rattle.lrc_envelope.specs.Envelope.{EnvelopeRecord}
+use Rattle.lrc_envelope.specs.Records.{ChangesReplyRecord, IndexedChangesRecord, PageReplyRecord}
+use Rattle.lrc_envelope.specs.declared.message.Message.TheVariants.{ChangesReply, PageReply}
 use Rattle.lrc_protocol.specs.Fetch.{Need, awaits_changes, awaits_page}
 use Rattle.lrc_protocol.specs.Mail.{needs_of}
 use Rattle.lrc_protocol.specs.Expected.{is_page, are_changes, is_expected}

@@ -7,8 +7,8 @@ use Rattle.lrc_lang.specs.declared.program.Program.{Program}
 use Rattle.lrc_exec.specs.Meaning.{Setting}
 use Rattle.lrc_page.specs.Page.{words_of}
 use Rattle.lrc_page.specs.Place.{pages_of}
-use Rattle.lrc_wire.specs.Envelope.{EnvelopeRecord}
-use Rattle.lrc_wire.specs.declared.message.Message.TheVariants.{PageRequest}
+use Rattle.lrc_envelope.specs.Envelope.{EnvelopeRecord}
+use Rattle.lrc_envelope.specs.declared.message.Message.TheVariants.{PageRequest}
 use Rattle.lrc_protocol.specs.Copy.{Copy, valid, written, invalid, absent}
 use Rattle.lrc_protocol.specs.Memory.{copy_at, base_at}
 use Rattle.lrc_protocol.specs.Fetch.{due, awaits_page}

@@ -10,9 +10,9 @@ use Rattle.lrc_page.specs.Place.{pages_of}
 use Rattle.lrc_time.specs.Time.{entry, Covers}
 use Rattle.lrc_store.specs.Interval.{IntervalRecord, index_of}
 use Rattle.lrc_store.specs.Store.{notice_at}
-use Rattle.lrc_wire.specs.Envelope.{EnvelopeRecord}
-use Rattle.lrc_wire.specs.Records.{ChangesRequestRecord}
-use Rattle.lrc_wire.specs.declared.message.Message.TheVariants.{ChangesRequest}
+use Rattle.lrc_envelope.specs.Envelope.{EnvelopeRecord}
+use Rattle.lrc_envelope.specs.Records.{ChangesRequestRecord}
+use Rattle.lrc_envelope.specs.declared.message.Message.TheVariants.{ChangesRequest}
 use Rattle.lrc_protocol.specs.Memory.{lacking}
 use Rattle.lrc_protocol.specs.Fetch.{Need, awaits_changes, indices_of, unknown_of}
 use Rattle.lrc_protocol.specs.Mail.{Wait, nothing, grant, departure, access, upkeep, discard, needs_of}

@@ -5,9 +5,9 @@ use Rattle.std.specs.List.{list_any}
 use Rattle.std.proofs.lemmas.Bool.{and_parts, and_from, or_cases, or_left, or_right, cases_Bool, cases_lt, eqb-true, eq-eqb, false≢true}
 use lib.Pointwise.{pointwise}
 use Rattle.lrc_lang.specs.declared.program.Program.{Program}
-use Rattle.lrc_wire.specs.Envelope.{EnvelopeRecord}
-use Rattle.lrc_wire.specs.Records.{ChangesRequestRecord, ChangesReplyRecord, IndexedChangesRecord, PageReplyRecord}
-use Rattle.lrc_wire.specs.declared.message.Message.TheVariants.{ChangesRequest, ChangesReply, PageRequest, PageReply}
+use Rattle.lrc_envelope.specs.Envelope.{EnvelopeRecord}
+use Rattle.lrc_envelope.specs.Records.{ChangesRequestRecord, ChangesReplyRecord, IndexedChangesRecord, PageReplyRecord}
+use Rattle.lrc_envelope.specs.declared.message.Message.TheVariants.{ChangesRequest, ChangesReply, PageRequest, PageReply}
 use Rattle.lrc_protocol.specs.Fetch.{Base, unneeded, due, come, Asked, Need, asks, awaits_changes, is_due_from, awaits_page}
 use Rattle.lrc_protocol.specs.Mail.{Letter, Wait, nothing, grant, departure, access, upkeep, discard, needs_of}
 use Rattle.lrc_protocol.specs.Letters.{letter, changes_request_of, page_request_of, requests_of}

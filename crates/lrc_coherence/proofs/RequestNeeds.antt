@@ -6,7 +6,7 @@ use Rattle.std.proofs.lemmas.Bool.{and_parts, eqb-true, eq-eqb, ne_eqb, false≢
 use Rattle.std.proofs.lemmas.Option.{same_Some}
 use Rattle.std.proofs.lemmas.List.Elements.{All-head, All-tail, All-map}
 use Rattle.lrc_store.specs.declared.key.Key.{Key}
-use Rattle.lrc_wire.specs.declared.message.Message.TheVariants.{ChangesRequest, PageRequest}
+use Rattle.lrc_envelope.specs.declared.message.Message.TheVariants.{ChangesRequest, PageRequest}
 use Rattle.lrc_protocol.specs.Memory.{Memory}
 use Rattle.lrc_protocol.specs.Fetch.{Base, unneeded, due, come, Asked, Need, indices_of, some_asked, asked_of, unknown_of, asks}
 use Rattle.lrc_protocol.specs.Fetch.{awaits_changes, is_due, is_due_from, awaits_page, is_nothing, is_met, with_changes, with_page}

@@ -7,7 +7,7 @@ use lib.Pointwise.{pointwise}
 use Rattle.lrc_lang.specs.declared.program.Program.{Program}
 use Rattle.lrc_page.specs.Page.{words_of}
 use Rattle.lrc_page.specs.Place.{pages_of}
-use Rattle.lrc_wire.specs.declared.message.Message.TheVariants.{ChangesRequest, PageRequest}
+use Rattle.lrc_envelope.specs.declared.message.Message.TheVariants.{ChangesRequest, PageRequest}
 use Rattle.lrc_protocol.specs.Fetch.{come, Asked, Need, asks, awaits_changes, is_due_from, awaits_page, with_changes, with_page}
 use Rattle.lrc_protocol.specs.Mail.{Letter, needs_of}
 use Rattle.lrc_protocol.specs.Letters.{letter, requests_of}

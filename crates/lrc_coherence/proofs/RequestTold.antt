@@ -4,9 +4,9 @@ use Rattle.std.specs.Prelude.{Option, Some, None, Contains, filter, filter_map, 
 use Rattle.std.specs.List.{enumerate_from, list_all}
 use Rattle.lrc_store.specs.Interval.{IntervalRecord}
 use Rattle.lrc_store.proofs.Orders.{cases_Contains, none_Contains}
-use Rattle.lrc_wire.specs.Records.{DepartRecord}
-use Rattle.lrc_wire.specs.declared.message.Message.{Message}
-use Rattle.lrc_wire.specs.declared.message.Message.TheVariants.{Depart}
+use Rattle.lrc_envelope.specs.Records.{DepartRecord}
+use Rattle.lrc_envelope.specs.declared.message.Message.{Message}
+use Rattle.lrc_envelope.specs.declared.message.Message.TheVariants.{Depart}
 use Rattle.lrc_barrier.specs.declared.arrival.Arrival.{Arrival}
 use Rattle.lrc_barrier.specs.Barrier.{is_news, joined_time, intervals_of, departure_to}
 use Rattle.lrc_protocol.specs.Mail.{Letter}

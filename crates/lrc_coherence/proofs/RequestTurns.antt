@@ -5,11 +5,11 @@ use Rattle.std.specs.List.{list_all, range_with_len}
 use Rattle.std.proofs.lemmas.Bool.{and_parts}
 use Rattle.lrc_page.specs.Place.{page_of}
 use Rattle.lrc_exec.specs.Meaning.{Next, quiet, prints, reads, writes, acquires, releases, arrives, departs, traps, ends}
-use Rattle.lrc_wire.specs.Envelope.{EnvelopeRecord}
-use Rattle.lrc_wire.specs.Records.{DepartRecord, IndexedChangesRecord, ChangesRequestRecord, ChangesReplyRecord, PageReplyRecord}
-use Rattle.lrc_wire.specs.declared.message.Message.{Message}
-use Rattle.lrc_wire.specs.declared.message.Message.TheVariants.{LockRequest, LockForward, LockGrant, Arrive, Depart, Clean, Discard}
-use Rattle.lrc_wire.specs.declared.message.Message.TheVariants.{ChangesRequest, ChangesReply, PageRequest, PageReply}
+use Rattle.lrc_envelope.specs.Envelope.{EnvelopeRecord}
+use Rattle.lrc_envelope.specs.Records.{DepartRecord, IndexedChangesRecord, ChangesRequestRecord, ChangesReplyRecord, PageReplyRecord}
+use Rattle.lrc_envelope.specs.declared.message.Message.{Message}
+use Rattle.lrc_envelope.specs.declared.message.Message.TheVariants.{LockRequest, LockForward, LockGrant, Arrive, Depart, Clean, Discard}
+use Rattle.lrc_envelope.specs.declared.message.Message.TheVariants.{ChangesRequest, ChangesReply, PageRequest, PageReply}
 use Rattle.lrc_lock.specs.declared.state.Pass.{Pass}
 use Rattle.lrc_lock.specs.Held.{LockStep, lock_at, is_free, released, pass_of, held_after}
 use Rattle.lrc_lock.specs.Managed.{Requested, refuses as refuses_request, forwards, requested}

@@ -3,7 +3,7 @@
 use Rattle.std.proofs.Common.{◌≡◌, ℕ, ◌+◌, List, [], ◌∷◌, ◌++◌, Bool, true, false, ◌&&◌, cond, map, refl, sym, ap, ◌∙◌, arith}
 use Rattle.std.specs.Prelude.{Option, Some, None, ◌==◌, count_by, flat_map}
 use Rattle.std.proofs.lemmas.Bool.{eq-eqb, ne_eqb}
-use Rattle.lrc_wire.specs.declared.message.Message.{Message}
+use Rattle.lrc_envelope.specs.declared.message.Message.{Message}
 use Rattle.lrc_protocol.specs.Fetch.{Base, unneeded, due, come, Asked, Need}
 use Rattle.lrc_protocol.specs.Mail.{Letter, Wait, needs_of}
 use Rattle.lrc_protocol.specs.Letters.{letter, changes_request_of, page_request_of, requests_of}

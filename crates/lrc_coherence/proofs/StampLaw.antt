@@ -4,7 +4,7 @@ use Rattle.std.specs.Prelude.{Some}
 use Rattle.std.proofs.lemmas.List.Elements.{All-contains}
 use Rattle.lrc_lang.specs.declared.program.Program.{Program}
 use Rattle.lrc_store.specs.Store.{interval_of}
-use Rattle.lrc_wire.specs.Records.{IndexedChangesRecord}
+use Rattle.lrc_envelope.specs.Records.{IndexedChangesRecord}
 use Rattle.lrc_protocol.specs.Memory.{copy_at}
 use Rattle.lrc_protocol.specs.Node.{OptionsRecord}
 use Rattle.lrc_invariants.proofs.Reached.{IsReached}

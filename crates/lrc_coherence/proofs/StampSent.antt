@@ -4,7 +4,7 @@ use Rattle.std.specs.Prelude.{Some, slice_get}
 use Rattle.lrc_lang.specs.declared.program.Program.{Program}
 use Rattle.lrc_time.specs.Time.{entry, zeros, Covers}
 use Rattle.lrc_time.proofs.Times.{entry-zeros, entry-set_same}
-use Rattle.lrc_wire.specs.Envelope.{EnvelopeRecord}
+use Rattle.lrc_envelope.specs.Envelope.{EnvelopeRecord}
 use Rattle.lrc_protocol.specs.Locks.{Locks, next_time}
 use Rattle.lrc_protocol.specs.Mail.{Wait, nothing, discard, Collection}
 use Rattle.lrc_protocol.specs.Node.{Node, OptionsRecord}

@@ -8,10 +8,10 @@ use Rattle.lrc_page.specs.Page.{zero_page}
 use Rattle.lrc_page.specs.Place.{pages_of}
 use Rattle.lrc_store.specs.Interval.{IntervalRecord}
 use Rattle.lrc_store.specs.Store.{StoreRecord, StoredRecord, interval_of}
-use Rattle.lrc_wire.specs.Envelope.{EnvelopeRecord}
-use Rattle.lrc_wire.specs.Records.{LockGrantRecord, DepartRecord}
-use Rattle.lrc_wire.specs.declared.message.Message.{Message}
-use Rattle.lrc_wire.specs.declared.message.Message.TheVariants.{LockGrant, Depart}
+use Rattle.lrc_envelope.specs.Envelope.{EnvelopeRecord}
+use Rattle.lrc_envelope.specs.Records.{LockGrantRecord, DepartRecord}
+use Rattle.lrc_envelope.specs.declared.message.Message.{Message}
+use Rattle.lrc_envelope.specs.declared.message.Message.TheVariants.{LockGrant, Depart}
 use Rattle.lrc_copies.specs.Stamps.{AreStamped}
 use Rattle.lrc_copies.proofs.Members.{none_Contains}
 use Rattle.lrc_protocol.specs.Copy.{Copy, valid, written, invalid, absent}

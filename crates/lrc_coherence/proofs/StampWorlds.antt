@@ -6,7 +6,7 @@ use Rattle.std.proofs.lemmas.Option.{same_Some, slice_get_within}
 use Rattle.lrc_lang.specs.declared.program.Program.{Program}
 use Rattle.lrc_exec.specs.Meaning.{Setting}
 use Rattle.lrc_exec.specs.Plain.{setting_of}
-use Rattle.lrc_wire.specs.Envelope.{EnvelopeRecord}
+use Rattle.lrc_envelope.specs.Envelope.{EnvelopeRecord}
 use Rattle.lrc_protocol.specs.Node.{Node, OptionsRecord}
 use Rattle.lrc_protocol.specs.Turn.{TurnRecord, done, run_turn, is_repeat, empty_turn}
 use Rattle.lrc_protocol.specs.Log.{Input, run, taken, EntryRecord, Logged, outcome_of}

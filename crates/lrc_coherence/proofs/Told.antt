@@ -5,7 +5,7 @@ use Rattle.std.proofs.lemmas.List.Elements.{Contains-append_left}
 use Rattle.lrc_store.specs.Interval.{IntervalRecord, by_node}
 use Rattle.lrc_store.specs.Order.{placed, ascending_part}
 use Rattle.lrc_store.specs.Store.{StoreRecord, StoredRecord, interval_of, intervals_of, is_covered, is_newer, discarded, newer_of}
-use Rattle.lrc_wire.specs.Envelope.{EnvelopeRecord}
+use Rattle.lrc_envelope.specs.Envelope.{EnvelopeRecord}
 use Rattle.lrc_barrier.specs.declared.arrival.Arrival.{Arrival}
 use Rattle.lrc_barrier.specs.Barrier.{intervals_of as intervals_told}
 use Rattle.lrc_coherence.specs.Made.{AllMade, AllTold, AllKept, intervals_in}

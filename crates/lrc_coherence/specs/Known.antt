@@ -4,9 +4,9 @@ use Rattle.lrc_page.specs.declared.changes.Change.{Change}
 use Rattle.lrc_store.specs.declared.key.Key.{Key}
 use Rattle.lrc_store.specs.Store.{StoredRecord, NoticeRecord, interval_of, stored_at, changes_at}
 use Rattle.lrc_copies.specs.Stamps.{index_of, IsCut, AreStamped}
-use Rattle.lrc_wire.specs.Envelope.{EnvelopeRecord}
-use Rattle.lrc_wire.specs.Records.{IndexedChangesRecord, ChangesReplyRecord}
-use Rattle.lrc_wire.specs.declared.message.Message.TheVariants.{ChangesReply}
+use Rattle.lrc_envelope.specs.Envelope.{EnvelopeRecord}
+use Rattle.lrc_envelope.specs.Records.{IndexedChangesRecord, ChangesReplyRecord}
+use Rattle.lrc_envelope.specs.declared.message.Message.TheVariants.{ChangesReply}
 use Rattle.lrc_protocol.specs.Copy.{invalid}
 use Rattle.lrc_protocol.specs.Memory.{copy_at}
 use Rattle.lrc_protocol.specs.Log.{Logged}

@@ -2,9 +2,9 @@
 
 ghost use Rattle.std.specs.Prelude.{◌≡◌, ℕ, List, Some, true, Contains, slice_get};
 ghost use Rattle.lrc_lang.specs.declared.program.Program.{Program};
-ghost use Rattle.lrc_wire.specs.Envelope.{EnvelopeRecord};
-ghost use Rattle.lrc_wire.specs.Records.{LockGrantRecord};
-ghost use Rattle.lrc_wire.specs.declared.message.Message.TheVariants.{LockGrant};
+ghost use Rattle.lrc_envelope.specs.Envelope.{EnvelopeRecord};
+ghost use Rattle.lrc_envelope.specs.Records.{LockGrantRecord};
+ghost use Rattle.lrc_envelope.specs.declared.message.Message.TheVariants.{LockGrant};
 ghost use Rattle.lrc_protocol.specs.declared.event.Event.{Event};
 ghost use Rattle.lrc_protocol.specs.Expected.{is_expected};
 ghost use Rattle.lrc_protocol.specs.Node.{OptionsRecord};

@@ -10,9 +10,9 @@ use Rattle.lrc_trace.specs.declared.act.Deed.{Deed}
 use Rattle.lrc_trace.specs.declared.act.Deed.TheVariants.{Arrive as Arrives}
 use Rattle.lrc_trace.specs.Run.{act_of, arrives_before}
 use Rattle.lrc_clock.specs.Times.{arrived_time}
-use Rattle.lrc_wire.specs.Envelope.{EnvelopeRecord}
-use Rattle.lrc_wire.specs.Records.{ArriveRecord, DepartRecord}
-use Rattle.lrc_wire.specs.declared.message.Message.TheVariants.{Arrive, Depart}
+use Rattle.lrc_envelope.specs.Envelope.{EnvelopeRecord}
+use Rattle.lrc_envelope.specs.Records.{ArriveRecord, DepartRecord}
+use Rattle.lrc_envelope.specs.declared.message.Message.TheVariants.{Arrive, Depart}
 use Rattle.lrc_store.proofs.Orders.{none_Contains}
 use Rattle.lrc_exec.specs.Meaning.{Setting, arrives}
 use Rattle.lrc_exec.specs.Plain.{setting_of}

@@ -11,9 +11,9 @@ use Rattle.lrc_trace.specs.Run.{arrives_before}
 use Rattle.lrc_clock.specs.Times.{arrives_at, arrived_time, time_at}
 use Rattle.lrc_clock.proofs.Lasting.{join-covers}
 use Rattle.lrc_clock.proofs.Passing.{arrives_at-true}
-use Rattle.lrc_wire.specs.Envelope.{EnvelopeRecord}
-use Rattle.lrc_wire.specs.Records.{ArriveRecord, DepartRecord}
-use Rattle.lrc_wire.specs.declared.message.Message.TheVariants.{Arrive, Depart, Clean, Discard}
+use Rattle.lrc_envelope.specs.Envelope.{EnvelopeRecord}
+use Rattle.lrc_envelope.specs.Records.{ArriveRecord, DepartRecord}
+use Rattle.lrc_envelope.specs.declared.message.Message.TheVariants.{Arrive, Depart, Clean, Discard}
 use Rattle.lrc_barrier.specs.declared.fault.BarrierFault.TheVariants.{WrongEpisode, Twice}
 use Rattle.lrc_barrier.specs.Barrier.{ManagerRecord, refuses, waits, departs, is_accepted, with_arrival, arrivals_of, departures_of, departed}
 use Rattle.lrc_barrier.specs.Barrier.{is_next, has_arrived, arrived, refuses_clean, awaits, discards, cleaned_by, cleaned}

@@ -12,9 +12,9 @@ use Rattle.lrc_trace.proofs.Positions.{Does-cases, departs_before-prefix}
 use Rattle.lrc_time.specs.Time.{joined}
 use Rattle.lrc_clock.specs.Times.{time_at, time_before, arrived_time}
 use Rattle.lrc_clock.proofs.Prefixes.{time_at-prefix, time_before-prefix, arrived_time-prefix}
-use Rattle.lrc_wire.specs.Envelope.{EnvelopeRecord}
-use Rattle.lrc_wire.specs.Records.{DepartRecord}
-use Rattle.lrc_wire.specs.declared.message.Message.TheVariants.{Depart}
+use Rattle.lrc_envelope.specs.Envelope.{EnvelopeRecord}
+use Rattle.lrc_envelope.specs.Records.{DepartRecord}
+use Rattle.lrc_envelope.specs.declared.message.Message.TheVariants.{Depart}
 use Rattle.lrc_exec.specs.Meaning.{Setting}
 use Rattle.lrc_exec.specs.Plain.{setting_of}
 use Rattle.lrc_protocol.specs.declared.event.Event.{Event}

@@ -4,8 +4,8 @@ use Rattle.std.specs.Prelude.{Option, Some, None, count_by, slice_get, if◌then
 use Rattle.std.proofs.lemmas.List.Sums.{sum_by-append, sum_by-cons}
 use Rattle.lrc_lang.specs.declared.program.Program.{Program}
 use Rattle.lrc_exec.specs.Plain.{setting_of}
-use Rattle.lrc_wire.specs.Envelope.{EnvelopeRecord}
-use Rattle.lrc_wire.specs.declared.message.Message.{Message}
+use Rattle.lrc_envelope.specs.Envelope.{EnvelopeRecord}
+use Rattle.lrc_envelope.specs.declared.message.Message.{Message}
 use Rattle.lrc_protocol.specs.Mail.{Letter}
 use Rattle.lrc_protocol.specs.Letters.{letter}
 use Rattle.lrc_protocol.specs.Node.{Node, OptionsRecord}

@@ -2,9 +2,9 @@
 use Rattle.std.proofs.Common.{◌≡◌, ℕ, ◌+◌, List, [], ◌∷◌, Bool, true, false, cond, map, refl, sym, ap, ◌∙◌, add-zero, zero-add}
 use Rattle.std.specs.Prelude.{◌==◌, count_by, if◌then◌else◌}
 use Rattle.std.proofs.lemmas.Bool.{eq-eqb, ne_eqb}
-use Rattle.lrc_wire.specs.declared.message.Message.{Message}
-use Rattle.lrc_wire.specs.declared.message.Message.TheVariants.{LockRequest, LockForward, LockGrant}
-use Rattle.lrc_wire.specs.declared.message.Message.TheVariants.{ChangesRequest, ChangesReply, PageRequest, PageReply}
+use Rattle.lrc_envelope.specs.declared.message.Message.{Message}
+use Rattle.lrc_envelope.specs.declared.message.Message.TheVariants.{LockRequest, LockForward, LockGrant}
+use Rattle.lrc_envelope.specs.declared.message.Message.TheVariants.{ChangesRequest, ChangesReply, PageRequest, PageReply}
 use Rattle.lrc_barrier.specs.declared.departure.Departure.{Departure}
 use Rattle.lrc_protocol.specs.Mail.{Letter}
 use Rattle.lrc_protocol.specs.Letters.{departure_of, discards_to}

@@ -14,7 +14,7 @@ use Rattle.lrc_barrier.specs.Barrier.{ArriveStep, refuses, waits, departs, arriv
 use Rattle.lrc_barrier.proofs.Filled.{all_arrived}
 use Rattle.lrc_protocol.specs.Mail.{Letter}
 use Rattle.lrc_protocol.specs.Letters.{letter, departure_of, discards_to}
-use Rattle.lrc_wire.specs.declared.message.Message.TheVariants.{Discard}
+use Rattle.lrc_envelope.specs.declared.message.Message.TheVariants.{Discard}
 use Rattle.lrc_invariants.specs.Barriers.{says_depart, says_discard, kept_of, noted_of}
 use Rattle.lrc_invariants.proofs.Flows.{count-cons}
 

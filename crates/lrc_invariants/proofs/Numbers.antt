@@ -5,7 +5,7 @@ use Rattle.std.specs.List.{range_with_len, enumerate_from}
 use Rattle.std.proofs.lemmas.Bool.{eq-eqb, ne_eqb}
 use Rattle.std.proofs.lemmas.List.{map-append}
 use Rattle.std.proofs.lemmas.List.Elements.{filter-append}
-use Rattle.lrc_wire.specs.Envelope.{EnvelopeRecord}
+use Rattle.lrc_envelope.specs.Envelope.{EnvelopeRecord}
 use Rattle.lrc_protocol.specs.Follows.{numbers_to}
 use Rattle.lrc_protocol.specs.Log.{Input, EntryRecord}
 use Rattle.lrc_protocol.specs.World.{World, Flying, marked, sent_by}

@@ -9,8 +9,8 @@ use Rattle.lrc_trace.specs.Run.{act_of}
 use Rattle.lrc_time.specs.Time.{entry}
 use Rattle.lrc_exec.specs.Meaning.{Thread, Next, acquires, releases, arrives, departs, next_of}
 use Rattle.lrc_store.specs.Interval.{IntervalRecord}
-use Rattle.lrc_wire.specs.Envelope.{EnvelopeRecord}
-use Rattle.lrc_wire.specs.declared.message.Message.{Message}
+use Rattle.lrc_envelope.specs.Envelope.{EnvelopeRecord}
+use Rattle.lrc_envelope.specs.declared.message.Message.{Message}
 use Rattle.lrc_lock.specs.Held.{lock_at, is_free, taken, asked, released, forwarded, granted, held_after}
 use Rattle.lrc_lock.specs.Managed.{ManagedRecord, forwards, requested}
 use Rattle.lrc_protocol.specs.Fetch.{Need}

@@ -6,9 +6,9 @@ use Rattle.lrc_clock.specs.Times.{released_time}
 use Rattle.lrc_lock.specs.declared.state.LockState.{LockState}
 use Rattle.lrc_lock.specs.declared.state.LockState.TheVariants.{Away, Awaited, Free, Held}
 use Rattle.lrc_lock.specs.Held.{lock_at, is_held, has_token}
-use Rattle.lrc_wire.specs.Envelope.{EnvelopeRecord}
-use Rattle.lrc_wire.specs.Records.{LockGrantRecord}
-use Rattle.lrc_wire.specs.declared.message.Message.TheVariants.{LockGrant}
+use Rattle.lrc_envelope.specs.Envelope.{EnvelopeRecord}
+use Rattle.lrc_envelope.specs.Records.{LockGrantRecord}
+use Rattle.lrc_envelope.specs.declared.message.Message.TheVariants.{LockGrant}
 use Rattle.lrc_protocol.specs.Log.{Logged}
 use Rattle.lrc_invariants.specs.Tokens.{tokens_at_nodes}
 use Rattle.lrc_invariants.proofs.LockMoves.{absent, free_here, held_here, status_of}

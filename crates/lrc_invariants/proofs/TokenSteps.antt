@@ -8,9 +8,9 @@ use Rattle.lrc_trace.specs.declared.act.Deed.TheVariants.{Acquire, Release}
 use Rattle.lrc_time.specs.Time.{joined, Covers}
 use Rattle.lrc_time.proofs.Times.{covers-refl, covers-trans, joined-covers}
 use Rattle.lrc_clock.specs.Times.{raised, time_before, released_time}
-use Rattle.lrc_wire.specs.Envelope.{EnvelopeRecord}
-use Rattle.lrc_wire.specs.Records.{LockGrantRecord}
-use Rattle.lrc_wire.specs.declared.message.Message.TheVariants.{LockGrant}
+use Rattle.lrc_envelope.specs.Envelope.{EnvelopeRecord}
+use Rattle.lrc_envelope.specs.Records.{LockGrantRecord}
+use Rattle.lrc_envelope.specs.declared.message.Message.TheVariants.{LockGrant}
 use Rattle.lrc_protocol.specs.Mail.{Letter, nothing, grant}
 use Rattle.lrc_protocol.specs.Locks.{next_time}
 use Rattle.lrc_invariants.proofs.Present.{more_acts, more_times}

@@ -1,9 +1,9 @@
 -- Where a node stands at the barrier, counted over the pending messages and what the manager keeps.
 use Rattle.std.specs.Prelude.{◌≡◌, ℕ, ◌+◌, ◌==◌, ◌&&◌, Bool, true, false, cond, unwrap_or, option_map}
 use Rattle.std.specs.Prelude.{Option, Some, None, List, length, count_by, slice_index_or}
-use Rattle.lrc_wire.specs.Envelope.{EnvelopeRecord}
-use Rattle.lrc_wire.specs.declared.message.Message.{Message}
-use Rattle.lrc_wire.specs.declared.message.Message.TheVariants.{Arrive, Depart, Clean, Discard}
+use Rattle.lrc_envelope.specs.Envelope.{EnvelopeRecord}
+use Rattle.lrc_envelope.specs.declared.message.Message.{Message}
+use Rattle.lrc_envelope.specs.declared.message.Message.TheVariants.{Arrive, Depart, Clean, Discard}
 use Rattle.lrc_barrier.specs.Barrier.{ManagerRecord, has_arrived}
 use Rattle.lrc_trace.specs.declared.act.Act.{Act}
 use Rattle.lrc_clock.specs.Times.{arrived_time}

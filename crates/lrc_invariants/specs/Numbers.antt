@@ -1,6 +1,6 @@
 -- Numbers of messages in flight.
 use Rattle.std.specs.Prelude.{ℕ, ◌+◌, ◌<◌, ◌≤◌, ◌==◌, ◌&&◌, List, [], ◌∷◌, map, filter}
-use Rattle.lrc_wire.specs.Envelope.{EnvelopeRecord}
+use Rattle.lrc_envelope.specs.Envelope.{EnvelopeRecord}
 
 -- the numbers of the messages from one node to another, in their order
 abbrev pub numbers_between : ℕ → ℕ → List EnvelopeRecord → List ℕ

@@ -4,9 +4,9 @@ use Rattle.lrc_exec.specs.Meaning.{Thread, holds}
 use Rattle.lrc_lock.specs.declared.state.LockState.{LockState}
 use Rattle.lrc_lock.specs.declared.state.LockState.TheVariants.{Away, Awaited, Free, Held}
 use Rattle.lrc_lock.specs.Held.{HeldRecord, lock_at, is_held, has_token}
-use Rattle.lrc_wire.specs.Envelope.{EnvelopeRecord}
-use Rattle.lrc_wire.specs.declared.message.Message.{Message}
-use Rattle.lrc_wire.specs.declared.message.Message.TheVariants.{LockGrant}
+use Rattle.lrc_envelope.specs.Envelope.{EnvelopeRecord}
+use Rattle.lrc_envelope.specs.declared.message.Message.{Message}
+use Rattle.lrc_envelope.specs.declared.message.Message.TheVariants.{LockGrant}
 use Rattle.lrc_protocol.specs.Log.{Logged}
 use Rattle.lrc_protocol.specs.Course.{Course, going}
 use Rattle.lrc_protocol.specs.Mail.{Wait, awaits_grant}

@@ -5,9 +5,9 @@ ghost use Rattle.std.specs.Prelude.{◌≡◌, ◌↔◌, ℕ, ◌+◌, ◌<◌,
 ghost use Rattle.lrc_lang.specs.declared.program.Program.{Program};
 ghost use Rattle.lrc_trace.specs.Synchronization.{Holds};
 ghost use Rattle.lrc_clock.specs.Times.{released_time};
-ghost use Rattle.lrc_wire.specs.Envelope.{EnvelopeRecord};
-ghost use Rattle.lrc_wire.specs.Records.{LockRequestRecord, LockForwardRecord, LockGrantRecord};
-ghost use Rattle.lrc_wire.specs.declared.message.Message.TheVariants.{LockRequest, LockForward, LockGrant};
+ghost use Rattle.lrc_envelope.specs.Envelope.{EnvelopeRecord};
+ghost use Rattle.lrc_envelope.specs.Records.{LockRequestRecord, LockForwardRecord, LockGrantRecord};
+ghost use Rattle.lrc_envelope.specs.declared.message.Message.TheVariants.{LockRequest, LockForward, LockGrant};
 ghost use Rattle.lrc_lock.specs.declared.state.LockState.TheVariants.{Free};
 ghost use Rattle.lrc_lock.specs.Held.{lock_at, is_held};
 ghost use Rattle.lrc_protocol.specs.declared.event.Event.{Event};

@@ -37,7 +37,7 @@ use Rattle.lrc_local.proofs.Ranges.{Ranged, ranged-kept}
 use Rattle.lrc_local.specs.Waits.{IsQuiet}
 use Rattle.lrc_page.specs.declared.changes.Change.{Change}
 use Rattle.lrc_store.specs.Store.{notice_at, unread}
-use Rattle.lrc_wire.specs.Records.{IndexedChangesRecord, ChangesReplyRecord}
+use Rattle.lrc_envelope.specs.Records.{IndexedChangesRecord, ChangesReplyRecord}
 use Rattle.lrc_protocol.specs.Expected.{is_changes_reply}
 use Rattle.lrc_protocol.specs.Fetch.{indices_of, unknown_of}
 use Rattle.lrc_protocol.specs.Memory.{lacking}

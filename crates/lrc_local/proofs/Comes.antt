@@ -11,14 +11,14 @@ use Rattle.lrc_page.specs.Page.{words_of}
 use Rattle.lrc_page.specs.Place.{page_of}
 use Rattle.lrc_store.specs.declared.key.Key.{Key}
 use Rattle.lrc_store.specs.Store.{IsStore}
-use Rattle.lrc_wire.specs.Records.{ChangesReplyRecord, PageReplyRecord}
+use Rattle.lrc_envelope.specs.Records.{ChangesReplyRecord, PageReplyRecord}
 use Rattle.lrc_protocol.specs.Memory.{copy_at, lacking}
 use Rattle.lrc_protocol.specs.Fetch.{Need, with_changes, with_page}
 use Rattle.lrc_protocol.specs.Mail.{access, needs_of}
 use Rattle.lrc_protocol.specs.Node.{Node}
 use Rattle.lrc_protocol.specs.Waits.{with_needs}
 use Rattle.lrc_protocol.specs.Expected.{is_changes_reply, is_expected}
-use Rattle.lrc_wire.specs.declared.message.Message.TheVariants.{PageReply}
+use Rattle.lrc_envelope.specs.declared.message.Message.TheVariants.{PageReply}
 use Rattle.lrc_invariants.specs.Waiting.{next_in}
 use Rattle.lrc_local.specs.Needs.{FitsBase, FitsNeed, page_next, ReachesFor}
 use Rattle.lrc_local.specs.Comes.{GoesTo, CanBeRepaired}

@@ -13,7 +13,7 @@ use Rattle.lrc_store.specs.Store.{unread, without_changes, added, stored_with, n
 use Rattle.lrc_store.proofs.Stores.{interval_of-stored_with, kept_page}
 use Rattle.lrc_store.proofs.Records.{interval_of-without_changes}
 use Rattle.lrc_store.proofs.Orders.{cases_Contains, none_Contains}
-use Rattle.lrc_wire.specs.Records.{IndexedChangesRecord}
+use Rattle.lrc_envelope.specs.Records.{IndexedChangesRecord}
 use Rattle.lrc_protocol.specs.Memory.{Memory, all_changes, closed_interval, with_own, with_interval}
 use Rattle.lrc_protocol.specs.Take.{with_part}
 use Rattle.lrc_protocol.specs.Waits.{clean_memory}

@@ -11,7 +11,7 @@ use Rattle.lrc_store.specs.Interval.{by_weight}
 use Rattle.lrc_store.specs.Order.{ascending_part}
 use Rattle.lrc_store.specs.Store.{StoreRecord, IsStore, intervals_of, is_missing, key_of}
 use Rattle.lrc_store.proofs.Orders.{cases_Contains, none_Contains, filter-Contains}
-use Rattle.lrc_wire.specs.Records.{IndexedChangesRecord}
+use Rattle.lrc_envelope.specs.Records.{IndexedChangesRecord}
 use Rattle.lrc_protocol.specs.Copy.{Copy, valid, written, invalid, absent, is_readable}
 use Rattle.lrc_protocol.specs.Memory.{Memory, copy_at, lacking, lacking_in, with_base, repaired}
 use Rattle.lrc_protocol.specs.Fetch.{Base, unneeded, due, come, Asked, Need, indices_of, some_asked, asked_of, unknown_of, asks}

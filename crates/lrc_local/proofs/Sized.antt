@@ -14,7 +14,7 @@ use Rattle.lrc_store.specs.declared.key.Key.{Key}
 use Rattle.lrc_store.specs.Interval.{IntervalRecord}
 use Rattle.lrc_store.specs.Store.{NoticeRecord, StoredRecord, StoreRecord, interval_of, is_at, is_covered}
 use Rattle.lrc_store.specs.Store.{unread, without_changes, added, stored_with, notice_with}
-use Rattle.lrc_wire.specs.Records.{IndexedChangesRecord}
+use Rattle.lrc_envelope.specs.Records.{IndexedChangesRecord}
 use Rattle.lrc_time.specs.Time.{entry}
 use Rattle.lrc_protocol.specs.Copy.{Copy, valid, written, invalid, absent, changes_of}
 use Rattle.lrc_protocol.specs.Memory.{Memory, all_changes, closed_interval, with_own}

@@ -6,7 +6,7 @@ use Rattle.lrc_page.specs.declared.changes.Change.{Change}
 use Rattle.lrc_store.specs.Interval.{IntervalRecord, index_of}
 use Rattle.lrc_store.specs.Store.{StoreRecord, intervals_of, added}
 use Rattle.lrc_store.proofs.Stores.{intervals_of-added, intervals_of-attached}
-use Rattle.lrc_wire.specs.Records.{IndexedChangesRecord}
+use Rattle.lrc_envelope.specs.Records.{IndexedChangesRecord}
 use Rattle.lrc_protocol.specs.Memory.{with_own}
 use Rattle.lrc_protocol.specs.Take.{with_part}
 

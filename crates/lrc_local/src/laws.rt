@@ -11,7 +11,7 @@ ghost use Rattle.lrc_invariants.specs.Waiting.{next_in, acquiring, FixesNext};
 ghost use Rattle.lrc_lang.specs.declared.program.Program.{Program};
 ghost use Rattle.lrc_local.specs.Comes.{CanBeRepaired};
 ghost use Rattle.lrc_protocol.specs.Waits.{with_needs};
-ghost use Rattle.lrc_wire.specs.declared.message.Message.TheVariants.{PageReply};
+ghost use Rattle.lrc_envelope.specs.declared.message.Message.TheVariants.{PageReply};
 ghost use Rattle.lrc_local.specs.Needs.{FitsNeed, FitsKept, ReachesFor};
 ghost use Rattle.lrc_local.specs.Opened.{AreMadeBy, open_in, open_writes};
 ghost use Rattle.lrc_protocol.specs.Follows.{deeds_in};
@@ -43,8 +43,8 @@ ghost use Rattle.lrc_store.specs.Interval.{IntervalRecord};
 ghost use Rattle.lrc_store.specs.Store.{IsStore, notice_at, unread, changes_at};
 ghost use Rattle.lrc_store.specs.declared.key.Key.{Key};
 ghost use Rattle.lrc_time.specs.Time.{entry};
-ghost use Rattle.lrc_wire.specs.Envelope.{EnvelopeRecord};
-ghost use Rattle.lrc_wire.specs.Records.{IndexedChangesRecord, ChangesReplyRecord, PageReplyRecord};
+ghost use Rattle.lrc_envelope.specs.Envelope.{EnvelopeRecord};
+ghost use Rattle.lrc_envelope.specs.Records.{IndexedChangesRecord, ChangesReplyRecord, PageReplyRecord};
 
 /// A fresh node is reached, and so is a node after each turn of one that is reached.
 pub fn turns_lead_on()

@@ -7,8 +7,8 @@ ghost use lib.Pointwise.{pointwise};
 ghost use Rattle.lrc_protocol.specs.Fetch.{asked_of, asks, indices_of, some_asked};
 ghost use Rattle.lrc_mail.specs.Need.{AreAskable};
 
+use lrc_envelope::{IndexedChanges, Indices};
 use lrc_store::Key;
-use lrc_wire::{IndexedChanges, Indices};
 use std::alloc::{AllocError, Global};
 use std::marker::Model;
 

@@ -1,6 +1,6 @@
 // Messages before they have numbers.
 
-use lrc_wire::Message;
+use lrc_envelope::Message;
 use std::marker::Model;
 
 /// A message for a node, before it has a number.

@@ -1,7 +1,7 @@
 // A node's mail.
 
 ghost use Rattle.std.specs.Prelude.{◌≡◌, ◌+◌, ◌<◌, ◌≤◌, Some, None, Err, All, IfOk, OnErr, OnOk, OnSome, false, [], length, replicate, slice_index, slice_set};
-ghost use Rattle.lrc_wire.specs.declared.limits.TheConstants.{MOST_NODES};
+ghost use Rattle.lrc_envelope.specs.declared.limits.TheConstants.{MOST_NODES};
 ghost use Rattle.lrc_mail.specs.declared.fault.MailFault.TheVariants.{Worn};
 ghost use Rattle.lrc_protocol.specs.Mail.{fresh_mail, nothing, was_taken, with_taken, numbered, MOST_NUMBER};
 ghost use Rattle.lrc_mail.specs.Sent.{AreCounts, number_after};
@@ -10,7 +10,7 @@ use crate::fault::MailFault;
 use crate::letter::Letter;
 use crate::numbers::Numbers;
 use crate::wait::Wait;
-use lrc_wire::Envelope;
+use lrc_envelope::Envelope;
 use std::alloc::{AllocError, Global};
 use std::marker::Model;
 use std::mem;

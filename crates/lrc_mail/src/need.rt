@@ -9,9 +9,9 @@ use crate::asked::{Asked, ask, drop_maker, is_any_of};
 use crate::base::Base;
 use crate::letter::Letter;
 use crate::request::{page_request, put_changes_requests};
+use lrc_envelope::IndexedChanges;
 use lrc_page::Page;
 use lrc_store::Key;
-use lrc_wire::IndexedChanges;
 use std::alloc::{AllocError, Global};
 use std::marker::Model;
 

@@ -2,13 +2,13 @@
 
 ghost use Rattle.std.specs.Prelude.{◌≡◌, ◌<◌, ◌≤◌, ◌++◌, All, IfOk, OnOk, length, map, flat_map};
 ghost use Rattle.lrc_page.specs.declared.TheConstants.{MOST_PAGES};
-ghost use Rattle.lrc_wire.specs.declared.message.Message.TheVariants as messages;
+ghost use Rattle.lrc_envelope.specs.declared.message.Message.TheVariants as messages;
 ghost use Rattle.lrc_protocol.specs.Letters.{letter, changes_request_of, requests_of};
 
 use crate::asked::Asked;
 use crate::letter::Letter;
 use crate::need::Need;
-use lrc_wire::{ChangesRequest, Message, PageRequest};
+use lrc_envelope::{ChangesRequest, Message, PageRequest};
 use std::alloc::{AllocError, Global};
 
 /// The requests for some pages, page by page.

@@ -8,9 +8,9 @@ ghost use Rattle.lrc_protocol.specs.Mail.{is_idle, needs_of, awaits_grant, await
 ghost use Rattle.lrc_protocol.specs.Waits.{with_needs};
 
 use crate::need::Need;
+use lrc_envelope::IndexedChanges;
 use lrc_page::{Page, Pages};
 use lrc_time::Time;
-use lrc_wire::IndexedChanges;
 use std::marker::Model;
 use std::slice;
 

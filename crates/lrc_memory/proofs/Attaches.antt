@@ -13,7 +13,7 @@ use Rattle.lrc_table.proofs.Copies.{pending-settled}
 use Rattle.lrc_protocol.specs.Memory.{changes_or_none}
 use Rattle.lrc_memory.proofs.Mending.{changes-over}
 use Rattle.lrc_table.specs.Table.{copy_at}
-use Rattle.lrc_wire.specs.Records.{IndexedChangesRecord, AreParts}
+use Rattle.lrc_envelope.specs.Records.{IndexedChangesRecord, AreParts}
 use Rattle.lrc_protocol.specs.Take.{with_part}
 use Rattle.lrc_memory.specs.View.{Kept, NodeMemory, IsKept, seen, node_seen, unmade, with_memory}
 use Rattle.lrc_memory.proofs.Overlays.{notice_at-over, notice_seen, over-attached}

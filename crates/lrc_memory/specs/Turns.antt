@@ -6,7 +6,7 @@ use Rattle.lrc_store.specs.Interval.{IntervalRecord}
 use Rattle.lrc_store.specs.Store.{StoreRecord, notice_at, unread}
 use Rattle.lrc_page.specs.declared.size.Size.{Size}
 use Rattle.lrc_page.specs.Page.{words_of}
-use Rattle.lrc_wire.specs.Records.{IndexedChangesRecord}
+use Rattle.lrc_envelope.specs.Records.{IndexedChangesRecord}
 use Rattle.lrc_protocol.specs.Copy.{Copy, invalid, absent, changes_of}
 use Rattle.lrc_protocol.specs.Memory.{Memory}
 use Rattle.lrc_protocol.specs.Fetch.{Base, unneeded, come}

@@ -17,12 +17,12 @@ ghost use Rattle.lrc_memory.specs.Turns.{AreAwaited, is_mendable};
 
 use crate::memory::Memory;
 use crate::settle::settle_page;
+use lrc_envelope::Parts;
 use lrc_mail::{Base, Need};
 use lrc_page::Changes;
 use lrc_store::{Key, Store};
 use lrc_table::{PageTable, State};
 use lrc_time::Time;
-use lrc_wire::Parts;
 use std::alloc::{AllocError, Global};
 
 impl Memory {

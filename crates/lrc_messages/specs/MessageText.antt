@@ -5,11 +5,11 @@ use Rattle.lrc_page.specs.Changes.{changes_between}
 use Rattle.lrc_store.specs.Interval.{IntervalRecord, index_of}
 use Rattle.lrc_wire.specs.declared.kind.Kind.{Kind}
 use Rattle.lrc_wire.specs.declared.kind.Kind.TheVariants as kinds
-use Rattle.lrc_wire.specs.Records.{IndexedChangesRecord, LockRequestRecord, LockForwardRecord, LockGrantRecord, ArriveRecord, DepartRecord}
-use Rattle.lrc_wire.specs.Records.{ChangesRequestRecord, ChangesReplyRecord, PageReplyRecord}
-use Rattle.lrc_wire.specs.declared.message.Message.{Message}
-use Rattle.lrc_wire.specs.declared.message.Message.TheVariants.{LockRequest, LockForward, LockGrant, Arrive, Depart, Clean, Discard}
-use Rattle.lrc_wire.specs.declared.message.Message.TheVariants.{ChangesRequest, ChangesReply, PageRequest, PageReply}
+use Rattle.lrc_envelope.specs.Records.{IndexedChangesRecord, LockRequestRecord, LockForwardRecord, LockGrantRecord, ArriveRecord, DepartRecord}
+use Rattle.lrc_envelope.specs.Records.{ChangesRequestRecord, ChangesReplyRecord, PageReplyRecord}
+use Rattle.lrc_envelope.specs.declared.message.Message.{Message}
+use Rattle.lrc_envelope.specs.declared.message.Message.TheVariants.{LockRequest, LockForward, LockGrant, Arrive, Depart, Clean, Discard}
+use Rattle.lrc_envelope.specs.declared.message.Message.TheVariants.{ChangesRequest, ChangesReply, PageRequest, PageReply}
 use Rattle.lrc_show.specs.Json.{with_commas}
 use Rattle.lrc_messages.specs.Lists.{joined, joined_or_dash}
 

@@ -5,9 +5,9 @@ ghost use Rattle.lrc_messages.specs.Lists.{before, joined, joined_or_dash};
 ghost use Rattle.lrc_messages.specs.MessageText.{change_text, part_text, words_in};
 
 use crate::lists::push_before;
+use lrc_envelope::{IndexedChanges, Parts};
 use lrc_page::{Change, Changes, Page};
 use lrc_text::push_number;
-use lrc_wire::{IndexedChanges, Parts};
 use std::alloc::{AllocError, Global};
 
 fn push_change(text: &mut Vec<u8>, place: usize, change: Change) -> Result<(), AllocError>

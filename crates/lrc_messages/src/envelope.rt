@@ -10,8 +10,9 @@ ghost use Rattle.lrc_messages.specs.MessageText.{message_text};
 ghost use Rattle.lrc_messages.specs.TurnText.{bytes_of, sent_text, sent_texts, size_text, taken_text};
 
 use crate::message::push_message;
+use lrc_envelope::{Envelope, Message};
 use lrc_text::push_number;
-use lrc_wire::{EncodeFault, Envelope, Message, encode};
+use lrc_wire::{EncodeFault, encode};
 use std::alloc::{AllocError, Global};
 
 /// Adds the line of a message that a node takes; of one that it took before no more is said.

@@ -4,9 +4,9 @@ ghost use Rattle.std.specs.Prelude.{◌≡◌, ◌++◌, OnOk};
 ghost use Rattle.lrc_show.specs.Json.{entry_text, with_commas};
 ghost use Rattle.lrc_messages.specs.Lists.{before};
 
+use lrc_envelope::Indices;
 use lrc_page::Pages;
 use lrc_text::push_number;
-use lrc_wire::Indices;
 use std::alloc::AllocError;
 
 /// Adds what stands before an item at this place of a list: the sign, but before the first nothing.

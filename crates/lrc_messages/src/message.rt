@@ -7,11 +7,12 @@ ghost use Rattle.lrc_messages.specs.MessageText.{lock_forward_text, lock_grant_t
 use crate::changes::{push_parts, push_words};
 use crate::lists::push_indices;
 use crate::news::{push_collect, push_news, push_time};
-use lrc_text::push_number;
-use lrc_wire::{
-    Arrive, ChangesReply, ChangesRequest, Depart, Kind, LockForward, LockGrant, LockRequest,
-    Message, PageReply,
+use lrc_envelope::{
+    Arrive, ChangesReply, ChangesRequest, Depart, LockForward, LockGrant, LockRequest, Message,
+    PageReply,
 };
+use lrc_text::push_number;
+use lrc_wire::Kind;
 use std::alloc::{AllocError, Global};
 
 /// The name of a kind.

@@ -5,11 +5,11 @@ ghost use Rattle.lrc_messages.specs.Lists.{before, joined, joined_or_dash};
 ghost use Rattle.lrc_messages.specs.MessageText.{collect_text, interval_text, news_text, time_text};
 
 use crate::lists::{push_before, push_pages};
+use lrc_envelope::News;
 use lrc_show::push_entries;
 use lrc_store::{Interval, Intervals};
 use lrc_text::push_number;
 use lrc_time::Time;
-use lrc_wire::News;
 use std::alloc::AllocError;
 
 /// Adds the entries of a time.

@@ -22,10 +22,10 @@ use Rattle.lrc_node.specs.Text.{asked_in}
 use Rattle.lrc_node.specs.Taken.{IsTaking}
 use Rattle.lrc_node.specs.Taking.{CanDiscard, CanTake}
 use Rattle.std.specs.Prelude.{map}
-use Rattle.lrc_wire.specs.Records.{ArriveRecord}
-use Rattle.lrc_wire.specs.declared.message.Message.{Message}
-use Rattle.lrc_wire.specs.declared.message.Message.TheVariants.{LockRequest, LockForward, LockGrant, Arrive, Depart, Clean, Discard}
-use Rattle.lrc_wire.specs.declared.message.Message.TheVariants.{ChangesRequest, ChangesReply, PageRequest, PageReply}
+use Rattle.lrc_envelope.specs.Records.{ArriveRecord}
+use Rattle.lrc_envelope.specs.declared.message.Message.{Message}
+use Rattle.lrc_envelope.specs.declared.message.Message.TheVariants.{LockRequest, LockForward, LockGrant, Arrive, Depart, Clean, Discard}
+use Rattle.lrc_envelope.specs.declared.message.Message.TheVariants.{ChangesRequest, ChangesReply, PageRequest, PageReply}
 use Rattle.lrc_barrier.specs.Barrier.{IsArrival}
 use Rattle.lrc_protocol.specs.Fetch.{Need}
 use Rattle.lrc_protocol.specs.Mail.{with_taken, needs_of}

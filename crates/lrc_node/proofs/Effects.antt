@@ -6,7 +6,7 @@ use Rattle.lrc_exec.specs.declared.machine.Ask.{Ask}
 use Rattle.lrc_exec.specs.declared.machine.Ask.TheVariants.{Quiet as Ask_Quiet, Print as Ask_Print, Read as Ask_Read, Write as Ask_Write}
 use Rattle.lrc_exec.specs.declared.machine.Ask.TheVariants.{Acquire as Ask_Acquire, Release as Ask_Release, Barrier as Ask_Barrier, Trap as Ask_Trap}
 use Rattle.lrc_exec.specs.declared.machine.Ask.TheVariants.{End as Ask_End}
-use Rattle.lrc_wire.specs.Envelope.{EnvelopeRecord}
+use Rattle.lrc_envelope.specs.Envelope.{EnvelopeRecord}
 use Rattle.lrc_exec.specs.Ask.{ask_of}
 use Rattle.lrc_exec.specs.Meaning.{Thread, Next, quiet, prints, reads, writes, acquires, releases, arrives, departs, traps, ends, next_of}
 use Rattle.lrc_protocol.specs.Course.{Course, going, trapped, ended, deed_of, course_of}

@@ -10,7 +10,7 @@ use Rattle.lrc_page.specs.Place.{pages_of}
 use Rattle.lrc_exec.specs.Ask.{ask_of}
 use Rattle.lrc_exec.specs.Meaning.{Next, quiet, prints, reads, writes, acquires, releases, arrives, departs, traps, ends}
 use Rattle.lrc_store.specs.declared.key.Key.{Key}
-use Rattle.lrc_wire.specs.Records.{IndexedChangesRecord, ChangesReplyRecord}
+use Rattle.lrc_envelope.specs.Records.{IndexedChangesRecord, ChangesReplyRecord}
 use Rattle.lrc_protocol.specs.Copy.{Copy, absent, is_readable, changes_of}
 use Rattle.lrc_protocol.specs.Memory.{Memory, copy_at}
 use Rattle.lrc_protocol.specs.Fetch.{Need, is_due, is_met, with_changes, with_page, awaits_page}

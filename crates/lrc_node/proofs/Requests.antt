@@ -2,7 +2,7 @@
 use Rattle.std.proofs.Common.{◌≡◌, ℕ, zero, suc, ◌+◌, ◌-◌, ◌<◌, List, length, map, get_or, ◌∙◌, ap, subst, arith}
 use Rattle.std.specs.List.Sorted.{IsStrictlyIncreasing}
 use Rattle.std.proofs.lemmas.List.{get_or-map, length-map}
-use Rattle.lrc_wire.specs.Records.{AreParts, IndexedChangesRecord}
+use Rattle.lrc_envelope.specs.Records.{AreParts, IndexedChangesRecord}
 use Rattle.lrc_memory.specs.View.{NodeMemory}
 use Rattle.lrc_node.specs.Requests.{part_in}
 

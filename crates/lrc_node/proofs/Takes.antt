@@ -1,7 +1,7 @@
 -- What comes of a message that is taken.
 use Rattle.std.proofs.Common.{◌≡◌, Bool, true, false, cond, ◌⊎◌, ⊎_elim, Some, None, sym, ap, ◌∙◌, subst}
 use Rattle.std.specs.Prelude.{if◌then◌else◌, Result, Ok, Err, IfErr}
-use Rattle.lrc_wire.specs.Envelope.{EnvelopeRecord}
+use Rattle.lrc_envelope.specs.Envelope.{EnvelopeRecord}
 use Rattle.lrc_trace.specs.Trace.{TraceRecord}
 use Rattle.lrc_local.specs.Traced.{IsTraced}
 use Rattle.lrc_protocol.specs.Expected.{is_expected}

@@ -3,7 +3,7 @@ use Rattle.std.specs.Prelude.{ℕ, Option, Some, None, List, All, IfSome, ◌≤
 use Rattle.lrc_barrier.specs.declared.arrival.Arrival.{Arrival}
 use Rattle.lrc_barrier.specs.declared.departure.Departure.{Departure}
 use Rattle.lrc_barrier.specs.Barrier.{ManagerRecord, IsDeparture, ArriveStep, refuses, waits, departs, CleanStep, refuses_clean, awaits, discards}
-use Rattle.lrc_wire.specs.Records.{ArriveRecord}
+use Rattle.lrc_envelope.specs.Records.{ArriveRecord}
 use Rattle.lrc_protocol.specs.Barrier.{Barrier, with_manager}
 
 -- what an arrival is answered, the departures if it was the last, and the barrier then; none where it isn't accepted

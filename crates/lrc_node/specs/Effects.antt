@@ -17,7 +17,7 @@ use Rattle.lrc_protocol.specs.Mail.{Wait, access, upkeep}
 use Rattle.lrc_protocol.specs.Node.{Node, Effect, begins, acts, with_memory}
 use Rattle.lrc_protocol.specs.Run.{own_index, reaches, closing, acquire_at, release_at, arrive_at}
 use Rattle.lrc_exec.specs.Ask.{ask_of}
-use Rattle.lrc_wire.specs.Records.{ChangesReplyRecord}
+use Rattle.lrc_envelope.specs.Records.{ChangesReplyRecord}
 use Rattle.lrc_protocol.specs.Take.{with_part}
 use Rattle.lrc_protocol.specs.Turn.{Outcome, not_ready, worn}
 use Rattle.lrc_node.specs.declared.fault.NodeFault.{NodeFault}

@@ -1,6 +1,6 @@
 -- What is asked of a node.
 use Rattle.std.specs.Prelude.{ℕ}
-use Rattle.lrc_wire.specs.Records.{IndexedChangesRecord}
+use Rattle.lrc_envelope.specs.Records.{IndexedChangesRecord}
 use Rattle.lrc_memory.specs.View.{NodeMemory}
 use Rattle.lrc_protocol.specs.Memory.{changes_or_none}
 

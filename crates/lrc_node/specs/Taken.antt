@@ -1,7 +1,7 @@
 -- What comes of a message that a node is to take.
 use Rattle.std.specs.Prelude.{◌≡◌, ℕ, ◌<◌, true, false}
-use Rattle.lrc_wire.specs.Envelope.{EnvelopeRecord}
-use Rattle.lrc_wire.specs.declared.message.Message.{Message}
+use Rattle.lrc_envelope.specs.Envelope.{EnvelopeRecord}
+use Rattle.lrc_envelope.specs.declared.message.Message.{Message}
 use Rattle.lrc_local.specs.Reached.{IsReached}
 use Rattle.lrc_protocol.specs.Expected.{is_expected}
 use Rattle.lrc_protocol.specs.Node.{Node}

@@ -2,9 +2,9 @@
 use Rattle.std.specs.Prelude.{ℕ, ◌≡◌, ◌≢◌, ◌<◌, ◌≤◌, Some, AllPairs, length}
 use Rattle.lrc_time.specs.Time.{entry}
 use Rattle.lrc_exec.specs.declared.machine.Ask.TheVariants.{Acquire, Barrier}
-use Rattle.lrc_wire.specs.declared.message.Message.{Message}
-use Rattle.lrc_wire.specs.declared.message.Message.TheVariants.{LockRequest, LockForward, LockGrant, Arrive, Depart, Clean, Discard}
-use Rattle.lrc_wire.specs.declared.message.Message.TheVariants.{ChangesRequest, ChangesReply, PageRequest, PageReply}
+use Rattle.lrc_envelope.specs.declared.message.Message.{Message}
+use Rattle.lrc_envelope.specs.declared.message.Message.TheVariants.{LockRequest, LockForward, LockGrant, Arrive, Depart, Clean, Discard}
+use Rattle.lrc_envelope.specs.declared.message.Message.TheVariants.{ChangesRequest, ChangesReply, PageRequest, PageReply}
 use Rattle.lrc_barrier.specs.Barrier.{IsArrival}
 use Rattle.lrc_memory.specs.Turns.{AreAwaited, CanBeAdded, IsClosed}
 use Rattle.lrc_protocol.specs.Fetch.{with_changes, with_page}

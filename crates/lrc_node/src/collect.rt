@@ -21,11 +21,11 @@ ghost use Rattle.lrc_node.specs.Text.{asked_in};
 use crate::letters::one;
 use crate::state::NodeState;
 use crate::turn::Effect;
+use lrc_envelope::{Clean, Message, News};
 use lrc_mail::{Collection, Letter, Need, Wait, requests};
 use lrc_memory::Memory;
 use lrc_page::Pages;
 use lrc_time::Time;
-use lrc_wire::{Clean, Message, News};
 use std::alloc::{AllocError, Global};
 
 /// Whether all has come that these pages need.

@@ -5,18 +5,18 @@ ghost use Rattle.std.specs.List.{list_all};
 ghost use Rattle.lrc_page.specs.Place.{pages_of};
 ghost use Rattle.lrc_store.specs.Store.{notice_at};
 ghost use Rattle.lrc_time.specs.Time.{covers};
-ghost use Rattle.lrc_wire.specs.declared.message.Message.TheVariants as messages;
+ghost use Rattle.lrc_envelope.specs.declared.message.Message.TheVariants as messages;
 ghost use Rattle.lrc_protocol.specs.Expected.{are_arriving, is_expected, is_learnable, is_news};
 
 use crate::news::are_between;
 use crate::ranges::{all_on_page, are_of, covers, fits, leads};
 use crate::state::NodeState;
-use lrc_memory::Memory;
-use lrc_page::pages_of;
-use lrc_wire::{
+use lrc_envelope::{
     Arrive, ChangesReply, ChangesRequest, Clean, Depart, Discard, LockForward, LockGrant,
     LockRequest, Message, News, PageReply, PageRequest,
 };
+use lrc_memory::Memory;
+use lrc_page::pages_of;
 
 impl NodeState<'_> {
     /// Whether the node expects a message from one of the nodes.

@@ -1,17 +1,17 @@
 // The letters that a node sends.
 
 ghost use Rattle.std.specs.Prelude.{◌≡◌, ◌<◌, ◌∷◌, ◌&&◌, [], All, IfOk, IfSome, length, slice_set};
-ghost use Rattle.lrc_wire.specs.declared.limits.TheConstants.{MOST_LOCKS};
+ghost use Rattle.lrc_envelope.specs.declared.limits.TheConstants.{MOST_LOCKS};
 ghost use Rattle.lrc_lock.specs.Lock.{IsPass};
 ghost use Rattle.lrc_protocol.specs.Letters.{asks_for_collection, grants_of, own_news};
 ghost use Rattle.lrc_node.specs.State.{AreFor};
 
 use crate::state::NodeState;
+use lrc_envelope::{LockGrant, Message, News};
 use lrc_lock::Pass;
 use lrc_mail::Letter;
 use lrc_store::Intervals;
 use lrc_time::Time;
-use lrc_wire::{LockGrant, Message, News};
 use std::alloc::{AllocError, Global};
 
 /// One letter.

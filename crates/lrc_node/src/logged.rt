@@ -12,9 +12,9 @@ use crate::end::End;
 use crate::fault::NodeFault;
 use crate::node::Node;
 use crate::turn::Turn;
+use lrc_envelope::Envelope;
 use lrc_trace::act::{Act, Deed};
 use lrc_trace::trace::Trace;
-use lrc_wire::Envelope;
 use std::alloc::Global;
 use std::marker::Model;
 

@@ -14,9 +14,9 @@ use crate::fault::NodeFault;
 use crate::options::Options;
 use crate::state::NodeState;
 use crate::turn::Turn;
+use lrc_envelope::Envelope;
 use lrc_exec::code::Code;
 use lrc_trace::trace::Trace;
-use lrc_wire::Envelope;
 use std::alloc::{AllocError, Global};
 use std::marker::Model;
 

@@ -11,9 +11,9 @@ ghost use Rattle.lrc_node.specs.declared.fault.NodeFault.TheVariants.{NotReady, 
 use crate::fault::NodeFault;
 use crate::state::NodeState;
 use crate::turn::Turn;
+use lrc_envelope::Envelope;
 use lrc_trace::act::{Act, Deed};
 use lrc_trace::trace::Trace;
-use lrc_wire::Envelope;
 use std::alloc::AllocError;
 
 impl NodeState<'_> {

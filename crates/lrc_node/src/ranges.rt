@@ -8,10 +8,10 @@ ghost use Rattle.lrc_protocol.specs.Expected.{are_between};
 ghost use Rattle.lrc_node.specs.Ranges.{fits, is_in_range, leads};
 
 use crate::news::lead;
+use lrc_envelope::IndexedChanges;
 use lrc_page::Changes;
 use lrc_store::Interval;
 use lrc_time::Time;
-use lrc_wire::IndexedChanges;
 
 /// Whether a time knows all that another one knows, of as many nodes.
 pub(crate) fn covers(time: &Time, other: &Time) -> bool

@@ -16,8 +16,8 @@ use crate::fault::NodeFault;
 use crate::letters::one;
 use crate::state::NodeState;
 use crate::turn::Effect;
+use lrc_envelope::{Arrive, LockRequest, Message, News};
 use lrc_mail::Wait;
-use lrc_wire::{Arrive, LockRequest, Message, News};
 use std::alloc::AllocError;
 
 impl NodeState<'_> {

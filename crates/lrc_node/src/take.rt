@@ -11,7 +11,7 @@ ghost use Rattle.lrc_node.specs.declared.fault.NodeFault.TheVariants.{NoMemory, 
 use crate::fault::NodeFault;
 use crate::state::NodeState;
 use crate::turn::Turn;
-use lrc_wire::Envelope;
+use lrc_envelope::Envelope;
 
 impl NodeState<'_> {
     /// Takes a message. A repeat of one that was taken is an empty turn. `Unexpected`, with nothing changed, where the

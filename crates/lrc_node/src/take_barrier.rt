@@ -13,8 +13,8 @@ use crate::fault::NodeFault;
 use crate::state::NodeState;
 use crate::turn::Effect;
 use lrc_barrier::{Arrival, Departures};
+use lrc_envelope::{Arrive, Depart, Discard, Message, News};
 use lrc_mail::Letter;
-use lrc_wire::{Arrive, Depart, Discard, Message, News};
 use std::alloc::{AllocError, Global};
 
 /// One word to discard for each node.

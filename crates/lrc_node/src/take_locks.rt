@@ -1,7 +1,7 @@
 // What a node does with messages about locks.
 
 ghost use Rattle.std.specs.Prelude.{◌≡◌, ◌<◌, IfOk, OnOk, Some, length};
-ghost use Rattle.lrc_wire.specs.declared.limits.TheConstants.{MOST_LOCKS};
+ghost use Rattle.lrc_envelope.specs.declared.limits.TheConstants.{MOST_LOCKS};
 ghost use Rattle.lrc_exec.specs.declared.machine.Ask.TheVariants.{Acquire};
 ghost use Rattle.lrc_lock.specs.Held.{forwarded};
 ghost use Rattle.lrc_lock.specs.Managed.{requested};
@@ -13,8 +13,8 @@ ghost use Rattle.lrc_node.specs.Text.{asked_in};
 use crate::letters::one;
 use crate::state::NodeState;
 use crate::turn::Effect;
+use lrc_envelope::{LockForward, LockGrant, LockRequest, Message, News};
 use lrc_mail::Wait;
-use lrc_wire::{LockForward, LockGrant, LockRequest, Message, News};
 use std::alloc::AllocError;
 
 impl NodeState<'_> {

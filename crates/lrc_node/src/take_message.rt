@@ -8,7 +8,7 @@ ghost use Rattle.lrc_node.specs.Taking.{CanTake};
 
 use crate::state::NodeState;
 use crate::turn::Effect;
-use lrc_wire::Message;
+use lrc_envelope::Message;
 use std::alloc::AllocError;
 
 impl NodeState<'_> {

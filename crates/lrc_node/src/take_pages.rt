@@ -12,8 +12,8 @@ ghost use Rattle.lrc_node.specs.State.{seen_effect, AreFor};
 
 use crate::state::NodeState;
 use crate::turn::Effect;
+use lrc_envelope::{ChangesReply, PageReply};
 use lrc_mail::{Letter, Need, Wait};
-use lrc_wire::{ChangesReply, PageReply};
 use std::alloc::AllocError;
 
 impl NodeState<'_> {

@@ -12,10 +12,10 @@ ghost use Rattle.lrc_node.specs.State.{seen_effect, AreFor};
 use crate::letters::one;
 use crate::state::NodeState;
 use crate::turn::Effect;
-use lrc_memory::Memory;
-use lrc_wire::{
+use lrc_envelope::{
     ChangesReply, ChangesRequest, IndexedChanges, Indices, Message, PageReply, PageRequest, Parts,
 };
+use lrc_memory::Memory;
 use std::alloc::{AllocError, Global};
 
 /// What a node's own intervals changed in a page.

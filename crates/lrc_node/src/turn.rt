@@ -1,8 +1,8 @@
 // What a turn does.
 
+use lrc_envelope::Envelope;
 use lrc_mail::Letter;
 use lrc_trace::act::{Act, Deed};
-use lrc_wire::Envelope;
 use std::marker::Model;
 
 /// What a node's turn does: its act if it makes one, and the messages that it sends, in order.

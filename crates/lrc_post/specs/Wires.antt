@@ -1,8 +1,8 @@
 -- What was put into one mailbox and taken out of it, in order.
 use Rattle.std.specs.Prelude.{◌≡◌, ℕ, zero, suc, ◌-◌, ◌<◌, ◌==◌, Bool, false, List, [], ◌++◌, length, replicate, take, drop, slice_get, Option, Some, None}
 use Rattle.std.specs.List.{count_by}
-use Rattle.lrc_wire.specs.declared.picker.Picker.{Picker}
-use Rattle.lrc_wire.specs.declared.picker.Picker.TheVariants.{Oldest, Newest, Twice}
+use Rattle.lrc_envelope.specs.declared.picker.Picker.{Picker}
+use Rattle.lrc_envelope.specs.declared.picker.Picker.TheVariants.{Oldest, Newest, Twice}
 use Rattle.lrc_post.specs.declared.parcel.Parcel.{Parcel}
 use Rattle.lrc_post.specs.declared.parcel.Wire.{Wire}
 use Rattle.lrc_post.specs.declared.parcel.Wire.TheVariants.{Put, Took}

@@ -8,7 +8,7 @@ ghost use Rattle.lrc_post.specs.Wires.{IsLegal, IsTakenBy, in_flight};
 use crate::fault::{PostFault, Unput};
 use crate::parcel::{Parcel, Wire};
 use crate::queue::{drop_next, line_up, make_room, next_place, parcel_at};
-use lrc_wire::Picker;
+use lrc_envelope::Picker;
 use std::alloc::{AllocError, Global};
 use std::collections::VecDeque;
 use std::marker::Model;

@@ -8,7 +8,7 @@ use crate::fault::{PostFault, Unput};
 use crate::mailbox::Mailbox;
 use crate::parcel::Parcel;
 use crate::wires::Wires;
-use lrc_wire::Picker;
+use lrc_envelope::Picker;
 use std::alloc::{AllocError, Global};
 use std::sync::atomic::{AtomicUsize, Ordering};
 use std::sync::{Condvar, Mutex, Wait};

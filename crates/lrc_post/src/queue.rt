@@ -6,7 +6,7 @@ ghost use Rattle.std.specs.VecDeque.{deque_len, deque_capacity};
 ghost use Rattle.lrc_post.specs.Wires.{IsPutFor, IsPutOf, next_of, times, without_next};
 
 use crate::parcel::{Parcel, Wire};
-use lrc_wire::Picker;
+use lrc_envelope::Picker;
 use std::alloc::AllocError;
 use std::collections::VecDeque;
 

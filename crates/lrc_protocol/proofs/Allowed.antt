@@ -4,9 +4,9 @@ use Rattle.std.specs.Prelude.{Option, Some, None, option_map, unwrap_or, is_some
 use Rattle.std.specs.List.{list_all}
 use Rattle.std.proofs.lemmas.Bool.{and_from, eq-eqb, ne_eqb, lt-ltb, le-leb}
 use Rattle.lrc_exec.specs.Meaning.{Next, acquires, releases, arrives}
-use Rattle.lrc_wire.specs.declared.message.Message.{Message}
-use Rattle.lrc_wire.specs.declared.message.Message.TheVariants.{Arrive, Depart, Clean}
-use Rattle.lrc_wire.specs.Records.{ArriveRecord, DepartRecord}
+use Rattle.lrc_envelope.specs.declared.message.Message.{Message}
+use Rattle.lrc_envelope.specs.declared.message.Message.TheVariants.{Arrive, Depart, Clean}
+use Rattle.lrc_envelope.specs.Records.{ArriveRecord, DepartRecord}
 use Rattle.lrc_lock.specs.Held.{lock_at, is_free}
 use Rattle.lrc_barrier.specs.Barrier.{ManagerRecord, ArriveStep, is_accepted, arrived, CleanStep, cleaned}
 use Rattle.lrc_protocol.specs.Copy.{is_readable}

@@ -5,7 +5,7 @@ use Rattle.std.specs.Prelude.{Option, Some, None, ◌==◌, nat_le, cond, filter
 use Rattle.std.specs.List.{range_with_len}
 use Rattle.std.proofs.lemmas.Bool.{cases_eq, eq-eqb, ne_eqb}
 use Rattle.std.proofs.lemmas.List.{get_or-set_same, get_or-set_other, length-set}
-use Rattle.lrc_wire.specs.Envelope.{EnvelopeRecord}
+use Rattle.lrc_envelope.specs.Envelope.{EnvelopeRecord}
 use Rattle.lrc_protocol.specs.Mail.{Letter, MOST_NUMBER, envelope_of, numbered}
 use Rattle.lrc_protocol.specs.Follows.{numbers_to}
 

@@ -4,7 +4,7 @@ use Rattle.std.specs.Prelude.{Option, Some, None, ◌≢◌, remove, is_some, sl
 use Rattle.std.specs.Option.{option_to_list}
 use Rattle.std.proofs.lemmas.Option.{same_Some}
 use Rattle.lrc_exec.specs.Meaning.{Thread, Next, quiet, prints, reads, writes, acquires, releases, arrives, departs, traps, ends, next_of}
-use Rattle.lrc_wire.specs.Envelope.{EnvelopeRecord}
+use Rattle.lrc_envelope.specs.Envelope.{EnvelopeRecord}
 use Rattle.lrc_protocol.specs.declared.event.Event.TheVariants.{Run, Deliver, Repeat}
 use Rattle.lrc_protocol.specs.Course.{going, trapped, ended}
 use Rattle.lrc_protocol.specs.Mail.{is_idle}

@@ -1,7 +1,7 @@
 -- A node with the log of its turns. What it does depends on its own inputs alone.
 use Rattle.std.specs.Prelude.{ℕ, ◌+◌, Option, Some, None, max, nat_le, List, [], ◌∷◌, ◌++◌, fold, if◌then◌else◌}
 use Rattle.lrc_lang.specs.declared.program.Program.{Program}
-use Rattle.lrc_wire.specs.Envelope.{EnvelopeRecord}
+use Rattle.lrc_envelope.specs.Envelope.{EnvelopeRecord}
 use Rattle.lrc_protocol.specs.Node.{Node, OptionsRecord, fresh_node}
 use Rattle.lrc_protocol.specs.Turn.{TurnRecord, Outcome, done, not_ready, unexpected, worn, run_turn, take_turn}
 

@@ -1,7 +1,7 @@
 -- How a node goes on once all that it waits for of pages has come.
 use Rattle.std.specs.Prelude.{ℕ, List, [], ◌∷◌, map, fold, if◌then◌else◌}
 use Rattle.std.specs.List.{list_all}
-use Rattle.lrc_wire.specs.declared.message.Message.TheVariants.{Clean}
+use Rattle.lrc_envelope.specs.declared.message.Message.TheVariants.{Clean}
 use Rattle.lrc_protocol.specs.Memory.{Memory, with_base}
 use Rattle.lrc_protocol.specs.Fetch.{Need, is_met, mended}
 use Rattle.lrc_protocol.specs.Mail.{Collection, Wait, nothing, access, upkeep, discard, Letter}

@@ -1,7 +1,7 @@
 -- What a run of nodes on threads answers.
 use Rattle.std.specs.Prelude.{◌≡◌, ℕ, ◌<◌, ◌^◌, List, length, map}
 use Rattle.lrc_lang.specs.declared.program.Program.{Program}
-use Rattle.lrc_wire.specs.declared.picker.Picker.{Picker}
+use Rattle.lrc_envelope.specs.declared.picker.Picker.{Picker}
 use Rattle.lrc_post.specs.Mailbox.{MailboxRecord}
 use Rattle.lrc_post.specs.Post.{AreOf, AreWires}
 use Rattle.lrc_protocol.specs.declared.event.Event.{Event}

@@ -1,7 +1,7 @@
 -- What one node's thread does: its turns, what it puts and what it takes.
 use Rattle.std.specs.Prelude.{◌≡◌, ℕ, Bool, true, false, Option, Some, None, Result, Ok, Err, is_err, List, [], ◌∷◌, ◌++◌, map}
 use Rattle.lrc_wire.specs.declared.fault.WireFault.{WireFault}
-use Rattle.lrc_wire.specs.Envelope.{EnvelopeRecord}
+use Rattle.lrc_envelope.specs.Envelope.{EnvelopeRecord}
 use Rattle.lrc_wire.specs.Reading.{envelope_of}
 use Rattle.lrc_post.specs.declared.fault.PostFault.{PostFault}
 use Rattle.lrc_post.specs.declared.fault.PostFault.TheVariants as PostFaults

@@ -7,7 +7,7 @@ use Rattle.std.proofs.lemmas.Bool.{cases_eq, ne_eqb}
 use Rattle.std.proofs.lemmas.List.{get_or-set_same, get_or-set_other, get_or_default}
 use Rattle.std.proofs.lemmas.List.Folds.{list_any-append}
 use Rattle.lrc_store.specs.Order.{placed}
-use Rattle.lrc_wire.specs.Envelope.{EnvelopeRecord}
+use Rattle.lrc_envelope.specs.Envelope.{EnvelopeRecord}
 use Rattle.lrc_protocol.specs.Log.{EntryRecord, Input, run, taken}
 use Rattle.lrc_stats.specs.Learned.{is_taking, is_again, took}
 use Rattle.lrc_stats.specs.Seen.{HasSeen, has_seen}

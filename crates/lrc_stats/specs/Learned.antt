@@ -3,8 +3,8 @@ use Rattle.std.specs.Prelude.{◌≡◌, ℕ, ◌+◌, ◌-◌, ◌==◌, ◌&&�
 use Rattle.std.specs.Prelude.{length, count_by, slice_index_or, sum_by}
 use Rattle.std.specs.List.{list_any}
 use Rattle.lrc_store.specs.Interval.{IntervalRecord}
-use Rattle.lrc_wire.specs.declared.message.Message.{Message}
-use Rattle.lrc_wire.specs.declared.message.Message.TheVariants.{LockGrant, Depart, Discard}
+use Rattle.lrc_envelope.specs.declared.message.Message.{Message}
+use Rattle.lrc_envelope.specs.declared.message.Message.TheVariants.{LockGrant, Depart, Discard}
 use Rattle.lrc_protocol.specs.Log.{EntryRecord, Input, run, taken}
 use Rattle.lrc_stats.specs.declared.learned.Learned.{Learned}
 

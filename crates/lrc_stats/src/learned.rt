@@ -8,9 +8,9 @@ ghost use Rattle.lrc_stats.specs.Seen.{HasSeen};
 
 use crate::seen::Seen;
 use crate::turns::add;
+use lrc_envelope::Message;
 use lrc_node::{Entry, Input};
 use lrc_store::Interval;
-use lrc_wire::Message;
 use std::alloc::{AllocError, Global};
 
 /// What the messages brought that nodes took, without the repeats.

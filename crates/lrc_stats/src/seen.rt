@@ -1,11 +1,11 @@
 // Which messages a node has taken.
 
 ghost use Rattle.std.specs.Prelude.{◌≡◌, ◌++◌, ◌∷◌, [], List, IfOk, OnOk, false, vec_len};
-ghost use Rattle.lrc_wire.specs.declared.limits.TheConstants.{MOST_NODES};
+ghost use Rattle.lrc_envelope.specs.declared.limits.TheConstants.{MOST_NODES};
 
+use lrc_envelope::MOST_NODES;
 use lrc_mail::Numbers;
 use lrc_node::{Entry, Input};
-use lrc_wire::MOST_NODES;
 use std::alloc::{AllocError, Global};
 
 /// The messages that a node has taken: the numbers of each sender's.

@@ -6,8 +6,9 @@ ghost use Rattle.lrc_wire.specs.Spelling as spelling;
 ghost use Rattle.lrc_stats.specs.Sent.{all_sent, bytes_in, count_of, is_wanted, sent_in, sent_of, size_of};
 
 use crate::turns::add;
+use lrc_envelope::{Envelope, Message};
 use lrc_node::Entry;
-use lrc_wire::{EncodeFault, Envelope, Message, encode};
+use lrc_wire::{EncodeFault, encode};
 use std::alloc::{AllocError, Global};
 
 /// What is counted of a message.

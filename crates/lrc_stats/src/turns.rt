@@ -4,9 +4,9 @@ ghost use Rattle.std.specs.Prelude.{◌≡◌, ◌+◌, IfOk, count_by, length, 
 ghost use Rattle.std.specs.List.{list_any};
 ghost use Rattle.lrc_stats.specs.Turns.{asks, deed_kind, is_miss, makes, turns, turns_with};
 
+use lrc_envelope::{Envelope, Message};
 use lrc_node::{Entry, Input};
 use lrc_trace::act::Deed;
-use lrc_wire::{Envelope, Message};
 use std::alloc::AllocError;
 
 /// The sum of two counts. There is no memory for what a greater number counts.

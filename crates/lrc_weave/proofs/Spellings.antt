@@ -5,7 +5,7 @@ use Rattle.std.specs.Bool.{Decides}
 use Rattle.lrc_wire.specs.declared.fault.WireFault.{WireFault}
 use Rattle.lrc_wire.specs.declared.limits.TheConstants.{MOST_BODY_BYTES}
 use Rattle.lrc_wire.specs.declared.version.Version.TheVariants.{Two}
-use Rattle.lrc_wire.specs.Envelope.{EnvelopeRecord}
+use Rattle.lrc_envelope.specs.Envelope.{EnvelopeRecord}
 use Rattle.lrc_wire.specs.Runs.{runs_of}
 use Rattle.lrc_wire.specs.Reading.{envelope_of}
 use Rattle.lrc_wire.specs.Spelling.{Spells, body}

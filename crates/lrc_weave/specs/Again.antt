@@ -1,7 +1,7 @@
 -- Turns that take a message which a later turn takes again.
 use Rattle.std.specs.Prelude.{◌≡◌, ℕ, ◌+◌, ◌==◌, ◌&&◌, Bool, false, Some, List, length, drop, slice_get}
 use Rattle.std.specs.List.{list_any}
-use Rattle.lrc_wire.specs.Envelope.{EnvelopeRecord}
+use Rattle.lrc_envelope.specs.Envelope.{EnvelopeRecord}
 use Rattle.lrc_protocol.specs.Log.{Input, run, taken, EntryRecord}
 use Rattle.lrc_weave.specs.Woven.{is_taken_in}
 

@@ -1,6 +1,6 @@
 -- What makes the event of one turn.
 use Rattle.std.specs.Prelude.{◌≡◌, ℕ, ◌+◌, ◌==◌, ◌&&◌, Bool, true, false, Some, None, List, ◌++◌, map, drop, remove, position, slice_get}
-use Rattle.lrc_wire.specs.Envelope.{EnvelopeRecord}
+use Rattle.lrc_envelope.specs.Envelope.{EnvelopeRecord}
 use Rattle.lrc_protocol.specs.declared.event.Event.{Event}
 use Rattle.lrc_protocol.specs.declared.event.Event.TheVariants.{Run, Deliver, Repeat}
 use Rattle.lrc_protocol.specs.Log.{Input, run, taken, EntryRecord}

@@ -2,7 +2,7 @@
 use Rattle.std.specs.Prelude.{◌≡◌, ℕ, ◌<◌, ◌==◌, Bool, false, Option, Some, None, Result, Ok, Err, List}
 use Rattle.std.specs.Prelude.{[], ◌∷◌, ◌++◌, length, map, filter, filter_map, slice_get}
 use Rattle.lrc_wire.specs.declared.fault.WireFault.{WireFault}
-use Rattle.lrc_wire.specs.Envelope.{EnvelopeRecord}
+use Rattle.lrc_envelope.specs.Envelope.{EnvelopeRecord}
 use Rattle.lrc_wire.specs.Reading.{envelope_of}
 use Rattle.lrc_post.specs.declared.parcel.Wire.{Wire}
 use Rattle.lrc_post.specs.declared.parcel.Wire.TheVariants.{Put, Took}

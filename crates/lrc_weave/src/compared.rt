@@ -8,9 +8,9 @@ ghost use Rattle.lrc_weave.specs.Logs.{sent_to};
 ghost use Rattle.lrc_weave.specs.Matched.{AreMatched, IsMatched, Takes, puts_by, takes_in};
 
 use crate::history::{has_put_by, is_by_node, is_taken_from, next_take, take_put};
+use lrc_envelope::Envelope;
 use lrc_node::{Entry, Input};
 use lrc_post::{Mailbox, Wire};
-use lrc_wire::Envelope;
 use std::alloc::{AllocError, Global};
 use std::marker::Model;
 

@@ -8,9 +8,9 @@ ghost use Rattle.lrc_weave.specs.Again.{AreAgain};
 ghost use Rattle.lrc_weave.specs.Events.{is_named, name_of, IsMadeBy, IsTakenFrom, IsTurnOf, IsUnsent, LacksMessage};
 
 use crate::fault::WeaveFault;
+use lrc_envelope::Envelope;
 use lrc_node::{Entry, Input};
 use lrc_protocol::Event;
-use lrc_wire::Envelope;
 use std::alloc::AllocError;
 
 /// A message in flight, by what it is known.

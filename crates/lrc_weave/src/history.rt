@@ -6,8 +6,8 @@ ghost use Rattle.lrc_weave.specs.Compared.{AreNext, IsNextTake, IsTakenAs, is_by
 ghost use Rattle.lrc_weave.specs.Matched as matched;
 
 use crate::spelled::is_spelled;
+use lrc_envelope::Envelope;
 use lrc_post::Wire;
-use lrc_wire::Envelope;
 use std::alloc::{AllocError, Global};
 
 /// Whether the next put of a node is this message with this stamp. What stands behind that put is left.

@@ -3,12 +3,13 @@
 ghost use Rattle.std.specs.Prelude.{◌≡◌, ◌↔◌, ◌<◌, IfOk, IsTrue, List, ℕ, Ok, false, length};
 ghost use Rattle.lrc_wire.specs.declared.limits.TheConstants.{MOST_BODY_BYTES};
 ghost use Rattle.lrc_wire.specs.declared.version.Version.TheVariants.{Two};
-ghost use Rattle.lrc_wire.specs.Envelope.{EnvelopeRecord};
+ghost use Rattle.lrc_envelope.specs.Envelope.{EnvelopeRecord};
 ghost use Rattle.lrc_wire.specs.Reading.{envelope_of};
 ghost use Rattle.lrc_wire.specs.Runs.{runs_of};
 ghost use Rattle.lrc_wire.specs.Spelling.{Spells, body};
 
-use lrc_wire::{EncodeFault, Envelope, WireFault, decode, encode};
+use lrc_envelope::Envelope;
+use lrc_wire::{EncodeFault, WireFault, decode, encode};
 use std::alloc::{AllocError, Global};
 
 /// Whether bytes spell a message, in either version of the format.

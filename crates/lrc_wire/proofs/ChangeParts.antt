@@ -13,7 +13,7 @@ use Rattle.lrc_wire.specs.declared.fault.WireFault.TheVariants.{BadCount}
 use Rattle.lrc_wire.specs.declared.version.Version.{Version}
 use Rattle.lrc_wire.specs.declared.version.Version.TheVariants.{One, Two}
 use Rattle.lrc_wire.specs.Versions.{words_in}
-use Rattle.lrc_wire.specs.Records.{IndexedChangesRecord, AreParts}
+use Rattle.lrc_envelope.specs.Records.{IndexedChangesRecord, AreParts}
 use Rattle.lrc_wire.specs.Ranges.{HasBits, FitPart, FitParts, IsSize, FitValues}
 use Rattle.lrc_wire.specs.Runs.{runs_of}
 use Rattle.lrc_wire.specs.Spelling.{number, numbers, changes, part, parts, page_values}

@@ -11,7 +11,7 @@ use Rattle.std.proofs.lemmas.List.Elements.{All-from_get_or, All-weaker}
 use Rattle.std.proofs.lemmas.Bool.Decides.{nat_tests}
 use Rattle.lrc_time.specs.Time.{entry}
 use Rattle.lrc_page.specs.declared.TheConstants.{MOST_PAGES}
-use Rattle.lrc_wire.specs.declared.limits.TheConstants.{MOST_LOCKS, MOST_NODES}
+use Rattle.lrc_envelope.specs.declared.limits.TheConstants.{MOST_LOCKS, MOST_NODES}
 use Rattle.lrc_wire.specs.declared.fault.WireFault.TheVariants.{BadNode, BadCount, NotAscending}
 use Rattle.lrc_wire.specs.declared.version.Version.{Version}
 use Rattle.lrc_wire.specs.declared.version.Version.TheVariants.{One, Two}

@@ -9,7 +9,7 @@ use Rattle.lrc_page.specs.declared.TheConstants.{MOST_PAGES}
 use Rattle.lrc_wire.specs.declared.version.Version.{Version}
 use Rattle.lrc_wire.specs.Versions.{pages_in}
 use Rattle.lrc_store.specs.Interval.{IntervalRecord, IsInterval, by_node}
-use Rattle.lrc_wire.specs.declared.limits.TheConstants.{MOST_NODES}
+use Rattle.lrc_envelope.specs.declared.limits.TheConstants.{MOST_NODES}
 use Rattle.lrc_wire.specs.declared.fault.WireFault.TheVariants.{BadNode, NotAscending}
 use Rattle.lrc_wire.specs.Ranges.{HasBits, NamesPages}
 use Rattle.lrc_wire.specs.Spelling.{byte, time, pages, interval, intervals}

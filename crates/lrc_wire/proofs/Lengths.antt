@@ -6,7 +6,7 @@ use Rattle.std.proofs.lemmas.List.{length-append}
 use Rattle.std.proofs.lemmas.List.Concat.{flat_map-cons}
 use Rattle.lrc_page.specs.declared.changes.Change.{Change}
 use Rattle.lrc_store.specs.Interval.{IntervalRecord}
-use Rattle.lrc_wire.specs.Records.{IndexedChangesRecord}
+use Rattle.lrc_envelope.specs.Records.{IndexedChangesRecord}
 use Rattle.lrc_wire.specs.declared.version.Version.TheVariants.{Two}
 use Rattle.lrc_wire.specs.Runs.{Run, changes_of, runs_of}
 use Rattle.lrc_wire.proofs.Runs.{runs_of-whole}

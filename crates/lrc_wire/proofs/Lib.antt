@@ -16,6 +16,5 @@ pub mod Envelopes
 pub mod Written
 pub mod Lengths
 mod Runs
-mod Last
 mod Leads
 mod PageValues

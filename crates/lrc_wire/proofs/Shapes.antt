@@ -11,7 +11,7 @@ use Rattle.lrc_store.specs.Interval.{IntervalRecord, by_node}
 use Rattle.lrc_wire.specs.declared.fault.WireFault.{WireFault}
 use Rattle.lrc_wire.specs.declared.fault.WireFault.TheVariants.{BadNode, BadCount, NotAscending}
 use Rattle.lrc_wire.specs.declared.version.Version.{Version}
-use Rattle.lrc_wire.specs.Records.{GoWith, IndexedChangesRecord}
+use Rattle.lrc_envelope.specs.Records.{GoWith, IndexedChangesRecord}
 use Rattle.lrc_wire.specs.Reading.{◌>>=◌, Gives, elements_at, is_after, tested, byte_at, number_at, is_below, known_by, stamp_at}
 use Rattle.lrc_wire.specs.Reading.{entries_at, entry_at, pages_at, next_interval_at, next_index_at, changes_at, next_part_at}
 use Rattle.lrc_wire.proofs.Steps.{bind_ok, ok_is, tested_ok}

@@ -1,6 +1,4 @@
 pub mod Versions
-pub mod Records
-pub mod Envelope
 pub mod Runs
 pub mod Ranges
 pub mod Spelling

@@ -2,15 +2,15 @@
 use Rattle.std.specs.Prelude.{◌≡◌, ℕ, ◌^◌, ◌<◌, ◌≤◌, ◌⊎◌, IsTrue, List, length, All, AllPairs}
 use Rattle.lrc_page.specs.declared.TheConstants.{MOST_PAGE_WORDS}
 use Rattle.lrc_store.specs.Interval.{IntervalRecord, IsInterval, by_node}
-use Rattle.lrc_wire.specs.declared.limits.TheConstants.{MOST_LOCKS, MOST_NODES}
+use Rattle.lrc_envelope.specs.declared.limits.TheConstants.{MOST_LOCKS, MOST_NODES}
 use Rattle.lrc_wire.specs.declared.version.Version.{Version}
 use Rattle.lrc_wire.specs.declared.version.Version.TheVariants.{One, Two}
-use Rattle.lrc_wire.specs.declared.message.Message.{Message}
-use Rattle.lrc_wire.specs.declared.message.Message.TheVariants.{LockRequest, LockForward, LockGrant, Arrive, Depart, Clean, Discard}
-use Rattle.lrc_wire.specs.declared.message.Message.TheVariants.{ChangesRequest, ChangesReply, PageRequest, PageReply}
+use Rattle.lrc_envelope.specs.declared.message.Message.{Message}
+use Rattle.lrc_envelope.specs.declared.message.Message.TheVariants.{LockRequest, LockForward, LockGrant, Arrive, Depart, Clean, Discard}
+use Rattle.lrc_envelope.specs.declared.message.Message.TheVariants.{ChangesRequest, ChangesReply, PageRequest, PageReply}
 use Rattle.lrc_wire.specs.Versions.{pages_in, words_in}
-use Rattle.lrc_wire.specs.Records.{GoWith, AreIndices, IndexedChangesRecord, IsIndexedChanges, AreParts}
-use Rattle.lrc_wire.specs.Envelope.{EnvelopeRecord, IsEnvelope}
+use Rattle.lrc_envelope.specs.Records.{GoWith, AreIndices, IndexedChangesRecord, IsIndexedChanges, AreParts}
+use Rattle.lrc_envelope.specs.Envelope.{EnvelopeRecord, IsEnvelope}
 
 -- a number of so many bits
 abbrev pub HasBits : ℕ → ℕ → Type 0

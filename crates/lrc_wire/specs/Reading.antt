@@ -13,15 +13,16 @@ use Rattle.lrc_wire.specs.declared.kind.Kind.{Kind}
 use Rattle.lrc_wire.specs.declared.kind.Kind.TheVariants as kinds
 use Rattle.lrc_wire.specs.declared.version.Version.{Version}
 use Rattle.lrc_wire.specs.declared.version.Version.TheVariants.{One, Two}
-use Rattle.lrc_wire.specs.declared.limits.TheConstants.{MOST_LOCKS, MOST_NODES, MOST_RUNS, HEADER_BYTES, MOST_BODY_BYTES}
-use Rattle.lrc_wire.specs.declared.message.Message.{Message}
-use Rattle.lrc_wire.specs.declared.message.Message.TheVariants.{LockRequest, LockForward, LockGrant, Arrive, Depart, Clean, Discard}
-use Rattle.lrc_wire.specs.declared.message.Message.TheVariants.{ChangesRequest, ChangesReply, PageRequest, PageReply}
+use Rattle.lrc_envelope.specs.declared.limits.TheConstants.{MOST_LOCKS, MOST_NODES}
+use Rattle.lrc_wire.specs.declared.limits.TheConstants.{MOST_RUNS, HEADER_BYTES, MOST_BODY_BYTES}
+use Rattle.lrc_envelope.specs.declared.message.Message.{Message}
+use Rattle.lrc_envelope.specs.declared.message.Message.TheVariants.{LockRequest, LockForward, LockGrant, Arrive, Depart, Clean, Discard}
+use Rattle.lrc_envelope.specs.declared.message.Message.TheVariants.{ChangesRequest, ChangesReply, PageRequest, PageReply}
 use Rattle.lrc_wire.specs.Versions.{version_of, pages_in, words_in}
-use Rattle.lrc_wire.specs.Records.{NewsRecord, LockRequestRecord, LockForwardRecord, LockGrantRecord, ArriveRecord, DepartRecord}
-use Rattle.lrc_wire.specs.Records.{ChangesRequestRecord, ChangesReplyRecord, PageReplyRecord, IndexedChangesRecord}
+use Rattle.lrc_envelope.specs.Records.{NewsRecord, LockRequestRecord, LockForwardRecord, LockGrantRecord, ArriveRecord, DepartRecord}
+use Rattle.lrc_envelope.specs.Records.{ChangesRequestRecord, ChangesReplyRecord, PageReplyRecord, IndexedChangesRecord}
 use Rattle.lrc_wire.specs.Runs.{Run, changes_of}
-use Rattle.lrc_wire.specs.Envelope.{EnvelopeRecord}
+use Rattle.lrc_envelope.specs.Envelope.{EnvelopeRecord}
 
 -- the last offset of a run
 abbrev pub last_of : Run → ℕ

@@ -8,12 +8,12 @@ use Rattle.lrc_store.specs.Interval.{IntervalRecord}
 use Rattle.lrc_wire.specs.declared.limits.TheConstants.{MOST_BODY_BYTES}
 use Rattle.lrc_wire.specs.declared.version.Version.{Version}
 use Rattle.lrc_wire.specs.declared.version.Version.TheVariants.{One, Two}
-use Rattle.lrc_wire.specs.declared.message.Message.{Message}
-use Rattle.lrc_wire.specs.declared.message.Message.TheVariants.{LockRequest, LockForward, LockGrant, Arrive, Depart, Clean, Discard}
-use Rattle.lrc_wire.specs.declared.message.Message.TheVariants.{ChangesRequest, ChangesReply, PageRequest, PageReply}
+use Rattle.lrc_envelope.specs.declared.message.Message.{Message}
+use Rattle.lrc_envelope.specs.declared.message.Message.TheVariants.{LockRequest, LockForward, LockGrant, Arrive, Depart, Clean, Discard}
+use Rattle.lrc_envelope.specs.declared.message.Message.TheVariants.{ChangesRequest, ChangesReply, PageRequest, PageReply}
 use Rattle.lrc_wire.specs.Versions.{version_number}
-use Rattle.lrc_wire.specs.Records.{IndexedChangesRecord}
-use Rattle.lrc_wire.specs.Envelope.{EnvelopeRecord}
+use Rattle.lrc_envelope.specs.Records.{IndexedChangesRecord}
+use Rattle.lrc_envelope.specs.Envelope.{EnvelopeRecord}
 use Rattle.lrc_wire.specs.Runs.{Run, AreRuns}
 use Rattle.lrc_wire.specs.Ranges.{IsFit}
 

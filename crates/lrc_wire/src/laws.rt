@@ -4,9 +4,10 @@
 ghost use Rattle.std.specs.Prelude.{◌≡◌, ◌++◌, ◌<◌, ◌≤◌, List, ℕ, length, take, Ok, Err};
 ghost use Rattle.lrc_page.specs.declared.changes.Change.{Change};
 ghost use Rattle.lrc_page.specs.Changes.{IsAscending};
-ghost use Rattle.lrc_wire.specs.declared.limits.TheConstants.{HEADER_BYTES, MOST_BODY_BYTES, MOST_LOCKS, MOST_NODES, MOST_RUNS};
+ghost use Rattle.lrc_envelope.specs.declared.limits.TheConstants.{MOST_LOCKS, MOST_NODES};
+ghost use Rattle.lrc_wire.specs.declared.limits.TheConstants.{HEADER_BYTES, MOST_BODY_BYTES, MOST_RUNS};
 ghost use Rattle.lrc_wire.specs.declared.version.Version.{Version};
-ghost use Rattle.lrc_wire.specs.Envelope.{EnvelopeRecord};
+ghost use Rattle.lrc_envelope.specs.Envelope.{EnvelopeRecord};
 ghost use Rattle.lrc_wire.specs.Ranges.{IsFit};
 ghost use Rattle.lrc_wire.specs.Runs.{Run, AreRuns, runs_of};
 ghost use Rattle.lrc_wire.specs.Spelling.{◌·◌, Cut, IsCut, Spells, header, body};

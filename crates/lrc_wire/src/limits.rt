@@ -1,10 +1,4 @@
-//! How large the numbers of a message may be.
-
-/// The largest number of locks.
-pub const MOST_LOCKS: u8 = 64;
-
-/// The largest number of nodes.
-pub const MOST_NODES: u8 = lrc_time::MOST_NODES as u8;
+//! How long a message may be.
 
 /// The largest number of runs that the changes of a page are cut into. Between two of them at least one word is as it was.
 pub const MOST_RUNS: u16 = (lrc_page::MOST_PAGE_WORDS / 2) as u16;

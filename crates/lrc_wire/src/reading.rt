@@ -2,18 +2,17 @@
 
 ghost use Rattle.std.specs.Prelude.{◌≡◌, ◌≤◌, ◌*◌, length, IfOk, Ok};
 ghost use Rattle.lrc_wire.specs.declared.version.Version.{Version};
-ghost use Rattle.lrc_wire.specs.Envelope.{EnvelopeRecord};
+ghost use Rattle.lrc_envelope.specs.Envelope.{EnvelopeRecord};
 ghost use Rattle.lrc_wire.specs.Spelling.{Spells};
 ghost use Rattle.lrc_wire.specs.Reading.{Gives, whole_body_of, envelope_of};
 
-use crate::envelope::Envelope;
 use crate::fault::WireFault;
 use crate::kind::Kind;
 use crate::limits::HEADER_BYTES;
-use crate::message::Message;
 use crate::version::Version;
 use bodies::read_body;
 use header::read_header;
+use lrc_envelope::{Envelope, Message};
 use std::alloc::Global;
 
 mod bodies;

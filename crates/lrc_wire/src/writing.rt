@@ -7,12 +7,11 @@ ghost use Rattle.lrc_wire.specs.declared.version.Version.TheVariants.{Two};
 ghost use Rattle.lrc_wire.specs.Runs.{runs_of};
 ghost use Rattle.lrc_wire.specs.Spelling.{Spells, header, body};
 
-use crate::envelope::Envelope;
 use crate::fault::EncodeFault;
 use crate::limits::HEADER_BYTES;
-use crate::message::Message;
 use bodies::put_body;
 use bytes::{BufMut, Bytes};
+use lrc_envelope::{Envelope, Message};
 use sizes::body_len;
 use std::alloc::{AllocError, Global};
 

@@ -5,7 +5,7 @@ use Rattle.clap.specs.Words.{IsAmong, Row, Text, fault_of, first_of, kind_of, su
 use Rattle.clap.specs.declared.error.Error.{Error}
 use Rattle.clap.specs.declared.error.kind.ErrorKind.{ErrorKind}
 use Rattle.clap.specs.declared.error.kind.ErrorKind.TheVariants.{ArgumentConflict, InvalidValue, OutOfMemory}
-use Rattle.lrc_wire.specs.declared.picker.Picker.{Picker}
+use Rattle.lrc_envelope.specs.declared.picker.Picker.{Picker}
 use Rattle.lrc_words.specs.declared.choice.Choice.{Choice}
 use Rattle.lrc_words.specs.declared.choice.Choice.TheVariants.{Check, Plain, Show, Judge, Explore}
 use Rattle.lrc_words.specs.declared.choice.ChooseFault.{ChooseFault}

@@ -7,8 +7,8 @@ use Rattle.clap.specs.Values.{bool_text}
 use Rattle.clap.specs.Words.{IsUnsignedIn, Row, Text, first_of, one_of}
 use Rattle.lrc_page.specs.declared.size.Size.{Size}
 use Rattle.lrc_page.specs.declared.size.Size.TheVariants.{Words64, Words256}
-use Rattle.lrc_wire.specs.declared.picker.Picker.{Picker}
-use Rattle.lrc_wire.specs.declared.picker.Picker.TheVariants.{Oldest, Newest, Twice}
+use Rattle.lrc_envelope.specs.declared.picker.Picker.{Picker}
+use Rattle.lrc_envelope.specs.declared.picker.Picker.TheVariants.{Oldest, Newest, Twice}
 use Rattle.lrc_words.specs.declared.choice.Form.{Form}
 use Rattle.lrc_words.specs.declared.choice.Form.TheVariants as forms
 use Rattle.lrc_words.specs.declared.choice.RunOptions.{RunOptions}

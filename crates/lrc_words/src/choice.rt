@@ -2,8 +2,8 @@
 
 ghost use Rattle.std.specs.Prelude.{◌≤◌};
 
+use lrc_envelope::Picker;
 use lrc_page::Size;
-use lrc_wire::Picker;
 use thiserror::Error;
 
 /// How many nodes a run has, 1 to 16.

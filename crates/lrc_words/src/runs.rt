@@ -2,7 +2,7 @@
 
 ghost use Rattle.std.specs.Prelude.{◌≡◌, Bool, IfErr, IfOk, IfSome, None, Some, codes, false, option_map};
 ghost use Rattle.clap.specs.Words.{first_of, found_of, rows_of};
-ghost use Rattle.lrc_wire.specs.declared.picker.Picker.{Picker as AnyPicker};
+ghost use Rattle.lrc_envelope.specs.declared.picker.Picker.{Picker as AnyPicker};
 ghost use Rattle.lrc_words.specs.CommandLine.{HasMisfitOfRun, HasShowingMisfit, HasThreadsMisfit, HasTraceMisfit, IsRun, IsShowingRun, IsThreadsRun};
 ghost use Rattle.lrc_words.specs.Options.{AreRunOptions, HasFormMisfitIn, HasOptionsMisfit, HasValue, HasWayMisfit, HasWayMisfitIn};
 ghost use Rattle.lrc_words.specs.Options.{HasWordMisfit, IsForm, IsFormIn, IsOrder, IsPicker, IsRunTaken, IsShowingTaken, IsSimTaken};
@@ -15,7 +15,7 @@ use crate::choice::{Form, RunChoice, RunOptions, Way};
 use crate::misfit::Misfit;
 use crate::reading::{collect_of, is_named, nodes_of, size_of, some_number_of, steps_of, text_of};
 use clap::ArgMatches;
-use lrc_wire::Picker;
+use lrc_envelope::Picker;
 
 /// The order of a run's events, where none are given.
 #[derive(Clone, Copy)]

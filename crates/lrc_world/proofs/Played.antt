@@ -4,7 +4,7 @@ use Rattle.std.proofs.Common.{Err, refl, sym, ap, subst, map, length, ◌<◌, a
 use Rattle.std.specs.Prelude.{slice_get, slice_set, slice_index_or}
 use Rattle.std.specs.List.{enumerate_from, list_any}
 use Rattle.std.specs.Option.{option_to_list}
-use Rattle.lrc_wire.specs.Envelope.{EnvelopeRecord}
+use Rattle.lrc_envelope.specs.Envelope.{EnvelopeRecord}
 use Rattle.lrc_wire.specs.Reading.{envelope_of}
 use Rattle.lrc_protocol.specs.Log.{Input, taken, EntryRecord, Logged, Logging, logged, refused, too_large, logs}
 use Rattle.lrc_protocol.specs.World.{World as Run, Flying as Sent, inputs, delivers, input_to, after_input, with_turn, sent_by}

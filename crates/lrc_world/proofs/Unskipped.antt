@@ -10,9 +10,9 @@ use Rattle.std.proofs.lemmas.List.Edits.{length-remove}
 use Rattle.std.proofs.lemmas.List.FromFn.{length-enumerate_from}
 use Rattle.lrc_lang.specs.declared.program.Program.{Program}
 use Rattle.lrc_exec.specs.Meaning.{Next}
-use Rattle.lrc_wire.specs.declared.picker.Picker.{Picker}
-use Rattle.lrc_wire.specs.declared.picker.Picker.TheVariants.{Oldest, Newest, Twice}
-use Rattle.lrc_wire.specs.Envelope.{EnvelopeRecord}
+use Rattle.lrc_envelope.specs.declared.picker.Picker.{Picker}
+use Rattle.lrc_envelope.specs.declared.picker.Picker.TheVariants.{Oldest, Newest, Twice}
+use Rattle.lrc_envelope.specs.Envelope.{EnvelopeRecord}
 use Rattle.lrc_protocol.specs.declared.event.Event.{Event}
 use Rattle.lrc_protocol.specs.declared.event.Event.TheVariants as events
 use Rattle.lrc_protocol.specs.Node.{Node, OptionsRecord, Effect, begins}

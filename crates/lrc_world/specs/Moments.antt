@@ -8,7 +8,7 @@ use Rattle.lrc_trace.specs.Interval.{interval_at}
 use Rattle.lrc_trace.specs.Order.{HappensBefore}
 use Rattle.lrc_clock.specs.Cover.{ClosesAt}
 use Rattle.lrc_clock.specs.Times.{time_at}
-use Rattle.lrc_wire.specs.Envelope.{EnvelopeRecord}
+use Rattle.lrc_envelope.specs.Envelope.{EnvelopeRecord}
 use Rattle.lrc_protocol.specs.declared.event.Event.{Event}
 use Rattle.lrc_protocol.specs.Node.{OptionsRecord}
 use Rattle.lrc_protocol.specs.Turn.{take_turn, unexpected}

@@ -8,14 +8,14 @@ ghost use Rattle.lrc_world.specs.Report.{IsReport};
 ghost use Rattle.lrc_world.specs.Driven.{GoesTo, IsAsleep, IsDrivenBy, IsFull, IsIdle, IsStill, NoneReady, PlaysOne, schedule_of};
 ghost use Rattle.lrc_world.specs.Random.{wandering};
 ghost use Rattle.lrc_world.specs.Rounds.{at_node, delivering, rounds};
-ghost use Rattle.lrc_wire.specs.declared.picker.Picker.{Picker as AnyPicker};
+ghost use Rattle.lrc_envelope.specs.declared.picker.Picker.{Picker as AnyPicker};
 ghost use Rattle.lrc_world.specs.World.{Starts, Shows};
 
 use crate::random::Random;
 use crate::report::{MOST_EVENTS, Report, SimFault};
 use crate::world::World;
+use lrc_envelope::Picker;
 use lrc_protocol::Event;
-use lrc_wire::Picker;
 use std::alloc::{AllocError, Global};
 
 /// In which order a run goes on.

@@ -23,11 +23,11 @@ ghost use Rattle.lrc_world.specs.Turned.{AreAllTurned};
 use crate::report::{MOST_STEPS, Report, SimFault};
 use crate::rounds::{Driver, Order};
 use crate::world::World;
+use lrc_envelope::Picker;
 use lrc_exec::code::Code;
 use lrc_lang::program::Program;
 use lrc_node::Options;
 use lrc_protocol::Event;
-use lrc_wire::Picker;
 use std::alloc::Global;
 
 /// The run that these events make. An event that names no ready node, and no message in flight that its receiver expects, is

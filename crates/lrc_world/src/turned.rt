@@ -13,9 +13,9 @@ ghost use Rattle.lrc_world.specs.Report.{IsReportOf};
 ghost use Rattle.lrc_world.specs.Turned.{AreAllTurned, HaveLogs, events_in, turned_by, turned_of};
 ghost use Rattle.lrc_world.specs.Walk.{Leads, come_after, come_with, flight_with, is_run, left_by, next_entry, next_turner, receivers_of};
 
+use lrc_envelope::Envelope;
 use lrc_node::{Entry, Input};
 use lrc_protocol::Event;
-use lrc_wire::Envelope;
 use std::alloc::{AllocError, Global};
 use std::collections::VecDeque;
 use std::marker::Model;

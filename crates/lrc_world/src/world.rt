@@ -22,13 +22,14 @@ ghost use Rattle.lrc_world.specs.World.{Starts, Shows, PlaysTo, AddsTo, LogsLast
 use crate::flying::Flying;
 use crate::report::{Report, SimFault};
 use bytes::Bytes;
+use lrc_envelope::{Envelope, Picker};
 use lrc_exec::code::Code;
 use lrc_node::{End, Entry, Logged, Node, NodeFault, Options};
 use lrc_protocol::Event;
 use lrc_race::{first_race, races};
 use lrc_trace::act::Act;
 use lrc_trace::trace::Trace;
-use lrc_wire::{EncodeFault, Envelope, Picker, WireFault, decode, encode};
+use lrc_wire::{EncodeFault, WireFault, decode, encode};
 use std::alloc::{AllocError, Global};
 use std::collections::VecDeque;
 

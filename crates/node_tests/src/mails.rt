@@ -2,10 +2,10 @@
 
 ghost use Rattle.std.specs.Prelude.{◌≡◌, ◌<◌, OnOk, All, length};
 
+use lrc_envelope::{Clean, Message};
 use lrc_mail::{Asked, Base, Letter, Mail, MailFault, Need, Wait, requests};
 use lrc_page::{Page, Size};
 use lrc_store::Key;
-use lrc_wire::{Clean, Message};
 use std::alloc::{AllocError, Global};
 use std::test::Fail;
 

@@ -1,12 +1,13 @@
 // Nodes: a lock that goes from one to the other, a repeat, the end of a text, and numbers that are used up.
 
 use bytes::Bytes;
+use lrc_envelope::Envelope;
 use lrc_exec::code::Code;
 use lrc_lang::parse;
 use lrc_node::{End, Node, NodeFault, Options, Turn};
 use lrc_page::Size;
 use lrc_trace::act::Deed;
-use lrc_wire::{Envelope, encode};
+use lrc_wire::encode;
 use std::alloc::Global;
 
 // Node 0 writes under lock 0, and once more after it; node 1 takes the lock after it.

@@ -1,10 +1,10 @@
 // Runs of several nodes in rounds.
 
+use lrc_envelope::Picker;
 use lrc_lang::parse;
 use lrc_node::Options;
 use lrc_page::Size;
 use lrc_protocol::Event;
-use lrc_wire::Picker;
 use lrc_world::report::SimFault;
 use lrc_world::simulate::drive;
 use std::alloc::Global;

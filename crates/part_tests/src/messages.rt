@@ -3,12 +3,11 @@
 ghost use Rattle.std.specs.Prelude.{◌≤◌};
 
 use bytes::Bytes;
+use lrc_envelope::{ChangesRequest, Envelope, Indices, Message};
 use lrc_page::Pages;
 use lrc_store::{Interval, Intervals};
 use lrc_time::Time;
-use lrc_wire::{
-    ChangesRequest, EncodeFault, Envelope, Indices, Message, WireFault, decode, encode,
-};
+use lrc_wire::{EncodeFault, WireFault, decode, encode};
 use std::alloc::{AllocError, Global};
 use std::process::Abort;
 use std::test::Fail;

@@ -2,7 +2,7 @@
 
 ghost use Rattle.std.specs.Prelude.{◌≡◌, ℕ, true, false, List, [], ◌∷◌, Some, None, length};
 ghost use Rattle.lrc_trace.specs.declared.act.Deed.TheVariants.{Quiet, Print, Read, Write, Acquire, Release, Arrive, Depart, End};
-ghost use Rattle.lrc_wire.specs.declared.message.Message.TheVariants as message;
+ghost use Rattle.lrc_envelope.specs.declared.message.Message.TheVariants as message;
 ghost use Rattle.lrc_protocol.specs.Copy.{is_readable};
 ghost use Rattle.lrc_protocol.specs.Memory.{copy_at, lacking};
 ghost use Rattle.part_tests.specs.Protocol.{deeds, deeds_by, sent, messages, of_nodes, interval, key, part, change, barrier_run, late_grant_run};

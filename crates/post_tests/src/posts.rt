@@ -3,8 +3,8 @@
 ghost use Rattle.std.specs.Prelude.{◌≡◌};
 
 use bytes::Bytes;
+use lrc_envelope::Picker;
 use lrc_post::{Mailbox, Parcel, Post, PostFault};
-use lrc_wire::Picker;
 use std::alloc::{AllocError, Global};
 use std::process::Abort;
 use std::sync::Wait;

@@ -1,10 +1,10 @@
 // Runs in which a node's turn waits until other nodes have come to the turns paired with it.
 
 use crate::shell::options;
+use lrc_envelope::Picker;
 use lrc_lang::parse;
 use lrc_node::End;
 use lrc_run::{Gate, RunFault, run_gated};
-use lrc_wire::Picker;
 use std::alloc::Global;
 use std::sync::Wait;
 use std::sync::atomic::{AtomicU64, Ordering};

@@ -1,12 +1,12 @@
 // Worked programs, with what they print.
 
 use crate::shell::{Case, ORDERS, is_run, is_run_any_way, options};
+use lrc_envelope::Picker;
 use lrc_lang::parse;
 use lrc_node::Options;
 use lrc_page::Size;
 use lrc_run::{RunFault, run};
 use lrc_trace::race::Race;
-use lrc_wire::Picker;
 use std::alloc::Global;
 use std::sync::Wait;
 use std::thread::Threads;

@@ -1,12 +1,12 @@
 // A program whose nodes are on threads, and what comes of it.
 
+use lrc_envelope::Picker;
 use lrc_lang::parse;
 use lrc_node::{End, Options};
 use lrc_page::Size;
 use lrc_run::{RunFault, run};
 use lrc_trace::act::{Act, Deed};
 use lrc_trace::race::Race;
-use lrc_wire::Picker;
 use lrc_world::report::Report;
 use std::alloc::Global;
 use std::sync::Wait;

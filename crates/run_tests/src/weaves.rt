@@ -1,6 +1,7 @@
 // The weave of the turns of a run.
 
 use crate::shell::{ORDERS, options};
+use lrc_envelope::{Envelope, Picker};
 use lrc_lang::parse;
 use lrc_lang::program::Program;
 use lrc_node::{Entry, Input};
@@ -8,7 +9,7 @@ use lrc_post::{Mailbox, Post};
 use lrc_protocol::Event;
 use lrc_run::run;
 use lrc_weave::{WeaveFault, weave};
-use lrc_wire::{Envelope, Picker, encode};
+use lrc_wire::encode;
 use lrc_world::report::Report;
 use lrc_world::simulate::simulate;
 use std::alloc::Global;

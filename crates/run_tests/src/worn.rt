@@ -1,10 +1,10 @@
 // Runs whose nodes use up their message numbers.
 
 use crate::shell::{ORDERS, options};
+use lrc_envelope::Picker;
 use lrc_lang::parse;
 use lrc_node::Options;
 use lrc_run::{RunFault, run};
-use lrc_wire::Picker;
 use std::alloc::Global;
 use std::sync::Wait;
 use std::thread::Threads;

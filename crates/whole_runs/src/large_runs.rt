@@ -1,8 +1,8 @@
 // Runs of thousands of acts: many intervals, pages, locks, prints, races and events, and the longest text.
 
 use crate::shell::{ALL_STEPS, ALONE, ON_ONE_NODE, in_rounds, on_threads, played, simulated};
+use lrc_envelope::Picker;
 use lrc_page::Size;
-use lrc_wire::Picker;
 use lrc_words::choice::{Collect, Nodes, RunOptions};
 use std::alloc::{AllocError, Global};
 use std::sync::Wait;

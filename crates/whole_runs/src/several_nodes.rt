@@ -1,8 +1,8 @@
 // Worked programs of several nodes, in each order of delivery and with pages of each size.
 
 use crate::shell::{ON_ONE_NODE, Outcome, on_threads, simulated};
+use lrc_envelope::Picker;
 use lrc_page::Size;
-use lrc_wire::Picker;
 use lrc_words::choice::{Collect, Nodes, RunOptions};
 use std::alloc::Global;
 use std::sync::Wait;

@@ -1,7 +1,7 @@
 // Traces of runs, played again.
 
 use crate::shell::{ON_ONE_NODE, played, shown_of_played, shown_on_threads};
-use lrc_wire::Picker;
+use lrc_envelope::Picker;
 use lrc_words::choice::{Form, Nodes, RunOptions, Shape};
 use std::sync::Wait;
 use std::thread::Threads;

@@ -5,8 +5,8 @@ ghost use Rattle.lrc_words.specs.Files.{names_events, starts_threads};
 
 use lrc_cli::fault::Fault;
 use lrc_cli::{execute, perform, tell};
+use lrc_envelope::Picker;
 use lrc_page::Size;
-use lrc_wire::Picker;
 use lrc_words::choice::{
     Choice, Collect, Exploring, Nodes, PlainRun, RunChoice, RunOptions, Shape, Steps, Way,
 };

@@ -1,7 +1,7 @@
 // Words of the command line, and the choice that they make.
 
+use lrc_envelope::Picker;
 use lrc_page::Size;
-use lrc_wire::Picker;
 use lrc_words::choice::{Choice, ChooseFault, Form, RunOptions, Shape, Way};
 use lrc_words::choose;
 use std::alloc::Global;

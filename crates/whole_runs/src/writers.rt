@@ -2,7 +2,7 @@
 
 use crate::shell::ON_ONE_NODE;
 use lrc_cli::{execute, perform};
-use lrc_wire::Picker;
+use lrc_envelope::Picker;
 use lrc_words::choice::{Choice, Nodes, RunChoice, RunOptions, Shape, Way};
 use std::alloc::Global;
 use std::io;

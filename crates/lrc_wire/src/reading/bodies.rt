@@ -12,11 +12,11 @@ use super::parts::read_parts;
 use super::times::read_time;
 use crate::fault::WireFault;
 use crate::kind::Kind;
-use crate::message::{
+use crate::version::Version;
+use lrc_envelope::{
     Arrive, ChangesReply, ChangesRequest, Clean, Depart, Discard, LockForward, LockGrant,
     LockRequest, Message, PageReply, PageRequest,
 };
-use crate::version::Version;
 use std::alloc::Global;
 
 #[tactic(auto, unfolding(crate::specs::Reading::lock_request_at))]

@@ -6,8 +6,8 @@ ghost use Rattle.lrc_wire.specs.Reading.{Gives, lock_at, node_at, episode_at, pa
 
 use super::numbers::{read_u8, read_u16, read_u32};
 use crate::fault::WireFault;
-use crate::limits::{MOST_LOCKS, MOST_NODES};
 use crate::version::Version;
+use lrc_envelope::{MOST_LOCKS, MOST_NODES};
 
 #[tactic(auto, unfolding(crate::specs::Reading::lock_at, crate::specs::Reading::tested))]
 pub(super) fn read_lock(bytes: &mut &[u8]) -> Result<u8, WireFault>

@@ -7,8 +7,9 @@ use super::fields::read_node;
 use super::numbers::{read_u8, read_u32};
 use crate::fault::WireFault;
 use crate::kind::{self, Kind};
-use crate::limits::{MOST_BODY_BYTES, MOST_NODES};
+use crate::limits::MOST_BODY_BYTES;
 use crate::version::Version;
+use lrc_envelope::MOST_NODES;
 use std::marker::Model;
 
 /// What a header says of the message behind it.
@@ -24,7 +25,7 @@ pub(super) struct Header {
 
 impl Model for Header {
     ghost use Rattle.std.specs.Prelude.{◌<◌};
-    ghost use Rattle.lrc_wire.specs.declared.limits.TheConstants.{MOST_NODES};
+    ghost use Rattle.lrc_envelope.specs.declared.limits.TheConstants.{MOST_NODES};
     ghost use Rattle.lrc_wire.specs.Reading.{HeaderRecord};
 
     ghost Value = { HeaderRecord };

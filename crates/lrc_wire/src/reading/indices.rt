@@ -7,7 +7,7 @@ use super::fields::read_count;
 use super::numbers::read_u32;
 use super::room;
 use crate::fault::WireFault;
-use crate::indices::Indices;
+use lrc_envelope::Indices;
 use std::alloc::Global;
 
 /// An index after another.

@@ -2,7 +2,7 @@
 
 ghost use Rattle.std.specs.Prelude.{◌≡◌, ◌≤◌, ◌<◌, IfOk, IfSome, Option, Some, None};
 ghost use Rattle.lrc_page.specs.declared.TheConstants.{MOST_PAGES};
-ghost use Rattle.lrc_wire.specs.Records.{GoWith};
+ghost use Rattle.lrc_envelope.specs.Records.{GoWith};
 ghost use Rattle.lrc_wire.specs.Reading.{Gives, elements_at, known_by, next_page_at, pages_at, next_interval_at, intervals_at, news_at};
 
 use super::fields::read_page;
@@ -10,9 +10,8 @@ use super::numbers::{read_u8, read_u16, read_u32};
 use super::room;
 use super::times::{read_stamp, read_time};
 use crate::fault::WireFault;
-use crate::limits::MOST_NODES;
-use crate::news::News;
 use crate::version::Version;
+use lrc_envelope::{MOST_NODES, News};
 use lrc_page::Pages;
 use lrc_store::{Interval, Intervals};
 use std::alloc::Global;

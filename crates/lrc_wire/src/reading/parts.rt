@@ -8,8 +8,8 @@ use super::fields::read_count;
 use super::indices::read_next_index;
 use super::room;
 use crate::fault::WireFault;
-use crate::parts::{IndexedChanges, Parts};
 use crate::version::Version;
+use lrc_envelope::{IndexedChanges, Parts};
 use std::alloc::Global;
 
 /// What an interval changed, after another of a lower index.

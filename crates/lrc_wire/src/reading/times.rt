@@ -6,7 +6,7 @@ ghost use Rattle.lrc_wire.specs.Reading.{Gives, entry_at, entries_at, time_at, s
 
 use super::numbers::{read_u8, read_u32};
 use crate::fault::WireFault;
-use crate::limits::MOST_NODES;
+use lrc_envelope::MOST_NODES;
 use lrc_time::Time;
 
 /// A node's entry. The entry of the node whose stamp it is, `own`, is at least 1.

@@ -7,15 +7,15 @@ ghost use Rattle.lrc_wire.specs.Ranges.{IsEpisode, IsMessage};
 ghost use Rattle.lrc_wire.specs.Runs.{runs_of};
 ghost use Rattle.lrc_wire.specs.Spelling.{number, body};
 ghost use Rattle.lrc_wire.specs.declared.limits.TheConstants.{MOST_BODY_BYTES};
-ghost use Rattle.lrc_wire.specs.declared.message.Message.TheVariants as kinds;
+ghost use Rattle.lrc_envelope.specs.declared.message.Message.TheVariants as kinds;
 
 use super::changes::{put_indices, put_page_values, put_parts};
 use super::intervals::{put_flag, put_news, put_time};
-use crate::message::{
+use bytes::BufMut;
+use lrc_envelope::{
     Arrive, ChangesReply, ChangesRequest, Depart, LockForward, LockGrant, LockRequest, Message,
     PageReply,
 };
-use bytes::BufMut;
 use std::alloc::AllocError;
 
 #[tactic(auto, unfolding(crate::specs::Spelling::byte))]

@@ -4,15 +4,14 @@ ghost use Rattle.std.specs.Prelude.{◌≡◌, ◌++◌, ◌<◌, ◌^◌, lengt
 ghost use Rattle.std.specs.Int.{w32, w64};
 ghost use Rattle.std.specs.List.{flat_map};
 ghost use Rattle.lrc_wire.specs.declared.version.Version.TheVariants.{Two};
-ghost use Rattle.lrc_wire.specs.Records.{AreIndices, AreParts};
+ghost use Rattle.lrc_envelope.specs.Records.{AreIndices, AreParts};
 ghost use Rattle.lrc_wire.specs.Ranges.{HasBits, FitPart, FitValues};
 ghost use Rattle.lrc_wire.specs.Runs.{runs_of};
 ghost use Rattle.lrc_wire.specs.Spelling.{numbers, indices, part, parts, page_values};
 
 use super::runs::put_runs;
-use crate::indices::Indices;
-use crate::parts::{IndexedChanges, Parts};
 use bytes::BufMut;
+use lrc_envelope::{IndexedChanges, Indices, Parts};
 use lrc_page::Page;
 use std::alloc::AllocError;
 

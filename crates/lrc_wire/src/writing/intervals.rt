@@ -8,8 +8,8 @@ ghost use Rattle.lrc_wire.specs.declared.version.Version.TheVariants.{Two};
 ghost use Rattle.lrc_wire.specs.Ranges.{HasBits, IsTime, FitNews};
 ghost use Rattle.lrc_wire.specs.Spelling.{numbers, flag, time, pages, interval, intervals, news};
 
-use crate::news::News;
 use bytes::BufMut;
+use lrc_envelope::News;
 use lrc_page::Pages;
 use lrc_store::{Interval, Intervals};
 use lrc_time::Time;

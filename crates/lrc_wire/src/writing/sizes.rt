@@ -6,11 +6,8 @@ ghost use Rattle.lrc_wire.specs.Runs.{runs_of};
 ghost use Rattle.lrc_wire.specs.Spelling.{time, interval, news, indices, part, parts, page_values, body};
 
 use super::runs::count_runs;
-use crate::indices::Indices;
 use crate::limits::MOST_BODY_BYTES;
-use crate::message::Message;
-use crate::news::News;
-use crate::parts::{IndexedChanges, Parts};
+use lrc_envelope::{IndexedChanges, Indices, Message, News, Parts};
 use lrc_page::Page;
 use lrc_store::Interval;
 use lrc_time::Time;

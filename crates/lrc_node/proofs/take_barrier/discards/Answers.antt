@@ -1,7 +1,7 @@
 use Rattle.std.proofs.Common.{◌<◌, ◌++◌, ◌∷◌, [], sym, ◌∙◌, ap, arith}
 use Rattle.std.proofs.lemmas.List.Elements.{All-push}
 use Rattle.std.proofs.lemmas.List.FromFn.{map-range_with_len_more}
-use Rattle.lrc_wire.specs.declared.message.Message.TheVariants.{Discard}
+use Rattle.lrc_envelope.specs.declared.message.Message.TheVariants.{Discard}
 use Rattle.lrc_protocol.specs.Letters.{letter}
 use Rattle.lrc_protocol.specs.Mail.{Letter}
 use Rattle.lrc_node.proofs.take_barrier.discards.Goals as goal

@@ -1,5 +1,5 @@
 use Rattle.std.proofs.Common.{sym, ◌∙◌, ap}
-use Rattle.lrc_wire.specs.Records.{DepartRecord}
+use Rattle.lrc_envelope.specs.Records.{DepartRecord}
 use Rattle.lrc_protocol.specs.Take.{take_effect, take_departure}
 use Rattle.lrc_node.proofs.state.NodeState.do_message.Goals as goal
 

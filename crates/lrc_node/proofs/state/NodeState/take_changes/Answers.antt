@@ -1,5 +1,5 @@
 use Rattle.std.proofs.Common.{sym, subst}
-use Rattle.lrc_wire.specs.Records.{ChangesReplyRecord}
+use Rattle.lrc_envelope.specs.Records.{ChangesReplyRecord}
 use Rattle.lrc_memory.specs.Turns.{AreAwaited}
 use Rattle.lrc_protocol.specs.Node.{Node}
 use Rattle.lrc_node.proofs.state.NodeState.take_changes.Goals as goal

@@ -6,7 +6,7 @@ use Rattle.lrc_page.specs.declared.changes.Change.{Change}
 use Rattle.lrc_wire.specs.Runs.{changes_of}
 use Rattle.lrc_wire.specs.Reading.{elements_at, number_at, values_at}
 use Rattle.lrc_wire.proofs.Elements.{with_nothing, goes_on, ends, is_done}
-use Rattle.lrc_wire.proofs.Last.{last_pushed}
+use Rattle.lrc_envelope.proofs.Last.{last_pushed}
 use Rattle.lrc_wire.proofs.Leads.{changes_of-push}
 use Rattle.lrc_wire.proofs.reading.changes.read_run_values.Goals as goal
 

@@ -2,7 +2,7 @@ use Rattle.std.proofs.Common.{◌≡◌, ℕ, ◌-◌, Some, None, ap, arith}
 use Rattle.std.proofs.lemmas.Result.{err_from_is_err_and}
 use Rattle.lrc_wire.specs.Reading.{elements_at, next_page_at}
 use Rattle.lrc_wire.proofs.Elements.{with_nothing, goes_on, ends, is_done}
-use Rattle.lrc_wire.proofs.Last.{last_pushed}
+use Rattle.lrc_envelope.proofs.Last.{last_pushed}
 use Rattle.lrc_wire.proofs.reading.intervals.read_pages_of.Goals as goal
 
 pub loop-init : goal.loop-init

@@ -1,5 +1,5 @@
 use Rattle.std.proofs.Common.{◌≡◌, ◌<◌, ◌+◌, refl, subst, arith}
-use Rattle.lrc_wire.specs.declared.picker.Picker.TheVariants.{Oldest}
+use Rattle.lrc_envelope.specs.declared.picker.Picker.TheVariants.{Oldest}
 use Rattle.lrc_world.specs.Driven.{Goes}
 use Rattle.lrc_world.specs.Rounds.{rounds, at_node}
 use Rattle.lrc_world.proofs.Driven.{goes-nowhere, goes-twice, fails-after, asleep-more}

@@ -1,5 +1,5 @@
 use Rattle.std.proofs.Common.{◌≡◌, ◌≤◌, length}
-use Rattle.lrc_wire.specs.declared.picker.Picker.{Picker}
+use Rattle.lrc_envelope.specs.declared.picker.Picker.{Picker}
 use Rattle.lrc_world.specs.Driven.{Goes, IsStill, NoneReady}
 use Rattle.lrc_world.specs.Rounds.{rounds, at_node}
 use Rattle.lrc_world.proofs.rounds.Driver.run_each.Given as goal

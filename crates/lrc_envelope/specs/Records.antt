@@ -5,7 +5,7 @@ use Rattle.lrc_page.specs.declared.TheConstants.{MOST_PAGES, MOST_PAGE_WORDS}
 use Rattle.lrc_page.specs.declared.changes.Change.{Change}
 use Rattle.lrc_page.specs.Changes.{IsAscending}
 use Rattle.lrc_store.specs.Interval.{IntervalRecord}
-use Rattle.lrc_wire.specs.declared.limits.TheConstants.{MOST_LOCKS, MOST_NODES}
+use Rattle.lrc_envelope.specs.declared.limits.TheConstants.{MOST_LOCKS, MOST_NODES}
 
 -- ---- parts of several kinds
 

@@ -16,7 +16,7 @@ pub struct Envelope {
 }
 
 impl Model for Envelope {
-    ghost use Rattle.lrc_wire.specs.Envelope.{EnvelopeRecord, IsEnvelope};
+    ghost use Rattle.lrc_envelope.specs.Envelope.{EnvelopeRecord, IsEnvelope};
 
     ghost Value = { EnvelopeRecord };
 

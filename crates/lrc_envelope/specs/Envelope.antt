@@ -1,7 +1,7 @@
 -- Envelopes, as contracts see them.
 use Rattle.std.specs.Prelude.{ℕ, ◌<◌}
-use Rattle.lrc_wire.specs.declared.limits.TheConstants.{MOST_NODES}
-use Rattle.lrc_wire.specs.declared.message.Message.{Message}
+use Rattle.lrc_envelope.specs.declared.limits.TheConstants.{MOST_NODES}
+use Rattle.lrc_envelope.specs.declared.message.Message.{Message}
 
 -- a message with its sender, its receiver and its number
 pub record EnvelopeRecord : Type 0 where

@@ -2,7 +2,7 @@
 
 ghost use Rattle.std.specs.Prelude.{◌≡◌, ◌<◌, ◌↔◌, IsTrue, OnOk, OnErr, Some, [], ◌∷◌, ◌++◌, length, slice_get};
 ghost use Rattle.std.specs.Option.{ForSome};
-ghost use Rattle.lrc_wire.specs.Records.{AreParts, last_part};
+ghost use Rattle.lrc_envelope.specs.Records.{AreParts, last_part};
 
 use lrc_page::Changes;
 use std::alloc::{AllocError, Global};
@@ -17,7 +17,7 @@ pub struct IndexedChanges {
 }
 
 impl Model for IndexedChanges {
-    ghost use Rattle.lrc_wire.specs.Records.{IndexedChangesRecord, IsIndexedChanges};
+    ghost use Rattle.lrc_envelope.specs.Records.{IndexedChangesRecord, IsIndexedChanges};
 
     ghost Value = { IndexedChangesRecord };
 
@@ -34,7 +34,7 @@ pub struct Parts {
 
 impl Model for Parts {
     ghost use Rattle.std.specs.Prelude.{List};
-    ghost use Rattle.lrc_wire.specs.Records.{IndexedChangesRecord, AreParts};
+    ghost use Rattle.lrc_envelope.specs.Records.{IndexedChangesRecord, AreParts};
 
     ghost Value = { List IndexedChangesRecord };
 

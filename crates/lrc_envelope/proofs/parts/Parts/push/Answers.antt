@@ -1,7 +1,7 @@
 use Rattle.std.proofs.Common.{◌<◌}
 use Rattle.std.proofs.lemmas.List.Quantifiers.{all_pairs_push}
-use Rattle.lrc_wire.proofs.Last.{last_above}
-use Rattle.lrc_wire.proofs.parts.Parts.push.Goals as goal
+use Rattle.lrc_envelope.proofs.Last.{last_above}
+use Rattle.lrc_envelope.proofs.parts.Parts.push.Goals as goal
 
 pub invariant_of-self-2 : goal.invariant_of-self-2
 invariant_of-self-2 c =

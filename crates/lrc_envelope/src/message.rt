@@ -34,8 +34,8 @@ pub struct LockRequest {
 
 impl Model for LockRequest {
     ghost use Rattle.std.specs.Prelude.{◌<◌};
-    ghost use Rattle.lrc_wire.specs.declared.limits.TheConstants.{MOST_LOCKS};
-    ghost use Rattle.lrc_wire.specs.Records.{LockRequestRecord};
+    ghost use Rattle.lrc_envelope.specs.declared.limits.TheConstants.{MOST_LOCKS};
+    ghost use Rattle.lrc_envelope.specs.Records.{LockRequestRecord};
 
     ghost Value = { LockRequestRecord };
 
@@ -56,7 +56,7 @@ pub struct LockForward {
 }
 
 impl Model for LockForward {
-    ghost use Rattle.lrc_wire.specs.Records.{LockForwardRecord, IsLockForward};
+    ghost use Rattle.lrc_envelope.specs.Records.{LockForwardRecord, IsLockForward};
 
     ghost Value = { LockForwardRecord };
 
@@ -76,8 +76,8 @@ pub struct LockGrant {
 
 impl Model for LockGrant {
     ghost use Rattle.std.specs.Prelude.{◌<◌};
-    ghost use Rattle.lrc_wire.specs.declared.limits.TheConstants.{MOST_LOCKS};
-    ghost use Rattle.lrc_wire.specs.Records.{LockGrantRecord};
+    ghost use Rattle.lrc_envelope.specs.declared.limits.TheConstants.{MOST_LOCKS};
+    ghost use Rattle.lrc_envelope.specs.Records.{LockGrantRecord};
 
     ghost Value = { LockGrantRecord };
 
@@ -99,7 +99,7 @@ pub struct Arrive {
 
 impl Model for Arrive {
     ghost use Rattle.std.specs.Prelude.{◌≤◌};
-    ghost use Rattle.lrc_wire.specs.Records.{ArriveRecord};
+    ghost use Rattle.lrc_envelope.specs.Records.{ArriveRecord};
 
     ghost Value = { ArriveRecord };
 
@@ -121,7 +121,7 @@ pub struct Depart {
 
 impl Model for Depart {
     ghost use Rattle.std.specs.Prelude.{◌≤◌};
-    ghost use Rattle.lrc_wire.specs.Records.{DepartRecord};
+    ghost use Rattle.lrc_envelope.specs.Records.{DepartRecord};
 
     ghost Value = { DepartRecord };
 
@@ -174,7 +174,7 @@ pub struct ChangesRequest {
 }
 
 impl Model for ChangesRequest {
-    ghost use Rattle.lrc_wire.specs.Records.{ChangesRequestRecord, IsChangesRequest};
+    ghost use Rattle.lrc_envelope.specs.Records.{ChangesRequestRecord, IsChangesRequest};
 
     ghost Value = { ChangesRequestRecord };
 
@@ -193,7 +193,7 @@ pub struct ChangesReply {
 }
 
 impl Model for ChangesReply {
-    ghost use Rattle.lrc_wire.specs.Records.{ChangesReplyRecord, IsChangesReply};
+    ghost use Rattle.lrc_envelope.specs.Records.{ChangesReplyRecord, IsChangesReply};
 
     ghost Value = { ChangesReplyRecord };
 
@@ -231,7 +231,7 @@ pub struct PageReply {
 impl Model for PageReply {
     ghost use Rattle.std.specs.Prelude.{◌<◌};
     ghost use Rattle.lrc_page.specs.declared.TheConstants.{MOST_PAGES};
-    ghost use Rattle.lrc_wire.specs.Records.{PageReplyRecord};
+    ghost use Rattle.lrc_envelope.specs.Records.{PageReplyRecord};
 
     ghost Value = { PageReplyRecord };
 

@@ -16,7 +16,7 @@ pub struct News {
 
 impl Model for News {
     ghost use Rattle.std.specs.Prelude.{length};
-    ghost use Rattle.lrc_wire.specs.Records.{NewsRecord, GoWith};
+    ghost use Rattle.lrc_envelope.specs.Records.{NewsRecord, GoWith};
 
     ghost Value = { NewsRecord };
 

@@ -3,7 +3,7 @@
 ghost use Rattle.std.specs.Prelude.{◌≡◌, ◌≤◌, ◌<◌, ◌↔◌, IsTrue, All, OnOk, OnErr, Some, [], ◌∷◌, ◌++◌, length, slice_get};
 ghost use Rattle.std.specs.Option.{ForSome};
 ghost use Rattle.std.specs.List.Sorted.{IsStrictlyIncreasing};
-ghost use Rattle.lrc_wire.specs.Records.{AreIndices, last_index};
+ghost use Rattle.lrc_envelope.specs.Records.{AreIndices, last_index};
 
 use std::alloc::{AllocError, Global};
 use std::marker::Model;
@@ -16,7 +16,7 @@ pub struct Indices {
 
 impl Model for Indices {
     ghost use Rattle.std.specs.Prelude.{ℕ, List};
-    ghost use Rattle.lrc_wire.specs.Records.{AreIndices};
+    ghost use Rattle.lrc_envelope.specs.Records.{AreIndices};
 
     ghost Value = { List ℕ };
 
