@@ -1,4 +1,5 @@
 pub mod Agreeing
+pub mod Begins
 pub mod Following
 pub mod Making
 pub mod Passing

@@ -1,3 +1,4 @@
+pub mod Begins
 pub mod Makes
 pub mod Places
 pub mod Seen

@@ -1,15 +1,25 @@
-// Laws of walks. These functions do nothing: each contract states a law.
+// Laws of lines and walks. These functions do nothing: each contract states a law.
 
 ghost use Rattle.std.specs.Prelude.{◌≡◌, ◌<◌, ℕ, All, List, Some, slice_get, take};
 ghost use Rattle.lrc_lang.specs.declared.program.Program.{Program};
+ghost use Rattle.lrc_lang.specs.Lines.{HasLines};
+ghost use Rattle.lrc_lang.specs.Tree.{program_of};
 ghost use Rattle.lrc_trace.specs.declared.act.Act.{Act};
 ghost use Rattle.lrc_trace.specs.declared.act.Deed.{Deed};
 ghost use Rattle.lrc_trace.specs.Run.{Does};
 ghost use Rattle.lrc_theory.specs.Follows.{FollowsText};
+ghost use Rattle.lrc_lines.specs.Begins.{BeginOnLines};
 ghost use Rattle.lrc_lines.specs.Makes.{MakesNext};
 ghost use Rattle.lrc_lines.specs.Places.{StandsAmong, in_order};
 ghost use Rattle.lrc_lines.specs.Standing.{Agrees};
 ghost use Rattle.lrc_lines.specs.Walks.{end_of, line_at, lines_of, walk_behind};
+
+/// The lines of a text are those on which its statements begin: one for each statement in the order of the text, the line of
+/// the first of the tokens that spell the statement, and at last that of the text's end.
+pub fn each_statement_begins_on_its_line()
+    ensures { (text : List ℕ) (program : Program) (lines : List ℕ)
+        → HasLines text (program_of program) lines → BeginOnLines text program lines }
+{}
 
 /// Whatever the acts are, the statements still to do with their lines are those that the node's thread has still to do.
 pub fn walks_agree_with_their_threads()
