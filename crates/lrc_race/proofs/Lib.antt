@@ -2,6 +2,7 @@ pub mod Additions
 pub mod PlaceLists
 pub mod PlaceOrder
 pub mod Stretches
+pub mod Leaving
 pub mod Found
 pub mod Agreement
 pub mod OfRuns

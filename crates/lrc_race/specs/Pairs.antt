@@ -6,13 +6,16 @@ use Rattle.lrc_trace.specs.declared.trace.Segment.{Segment}
 use Rattle.lrc_trace.specs.Trace.{TraceRecord}
 use Rattle.lrc_race.specs.declared.places.TouchedPlace.{TouchedPlace}
 use Rattle.lrc_race.specs.declared.detector.Lane.{Lane}
-use Rattle.lrc_race.specs.Places.{ArePlaces, touches}
-use Rattle.lrc_race.specs.Races.{AreUnordered, name_of}
+use Rattle.lrc_race.specs.Adding.{IsOfSome}
+use Rattle.lrc_race.specs.Places.{AreInOrder, ArePlaces, IsPlace}
+use Rattle.lrc_race.specs.Races.{AreConflicting, AreUnordered, name_of}
 
--- the lane has the words of the trace
+-- The lane has the words that the trace writes, and in order words that it reads, among them each that it does not write.
 pub record IsLane (trace : TraceRecord) (lane : Lane) : Type 0 where
-  pub accesses : ArePlaces trace true lane.accesses.items
-  pub writes : ArePlaces trace false lane.writes.items
+  pub writes : ArePlaces trace true lane.writes.items
+  pub reads_sorted : AreInOrder lane.reads.items
+  pub reads_sound : (place : TouchedPlace) → Contains lane.reads.items place → IsPlace trace false place
+  pub reads_cover : (place : TouchedPlace) → IsPlace trace false place → Contains lane.reads.items place ⊎ Contains lane.writes.items place
 
 -- there is a lane for each trace
 pub record AreLanes (traces : List TraceRecord) (lanes : List Lane) : Type 0 where
@@ -58,8 +61,18 @@ IsRaceAt a x b ys k race = (y : TouchedPlace) × (slice_get ys k ≡ Some y) × 
 abbrev pub IsRaceFrom : TraceRecord → TouchedPlace → TraceRecord → List TouchedPlace → ℕ → Race → Type 0
 IsRaceFrom a x b ys from race = (k : ℕ) × (from ≤ k) × IsRaceAt a x b ys k race
 
--- the race is of the i-th trace, which accesses the word, and the j-th, of another node, which writes it
+-- the race is of two places of these lists
+abbrev pub IsRaceOfLists : TraceRecord → List TouchedPlace → TraceRecord → List TouchedPlace → Race → Type 0
+IsRaceOfLists a xs b ys = IsOfSome xs (λ x. IsOfSome ys (IsRaceOfPlaces a x b))
+
+-- both write the word, or the one writes what the other reads
+abbrev pub IsRaceOfLanes : TraceRecord → Lane → TraceRecord → Lane → Race → Type 0
+IsRaceOfLanes a first b second race = IsRaceOfLists a first.writes.items b second.writes.items race
+    ⊎ (IsRaceOfLists a first.reads.items b second.writes.items race ⊎ IsRaceOfLists a first.writes.items b second.reads.items race)
+
+-- the race is of the i-th trace and the j-th, a later one, of another node
 pub record IsRaceOfTraces (traces : List TraceRecord) (i j : ℕ) (race : Race) : Type 0 where
+  pub later : i < j
   pub a : TraceRecord
   pub b : TraceRecord
   pub s : Segment
@@ -70,7 +83,6 @@ pub record IsRaceOfTraces (traces : List TraceRecord) (i j : ℕ) (race : Race) 
   pub t_there : Contains b.segments t
   pub apart : a.node ≢ b.node
   pub word : ℕ
-  pub first : IsTrue (touches a.size s true word)
-  pub second : IsTrue (touches b.size t false word)
+  pub conflicting : AreConflicting a s b t word
   pub unordered : AreUnordered a s b t
   pub named : race ≡ name_of word a s b t

@@ -3,24 +3,34 @@
 ghost use Rattle.std.specs.Prelude.{◌≡◌, ℕ, ◌<◌, ◌≤◌, ◌↔◌, Contains, IfOk, IsTrue, MatchOption, OnOk, Some, length, slice_get};
 ghost use Rattle.lrc_trace.specs.Trace.{TraceRecord};
 ghost use Rattle.lrc_time.specs.Time.{Knows};
-ghost use Rattle.lrc_race.specs.Adding.{Adds, IsOfSome};
+ghost use Rattle.lrc_race.specs.Adding.{Adds};
 ghost use Rattle.lrc_trace.specs.declared.race.Race.{Race};
 ghost use Rattle.lrc_race.specs.declared.places.TouchedPlace.{TouchedPlace};
 ghost use Rattle.lrc_race.specs.Places.{AreInOrder};
 ghost use Rattle.lrc_race.specs.Races.{AreRacesOf, AreTracesOf, RisesAlong, name_of};
-ghost use Rattle.lrc_race.specs.Pairs.{IsLane, AreLanes, AreWithin, HaveEntries, IsBehind, IsRaceOfPlaces, IsRaceFrom, IsRaceOfTraces};
+ghost use Rattle.lrc_race.specs.Pairs.{IsLane, AreLanes, AreWithin, HaveEntries, IsBehind, IsRaceOfPlaces, IsRaceFrom, IsRaceOfLists, IsRaceOfLanes, IsRaceOfTraces};
 
-use crate::places::{TouchedPlace, places_of};
+use crate::places::{TouchedPlace, places_of, without};
 use crate::rising::all_rise;
 use lrc_trace::race::Race;
 use lrc_trace::trace::{Segment, Trace};
 use std::alloc::{AllocError, Global};
 
-/// The words that a trace accesses, and those that it writes, in order.
+/// The words that a trace writes, and those that it reads and does not write, in order.
 #[derive(Drop)]
 struct Lane {
-    accesses: Vec<TouchedPlace>,
     writes: Vec<TouchedPlace>,
+    reads: Vec<TouchedPlace>,
+}
+
+/// The words of a trace.
+fn lane_of(alloc: Global, trace: &Trace) -> Result<Lane, AllocError>
+    ensures { IfOk result (λ lane. IsLane trace.now lane) }
+{
+    let writes = places_of(alloc, trace, true)?;
+    let read = places_of(alloc, trace, false)?;
+    let reads = without(alloc, &read, &writes)?;
+    Ok(Lane { writes, reads })
 }
 
 /// The words of each trace.
@@ -29,9 +39,8 @@ fn lanes_of(alloc: Global, traces: &[Trace]) -> Result<Vec<Lane>, AllocError>
 {
     let mut lanes = Vec::new(alloc);
     for trace in traces {
-        let accesses = places_of(alloc, trace, true)?;
-        let writes = places_of(alloc, trace, false)?;
-        lanes.push(Lane { accesses, writes })?;
+        let lane = lane_of(alloc, trace)?;
+        lanes.push(lane)?;
     }
     Ok(lanes)
 }
@@ -162,8 +171,7 @@ fn add_races(
     requires second_sorted { AreInOrder ys.now }
     requires entries { HaveEntries a.now b.now }
     requires rising { IsTrue rise → RisesAlong a.now × RisesAlong b.now }
-    ensures { OnOk result (Adds races.old.items races.new.items
-        (IsOfSome xs.now (λ x. IsOfSome ys.now (IsRaceOfPlaces a.now x b.now)))) }
+    ensures { OnOk result (Adds races.old.items races.new.items (IsRaceOfLists a.now xs.now b.now ys.now)) }
 {
     let mut start = 0;
     for x in xs {
@@ -173,7 +181,7 @@ fn add_races(
     Ok(())
 }
 
-/// Adds the races of what one trace accesses with what another writes.
+/// Adds the races of two traces: of what both write, and of what the one writes and the other reads alone.
 fn add_pair(
     races: &mut Vec<Race>,
     rise: bool,
@@ -186,13 +194,15 @@ fn add_pair(
     requires second { IsLane b.now second.now }
     requires entries { HaveEntries a.now b.now }
     requires rising { IsTrue rise → RisesAlong a.now × RisesAlong b.now }
-    ensures { OnOk result (Adds races.old.items races.new.items
-        (IsOfSome first.now.accesses.items (λ x. IsOfSome second.now.writes.items (IsRaceOfPlaces a.now x b.now)))) }
+    ensures { OnOk result (Adds races.old.items races.new.items (IsRaceOfLanes a.now first.now b.now second.now)) }
 {
-    add_races(races, rise, a, &first.accesses, b, &second.writes)
+    add_races(races, rise, a, &first.writes, b, &second.writes)?;
+    add_races(races, rise, a, &first.reads, b, &second.writes)?;
+    add_races(races, rise, a, &first.writes, b, &second.reads)?;
+    Ok(())
 }
 
-/// Adds the races of what one trace accesses with what the others write.
+/// Adds the races of one trace with the later ones.
 fn add_races_with(
     races: &mut Vec<Race>,
     rise: bool,
@@ -208,7 +218,7 @@ fn add_races_with(
         (λ race. (j : ℕ) × (j < length traces.now) × IsRaceOfTraces traces.now i j race)) }
 {
     let a = &traces[i];
-    for j in 0..traces.len() {
+    for j in i + 1..traces.len() {
         let b = &traces[j];
         if a.node() != b.node() {
             add_pair(races, rise, a, &lanes[i], b, &lanes[j])?;
@@ -219,7 +229,8 @@ fn add_races_with(
 
 /// The races of traces, by words, nodes and intervals, each once: the word and the two intervals of different nodes, where
 /// one wrote the word, the other read or wrote it, and neither time knows the other's interval. Where the times of each
-/// trace rise, as they do in every run, it costs little more than to list the accesses and the races.
+/// trace rise, as they do in every run, it costs little more than to list the accesses and the races: each race is found once,
+/// those of two traces mostly in order, and the sort joins what is in order.
 pub fn races(alloc: Global, traces: &[Trace]) -> Result<Vec<Race>, AllocError>
     requires { (nodes : ℕ) × AreTracesOf nodes traces.now }
     ensures { IfOk result (λ races. AreRacesOf traces.now races.items) }
@@ -230,7 +241,7 @@ pub fn races(alloc: Global, traces: &[Trace]) -> Result<Vec<Race>, AllocError>
     for i in 0..traces.len() {
         add_races_with(&mut races, rise, traces, &lanes, i)?;
     }
-    races.sort_unstable();
+    races.sort()?;
     races.dedup();
     Ok(races)
 }

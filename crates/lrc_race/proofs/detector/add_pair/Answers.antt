@@ -1,18 +1,46 @@
-use Rattle.std.proofs.Common.{true, false}
-use Rattle.lrc_race.proofs.Found.{places-within}
+use Rattle.lrc_race.proofs.Found.{lanes-add, reads-within, writes-within}
 use Rattle.lrc_race.proofs.detector.add_pair.Goals as goal
 
 pub add_races-requires-clause-first : goal.add_races-requires-clause-first
-add_races-requires-clause-first c = rw c.deref.ensures.value (places-within c.args.a.now true c.args.first.now.accesses.items c.requires.first.accesses)
-
-pub add_races-requires-clause-second : goal.add_races-requires-clause-second
-add_races-requires-clause-second c = rw c.deref-2.ensures.value (places-within c.args.b.now false c.args.second.now.writes.items c.requires.second.writes)
+add_races-requires-clause-first c = rw c.deref.ensures.value (writes-within c.args.a.now c.args.first.now c.requires.first)
 
 pub add_races-requires-clause-first_sorted : goal.add_races-requires-clause-first_sorted
-add_races-requires-clause-first_sorted c = rw c.deref.ensures.value c.requires.first.accesses.sorted
+add_races-requires-clause-first_sorted c = rw c.deref.ensures.value c.requires.first.writes.sorted
+
+pub add_races-requires-clause-second : goal.add_races-requires-clause-second
+add_races-requires-clause-second c = rw c.deref-2.ensures.value (writes-within c.args.b.now c.args.second.now c.requires.second)
 
 pub add_races-requires-clause-second_sorted : goal.add_races-requires-clause-second_sorted
 add_races-requires-clause-second_sorted c = rw c.deref-2.ensures.value c.requires.second.writes.sorted
 
+pub add_races-requires-2-clause-first : goal.add_races-requires-2-clause-first
+add_races-requires-2-clause-first c = rw c.deref-3.ensures.value (reads-within c.args.a.now c.args.first.now c.requires.first)
+
+pub add_races-requires-2-clause-first_sorted : goal.add_races-requires-2-clause-first_sorted
+add_races-requires-2-clause-first_sorted c = rw c.deref-3.ensures.value c.requires.first.reads_sorted
+
+pub add_races-requires-2-clause-second : goal.add_races-requires-2-clause-second
+add_races-requires-2-clause-second c = rw c.deref-4.ensures.value (writes-within c.args.b.now c.args.second.now c.requires.second)
+
+pub add_races-requires-2-clause-second_sorted : goal.add_races-requires-2-clause-second_sorted
+add_races-requires-2-clause-second_sorted c = rw c.deref-4.ensures.value c.requires.second.writes.sorted
+
+pub add_races-requires-3-clause-first : goal.add_races-requires-3-clause-first
+add_races-requires-3-clause-first c = rw c.deref-5.ensures.value (writes-within c.args.a.now c.args.first.now c.requires.first)
+
+pub add_races-requires-3-clause-first_sorted : goal.add_races-requires-3-clause-first_sorted
+add_races-requires-3-clause-first_sorted c = rw c.deref-5.ensures.value c.requires.first.writes.sorted
+
+pub add_races-requires-3-clause-second : goal.add_races-requires-3-clause-second
+add_races-requires-3-clause-second c = rw c.deref-6.ensures.value (reads-within c.args.b.now c.args.second.now c.requires.second)
+
+pub add_races-requires-3-clause-second_sorted : goal.add_races-requires-3-clause-second_sorted
+add_races-requires-3-clause-second_sorted c = rw c.deref-6.ensures.value c.requires.second.reads_sorted
+
 pub returns : goal.returns
-returns c = rw (c.deref.ensures.value, c.deref-2.ensures.value) at c.add_races.ensures
+returns c =
+    lanes-add c.args.a.now c.args.first.now c.args.b.now c.args.second.now c.args.races.now.items c.add_races.new.races.items
+    c.add_races-2.new.races.items c.add_races-3.new.races.items
+    (rw (c.deref.ensures.value, c.deref-2.ensures.value) at c.in_ok-add_races.ensures)
+    (rw (c.deref-3.ensures.value, c.deref-4.ensures.value) at c.in_ok-add_races-2.ensures)
+    (rw (c.deref-5.ensures.value, c.deref-6.ensures.value) at c.in_ok-add_races-3.ensures)

@@ -2,14 +2,14 @@ use Rattle.std.proofs.Common.{◌≡◌, ◌∙◌, Some, sym, length, refl, ari
 use Rattle.std.specs.Prelude.{slice_get}
 use Rattle.std.proofs.lemmas.Option.{slice_get_read}
 use Rattle.lrc_race.specs.Pairs.{IsLane, IsRaceOfTraces}
-use Rattle.lrc_race.proofs.Additions.{below-none, below-more}
-use Rattle.lrc_race.proofs.Found.{pair-found, pair-none, below-all}
+use Rattle.lrc_race.proofs.Additions.{below-more}
+use Rattle.lrc_race.proofs.Found.{pair-found, pair-none, below-all, below-start}
 use Rattle.lrc_race.proofs.Stretches.{at_contains}
 use Rattle.lrc_race.proofs.detector.add_races_with.Goals as goal
 use Rattle.lrc_race.proofs.detector.add_races_with.Goals.{then-node+in_ok-add_pair, else-node}
 
 pub loop-j-init : goal.loop-j-init
-loop-j-init c = below-none (IsRaceOfTraces c.args.traces.now c.args.i) c.args.races.now.items
+loop-j-init c = below-start c.args.traces.now c.args.i c.args.races.now.items
 
 -- the traces and the lanes at their numbers
 trace_i : (c : goal.After-index-lanes-j) → slice_get c.args.traces.now c.args.i ≡ Some c.index-traces-i.result
@@ -60,9 +60,9 @@ loop-j-preserved c =
           rw w.races-is
           (below-more (IsRaceOfTraces traces c.args.i) c.args.races.now.items c.loop-j.races.items w.add_pair.new.races.items c.loop-j.j
           c.loop-j.invariant
-          (pair-found traces c.args.i c.loop-j.j a b w.index-lanes-i.result w.index-lanes-j.result c.loop-j.races.items
-          w.add_pair.new.races.items a_is b_is (λ same. w.if-node.true (c.node.ensures ∙ same ∙ sym c.node-in-loop-j.ensures)) first second
-          w.in_ok-add_pair.ensures))
+          (pair-found traces c.args.i c.loop-j.j a b w.index-lanes-i.result w.index-lanes-j.result (omega arith) a_is b_is
+          (λ same. w.if-node.true (c.node.ensures ∙ same ∙ sym c.node-in-loop-j.ensures)) first second c.loop-j.races.items
+          w.add_pair.new.races.items w.in_ok-add_pair.ensures))
       | else-node w ↦
           rw w.races-is
           (below-more (IsRaceOfTraces traces c.args.i) c.args.races.now.items c.loop-j.races.items c.loop-j.races.items c.loop-j.j

@@ -17,10 +17,10 @@ pub returns : goal.returns
 returns c =
     let traces = c.args.traces.now in
     let found = c.loop-i.races.items in
-    let sorted = c.sort_unstable.new.self.items in
+    let sorted = c.sort.new.self.items in
     let unique = c.dedup.new.self.items in
-    let permutation = c.sort_unstable.ensures.permutation in
-    let in_order = c.sort_unstable.ensures.sorted in
+    let permutation = c.sort.ensures.permutation in
+    let in_order = c.in_ok-sort.ensures.sorted in
     let is = dedup_is race_eq sorted unique c.dedup.ensures.filtered in
     record {
       ascending = unique-ascending found sorted unique permutation in_order is;
