@@ -412,23 +412,18 @@ fn last_interval(rt: &impl Abort, node: u8, pages: Pages) -> Interval
 }
 
 #[test]
-fn a_manager_of_two_refuses_another_episode_and_a_second_arrival(
-    rt: HostRuntime,
-) -> Result<(), Fail> {
+fn a_manager_of_two_refuses_another_episode_and_a_second_arrival(rt: HostRuntime) {
     let alloc = rt.alloc();
     let mut manager = Manager::new(alloc, 2);
-    let early = quiet_arrival(&rt, alloc, 0, 2, 9)?;
-    let arrival = quiet_arrival(&rt, alloc, 0, 1, 9)?;
-    let refused = enter(&rt, &mut manager, 0, &early).err();
-    let kept = matches!(enter(&rt, &mut manager, 0, &arrival), Ok(None));
-    let again = enter(&rt, &mut manager, 0, &arrival).err();
+    let early = arrives(&rt, alloc, &mut manager, 0, 2, 9).err();
+    let waits = matches!(arrives(&rt, alloc, &mut manager, 0, 1, 9), Ok(None));
+    let again = arrives(&rt, alloc, &mut manager, 0, 1, 9).err();
     let wanted = (
         Some(BarrierFault::WrongEpisode),
         true,
         Some(BarrierFault::Twice),
     );
-    assert!(rt; (refused, kept, again) == wanted);
-    Ok(())
+    assert!(rt; (early, waits, again) == wanted);
 }
 
 /// An arrival of one of sixteen nodes, with one interval.
