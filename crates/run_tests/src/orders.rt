@@ -1,11 +1,11 @@
 // Runs in which two requests lie in one mailbox before either is taken: the order says which is served first.
 
 use crate::shell::{ORDERS, options};
+use lrc_envelope::Picker;
 use lrc_lang::parse;
 use lrc_node::{Entry, Input};
 use lrc_run::{Gate, RunFault, run_gated};
 use lrc_trace::act::{Act, Deed};
-use lrc_wire::Picker;
 use std::alloc::Global;
 use std::sync::Wait;
 use std::sync::atomic::{AtomicU64, Ordering};
