@@ -14,8 +14,7 @@ use Rattle.lrc_protocol.specs.declared.event.Event.{Event}
 use Rattle.lrc_protocol.specs.Expected.{is_expected}
 use Rattle.lrc_protocol.specs.Mail.{numbered}
 use Rattle.lrc_protocol.specs.Node.{Node, Effect, OptionsRecord}
-use Rattle.lrc_protocol.specs.Take.{take_effect}
-use Rattle.lrc_protocol.specs.Turn.{done, unexpected, empty_turn, is_addressed, is_repeat, taking, turn_with, turn_of, take_turn}
+use Rattle.lrc_protocol.specs.Turn.{done, unexpected, empty_turn, is_addressed, is_repeat, turn_with, turn_of, take_turn}
 use Rattle.lrc_protocol.specs.Log.{Logged}
 use Rattle.lrc_protocol.specs.World.{World, Flying, pending, run_of}
 use Rattle.lrc_invariants.proofs.Addressed.{all_addressed}
@@ -54,8 +53,7 @@ by_tests node effect false b c is h e = absurd (false≢true is)
 -- a message for a node from one of the nodes that it expects, where it hasn't taken it, is not refused
 pub not_refused : (node : Node) (e : EnvelopeRecord) → is_addressed node e ≡ true
     → (is_repeat node e ≡ false → is_expected node e.from e.message ≡ true) → take_turn node e ≡ unexpected → ⊥
-not_refused node e to expected =
-    by_tests node (take_effect (taking node e) e.from e.message) (is_addressed node e) (is_repeat node e) (is_expected node e.from e.message) to expected
+not_refused node e to expected = search (by_tests)
 
 -- who sent what was taken has a place
 taken-within : (taken : List (List ℕ)) (from number : ℕ) → list_any (λ k. k == number) (slice_index_or taken from []) ≡ true → from < length taken

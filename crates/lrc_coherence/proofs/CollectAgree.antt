@@ -18,6 +18,7 @@ use Rattle.lrc_protocol.specs.Mail.{Wait, nothing, grant, departure, access, upk
 use Rattle.lrc_protocol.specs.Node.{Node, OptionsRecord, fresh_node}
 use Rattle.lrc_protocol.specs.Log.{Input, EntryRecord, Logged}
 use Rattle.lrc_protocol.specs.World.{World, Flying, fresh_world, with_turn, pending, run_of}
+use Rattle.lrc_protocol.proofs.Ruled.{by_rule}
 use Rattle.lrc_protocol.proofs.Worlds.{IsEntry, get_set_same, get_set_other, fresh_at}
 use Rattle.lrc_protocol.proofs.Induction.{Comes}
 use Rattle.lrc_invariants.specs.Barriers.{says_discard, discard_to, awaits_word, time_in, IsNewestTime}
@@ -31,7 +32,7 @@ use Rattle.lrc_local.proofs.Always.{ranged_at}
 use Rattle.lrc_coherence.specs.Made.{StoresJust}
 use Rattle.lrc_coherence.proofs.MadeWorlds.{Knows, knows}
 use Rattle.lrc_coherence.proofs.Stored.{stores_just, reached}
-use Rattle.lrc_coherence.proofs.CollectTurns.{in_collection, Steady, Begun, Ended, Kind, steady, begun, ended, Kinds, alone, again, anew, KindsIf, turn_kinds}
+use Rattle.lrc_coherence.proofs.CollectTurns.{in_collection, Steady, Begun, Ended, Kind, steady, begun, ended, Kinds, alone, again, anew, turn_kinds}
 use Rattle.lrc_coherence.proofs.CollectKeepers.{keepers_same}
 use Rattle.lrc_coherence.proofs.CollectFlips.{cleans_in, Flips, goes_on, starts, stops, flips, same_cleans, IsTaken, is_taken}
 use Rattle.lrc_coherence.proofs.CollectPairs.{inside, true_false, Fits, itself, level, steady_first, steady_second}
@@ -172,7 +173,7 @@ module _ (program : Program) (nodes : ℕ) (options : OptionsRecord) where
         over (cleans_in program nodes options world h) refl e episode t.among (same_message e.from from e.message (Discard episode) c) t.here)
 
     pub did : Did after.node
-    did = by_kinds after.node input refl (subst (KindsIf l.node input) i.turn_is (turn_kinds l.node input))
+    did = by_kinds after.node input refl (turn_kinds l.node input entry_made.turn after.node (by_rule l.node input entry_made.turn after.node i.turn_is))
 
   -- ---- every two nodes
 

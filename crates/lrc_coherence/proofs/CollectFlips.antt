@@ -2,7 +2,7 @@
 -- as some node has not told that its copies are clean.
 use Rattle.std.proofs.Common.{◌≡◌, ℕ, ◌+◌, ◌<◌, ◌≤◌, List, ◌∷◌, Bool, true, false, cond, is_some, length, refl, sym, ap, subst, ◌∙◌, inl, inr, arith}
 use Rattle.std.specs.Prelude.{Option, Some, None, ◌==◌, Contains, count_by, unwrap_or, slice_get, slice_set, if◌then◌else◌}
-use Rattle.std.proofs.lemmas.Bool.{and_parts, and_from, cases_eq, eqb-true, eq-eqb, ne_eqb}
+use Rattle.std.proofs.lemmas.Bool.{and_from, cases_eq, eq-eqb, ne_eqb}
 use Rattle.std.proofs.lemmas.Option.{same_Some, slice_get_within}
 use Rattle.std.proofs.lemmas.List.{length-set}
 use Rattle.std.proofs.lemmas.List.Elements.{Contains-append_right}
@@ -155,7 +155,7 @@ module _ (program : Program) (nodes : ℕ) (options : OptionsRecord) where
         (subst (λ x. Goes (new_of l.node x) (pending world) entry.turn.out (pending next)) input_is goes) in
         let t : Took l.node e entry.turn after.node =
         took l.node e entry.turn after.node anew (subst (λ x. outcome_of l.node x ≡ done entry.turn after.node) input_is i.turn_is) in
-        let to : e.to ≡ l.node.setting.me = eqb-true e.to l.node.setting.me (and_parts _ _ t.addressed).0 in
+        let to : e.to ≡ l.node.setting.me = t.addressed.to_it in
         record {
           among = subst (λ es. Contains es e) (sym lost.before) (Contains-append_right lost.front (e ∷ lost.back) e (Contains-first e lost.back));
           here = ap (slice_get world.nodes) (to ∙ me_is program nodes options world flight n l after input entry at come i r r' h) ∙ at;

@@ -19,6 +19,7 @@ use Rattle.lrc_protocol.specs.Memory.{copy_at}
 use Rattle.lrc_protocol.specs.Node.{Node, OptionsRecord, fresh_node}
 use Rattle.lrc_protocol.specs.Log.{Logged}
 use Rattle.lrc_protocol.specs.World.{World, fresh_world, with_turn}
+use Rattle.lrc_protocol.proofs.Ruled.{by_rule}
 use Rattle.lrc_protocol.proofs.Worlds.{fresh_at}
 use Rattle.lrc_invariants.proofs.Reached.{IsReached}
 use Rattle.lrc_invariants.proofs.Shape.{shape_at}
@@ -83,6 +84,7 @@ module _ (program : Program) (nodes : ℕ) (options : OptionsRecord) (stamps : S
             t.own_node t.still_node;
         sent =
             all-sent options made (closed_by l.node after.node) world flight n l after input entry_made at come h t (requests world r) (bases world made hist)
+            (by_rule l.node input entry_made.turn after.node i.turn_is)
             (turn_at program nodes options world flight n l after input entry_made at come i r);
       }
 

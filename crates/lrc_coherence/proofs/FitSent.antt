@@ -1,5 +1,5 @@
 -- A base copy on its way fits what its receiver collected, from when its keeper sends it until it is taken.
-use Rattle.std.proofs.Common.{◌≡◌, ◌⊎◌, ℕ, List, ◌∷◌, ◌++◌, map, refl, sym, ap, subst, ◌∙◌, inl, inr, ⊎_elim}
+use Rattle.std.proofs.Common.{◌≡◌, ◌⊎◌, ℕ, List, ◌∷◌, ◌++◌, refl, sym, ap, subst, ◌∙◌, inl, inr, ⊎_elim}
 use Rattle.std.specs.Prelude.{Some, Contains, slice_get, slice_set}
 use Rattle.std.proofs.lemmas.Bool.{cases_eq}
 use Rattle.std.proofs.lemmas.Option.{same_Some}
@@ -14,20 +14,19 @@ use Rattle.lrc_protocol.specs.Mail.{Wait, access, discard, Collection}
 use Rattle.lrc_protocol.specs.Fetch.{Need}
 use Rattle.lrc_protocol.specs.Node.{Node, OptionsRecord}
 use Rattle.lrc_protocol.specs.Log.{Input, taken, EntryRecord, Logged}
-use Rattle.lrc_protocol.specs.Take.{take_effect}
+use Rattle.lrc_protocol.specs.Rules.{TurnRule}
 use Rattle.lrc_protocol.specs.Turn.{TurnRecord, taking}
 use Rattle.lrc_protocol.specs.Waits.{clean_memory}
 use Rattle.lrc_protocol.specs.World.{World, Flying, with_turn, pending}
 use Rattle.lrc_protocol.proofs.Worlds.{get_set_same, get_set_other}
 use Rattle.lrc_protocol.proofs.Induction.{Comes}
-use Rattle.lrc_invariants.proofs.Sends.{Came, letter_in}
+use Rattle.lrc_invariants.proofs.Sends.{Came}
 use Rattle.lrc_local.proofs.Change.{View, view_of}
 use Rattle.lrc_local.proofs.Ranges.{SameRest, clean-same}
-use Rattle.lrc_coherence.proofs.CopyReplies.{Answers, no_pages, run-carries, sent-out, take-answers}
+use Rattle.lrc_coherence.proofs.CopyReplies.{Answers, sends_page}
 use Rattle.lrc_local.proofs.Turning.{First, rests, manages, closes, learns, begins, discards, misses, gets_changes}
 use Rattle.lrc_local.proofs.Turning.{gets_page, Later, moves, puts, cleans, mends, Played, begun, goes_on}
 use Rattle.lrc_coherence.proofs.FitCopies.{FitsTime, later_fits}
-use Rattle.lrc_coherence.proofs.FitRepair.{into_map}
 use Rattle.lrc_coherence.proofs.FitWorlds.{AreFit, TurnFits, wrote_in, ToIs, to-is, lost-in, by_turning}
 use Rattle.lrc_coherence.proofs.Laws.{AwaitsBase, AreAwaited, AreServed, base_bound}
 use Rattle.lrc_coherence.proofs.StampWorlds.{TurnBy, alone, again, anew}
@@ -76,28 +75,23 @@ front-back front back e x c =
     (Contains-append_cases front back x c)
 
 sent-cases : (node : Node) (was : List EnvelopeRecord) (input : Input) (turn : TurnRecord) (after : Node) (then : List EnvelopeRecord)
-    → TurnBy node was input turn after then → (e : EnvelopeRecord) (m : PageReplyRecord) → Contains then e → e.message ≡ PageReply m
-    → Contains was e ⊎ Asked node was input e.to m
-sent-cases node was _ turn after then (alone o k is) e m c p =
+    → TurnRule node input turn after → TurnBy node was input turn after then → (e : EnvelopeRecord) (m : PageReplyRecord) → Contains then e
+    → e.message ≡ PageReply m → Contains was e ⊎ Asked node was input e.to m
+sent-cases node was _ turn after then rule (alone o k is) e m c p =
     ⊎_elim inl
-    (λ (sent : Contains turn.out e).
-    absurd (no_pages (map letter_in turn.out) (run-carries node turn after o) (letter_in e) m (into_map letter_in turn.out e sent) p))
+    (λ (sent : Contains turn.out e). absurd (sends_page node _ turn after rule e m sent p))
     (Contains-append_cases was turn.out e (subst (λ l. Contains l e) is c))
-sent-cases node was _ _ _ then (again request is) e m c p = inl (subst (λ l. Contains l e) is c)
-sent-cases node was _ turn after then (anew request took k lost) e m c p =
+sent-cases node was _ _ _ then rule (again request is) e m c p = inl (subst (λ l. Contains l e) is c)
+sent-cases node was _ turn after then rule (anew request took k lost) e m c p =
     ⊎_elim
     (λ (old : Contains (lost.front ++ lost.back) e).
     inl (subst (λ l. Contains l e) (sym lost.before) (front-back lost.front lost.back request e old)))
     (λ (sent : Contains turn.out e).
-    let letters : map letter_in turn.out ≡ (take_effect (taking node request) request.from request.message).letters =
-    sent-out (take_effect (taking node request) request.from request.message) turn after took.turn_is in
     inr (record {
       request = request;
       pending_was = lost-in request was turn.out then lost;
       came = refl;
-      answers =
-          take-answers (taking node request) request.from request.message (letter_in e) m
-          (subst (λ l. Contains l (letter_in e)) letters (into_map letter_in turn.out e sent)) p;
+      answers = sends_page node _ turn after rule e m sent p;
     }))
     (Contains-append_cases (lost.front ++ lost.back) turn.out e (subst (λ l. Contains l e) lost.after c))
 
@@ -167,11 +161,11 @@ module _ (options : OptionsRecord) (made new : List StoredRecord) (world : World
       (λ x b. t.untouched m.page x b.member (served.unnamed a.request.from n m.page before l x from at w b))
       ((t.then_node n l at).bases m.page m.values a.answers.kept))
 
-  pub all-sent : TurnBy l.node (pending world) input entry_made.turn after.node (pending now)
+  pub all-sent : TurnRule l.node input entry_made.turn after.node → TurnBy l.node (pending world) input entry_made.turn after.node (pending now)
       → (e : EnvelopeRecord) (m : PageReplyRecord) (lq : Logged) → Contains (pending now) e → e.message ≡ PageReply m
       → slice_get now.nodes e.to ≡ Some lq → FitsTime (wrote_in options now.acts) (made ++ new) lq.node.memory.collected m.page m.values
-  all-sent turn e m lq c p is =
+  all-sent rule turn e m lq c p is =
       ⊎_elim
       (λ (old : Contains (pending world) e). old-fits e m lq old p is)
       (λ (a : Asked l.node (pending world) input e.to m). new-fits e m lq a is)
-      (sent-cases l.node (pending world) input entry_made.turn after.node (pending now) turn e m c p)
+      (sent-cases l.node (pending world) input entry_made.turn after.node (pending now) rule turn e m c p)

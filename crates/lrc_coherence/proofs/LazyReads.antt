@@ -39,9 +39,10 @@ use Rattle.lrc_protocol.specs.Copy.{Copy, absent, is_readable, values_of}
 use Rattle.lrc_protocol.specs.Locks.{next_time}
 use Rattle.lrc_protocol.specs.Memory.{copy_at, value_at}
 use Rattle.lrc_protocol.specs.Node.{OptionsRecord}
-use Rattle.lrc_protocol.specs.Log.{Input, EntryRecord, Logged, outcome_of}
+use Rattle.lrc_protocol.specs.Log.{Input, EntryRecord, Logged}
 use Rattle.lrc_protocol.specs.World.{World, Flying, fresh_world, with_turn}
 use Rattle.lrc_protocol.specs.Follows.{turns_of}
+use Rattle.lrc_protocol.proofs.Ruled.{by_rule}
 use Rattle.lrc_protocol.proofs.Worlds.{IsEntry, get_set_same, run-whole}
 use Rattle.lrc_protocol.proofs.Induction.{Comes}
 use Rattle.lrc_invariants.proofs.Pending.{get_within}
@@ -62,7 +63,7 @@ use Rattle.lrc_coherence.proofs.Laws.{AreKnown, StampsLaw, CopiesLaw, ReadsLaw}
 use Rattle.lrc_coherence.proofs.LazyWrites.{IsLastIn, last_write-some, last_write-none}
 use Rattle.lrc_coherence.proofs.LazyMade.{member_at}
 use Rattle.lrc_coherence.proofs.LazyTimes.{covers_acts, own_is_most, stamps_cover}
-use Rattle.lrc_coherence.proofs.LazyTurns.{HasRead, ReadsFrom, ReadsIf, turn-reads}
+use Rattle.lrc_coherence.proofs.LazyTurns.{HasRead, has_read}
 
 -- ---- words and copies
 
@@ -84,7 +85,7 @@ module _ (program : Program) (nodes : ℕ) (options : OptionsRecord) (stamps : S
 
   module _ (world : World) (made : List StoredRecord) (h : History program nodes options world made) (acts : List Act) (n word value : ℕ)
       (acts_are : world.acts ≡ acts ++ act_of n (Read word value) ∷ []) (l : Logged) (at : slice_get world.nodes n ≡ Some l)
-      (time_is : time_at world.times (length acts) ≡ l.node.locks.time) (has : HasRead l.node word value) where
+      (time_is : time_at world.times (length acts) ≡ l.node.locks.time) (has : HasRead l.node.options.size l.node.memory word value) where
     r : IsReached program nodes options world
     r = reached_by program nodes options world made h
 
@@ -318,12 +319,6 @@ module _ (program : Program) (nodes : ℕ) (options : OptionsRecord) (stamps : S
   Lazy : World → List StoredRecord → Type 0
   Lazy world made = ReadsLazily world.acts
 
-  -- a turn that reads leaves its node with what it read
-  has_read : (l after : Logged) (input : Input) (entry : EntryRecord) (deed : Option Deed) (word value : ℕ) → IsEntry l input entry after
-      → ReadsIf (outcome_of l.node input) → deed_made entry.turn ≡ Some (Read word value) → HasRead after.node word value
-  has_read l after input entry deed word value i reads is =
-      let from : ReadsFrom after.node (deed_made entry.turn) = subst ReadsIf i.turn_is reads in subst (ReadsFrom after.node) is from
-
   module _ (world : World) (made : List StoredRecord) (flight : List Flying) (n : ℕ) (l after : Logged) (input : Input) (entry : EntryRecord)
       (at : slice_get world.nodes n ≡ Some l) (come : Comes world n input flight) (i : IsEntry l input entry after)
       (r : IsReached program nodes options world) (r' : IsReached program nodes options (with_turn world flight n entry after))
@@ -348,8 +343,9 @@ module _ (program : Program) (nodes : ℕ) (options : OptionsRecord) (stamps : S
         subst (λ run. MayRead run (length world.acts) word value) acts_are
         (fresh_read world' (made ++ closed_by l.node after.node) (one_more world made flight n l after input entry at come i r r' h)
         world.acts n word value reads after (get_set_same world.nodes n l after at) time_is
-        (has_read l after input entry m.deed word value i
-        (turn-reads l.node input (known_at l.node (reached program nodes options r.events world r.runs n l at)))
+        (has_read l.node input entry.turn after.node word value
+        (known_at l.node (reached program nodes options r.events world r.runs n l at))
+        (by_rule l.node input entry.turn after.node i.turn_is)
         (m.deed_is ∙ some ∙ ap Some is)))))
 
   lazy-kept : KeptByHistory program nodes options Lazy

@@ -1,335 +1,171 @@
 -- A turn that reads a word: its value is that of the word in the node's copy of the page, which is readable.
-use Rattle.std.proofs.Common.{◌≡◌, ℕ, ◌<◌, List, [], Bool, true, false, refl, sym, ap, subst, arith}
-use Rattle.std.specs.Prelude.{Option, Some, None, All, option_map, fold, map, nat_lt, if◌then◌else◌}
-use Rattle.std.specs.List.{list_all}
-use Rattle.std.proofs.lemmas.Bool.{and_parts}
+use Rattle.std.proofs.Common.{◌≡◌, ℕ, ◌<◌, List, [], true, refl, sym, ap, subst, ◌∙◌, length, arith}
+use Rattle.std.specs.Prelude.{Option, Some, None, All}
 use Rattle.std.proofs.lemmas.Option.{same_Some}
 use Rattle.std.proofs.lemmas.List.Elements.{All-head}
-use Rattle.lrc_trace.specs.declared.act.Act.{Act}
 use Rattle.lrc_trace.specs.declared.act.Deed.{Deed}
-use Rattle.lrc_trace.specs.declared.act.Deed.TheVariants.{Quiet, Print, Read, Write, Acquire, Release, Arrive, Depart, Trap, End}
-use Rattle.lrc_trace.specs.Run.{act_of}
+use Rattle.lrc_trace.specs.declared.act.Deed.TheVariants.{Read}
 use Rattle.lrc_page.specs.declared.size.Size.{Size}
 use Rattle.lrc_page.specs.Page.{words_of}
 use Rattle.lrc_page.specs.Place.{page_of, pages_of}
-use Rattle.lrc_exec.specs.Meaning.{Thread, Next, quiet, prints, reads, writes, acquires, releases, arrives, departs, traps, ends, next_of}
-use Rattle.lrc_store.specs.Interval.{IntervalRecord}
-use Rattle.lrc_store.specs.Store.{StoreRecord}
-use Rattle.lrc_envelope.specs.Envelope.{EnvelopeRecord}
+use Rattle.lrc_exec.specs.Meaning.{Next, reads, acquires, releases, arrives, next_of}
 use Rattle.lrc_envelope.specs.declared.message.Message.{Message}
-use Rattle.lrc_envelope.specs.declared.message.Message.TheVariants.{LockRequest, LockForward, LockGrant, Arrive as Arrives, Depart as Departs, Clean}
-use Rattle.lrc_envelope.specs.declared.message.Message.TheVariants.{Discard, ChangesRequest, ChangesReply, PageRequest, PageReply}
-use Rattle.lrc_lock.specs.Held.{lock_at, is_free}
-use Rattle.lrc_lock.specs.Managed.{Requested, refuses as refuses_request, forwards, requested}
-use Rattle.lrc_barrier.specs.Barrier.{ArriveStep, refuses as refuses_arrival, waits, departs as all_depart}
-use Rattle.lrc_barrier.specs.Barrier.{CleanStep, refuses_clean, awaits, discards as discards_all}
 use Rattle.lrc_protocol.specs.Copy.{is_readable}
-use Rattle.lrc_protocol.specs.Memory.{Memory, copy_at, value_at, base_at, with_keepers, kept_pages, collected_at}
-use Rattle.lrc_protocol.specs.Fetch.{Need, need_of, is_met, mended, with_changes, with_page}
-use Rattle.lrc_protocol.specs.Mail.{numbered, Wait, nothing, grant, departure, access, upkeep, discard, collection_of, needs_of, is_idle, MOST_NUMBER}
+use Rattle.lrc_protocol.specs.Memory.{Memory, copy_at, value_at}
+use Rattle.lrc_protocol.specs.Fetch.{Need}
+use Rattle.lrc_protocol.specs.Mail.{Letter, Wait, grant, departure, discard, needs_of}
 use Rattle.lrc_protocol.specs.Course.{Course, going, trapped, ended}
-use Rattle.lrc_protocol.specs.Barrier.{clean_step}
-use Rattle.lrc_protocol.specs.Node.{Node, Effect, makes, acts, acts_by, with_memory, waiting, begins_of, may_begin}
-use Rattle.lrc_protocol.specs.Letters.{requests_of}
-use Rattle.lrc_protocol.specs.Waits.{waits_or_goes_on, with_needs}
-use Rattle.lrc_protocol.specs.Expected.{is_expected}
-use Rattle.lrc_protocol.specs.Run.{own_index, closes as closes_interval, reaches, acquire_at, release_at, arrive_at, run_effect, charged}
-use Rattle.lrc_protocol.specs.Take.{take_departure, request_by, learns as learns_news, arrive_by, clean_by, discard_by}
-use Rattle.lrc_protocol.specs.Take.{page_reply_by, take_grant, take_effect, needs_to_keep, with_part}
-use Rattle.lrc_protocol.specs.Turn.{Outcome, done, not_ready, unexpected, worn, turn_with, turn_of, turn_if}
-use Rattle.lrc_protocol.specs.Turn.{turn_by, take_anew, taking, is_addressed, is_repeat, empty_turn}
-use Rattle.lrc_protocol.specs.Log.{Input, run, taken as taken_in, outcome_of}
+use Rattle.lrc_protocol.specs.Node.{Node, Effect, makes, acts, acts_by}
+use Rattle.lrc_protocol.specs.Turn.{TurnRecord, taking}
+use Rattle.lrc_protocol.specs.Log.{Input}
+use Rattle.lrc_protocol.specs.Rules.{IsReadyFor, Accesses, access_read, access_write, IsOwn, own_quiet, page_at, need_at}
+use Rattle.lrc_protocol.specs.Rules.{Brings, brings_changes, brings_base_copy}
+use Rattle.lrc_protocol.specs.Rules.{RunRule, run_hit, run_repair, run_acquire, run_release, run_barrier, run_other}
+use Rattle.lrc_protocol.specs.Rules.{TakeRule, take_token, take_depart, take_last_reply, take_discard}
+use Rattle.lrc_protocol.specs.Rules.{IsSent, with_numbers, TurnRule, by_run, by_repeat, by_message}
 use Rattle.lrc_invariants.specs.Waiting.{next_in, is_departing, FixesNext}
-use Rattle.lrc_invariants.proofs.Shift.{awaits_lock, awaits_leave, deed_made}
+use Rattle.lrc_invariants.proofs.Shift.{deed_made, deed_back, next-ready}
 use Rattle.lrc_invariants.proofs.Counts.{lock_next, departure_next}
 use Rattle.lrc_local.specs.Needs.{FitsNeed, page_next, ReachesFor}
-use Rattle.lrc_local.proofs.Words.{next-in_words, page-in_range}
+use Rattle.lrc_local.proofs.Words.{InWords, next-in_words, page-in_range}
 use Rattle.lrc_local.proofs.Needed.{changed_page, sent_page}
 use Rattle.lrc_local.proofs.Replies.{is-mended}
 use Rattle.lrc_local.proofs.Acted.{Known}
 
--- the node's copy of the word's page is readable, and has this value of the word
-pub record HasRead (node : Node) (word value : ℕ) : Type 0 where
-  pub readable : is_readable (copy_at node.memory (page_of word node.options.size)) ≡ true
-  pub value_is : value ≡ value_at node.options.size node.memory word
+-- the copy of the word's page is readable, and has this value of the word
+pub record HasRead (size : Size) (memory : Memory) (word value : ℕ) : Type 0 where
+  pub readable : is_readable (copy_at memory (page_of word size)) ≡ true
+  pub value_is : value ≡ value_at size memory word
 
--- where a deed reads, the node after it has what was read
-abbrev pub ReadsFrom : Node → Option Deed → Type 0
-ReadsFrom node (Some (Read word value)) = HasRead node word value
-ReadsFrom node _ = Unit {0}
+-- where a deed reads, this is what was read
+abbrev ReadsFrom : Size → Memory → Option Deed → Type 0
+ReadsFrom size memory (Some (Read word value)) = HasRead size memory word value
+ReadsFrom size memory _ = Unit {0}
 
-abbrev After : Effect → Type 0
-After e = ReadsFrom e.node e.deed
+record After (e : Effect) : Type 0 where
+  reads : ReadsFrom e.node.options.size e.node.memory e.deed
 
-abbrev AfterIf : Option Effect → Type 0
-AfterIf None = Unit {0}
-AfterIf (Some e) = After e
+-- the page that a text goes to next, if it goes to one, is readable
+abbrev MayRead : Size → Memory → Option Next → Type 0
+MayRead size memory next = (page : ℕ) → page_next size next ≡ Some page → is_readable (copy_at memory page) ≡ true
 
--- what must hold before the text makes this
-abbrev Before : Node → Next → Type 0
-Before node (reads word after) = is_readable (copy_at node.memory (page_of word node.options.size)) ≡ true
-Before node _ = Unit {0}
+-- ---- acts
 
-either : (b : Bool) (x y : Effect) → (b ≡ true → After x) → (b ≡ false → After y) → After (if b then x else y)
-either true x y k l = k refl
-either false x y k l = l refl
+makes-reads : (letters : List Letter) (node : Node) (next : Next) → MayRead node.options.size node.memory (Some next)
+    → After (makes letters node next)
+makes-reads letters node (reads word after) may = record { reads = record { readable = may (page_of word node.options.size) refl; value_is = refl } }
+makes-reads letters node _ may = record { reads = tt }
 
-optional : (b : Bool) (x : Effect) → After x → AfterIf (if b then Some x else None)
-optional true x k = k
-optional false x k = tt
+acts_by-reads : (letters : List Letter) (node : Node) (c : Course) → MayRead node.options.size node.memory (next_in c)
+    → After (acts_by letters node c)
+acts_by-reads letters node (going thread) may = makes-reads letters node (next_of thread) may
+acts_by-reads letters node (trapped cause) may = record { reads = tt }
+acts_by-reads letters node ended may = record { reads = tt }
 
-makes-reads : (letters : List _) (node : Node) (next : Next) → Before node next → After (makes letters node next)
-makes-reads letters node (reads word after) b = record { readable = b; value_is = refl }
-makes-reads letters node (quiet after) b = tt
-makes-reads letters node (prints value after) b = tt
-makes-reads letters node (writes word value after) b = tt
-makes-reads letters node (acquires lock after) b = tt
-makes-reads letters node (releases lock after) b = tt
-makes-reads letters node (arrives after) b = tt
-makes-reads letters node (departs after) b = tt
-makes-reads letters node (traps cause) b = tt
-makes-reads letters node ends b = tt
+-- at a page that is readable, and at none
+acts-reads : (letters : List Letter) (node : Node) (page : ℕ) → page_next node.options.size (next_in node.course) ≡ Some page
+    → is_readable (copy_at node.memory page) ≡ true → After (acts letters node)
+acts-reads letters node page to readable =
+    acts_by-reads letters node node.course
+    (λ other e. subst (λ p. is_readable (copy_at node.memory p) ≡ true) (same_Some page other (sym to ∙ e)) readable)
 
-acts_by-reads : (letters : List _) (node : Node) (c : Course) (next : Next) → next_in c ≡ Some next → Before node next → After (acts_by letters node c)
-acts_by-reads letters node (going thread) next n b =
-    subst (λ next. After (makes letters node next)) (sym (same_Some (next_of thread) next n)) (makes-reads letters node next b)
-acts_by-reads letters node (trapped cause) next n b = tt
-acts_by-reads letters node ended next n b = tt
+acts-elsewhere : (letters : List Letter) (node : Node) → page_next node.options.size (next_in node.course) ≡ None → After (acts letters node)
+acts-elsewhere letters node none =
+    acts_by-reads letters node node.course (λ page e. let never : None ≡ Some page = sym none ∙ e in cc)
 
-acts-reads : (letters : List _) (node : Node) (next : Next) → next_in node.course ≡ Some next → Before node next → After (acts letters node)
-acts-reads letters node next n b = acts_by-reads letters node node.course next n b
+access-page : (size : Size) (next : Next) (word : ℕ) → Accesses next word → page_next size (Some next) ≡ Some (page_of word size)
+access-page size next word (access_read w after) = refl
+access-page size next word (access_write w value after) = refl
 
--- an access on a page that can be read
-access_by : (node : Node) (page : ℕ) (o : Option Next) → page_next node.options.size o ≡ Some page
-    → (next : Next) × (o ≡ Some next) × ((memory : Memory) → is_readable (copy_at memory page) ≡ true → Before (with_memory node memory) next)
-access_by node page None e = cc
-access_by node page (Some (reads word after)) e = (
-  reads word after,
-  refl,
-  λ memory r.
-      subst (λ p. is_readable (copy_at memory p) ≡ true) (sym (same_Some (page_of word node.options.size) page e)) r,
-)
-access_by node page (Some (writes word value after)) e = (writes word value after, refl, λ memory r. tt)
-access_by node page (Some (quiet after)) e = cc
-access_by node page (Some (prints value after)) e = cc
-access_by node page (Some (acquires lock after)) e = cc
-access_by node page (Some (releases lock after)) e = cc
-access_by node page (Some (arrives after)) e = cc
-access_by node page (Some (departs after)) e = cc
-access_by node page (Some (traps cause)) e = cc
-access_by node page (Some ends) e = cc
+access-word : (words : ℕ) (next : Next) (word : ℕ) → Accesses next word → InWords words next → word < words
+access-word words next word (access_read w after) lt = lt
+access-word words next word (access_write w value after) lt = lt
 
--- ---- by itself
+own-page : (size : Size) (next : Next) → IsOwn next → page_next size (Some next) ≡ None
+own-page size next (own_quiet after) = refl
+own-page size next _ = refl
 
 module _ (node : Node) (known : Known node) where
-  reaches-reads : (page : ℕ) (next : Next) → next_in node.course ≡ Some next → page < pages_of node.setting.words node.options.size
-      → ((memory : Memory) → is_readable (copy_at memory page) ≡ true → Before (with_memory node memory) next)
-      → After (reaches node page)
-  reaches-reads page next n lt b =
-      let need : Need = need_of node.setting.nodes node.memory page in
-      either (is_readable (copy_at node.memory page)) _ _
-      (λ r. acts-reads [] node next n (b node.memory r))
-      (λ r. either (is_met need) _ _
-      (λ met. acts-reads (requests_of need) (waiting nothing (with_memory node (mended node.memory need))) next n
-      (b (mended node.memory need) (is-mended node.memory need page refl (omega (arith, lt, known.copies)))))
-      (λ unmet. tt))
+  abbrev size : Size
+  size = node.options.size
 
-  run-reads : (next : Next) → next_in node.course ≡ Some next → AfterIf (run_effect node next)
-  run-reads (quiet after) n = acts-reads [] node (quiet after) n tt
-  run-reads (prints value after) n = acts-reads [] node (prints value after) n tt
-  run-reads (reads word after) n =
-      reaches-reads (page_of word node.options.size) (reads word after) n
-      (page-in_range word node.setting.words node.options.size (next-in_words node.setting node.course (reads word after) known.text n)) (λ memory r. r)
-  run-reads (writes word value after) n =
-      reaches-reads (page_of word node.options.size) (writes word value after) n
-      (page-in_range word node.setting.words node.options.size (next-in_words node.setting node.course (writes word value after) known.text n))
-      (λ memory r. tt)
-  run-reads (acquires lock after) n =
-      optional (nat_lt (own_index node) MOST_NUMBER) (acquire_at lock (closes_interval node))
-      (either (is_free (lock_at node.locks.held lock)) _ _
-      (λ free. acts-reads [] _ (acquires lock after) n tt)
-      (λ away. tt))
-  run-reads (releases lock after) n =
-      optional (nat_lt (own_index node) MOST_NUMBER) (release_at lock (closes_interval node)) (acts-reads _ _ (releases lock after) n tt)
-  run-reads (arrives after) n =
-      optional (nat_lt (own_index node) MOST_NUMBER) (arrive_at (closes_interval node)) (acts-reads _ _ (arrives after) n tt)
-  run-reads (departs after) n = acts-reads [] node (departs after) n tt
-  run-reads (traps cause) n = acts-reads [] node (traps cause) n tt
-  run-reads ends n = acts-reads [] node ends n tt
+  abbrev coming : Option Next
+  coming = next_in node.course
 
--- ---- with a message
+  -- ---- by itself
 
--- where no act is made
-request-reads : (node : Node) (from lock : ℕ) (time : List ℕ) (r : Requested) → After (request_by node from lock time r)
-request-reads node from lock time (refuses_request fault) = tt
-request-reads node from lock time (forwards to managed) = tt
+  comes : (next : Next) → IsReadyFor node next → page_next size coming ≡ page_next size (Some next)
+  comes next r = ap (page_next size) (next-ready node next r)
 
-arrival-reads : (node : Node) (step : Option ArriveStep) → After (arrive_by node step)
-arrival-reads node None = tt
-arrival-reads node (Some (refuses_arrival fault)) = tt
-arrival-reads node (Some (waits manager)) = tt
-arrival-reads node (Some (all_depart departures manager)) = tt
+  to_page : (next : Next) (word : ℕ) → IsReadyFor node next → Accesses next word → page_next size coming ≡ Some (page_at node word)
+  to_page next word r a = comes next r ∙ access-page size next word a
 
-clean-reads : (node : Node) (step : Option CleanStep) → After (clean_by node step)
-clean-reads node None = tt
-clean-reads node (Some (refuses_clean fault)) = tt
-clean-reads node (Some (awaits manager)) = tt
-clean-reads node (Some (discards_all episode manager)) = tt
+  in_range : (next : Next) (word : ℕ) → IsReadyFor node next → Accesses next word → page_at node word < length node.memory.copies
+  in_range next word r a =
+      let lt : page_at node word < pages_of node.setting.words size =
+      page-in_range word node.setting.words size
+      (access-word node.setting.words next word a (next-in_words node.setting node.course next known.text (next-ready node next r))) in
+      omega (arith, lt, known.copies)
 
-page_reply-reads : (node : Node) (from page : ℕ) (base : Option (List ℕ)) → After (page_reply_by node from page base)
-page_reply-reads node from page None = tt
-page_reply-reads node from page (Some values) = tt
+  run-reads : (e : Effect) → RunRule node e → After e
+  run-reads e (run_hit {next = next} {word = word} r a here) = acts-reads [] _ (page_at node word) (to_page next word r a) here
+  run-reads e (run_repair {next = next} {word = word} r a away met) =
+      acts-reads _ _ (page_at node word) (to_page next word r a)
+      (is-mended node.memory (need_at node (page_at node word)) (page_at node word) refl (in_range next word r a))
+  run-reads e (run_acquire lock after r room free) = acts-elsewhere [] _ (comes (acquires lock after) r)
+  run-reads e (run_release lock after r room) = acts-elsewhere _ _ (comes (releases lock after) r)
+  run-reads e (run_barrier after r room) = acts-elsewhere _ _ (comes (arrives after) r)
+  run-reads e (run_other {next = next} r own) = acts-elsewhere [] _ (comes next r ∙ own-page size next own)
+  run-reads e _ = record { reads = tt }
 
--- the text departs
-leaves-reads : (letters : List _) (node : Node) (w : Wait) → FixesNext w (next_in node.course)
-    → ((next : Option Next) → FixesNext w next → is_departing next ≡ true) → After (acts letters node)
-leaves-reads letters node w f says =
-    let next : (x : Thread) × (next_in node.course ≡ Some (departs x)) = departure_next (next_in node.course) (says (next_in node.course) f) in
-    acts-reads letters node (departs next.0) next.1 tt
+  -- ---- with a message
 
-discard-reads : (node : Node) (w : Wait) → FixesNext w (next_in node.course) → After (discard_by node (collection_of w))
-discard-reads node (discard collection) f =
-    leaves-reads [] (waiting nothing (with_memory node (collected_at node.setting.me collection.time node.memory))) (discard collection) f
-    (λ next x. x)
-discard-reads node nothing f = tt
-discard-reads node (grant lock) f = tt
-discard-reads node departure f = tt
-discard-reads node (access need) f = tt
-discard-reads node (upkeep collection needs) f = tt
+  -- who waits for this does next what it says
+  fixed : (w : Wait) → node.mail.wait ≡ w → FixesNext w coming
+  fixed w at = subst (λ w. FixesNext w coming) at known.fits
 
--- something came for pages; the store may know more changes than before
-comes-reads : (node : Node) (store : StoreRecord) (change : Need → Need) → ((need : Need) → (change need).page ≡ need.page) → Known node
-    → (w : Wait) → node.mail.wait ≡ w → After (waits_or_goes_on [] (with_memory node (record node.memory { store = store })) (with_needs change w))
-comes-reads node store change same known (access need) e =
-    let size : Size = node.options.size in
-    let now : Memory = record node.memory { store = store } in
-    let fits : FitsNeed node.setting.nodes (pages_of node.setting.words size) (words_of size) node.memory need =
-    All-head (FitsNeed node.setting.nodes (pages_of node.setting.words size) (words_of size) node.memory) need []
-    (subst (λ w. All (FitsNeed node.setting.nodes (pages_of node.setting.words size) (words_of size) node.memory) (needs_of w)) e known.needs) in
-    let next : _ = access_by node need.page (next_in node.course) (subst (ReachesFor size (next_in node.course)) e known.reaching) in
-    either (is_met (change need)) _ _
-    (λ met. acts-reads [] (waiting nothing (with_memory node (mended now (change need)))) next.0 next.1
-    (next.2 (mended now (change need)) (is-mended now (change need) need.page (same need) (omega (arith, fits.in_range, known.copies)))))
-    (λ unmet. tt)
-comes-reads node store change same known (upkeep collection needs) e = either (list_all is_met (map change needs)) _ _ (λ met. tt) (λ unmet. tt)
-comes-reads node store change same known nothing e = tt
-comes-reads node store change same known (grant lock) e = tt
-comes-reads node store change same known departure e = tt
-comes-reads node store change same known (discard collection) e = tt
+  departing : is_departing coming ≡ true → page_next size coming ≡ None
+  departing d = ap (page_next size) (departure_next coming d).1
 
-depart-reads : (node : Node) (collect : Bool) (time : List ℕ) (intervals : List IntervalRecord) → Known node → node.mail.wait ≡ departure
-    → After (take_departure node collect time intervals)
-depart-reads node collect time intervals known e =
-    let knowing : Node = learns_news time intervals node in
-    let keeping : Node = with_memory knowing (with_keepers knowing.memory) in
-    let needs : List Need = needs_to_keep keeping (kept_pages node.setting.me keeping.memory) in
-    either collect _ _
-    (λ yes. either (list_all is_met needs) _ _ (λ met. tt) (λ unmet. tt))
-    (λ no. leaves-reads [] (waiting nothing knowing) departure (subst (λ w. FixesNext w (next_in node.course)) e known.fits) (λ next x. x))
+  brings-page : (from : ℕ) (message : Message) (memory : Memory) (change : Need → Need) (need : Need) → Brings node from message memory change
+      → ((change need).page ≡ need.page) × (memory.copies ≡ node.memory.copies)
+  brings-page from message memory change need (brings_changes m lt all some) = (changed_page m.page from need, refl)
+  brings-page from message memory change need (brings_base_copy m lt counted some) = (sent_page m.page m.values need, refl)
 
-grant-reads : (node : Node) (lock : ℕ) (time : List ℕ) (intervals : List IntervalRecord) → Known node → node.mail.wait ≡ grant lock
-    → After (take_grant node lock time intervals)
-grant-reads node lock time intervals known e =
-    let next : (x : Thread) × (next_in node.course ≡ Some (acquires lock x)) =
-    lock_next (next_in node.course) lock (subst (λ w. FixesNext w (next_in node.course)) e known.fits) in
-    acts-reads [] _ (acquires lock next.0) next.1 tt
+  abbrev AllFit : Wait → Type 0
+  AllFit w = All (FitsNeed node.setting.nodes (pages_of node.setting.words size) (words_of size) node.memory) (needs_of w)
 
-take-reads : (node : Node) (envelope : EnvelopeRecord) (from : ℕ) (message : Message) → is_expected node from message ≡ true
-    → Known (taking node envelope) → After (take_effect (taking node envelope) from message)
-take-reads node envelope from (LockRequest m) e k = request-reads (taking node envelope) from m.lock m.time (requested node.locks.managed m.lock from)
-take-reads node envelope from (LockForward m) e k = tt
-take-reads node envelope from (LockGrant m) e k =
-    let outer : _ = and_parts _ _ e in
-    let inner : _ = and_parts _ _ outer.0 in
-    grant-reads (taking node envelope) m.lock m.time m.intervals k (awaits_lock m.lock node.mail.wait inner.1)
-take-reads node envelope from (Arrives m) e k = arrival-reads (taking node envelope) _
-take-reads node envelope from (Departs m) e k =
-    let outer : _ = and_parts _ _ e in
-    let covered : _ = and_parts _ _ outer.0 in
-    let counted : _ = and_parts _ _ covered.0 in
-    let waited : _ = and_parts _ _ counted.0 in
-    depart-reads (taking node envelope) m.collect m.time m.intervals k (awaits_leave node.mail.wait waited.1)
-take-reads node envelope from (Clean episode) e k = clean-reads (taking node envelope) (clean_step node.barrier from episode)
-take-reads node envelope from (Discard episode) e k = discard-reads (taking node envelope) node.mail.wait k.fits
-take-reads node envelope from (ChangesRequest m) e k = tt
-take-reads node envelope from (ChangesReply m) e k =
-    comes-reads (taking node envelope) (fold (with_part from m.page) node.memory.store m.parts) (with_changes m.page from)
-    (changed_page m.page from) k node.mail.wait refl
-take-reads node envelope from (PageRequest page) e k = page_reply-reads (taking node envelope) from page (base_at node.memory page)
-take-reads node envelope from (PageReply m) e k =
-    comes-reads (taking node envelope) node.memory.store (with_page m.page m.values) (sent_page m.page m.values) k node.mail.wait refl
+  take-reads : (from : ℕ) (message : Message) (e : Effect) → TakeRule node from message e → After e
+  take-reads from message e (take_token m lt at news) =
+      acts-elsewhere [] _ (ap (page_next size) (lock_next coming m.lock (fixed (grant m.lock) at)).1)
+  take-reads from message e (take_depart m d c) = acts-elsewhere [] _ (departing (fixed departure d.awaited))
+  take-reads from message e (take_discard episode collection f at k) = acts-elsewhere [] _ (departing (fixed (discard collection) at))
+  take-reads from message e (take_last_reply {memory = memory} {change = change} need b at met) =
+      let fits : FitsNeed node.setting.nodes (pages_of node.setting.words size) (words_of size) node.memory need =
+      All-head (FitsNeed node.setting.nodes (pages_of node.setting.words size) (words_of size) node.memory) need [] (subst AllFit at known.needs) in
+      let same : _ = brings-page from message memory change need b in
+      let lt : need.page < length memory.copies = omega (arith, fits.in_range, known.copies, ap length same.1) in
+      acts-reads [] _ need.page (subst (ReachesFor size coming) at known.reaching) (is-mended memory (change need) need.page same.0 lt)
+  take-reads from message e _ = record { reads = tt }
 
 -- ---- turns
 
--- where an outcome is a turn that reads, the node after it has what was read
-abbrev pub ReadsIf : Outcome → Type 0
-ReadsIf (done turn after) = ReadsFrom after (deed_made turn)
-ReadsIf not_ready = Unit {0}
-ReadsIf unexpected = Unit {0}
-ReadsIf worn = Unit {0}
+sent-reads : (e : Effect) (turn : TurnRecord) (after : Node) → IsSent e turn after → After e
+    → ReadsFrom after.options.size after.memory (deed_made turn)
+sent-reads e turn after (with_numbers out sent is) h =
+    subst (ReadsFrom e.node.options.size e.node.memory) (sym (deed_back e.node.setting.me e.deed)) h.reads
 
-sent-reads : (e : Effect) (n : Option (List EnvelopeRecord × List ℕ)) → After e → ReadsIf (turn_with e n)
-sent-reads e None m = tt
-sent-reads e (Some (out, sent)) m = sent_deed e.deed out sent m
-  where
-    sent_deed : (d : Option Deed) (out : List EnvelopeRecord) (sent : List ℕ) → ReadsFrom e.node d
-        → ReadsFrom (record e.node { mail = record e.node.mail { sent = sent } })
-        (option_map (λ (act : Act). act.deed) (option_map (act_of e.node.setting.me) d))
-    sent_deed None out sent m = tt
-    sent_deed (Some (Read word value)) out sent m = record { readable = m.readable; value_is = m.value_is }
-    sent_deed (Some Quiet) out sent m = tt
-    sent_deed (Some (Print v)) out sent m = tt
-    sent_deed (Some (Write w v)) out sent m = tt
-    sent_deed (Some (Acquire lock)) out sent m = tt
-    sent_deed (Some (Release lock)) out sent m = tt
-    sent_deed (Some Arrive) out sent m = tt
-    sent_deed (Some Depart) out sent m = tt
-    sent_deed (Some (Trap c)) out sent m = tt
-    sent_deed (Some End) out sent m = tt
+turn-reads : (node : Node) (input : Input) (turn : TurnRecord) (after : Node) → Known node → TurnRule node input turn after
+    → ReadsFrom after.options.size after.memory (deed_made turn)
+turn-reads node input turn after k (by_run {effect = effect} r s) = sent-reads effect turn after s (run-reads node k effect r)
+turn-reads node input turn after k (by_repeat envelope f again) = tt
+turn-reads node input turn after k (by_message envelope {effect = effect} f new r s) =
+    let known : Known (taking node envelope) =
+    record { text = k.text; fits = k.fits; quiet = k.quiet; copies = k.copies; needs = k.needs; reaching = k.reaching } in
+    sent-reads effect turn after s (take-reads (taking node envelope) known envelope.from envelope.message effect r)
 
-effect-reads : (e : Effect) → After e → ReadsIf (turn_of e)
-effect-reads e m = sent-reads e (numbered e.node.setting.me e.node.options.first e.node.mail.sent e.letters) m
-
-effect_if-reads : (o : Option Effect) → AfterIf o → ReadsIf (turn_if o)
-effect_if-reads None m = tt
-effect_if-reads (Some e) m = effect-reads e m
-
-begun-reads : (node : Node) (next : Next) (b : Bool) → Known node → next_in node.course ≡ Some next
-    → ReadsIf (turn_by node (if b then Some next else None))
-begun-reads node next true k n =
-    effect_if-reads (run_effect (charged node next) next)
-    (run-reads (charged node next)
-    (record { text = k.text; fits = k.fits; quiet = k.quiet; copies = k.copies; needs = k.needs; reaching = k.reaching }) next n)
-begun-reads node next false k n = tt
-
-course-reads : (node : Node) (c : Course) → Known node → node.course ≡ c → ReadsIf (turn_by node (begins_of node.left c))
-course-reads node (going thread) k e = begun-reads node (next_of thread) (may_begin node.left (next_of thread)) k (ap next_in e)
-course-reads node (trapped cause) k e = tt
-course-reads node ended k e = tt
-
-wait-reads : (node : Node) (w : Wait) → Known node → ReadsIf (turn_by node (if is_idle w then begins_of node.left node.course else None))
-wait-reads node nothing k = course-reads node node.course k refl
-wait-reads node (grant lock) k = tt
-wait-reads node departure k = tt
-wait-reads node (access need) k = tt
-wait-reads node (upkeep collection needs) k = tt
-wait-reads node (discard collection) k = tt
-
-expected_or_not : (b : Bool) (o : Outcome) → (b ≡ true → ReadsIf o) → ReadsIf (if b then o else unexpected)
-expected_or_not true o h = h refl
-expected_or_not false o h = tt
-
-repeated_or_not : (node : Node) (b : Bool) (o : Outcome) → ReadsIf o → ReadsIf (if b then done empty_turn node else o)
-repeated_or_not node true o h = tt
-repeated_or_not node false o h = h
-
--- each input leads to a node that has what it read, if it read, or is no turn
-pub turn-reads : (node : Node) (input : Input) → Known node → ReadsIf (outcome_of node input)
-turn-reads node run k = wait-reads node node.mail.wait k
-turn-reads node (taken_in envelope) k =
-    expected_or_not (is_addressed node envelope) _
-    (λ a. repeated_or_not node (is_repeat node envelope) (take_anew node envelope)
-    (expected_or_not (is_expected node envelope.from envelope.message) (turn_of (take_effect (taking node envelope) envelope.from envelope.message))
-    (λ e. effect-reads (take_effect (taking node envelope) envelope.from envelope.message)
-    (take-reads node envelope envelope.from envelope.message e
-    (record { text = k.text; fits = k.fits; quiet = k.quiet; copies = k.copies; needs = k.needs; reaching = k.reaching })))))
+-- a turn that reads leaves its node with what it read
+pub has_read : (node : Node) (input : Input) (turn : TurnRecord) (after : Node) (word value : ℕ) → Known node → TurnRule node input turn after
+    → deed_made turn ≡ Some (Read word value) → HasRead after.options.size after.memory word value
+has_read node input turn after word value k r is =
+    subst (ReadsFrom after.options.size after.memory) is (turn-reads node input turn after k r)

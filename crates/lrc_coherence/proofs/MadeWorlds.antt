@@ -25,6 +25,7 @@ use Rattle.lrc_protocol.specs.Turn.{TurnRecord, is_repeat}
 use Rattle.lrc_protocol.specs.Log.{Input, run, taken, EntryRecord, Logged}
 use Rattle.lrc_protocol.specs.World.{World, Flying, fresh_world, with_turn, pending, run_of}
 use Rattle.lrc_protocol.specs.Follows.{turns_of}
+use Rattle.lrc_protocol.proofs.Ruled.{by_rule}
 use Rattle.lrc_protocol.proofs.Worlds.{IsEntry, get_set_same, get_set_other, fresh_at, run-whole}
 use Rattle.lrc_protocol.proofs.Induction.{Comes}
 use Rattle.lrc_invariants.specs.Shape.{HasShape}
@@ -33,7 +34,7 @@ use Rattle.lrc_invariants.proofs.Sends.{Came, by_itself, comes, site_of, Sent, S
 use Rattle.lrc_invariants.proofs.Pending.{new_of, Lost, Goes, all_pending, pending-goes}
 use Rattle.lrc_invariants.proofs.Reached.{IsReached, KeptByReached, by_reached}
 use Rattle.lrc_coherence.specs.Made.{AllMade, AllTold, AllKept, ManagerKeeps, intervals_in, AreMade}
-use Rattle.lrc_coherence.proofs.Stocks.{Stocked, Stocking, alone as stocks_alone, again as stocks_again, anew as stocks_anew, StockingIf, stockings}
+use Rattle.lrc_coherence.proofs.Stocks.{Stocked, Stocking, alone as stocks_alone, again as stocks_again, anew as stocks_anew, stockings}
 use Rattle.lrc_coherence.proofs.Told.{made-more, told-more, kept-more, told-append, told-without, told-there}
 use Rattle.lrc_coherence.proofs.MadeSteps.{CameSo, DepartsSo, closed_between, MadeThen, made_then, out_so}
 use Rattle.lrc_coherence.proofs.MadeManagers.{ArrivesSo, ManagedSo, managed_so, BoundsIn, bounded}
@@ -192,7 +193,7 @@ module _ (program : Program) (nodes : ℕ) (options : OptionsRecord) where
       (subst (λ k. indices_by made k ≡ range_with_len 1 (entry l.node.locks.time k)) (sym me) (are.exact n l at))
       (are.stored n l at) (are.kept n l at) (pending world) are.told input log_entry.turn after.node now
       (subst (SendingIf l.node input) i.turn_is (sendings l.node input own_shape))
-      (stock_fact l.node input log_entry.turn after.node (subst (StockingIf l.node input) i.turn_is (stockings l.node input)))
+      (stock_fact l.node input log_entry.turn after.node (stockings l.node input log_entry.turn after.node (by_rule l.node input log_entry.turn after.node i.turn_is)))
       (pending-goes program nodes options world flight n l after input log_entry at come i
       (all_pending program nodes options reached.events world reached.runs)) in
       let there : slice_get all n ≡ Some after = get_set_same world.nodes n l after at in

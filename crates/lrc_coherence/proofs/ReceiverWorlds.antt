@@ -13,9 +13,10 @@ use Rattle.lrc_barrier.specs.Barrier.{ManagerRecord}
 use Rattle.lrc_protocol.specs.declared.event.Event.{Event}
 use Rattle.lrc_protocol.specs.Node.{Node, OptionsRecord}
 use Rattle.lrc_protocol.specs.Turn.{TurnRecord, done}
-use Rattle.lrc_protocol.specs.Log.{Input, Logged, outcome_of}
+use Rattle.lrc_protocol.specs.Log.{Input, run, taken, Logged, outcome_of}
 use Rattle.lrc_protocol.specs.World.{World, Flying, fresh_world, run_of}
 use Rattle.lrc_protocol.proofs.Induction.{Comes, named, delivered, repeated}
+use Rattle.lrc_protocol.proofs.Ruled.{by_rule}
 use Rattle.lrc_protocol.proofs.Turned.{Turned, Turns, turns}
 use Rattle.lrc_protocol.proofs.Worlds.{fresh_at, run-whole}
 use Rattle.lrc_invariants.proofs.AllStand.{AllStand, all_stand, its_manager}
@@ -30,7 +31,7 @@ use Rattle.lrc_local.specs.Reached.{IsReached as IsReachedNode}
 use Rattle.lrc_local.proofs.Leads.{reached as reached_then}
 use Rattle.lrc_local.proofs.Tokened.{is_shaped}
 use Rattle.lrc_coherence.proofs.Receivers.{KnowsNodes, HasPlaces, ArePlaced, AreTo, letters-placed, still-knows, awaited-to, each-to}
-use Rattle.lrc_coherence.proofs.RequestTurns.{Asks, AsksIf, run-asks, take-asks}
+use Rattle.lrc_coherence.proofs.RequestTurns.{Asks, asks}
 use Rattle.lrc_coherence.proofs.RequestWishes.{awaited, Steady}
 use Rattle.lrc_coherence.proofs.StampAsks.{no_waiters, none_some}
 use Rattle.lrc_coherence.proofs.StampWorlds.{Placed, placed, each_node}
@@ -62,11 +63,11 @@ module _ (node : Node) (reached : IsReachedNode node) (here : node.setting.me < 
   turn-to : (input : Input) (turn : TurnRecord) (after : Node) → IsReachedNode after → after.setting ≡ node.setting
       → outcome_of node input ≡ done turn after → Sending node input turn after → TurnTo node turn after
   turn-to _ turn after reached_after same is (alone k) =
-      sent-to by_itself turn after reached_after same tt k (subst (AsksIf node by_itself) is (run-asks node))
+      sent-to by_itself turn after reached_after same tt k (asks node run turn after reached (by_rule node run turn after is))
   turn-to _ _ _ reached_after same is (repeats e again) = record { to = λ x there. absurd (none_Contains x there); knows = knows }
   turn-to _ turn after reached_after same is (anew e to from new k) =
       sent-to (comes e.from e.message) turn after reached_after same from k
-      (subst (AsksIf node (comes e.from e.message)) is (take-asks node e reached new))
+      (asks node (taken e) turn after reached (by_rule node (taken e) turn after is) new)
 
 -- ---- what is in flight
 

@@ -10,6 +10,7 @@ use Rattle.std.proofs.lemmas.List.Elements.{All-nil, All-head, All-tail, All-map
 use Rattle.lrc_lang.specs.declared.program.Program.{Program}
 use Rattle.lrc_exec.specs.Meaning.{Setting}
 use Rattle.lrc_exec.specs.Plain.{setting_of}
+use Rattle.lrc_protocol.proofs.Ruled.{by_rule}
 use Rattle.lrc_protocol.proofs.Turned.{Turned, Turns, turns}
 use Rattle.lrc_protocol.proofs.Worlds.{run-whole}
 use Rattle.lrc_page.specs.declared.changes.Change.{Change}
@@ -41,7 +42,7 @@ use Rattle.lrc_local.proofs.Always.{whole_at, sized_at}
 use Rattle.lrc_coherence.proofs.Stored.{reached}
 use Rattle.lrc_coherence.specs.Requested.{told_in}
 use Rattle.lrc_coherence.proofs.RequestWishes.{AreRequests}
-use Rattle.lrc_coherence.proofs.RequestReplies.{Replies, brings_nothing, brings_changes, brings_page, Told, ToldIf, tells}
+use Rattle.lrc_coherence.proofs.RequestReplies.{Replies, brings_nothing, brings_changes, brings_page, Told, tells}
 
 -- with so many words on a page
 abbrev pub IsSound : ℕ → Message → Type 0
@@ -145,7 +146,8 @@ module _ (program : Program) (nodes : ℕ) (options : OptionsRecord) where
   sound-kept world flight n l after input entry at come i r r' h =
       let shape : NodeShape (setting_of program nodes n) options (record { node = l.node; turns = turns_of l.log }) =
       shape_at program nodes options r.events world n l r.runs at in
-      let told : Told l.node entry.turn = subst (ToldIf l.node) i.turn_is (tells l.node input) in
+      let told : Told l.node entry.turn =
+      tells l.node input entry.turn after.node (by_rule l.node input entry.turn after.node i.turn_is) in
       let t : Turned l.node entry.turn after.node = subst (Turns l.node) i.turn_is (turns l.node input) in
       let sh : Shifted l.node entry.turn after.node = subst (ShiftedIf l.node) i.turn_is (shifts l.node input) in
       let all_from : AllFrom n entry.turn.out = subst (λ (s : Setting). AllFrom s.me entry.turn.out) (t.setting ∙ shape.setting) sh.from in

@@ -10,10 +10,11 @@ use Rattle.lrc_envelope.specs.Envelope.{EnvelopeRecord}
 use Rattle.lrc_protocol.specs.declared.event.Event.{Event}
 use Rattle.lrc_protocol.specs.Mail.{Wait, Letter}
 use Rattle.lrc_protocol.specs.Node.{Node, OptionsRecord}
-use Rattle.lrc_protocol.specs.Turn.{TurnRecord, done, is_repeat}
-use Rattle.lrc_protocol.specs.Log.{Input, run, taken, outcome_of, Logged}
+use Rattle.lrc_protocol.specs.Turn.{TurnRecord, is_repeat}
+use Rattle.lrc_protocol.specs.Log.{Input, Logged}
 use Rattle.lrc_protocol.specs.World.{World, fresh_world, with_turn, pending, run_of}
 use Rattle.lrc_protocol.specs.Follows.{turns_of}
+use Rattle.lrc_protocol.proofs.Ruled.{by_rule}
 use Rattle.lrc_protocol.proofs.Worlds.{get_set_same, get_set_other, fresh_at}
 use Rattle.lrc_protocol.proofs.Turned.{Turned, Turns, turns}
 use Rattle.lrc_invariants.specs.Shape.{HasShape}
@@ -24,11 +25,10 @@ use Rattle.lrc_invariants.proofs.Flows.{came_count, count_of, counts}
 use Rattle.lrc_invariants.proofs.Standing.{Flow}
 use Rattle.lrc_invariants.proofs.Pending.{new_of, Goes, all_pending, pending-goes}
 use Rattle.lrc_invariants.proofs.Reached.{KeptByReached, by_reached}
-use Rattle.lrc_local.specs.Reached.{IsReached as IsReachedNode}
 use Rattle.lrc_coherence.proofs.Stored.{reached}
 use Rattle.lrc_coherence.specs.Requested.{Wish}
 use Rattle.lrc_coherence.proofs.RequestWishes.{wanted_test, request_test, reply_test, awaited, Steady}
-use Rattle.lrc_coherence.proofs.RequestTurns.{Asks, AsksIf, run-asks, take-asks}
+use Rattle.lrc_coherence.proofs.RequestTurns.{Asks, AskFact, asks}
 
 -- among these messages there is, for each thing that a node awaits, once its request or the reply
 abbrev pub AreBalanced : List EnvelopeRecord → ℕ → Wait → Type 0
@@ -65,11 +65,6 @@ balances me came letters was now before after s f = record {
 
 -- ---- one turn
 
--- a turn by what came, unless that was taken before
-abbrev pub AskFact : Node → Input → TurnRecord → Node → Type 0
-AskFact node run turn after = Asks node by_itself turn after
-AskFact node (taken e) turn after = is_repeat node e ≡ false → Asks node (comes e.from e.message) turn after
-
 again : (e : EnvelopeRecord) (was now : List EnvelopeRecord) (b : Bool) → b ≡ true → Goes (if b then None else Some e) was [] now → now ≡ was
 again e was now true is g = g ∙ append-nil was
 again e was now false is g = cc
@@ -93,22 +88,17 @@ steps node _ turn after was now set (alone sent) k g =
     (λ test. counts test node.setting.me by_itself None was now turn.out k.letters tt g (subst (λ (s : Setting). AllFrom s.me turn.out) set sent.from) k.out)
 steps node _ _ _ was now set (repeats e is) k g = same node.setting.me was now node.mail.wait (again e was now (is_repeat node e) is g)
 steps node _ turn after was now set (anew e to from new sent) k g =
-    let asks : Asks node (comes e.from e.message) turn after = k new in
-    balances node.setting.me (comes e.from e.message) asks.letters was now node.mail.wait after.mail.wait asks.steady
+    let asked : Asks node (comes e.from e.message) turn after = k new in
+    balances node.setting.me (comes e.from e.message) asked.letters was now node.mail.wait after.mail.wait asked.steady
     (λ test.
-    counts test node.setting.me (comes e.from e.message) (Some e) was now turn.out asks.letters (to, refl, refl)
-    (fresh e was turn.out now (is_repeat node e) new g) (subst (λ (s : Setting). AllFrom s.me turn.out) set sent.from) asks.out)
+    counts test node.setting.me (comes e.from e.message) (Some e) was now turn.out asked.letters (to, refl, refl)
+    (fresh e was turn.out now (is_repeat node e) new g) (subst (λ (s : Setting). AllFrom s.me turn.out) set sent.from) asked.out)
 
 -- ---- every run
 
 module _ (program : Program) (nodes : ℕ) (options : OptionsRecord) where
   pub record AllBalanced (world : World) : Type 0 where
     pub each : (n : ℕ) (l : Logged) → slice_get world.nodes n ≡ Some l → AreBalanced (pending world) n l.node.mail.wait
-
-  ask_fact : (l after : Logged) (input : Input) (turn : TurnRecord) → IsReachedNode l.node → outcome_of l.node input ≡ done turn after.node
-      → AskFact l.node input turn after.node
-  ask_fact l after run turn r e = subst (AsksIf l.node by_itself) e (run-asks l.node)
-  ask_fact l after (taken m) turn r e = λ new. subst (AsksIf l.node (comes m.from m.message)) e (take-asks l.node m r new)
 
   balanced-kept : KeptByReached program nodes options AllBalanced
   balanced-kept world flight n l after input log_entry at come i r r' h =
@@ -121,7 +111,8 @@ module _ (program : Program) (nodes : ℕ) (options : OptionsRecord) where
       let kept : Kept l.node.setting.me (pending world) now l.node.mail.wait after.node.mail.wait =
       steps l.node input log_entry.turn after.node (pending world) now t.setting
       (subst (SendingIf l.node input) i.turn_is (sendings l.node input own_shape))
-      (ask_fact l after input log_entry.turn (reached program nodes options r.events world r.runs n l at) i.turn_is)
+      (asks l.node input log_entry.turn after.node (reached program nodes options r.events world r.runs n l at)
+      (by_rule l.node input log_entry.turn after.node i.turn_is))
       (pending-goes program nodes options world flight n l after input log_entry at come i (all_pending program nodes options r.events world r.runs)) in
       record {
         each = λ m lm is. elim (cases_eq n m) [

@@ -11,6 +11,7 @@ use Rattle.lrc_protocol.specs.Node.{Node, OptionsRecord}
 use Rattle.lrc_protocol.specs.Turn.{TurnRecord}
 use Rattle.lrc_protocol.specs.Log.{Input, Logged}
 use Rattle.lrc_protocol.specs.World.{World, fresh_world, with_turn, pending}
+use Rattle.lrc_protocol.proofs.Ruled.{by_rule}
 use Rattle.lrc_protocol.proofs.Worlds.{fresh_at}
 use Rattle.lrc_invariants.specs.Counts.{is_inside}
 use Rattle.lrc_invariants.proofs.Sends.{Came, site_of, Sent}
@@ -19,7 +20,7 @@ use Rattle.lrc_invariants.proofs.Reached.{IsReached, KeptByReached, by_reached}
 use Rattle.lrc_local.specs.Ranges.{CollectsAt}
 use Rattle.lrc_local.proofs.Always.{exact_at, ranged_at}
 use Rattle.lrc_coherence.proofs.CollectTurns.{Kind, steady, begun, ended, Kinds, alone as kind_alone}
-use Rattle.lrc_coherence.proofs.CollectTurns.{again as kind_again, anew as kind_anew, KindsIf, turn_kinds}
+use Rattle.lrc_coherence.proofs.CollectTurns.{again as kind_again, anew as kind_anew, turn_kinds}
 use Rattle.lrc_coherence.proofs.StampWorlds.{Placed, placed, each_node}
 use Rattle.lrc_coherence.proofs.StampBars.{Bars, calm, arrives, takes_one, turn_bars}
 
@@ -121,7 +122,7 @@ module _ (program : Program) (nodes : ℕ) (options : OptionsRecord) where
   sent-kept : KeptByReached program nodes options AllSent
   sent-kept world flight n l after input log_entry at come i r r' h =
       let collects : Collects l.node after.node =
-      kinds-collects l.node input after.node (subst (KindsIf l.node input) i.turn_is (turn_kinds l.node input)) in
+      kinds-collects l.node input after.node (turn_kinds l.node input log_entry.turn after.node (by_rule l.node input log_entry.turn after.node i.turn_is)) in
       each_node (λ q lq. SentSo q lq.node) world n l after at
       (sent_stepped nodes n l.node after.node (placed program nodes options world r n l at) collects (h n l at) (pending world)
       (pending (with_turn world flight n log_entry after)) log_entry.turn

@@ -1,41 +1,46 @@
 -- What a turn does to the times that a node's memory keeps, the collected one and those remembered of invalid copies: they stay, or
 -- become the node's time from before the turn. And only a request of changes is answered by a reply of changes.
 use Rattle.std.proofs.Common.{◌≡◌, ℕ, ◌+◌, ◌<◌, ◌≤◌, List, [], ◌∷◌, ◌++◌, Bool, true, false, length, refl, sym, subst, ⊎_elim, arith}
-use Rattle.std.specs.Prelude.{Option, Some, None, fold, map, flat_map, nat_lt, if◌then◌else◌}
-use Rattle.std.specs.List.{list_all, enumerate_from, range_with_len}
+use Rattle.std.specs.Prelude.{Option, Some, None, fold, map, flat_map, if◌then◌else◌}
+use Rattle.std.specs.List.{enumerate_from, range_with_len}
 use Rattle.std.proofs.lemmas.Bool.{cases_lt}
 use Rattle.std.proofs.lemmas.List.{get_or_past}
 use Rattle.lrc_page.specs.Place.{page_of, offset_of}
-use Rattle.lrc_exec.specs.Meaning.{Thread, Next, quiet, prints, reads, writes, acquires, releases, arrives, departs, traps, ends, next_of}
+use Rattle.lrc_exec.specs.Meaning.{Next, quiet, prints, reads, writes, acquires, releases, arrives, departs, traps, ends, next_of}
 use Rattle.lrc_store.specs.Interval.{IntervalRecord}
 use Rattle.lrc_envelope.specs.Envelope.{EnvelopeRecord}
+use Rattle.lrc_envelope.specs.Records.{DepartRecord}
 use Rattle.lrc_envelope.specs.declared.message.Message.{Message}
-use Rattle.lrc_envelope.specs.declared.message.Message.TheVariants.{LockRequest, LockForward, LockGrant, Arrive, Depart, Clean, Discard}
-use Rattle.lrc_envelope.specs.declared.message.Message.TheVariants.{ChangesRequest, ChangesReply, PageRequest, PageReply}
+use Rattle.lrc_envelope.specs.declared.message.Message.TheVariants.{LockForward, LockGrant, Arrive, ChangesRequest, ChangesReply}
 use Rattle.lrc_lock.specs.declared.state.Pass.{Pass}
-use Rattle.lrc_lock.specs.Managed.{Requested, refuses as refuses_request, forwards, requested}
-use Rattle.lrc_lock.specs.Held.{lock_at, is_free, released, forwarded, pass_of}
+use Rattle.lrc_lock.specs.Held.{released, forwarded, pass_of}
 use Rattle.lrc_barrier.specs.declared.departure.Departure.{Departure}
-use Rattle.lrc_barrier.specs.Barrier.{ArriveStep, refuses as refuses_arrival, waits, departs as all_depart, CleanStep, refuses_clean, awaits, discards}
-use Rattle.lrc_protocol.specs.Copy.{Copy, valid, written, invalid, absent, is_readable, after_write, closed, invalidated, dropped}
-use Rattle.lrc_protocol.specs.Memory.{Memory, copy_at, with_copy, with_interval, is_named, learned, kept_pages, with_keepers, with_base, base_at, collected_at}
-use Rattle.lrc_protocol.specs.Fetch.{Base, unneeded, due, come, Asked, Need, need_of, is_met, mended, with_changes, with_page}
-use Rattle.lrc_protocol.specs.Mail.{Letter, Wait, nothing, grant, departure, access, upkeep, discard, collection_of, numbered, MOST_NUMBER}
+use Rattle.lrc_protocol.specs.Copy.{Copy, valid, written, invalid, absent, after_write, closed, invalidated, dropped}
+use Rattle.lrc_protocol.specs.Memory.{Memory, copy_at, with_copy, with_interval, is_named, learned, with_base, collected_at}
+use Rattle.lrc_protocol.specs.Fetch.{Base, unneeded, due, come, Asked, Need, mended}
+use Rattle.lrc_protocol.specs.Mail.{Letter}
 use Rattle.lrc_protocol.specs.Course.{Course, going, trapped, ended}
 use Rattle.lrc_protocol.specs.Locks.{next_time}
-use Rattle.lrc_protocol.specs.Node.{Node, Effect, begins, sends, acts, acts_by, memory_after, with_memory, waiting}
-use Rattle.lrc_protocol.specs.Letters.{letter, requests_of, page_request_of, changes_request_of}
+use Rattle.lrc_protocol.specs.Node.{Node, Effect, acts, acts_by, memory_after}
+use Rattle.lrc_protocol.specs.Letters.{requests_of, page_request_of, changes_request_of}
 use Rattle.lrc_protocol.specs.Letters.{changes_reply_to, grants_of, departure_of, discards_to, arrival_of}
-use Rattle.lrc_protocol.specs.Waits.{waits_or_goes_on, with_needs, clean_memory}
-use Rattle.lrc_protocol.specs.Run.{charged, own_index, closes, reaches, acquire_at, release_at, arrive_at, run_effect}
-use Rattle.lrc_protocol.specs.Take.{take_departure, request_by, learns, arrive_by, clean_by, discard_by, page_reply_by, take_effect, needs_to_keep, with_part}
-use Rattle.lrc_protocol.specs.Turn.{TurnRecord, Outcome, done, not_ready, unexpected, worn, turn_with, turn_of, turn_if, turn_by, taking, run_turn}
-use Rattle.lrc_invariants.proofs.Shift.{AllFrom, FromIf, numbered-from}
-use Rattle.lrc_invariants.proofs.Sends.{letter_in, LettersIf, numbered-letters}
-use Rattle.lrc_invariants.proofs.Pending.{Took}
+use Rattle.lrc_protocol.specs.Waits.{clean_memory}
+use Rattle.lrc_protocol.specs.Run.{charged, closes}
+use Rattle.lrc_protocol.specs.Turn.{TurnRecord, done, run_turn, taking}
+use Rattle.lrc_protocol.specs.Rules.{Accesses, access_read, access_write, IsOwn, own_quiet, own_print, own_trap, own_end}
+use Rattle.lrc_protocol.specs.Rules.{Brings, brings_changes, brings_base_copy, page_at, need_at, closed_for, keeping, collection_at, upkeep_at}
+use Rattle.lrc_protocol.specs.Rules.{RunRule, run_hit, run_miss, run_repair, run_acquire, run_ask, run_release, run_barrier, run_other}
+use Rattle.lrc_protocol.specs.Rules.{TakeRule, take_request, take_request_unnoted, take_forward, take_token, take_arrive}
+use Rattle.lrc_protocol.specs.Rules.{take_last_arrive, take_depart, take_collect, take_collect_at_once, take_reply, take_last_reply}
+use Rattle.lrc_protocol.specs.Rules.{take_kept_reply, take_last_kept_reply, take_clean, take_last_clean, take_discard}
+use Rattle.lrc_protocol.specs.Rules.{take_changes_request, take_page_request, IsSent, with_numbers}
+use Rattle.lrc_invariants.proofs.Shift.{AllFrom}
+use Rattle.lrc_invariants.proofs.Sends.{letter_in, sent-letters, sent-from}
+use Rattle.lrc_invariants.proofs.Pending.{Ran, ran, Took}
 use Rattle.lrc_local.specs.Ranges.{CollectsAt}
 use Rattle.lrc_local.proofs.Lists.{length-placed}
 use Rattle.lrc_local.proofs.OwnCopies.{set-copy, map-copy, placed-copy}
+use Rattle.lrc_coherence.proofs.Stocks.{acts_by-letters}
 
 -- ---- letters that tell of changes, or grant a lock, and others
 
@@ -203,65 +208,30 @@ module _ (C : List ℕ → Type 0) where
   memory_after-timely node (traps cause) h = h
   memory_after-timely node ends h = h
 
-  -- ---- effects
+  -- the memory after an act
+  acts-timely : (letters : List Letter) (x : Node) (c : Course) → Timely x.memory → Timely (acts_by letters x c).node.memory
+  acts-timely letters x (going t) h = memory_after-timely x (next_of t) h
+  acts-timely letters x (trapped cause) h = h
+  acts-timely letters x ended h = h
 
-  pub record Keeps (e : Effect) : Type 0 where
-    pub timely : Timely e.node.memory
-    pub silent : AllSilent e.letters
-
-  rested : (letters : List Letter) (x : Node) → Timely x.memory → AllSilent letters → Keeps (sends letters x)
-  rested letters x h s = record { timely = h; silent = s }
-
-  course_timely : (letters : List Letter) (x : Node) (c : Course) → Timely x.memory → Timely (acts_by letters x c).node.memory
-  course_timely letters x (going t) h = memory_after-timely x (next_of t) h
-  course_timely letters x (trapped cause) h = h
-  course_timely letters x ended h = h
-
-  by_course : (letters : List Letter) (x : Node) (c : Course) → Timely x.memory → AllSilent letters → Keeps (acts_by letters x c)
-  by_course letters x (going t) h s = record { timely = memory_after-timely x (next_of t) h; silent = s }
-  by_course letters x (trapped cause) h s = record { timely = h; silent = s }
-  by_course letters x ended h s = record { timely = h; silent = s }
-
-  acted : (letters : List Letter) (x : Node) → Timely x.memory → AllSilent letters → Keeps (acts letters x)
-  acted letters x h s = by_course letters x x.course h s
-
-  either : (b : Bool) (x y : Effect) → Keeps x → Keeps y → Keeps (if b then x else y)
-  either true x y k l = k
-  either false x y k l = l
-
-  goes_on : (letters : List Letter) (x : Node) (w : Wait) → Timely x.memory → AllSilent letters → Keeps (waits_or_goes_on letters x w)
-  goes_on letters x (access need) h s =
-      either (is_met need) _ _
-      (acted letters (waiting nothing (with_memory x (mended x.memory need))) (mends-timely (need ∷ []) x.memory h) s)
-      (rested letters (waiting (access need) x) h s)
-  goes_on letters x (upkeep collection needs) h s =
-      either (list_all is_met needs) _ _
-      (rested (letter 0 (Clean x.barrier.episode) ∷ [])
-      (waiting (discard collection) (with_memory x (clean_memory needs collection.kept x.memory)))
-      (clean-timely needs collection.kept x.memory h) (refl, refl, refl, tt))
-      (rested letters (waiting (upkeep collection needs) x) h s)
-  goes_on letters x nothing h s = rested letters (waiting nothing x) h s
-  goes_on letters x (grant lock) h s = rested letters (waiting (grant lock) x) h s
-  goes_on letters x departure h s = rested letters (waiting departure x) h s
-  goes_on letters x (discard collection) h s = rested letters (waiting (discard collection) x) h s
+  acts-silent : (letters : List Letter) (x : Node) → AllSilent letters → AllSilent (acts letters x).letters
+  acts-silent letters x s = subst AllSilent (sym (acts_by-letters letters x x.course)) s
 
   -- ---- by itself
 
-  reaches-keeps : (node : Node) (page : ℕ) → Timely node.memory → Keeps (reaches node page)
-  reaches-keeps node page h =
-      let need : Need = need_of node.setting.nodes node.memory page in
-      either (is_readable (copy_at node.memory page)) _ _ (acted [] node h tt)
-      (goes_on (requests_of need) node (access need) h (requests-silent need))
+  closes-timely : (node : Node) (next : Next) → Timely node.memory → Timely (closed_for node next).memory
+  closes-timely node next h = interval-timely node.setting.me (next_time node.setting.me node.locks.time) node.memory h
 
-  closes-timely : (node : Node) → Timely node.memory → Timely (closes node).memory
-  closes-timely node h = interval-timely node.setting.me (next_time node.setting.me node.locks.time) node.memory h
-
-  released-timely : (node : Node) (lock : ℕ) → Timely node.memory → Timely (release_at lock (closes node)).node.memory
-  released-timely node lock h = course_timely _ _ node.course (closes-timely node h)
-
-  acquire-keeps : (node : Node) (lock : ℕ) → Timely node.memory → Keeps (acquire_at lock (closes node))
-  acquire-keeps node lock h =
-      either (is_free (lock_at node.locks.held lock)) _ _ (acted [] _ (closes-timely node h) tt) (rested _ _ (closes-timely node h) (refl, refl, refl, tt))
+  run-timely : (node : Node) (e : Effect) → Timely node.memory → RunRule node e → Timely e.node.memory
+  run-timely node e h (run_hit {next = next} r a readable) = acts-timely [] (charged node next) node.course h
+  run-timely node e h (run_miss r a away unmet) = h
+  run-timely node e h (run_repair {word = word} r a away met) =
+      acts-timely _ _ node.course (mends-timely (need_at node (page_at node word) ∷ []) node.memory h)
+  run-timely node e h (run_acquire lock after r room free) = acts-timely [] _ node.course (closes-timely node (acquires lock after) h)
+  run-timely node e h (run_ask lock after r room away) = closes-timely node (acquires lock after) h
+  run-timely node e h (run_release lock after r room) = acts-timely _ _ node.course (closes-timely node (releases lock after) h)
+  run-timely node e h (run_barrier after r room) = acts-timely _ _ node.course (closes-timely node (arrives after) h)
+  run-timely node e h (run_other {next = next} r own) = acts-timely [] (charged node next) node.course h
 
   -- a release may grant the lock, and an arrival is sent; whatever else is begun is silent
   abbrev pub RunSays : Node → Next → List Letter → Type 0
@@ -270,96 +240,34 @@ module _ (C : List ℕ → Type 0) where
   RunSays node (arrives after) letters = letters ≡ arrival_of (closes node) (node.barrier.episode + 1) ∷ []
   RunSays node _ letters = AllSilent letters
 
-  record Begins (node : Node) (next : Next) (e : Effect) : Type 0 where
-    timely : Timely e.node.memory
-    says : RunSays node next e.letters
+  access-says : (node : Node) (next : Next) (word : ℕ) (letters : List Letter) → Accesses next word → AllSilent letters → RunSays node next letters
+  access-says node next word letters (access_read w after) s = s
+  access-says node next word letters (access_write w value after) s = s
 
-  abbrev BeginsIf : Node → Next → Option Effect → Type 0
-  BeginsIf node next None = Unit {0}
-  BeginsIf node next (Some e) = Begins node next e
+  own-says : (node : Node) (next : Next) (letters : List Letter) → IsOwn next → AllSilent letters → RunSays node next letters
+  own-says node next letters (own_quiet after) s = s
+  own-says node next letters (own_print value after) s = s
+  own-says node next letters (own_trap cause) s = s
+  own-says node next letters own_end s = s
 
-  begins_so : (node : Node) (next : Next) (e : Effect) → (AllSilent e.letters → RunSays node next e.letters) → Keeps e → Begins node next e
-  begins_so node next e f k = record { timely = k.timely; says = f k.silent }
+  -- what a node says that goes on by itself
+  abbrev pub GoesSaying : Node → List Letter → Type 0
+  GoesSaying node letters = (next : Next) × RunSays node next letters
 
-  optional : (node : Node) (next : Next) (b : Bool) (x : Effect) → Begins node next x → BeginsIf node next (if b then Some x else None)
-  optional node next true x k = k
-  optional node next false x k = tt
-
-  -- the letters of an act are as they are
-  acts_letters : (letters : List Letter) (x : Node) (c : Course) → (acts_by letters x c).letters ≡ letters
-  acts_letters letters x (going t) = refl
-  acts_letters letters x (trapped cause) = refl
-  acts_letters letters x ended = refl
-
-  releases-says : (node : Node) (lock : ℕ) (after : Thread) → RunSays node (releases lock after) (release_at lock (closes node)).letters
-  releases-says node lock after = acts_letters _ _ node.course
-
-  arrives-says : (node : Node) (after : Thread) → RunSays node (arrives after) (arrive_at (closes node)).letters
-  arrives-says node after = acts_letters _ _ node.course
-
-  run-keeps : (node : Node) (next : Next) → Timely node.memory → BeginsIf node next (run_effect node next)
-  run-keeps node (quiet after) h = begins_so node (quiet after) _ (λ s. s) (acted [] node h tt)
-  run-keeps node (prints value after) h = begins_so node (prints value after) _ (λ s. s) (acted [] node h tt)
-  run-keeps node (reads word after) h =
-      begins_so node (reads word after) _ (λ s. s) (reaches-keeps node (page_of word node.options.size) h)
-  run-keeps node (writes word value after) h =
-      begins_so node (writes word value after) _ (λ s. s) (reaches-keeps node (page_of word node.options.size) h)
-  run-keeps node (acquires lock after) h =
-      optional node (acquires lock after) (nat_lt (own_index node) MOST_NUMBER) (acquire_at lock (closes node))
-      (begins_so node (acquires lock after) _ (λ s. s) (acquire-keeps node lock h))
-  run-keeps node (releases lock after) h =
-      optional node (releases lock after) (nat_lt (own_index node) MOST_NUMBER) (release_at lock (closes node))
-      (record { timely = released-timely node lock h; says = releases-says node lock after })
-  run-keeps node (arrives after) h =
-      optional node (arrives after) (nat_lt (own_index node) MOST_NUMBER) (arrive_at (closes node))
-      (record { timely = course_timely _ _ node.course (closes-timely node h); says = arrives-says node after })
-  run-keeps node (departs after) h = begins_so node (departs after) _ (λ s. s) (acted [] node h tt)
-  run-keeps node (traps cause) h = begins_so node (traps cause) _ (λ s. s) (acted [] node h tt)
-  run-keeps node ends h = begins_so node ends _ (λ s. s) (acted [] node h tt)
+  run-says : (node : Node) (e : Effect) → RunRule node e → GoesSaying node e.letters
+  run-says node e (run_hit {next = next} {word = word} r a readable) =
+      (next, access-says node next word _ a (acts-silent [] (charged node next) tt))
+  run-says node e (run_miss {next = next} {word = word} r a away unmet) =
+      (next, access-says node next word _ a (requests-silent (need_at node (page_at node word))))
+  run-says node e (run_repair {next = next} {word = word} r a away met) =
+      (next, access-says node next word _ a (acts-silent _ _ (requests-silent (need_at node (page_at node word)))))
+  run-says node e (run_acquire lock after r room free) = (acquires lock after, acts-silent [] _ tt)
+  run-says node e (run_ask lock after r room away) = (acquires lock after, (refl, refl, refl, tt))
+  run-says node e (run_release lock after r room) = (releases lock after, acts_by-letters _ _ node.course)
+  run-says node e (run_barrier after r room) = (arrives after, acts_by-letters _ _ node.course)
+  run-says node e (run_other {next = next} r own) = (next, own-says node next _ own (acts-silent [] (charged node next) tt))
 
   -- ---- with a message
-
-  request-keeps : (node : Node) (from lock : ℕ) (time : List ℕ) (r : Requested) → Timely node.memory → Keeps (request_by node from lock time r)
-  request-keeps node from lock time (refuses_request fault) h = rested [] node h tt
-  request-keeps node from lock time (forwards to managed) h = rested _ _ h (refl, refl, refl, tt)
-
-  arrive-keeps : (node : Node) (step : Option ArriveStep) → Timely node.memory → Keeps (arrive_by node step)
-  arrive-keeps node None h = rested [] node h tt
-  arrive-keeps node (Some (refuses_arrival fault)) h = rested [] node h tt
-  arrive-keeps node (Some (waits manager)) h = rested [] _ h tt
-  arrive-keeps node (Some (all_depart departures manager)) h = rested _ _ h (departures-silent departures)
-
-  clean-keeps : (node : Node) (step : Option CleanStep) → Timely node.memory → Keeps (clean_by node step)
-  clean-keeps node None h = rested [] node h tt
-  clean-keeps node (Some (refuses_clean fault)) h = rested [] node h tt
-  clean-keeps node (Some (awaits manager)) h = rested [] _ h tt
-  clean-keeps node (Some (discards episode manager)) h = rested _ _ h (discards-silent (range_with_len 0 node.setting.nodes) episode)
-
-  discard-keeps : (node : Node) (w : Wait) → CollectsAt node.locks.time w → C node.locks.time → Timely node.memory → Keeps (discard_by node (collection_of w))
-  discard-keeps node (discard collection) at c h =
-      acted [] _ (collected-timely node.setting.me collection.time node.memory (subst C (sym at) c)) tt
-  discard-keeps node nothing at c h = rested [] node h tt
-  discard-keeps node (grant lock) at c h = rested [] node h tt
-  discard-keeps node departure at c h = rested [] node h tt
-  discard-keeps node (access need) at c h = rested [] node h tt
-  discard-keeps node (upkeep collection needs) at c h = rested [] node h tt
-
-  page-keeps : (node : Node) (from page : ℕ) (base : Option (List ℕ)) → Timely node.memory → Keeps (page_reply_by node from page base)
-  page-keeps node from page None h = rested [] node h tt
-  page-keeps node from page (Some values) h = rested _ node h (refl, refl, refl, tt)
-
-  depart-keeps : (node : Node) (collect : Bool) (time : List ℕ) (intervals : List IntervalRecord) → C node.locks.time → Timely node.memory
-      → Keeps (take_departure node collect time intervals)
-  depart-keeps node collect time intervals c h =
-      let knowing : Node = learns time intervals node in
-      let keeping : Node = with_memory knowing (with_keepers knowing.memory) in
-      let kept : List ℕ = kept_pages node.setting.me keeping.memory in
-      let needs : List Need = needs_to_keep keeping kept in
-      let now : Timely knowing.memory = learned-timely node.locks.time intervals node.memory c h in
-      either collect _ _
-      (goes_on (flat_map requests_of needs) keeping (upkeep (record { time = time; kept = kept }) needs)
-      (record { collected = now.collected; since = now.since }) (all_requests-silent needs))
-      (acted [] (waiting nothing knowing) now tt)
 
   -- what is sent is silent, but to a request of changes, and to a request of a lock that is passed on
   abbrev pub Says : Node → ℕ → Message → List Letter → Type 0
@@ -367,37 +275,74 @@ module _ (C : List ℕ → Type 0) where
   Says node from (LockForward m) letters = letters ≡ grants_of node (pass_of (forwarded node.locks.held m.lock m.asker m.time))
   Says node from _ letters = AllSilent letters
 
-  record Takes (node : Node) (from : ℕ) (message : Message) (e : Effect) : Type 0 where
-    timely : Timely e.node.memory
-    says : Says node from message e.letters
+  module _ (node : Node) (from : ℕ) where
+    -- a reply is answered by nothing, and changes no copy
+    brings-says : (message : Message) (memory : Memory) (change : Need → Need) → Brings node from message memory change
+        → (letters : List Letter) → AllSilent letters → Says node from message letters
+    brings-says message memory change (brings_changes m lt all some) letters s = s
+    brings-says message memory change (brings_base_copy m lt counted some) letters s = s
 
-  module _ (node : Node) (from : ℕ) (c : C node.locks.time) (at : CollectsAt node.locks.time node.mail.wait) (h : Timely node.memory) where
-    mute : (message : Message) (e : Effect) → (AllSilent e.letters → Says node from message e.letters) → Keeps e → Takes node from message e
-    mute message e f k = record { timely = k.timely; says = f k.silent }
+    brings-timely : (message : Message) (memory : Memory) (change : Need → Need) → Brings node from message memory change → Timely node.memory
+        → Timely memory
+    brings-timely message memory change (brings_changes m lt all some) h = record { collected = h.collected; since = h.since }
+    brings-timely message memory change (brings_base_copy m lt counted some) h = h
 
-    take-keeps : (message : Message) → Takes node from message (take_effect node from message)
-    take-keeps (LockRequest m) =
-        mute (LockRequest m) (take_effect node from (LockRequest m)) (λ s. s)
-        (request-keeps node from m.lock m.time (requested node.locks.managed m.lock from) h)
-    take-keeps (LockForward m) = record { timely = record { collected = h.collected; since = h.since }; says = refl }
-    take-keeps (LockGrant m) =
-        mute (LockGrant m) (take_effect node from (LockGrant m)) (λ s. s) (acted [] _ (learned-timely node.locks.time m.intervals node.memory c h) tt)
-    take-keeps (Arrive m) = mute (Arrive m) (take_effect node from (Arrive m)) (λ s. s) (arrive-keeps node _ h)
-    take-keeps (Depart m) =
-        mute (Depart m) (take_effect node from (Depart m)) (λ s. s) (depart-keeps node m.collect m.time m.intervals c h)
-    take-keeps (Clean episode) = mute (Clean episode) (take_effect node from (Clean episode)) (λ s. s) (clean-keeps node _ h)
-    take-keeps (Discard episode) =
-        mute (Discard episode) (take_effect node from (Discard episode)) (λ s. s) (discard-keeps node node.mail.wait at c h)
-    take-keeps (ChangesRequest m) = record { timely = h; says = refl }
-    take-keeps (ChangesReply m) =
-        mute (ChangesReply m) (take_effect node from (ChangesReply m)) (λ s. s)
-        (goes_on [] (with_memory node (record node.memory { store = fold (with_part from m.page) node.memory.store m.parts }))
-        (with_needs (with_changes m.page from) node.mail.wait) (record { collected = h.collected; since = h.since }) tt)
-    take-keeps (PageRequest page) =
-        mute (PageRequest page) (take_effect node from (PageRequest page)) (λ s. s) (page-keeps node from page (base_at node.memory page) h)
-    take-keeps (PageReply m) =
-        mute (PageReply m) (take_effect node from (PageReply m)) (λ s. s)
-        (goes_on [] node (with_needs (with_page m.page m.values) node.mail.wait) h tt)
+    take-says : (message : Message) (e : Effect) → TakeRule node from message e → Says node from message e.letters
+    take-says message e (take_request m to managed lt counted mine is) = (refl, refl, refl, tt)
+    take-says message e (take_request_unnoted m fault lt counted mine is) = tt
+    take-says message e (take_forward m lt asker counted managed accepted) = refl
+    take-says message e (take_token m lt at news) = acts-silent [] _ tt
+    take-says message e (take_arrive m before after at news is) = tt
+    take-says message e (take_last_arrive m before after departures at news is) = departures-silent departures
+    take-says message e (take_depart m d c) = acts-silent [] _ tt
+    take-says message e (take_collect m d c unmet) = all_requests-silent (upkeep_at node m)
+    take-says message e (take_collect_at_once m d c met) = (refl, refl, refl, tt)
+    take-says message e (take_reply {memory = memory} {change = change} need b at unmet) = brings-says message memory change b [] tt
+    take-says message e (take_last_reply {memory = memory} {change = change} need b at met) =
+        brings-says message memory change b _ (acts-silent [] _ tt)
+    take-says message e (take_kept_reply {memory = memory} {change = change} collection needs b at unmet) =
+        brings-says message memory change b [] tt
+    take-says message e (take_last_kept_reply {memory = memory} {change = change} collection needs b at met) =
+        brings-says message memory change b _ (refl, refl, refl, tt)
+    take-says message e (take_clean episode before after at is) = tt
+    take-says message e (take_last_clean episode over before after at is) = discards-silent (range_with_len 0 node.setting.nodes) over
+    take-says message e (take_discard episode collection by_manager at is) = acts-silent [] _ tt
+    take-says message e (take_changes_request m lt all) = refl
+    take-says message e (take_page_request page values lt other at) = (refl, refl, refl, tt)
+
+  module _ (node : Node) (from : ℕ) (c : C node.locks.time) (collects : CollectsAt node.locks.time node.mail.wait) (h : Timely node.memory) where
+    keeping-timely : (m : DepartRecord) → Timely (keeping node m).memory
+    keeping-timely m =
+        let now : Timely (learned node.locks.time m.intervals node.memory) = learned-timely node.locks.time m.intervals node.memory c h in
+        record { collected = now.collected; since = now.since }
+
+    take-timely : (message : Message) (e : Effect) → TakeRule node from message e → Timely e.node.memory
+    take-timely message e (take_request m to managed lt counted mine is) = h
+    take-timely message e (take_request_unnoted m fault lt counted mine is) = h
+    take-timely message e (take_forward m lt asker counted managed accepted) = h
+    take-timely message e (take_token m lt at news) =
+        acts-timely [] _ node.course (learned-timely node.locks.time m.intervals node.memory c h)
+    take-timely message e (take_arrive m before after at news is) = h
+    take-timely message e (take_last_arrive m before after departures at news is) = h
+    take-timely message e (take_depart m d is) =
+        acts-timely [] _ node.course (learned-timely node.locks.time m.intervals node.memory c h)
+    take-timely message e (take_collect m d is unmet) = keeping-timely m
+    take-timely message e (take_collect_at_once m d is met) =
+        clean-timely (upkeep_at node m) (collection_at node m).kept (keeping node m).memory (keeping-timely m)
+    take-timely message e (take_reply {memory = memory} {change = change} need b at unmet) = brings-timely node from message memory change b h
+    take-timely message e (take_last_reply {memory = memory} {change = change} need b at met) =
+        acts-timely [] _ node.course (mends-timely (change need ∷ []) memory (brings-timely node from message memory change b h))
+    take-timely message e (take_kept_reply {memory = memory} {change = change} collection needs b at unmet) =
+        brings-timely node from message memory change b h
+    take-timely message e (take_last_kept_reply {memory = memory} {change = change} collection needs b at met) =
+        clean-timely (map change needs) collection.kept memory (brings-timely node from message memory change b h)
+    take-timely message e (take_clean episode before after at is) = h
+    take-timely message e (take_last_clean episode over before after at is) = h
+    take-timely message e (take_discard episode collection by_manager at is) =
+        acts-timely [] _ node.course
+        (collected-timely node.setting.me collection.time node.memory (subst C (sym (subst (CollectsAt node.locks.time) at collects)) c))
+    take-timely message e (take_changes_request m lt all) = h
+    take-timely message e (take_page_request page values lt other at) = h
 
   -- ---- turns
 
@@ -407,60 +352,27 @@ module _ (C : List ℕ → Type 0) where
     pub says : S (map letter_in turn.out)
     pub from : AllFrom after.setting.me turn.out
 
-  abbrev TurnedIf : (List Letter → Type 0) → Outcome → Type 0
-  TurnedIf S (done turn after) = Turned S turn after
-  TurnedIf S not_ready = Unit {0}
-  TurnedIf S unexpected = Unit {0}
-  TurnedIf S worn = Unit {0}
-
-  numbered-turned : (S : List Letter → Type 0) (e : Effect) → Timely e.node.memory → S e.letters → (n : Option (List EnvelopeRecord × List ℕ))
-      → LettersIf e.letters n → FromIf e.node.setting.me n → TurnedIf S (turn_with e n)
-  numbered-turned S e h s None l f = tt
-  numbered-turned S e h s (Some (out, sent)) l f = record { timely = record { collected = h.collected; since = h.since }; says = subst S (sym l) s; from = f }
-
-  effect-turned : (S : List Letter → Type 0) (e : Effect) → Timely e.node.memory → S e.letters → TurnedIf S (turn_of e)
-  effect-turned S e h s =
-      numbered-turned S e h s (numbered e.node.setting.me e.node.options.first e.node.mail.sent e.letters)
-      (numbered-letters e.node.setting.me e.node.options.first e.node.mail.sent e.letters)
-      (numbered-from e.node.setting.me e.node.options.first e.node.mail.sent e.letters)
-
-  effect_if-turned : (node : Node) (next : Next) (o : Option Effect) → BeginsIf node next o → TurnedIf (RunSays node next) (turn_if o)
-  effect_if-turned node next None k = tt
-  effect_if-turned node next (Some e) k = effect-turned (RunSays node next) e k.timely k.says
-
-  -- what a node says that goes on by itself
-  abbrev pub GoesSaying : Node → List Letter → Type 0
-  GoesSaying node letters = (next : Next) × RunSays node next letters
-
-  begins-with : (node : Node) (next : Next) (o : Outcome) → TurnedIf (RunSays (charged node next) next) o → TurnedIf (GoesSaying node) o
-  begins-with node next (done turn after) t = record { timely = t.timely; says = (next, same next t.says); from = t.from }
-    where
-      same : (n : Next) → RunSays (charged node next) n (map letter_in turn.out) → RunSays node n (map letter_in turn.out)
-      same n s = s
-  begins-with node next not_ready t = tt
-  begins-with node next unexpected t = tt
-  begins-with node next worn t = tt
-
-  begun-turned : (node : Node) (o : Option Next) → Timely node.memory → TurnedIf (GoesSaying node) (turn_by node o)
-  begun-turned node None h = tt
-  begun-turned node (Some next) h =
-      begins-with node next (turn_if (run_effect (charged node next) next))
-      (effect_if-turned (charged node next) next (run_effect (charged node next) next) (run-keeps (charged node next) next h))
+  sent-turned : (S : List Letter → Type 0) (e : Effect) (turn : TurnRecord) (after : Node) → Timely e.node.memory → S e.letters
+      → IsSent e turn after → Turned S turn after
+  sent-turned S e turn after h s (with_numbers out sent is) = record {
+    timely = h;
+    says = subst S (sym (sent-letters e _ _ (with_numbers out sent is))) s;
+    from = sent-from e _ _ (with_numbers out sent is);
+  }
 
   -- a node that goes on by itself
   pub run-turned : (node : Node) (turn : TurnRecord) (after : Node) → run_turn node ≡ done turn after → Timely node.memory
       → Turned (GoesSaying node) turn after
-  run-turned node turn after e h = subst (TurnedIf (GoesSaying node)) e (begun-turned node (begins node) h)
+  run-turned node turn after is h =
+      let t : Ran node turn after = ran node turn after is in
+      sent-turned (GoesSaying node) t.effect turn after (run-timely node t.effect h t.rule) (run-says node t.effect t.rule) t.sent
 
   -- a node that takes a message
   pub took-turned : (node : Node) (e : EnvelopeRecord) (turn : TurnRecord) (after : Node) → Took node e turn after → C node.locks.time
       → CollectsAt node.locks.time node.mail.wait → Timely node.memory → Turned (Says node e.from e.message) turn after
   took-turned node e turn after t c at h =
-      let k : Takes (taking node e) e.from e.message (take_effect (taking node e) e.from e.message) =
-      take-keeps (taking node e) e.from c at h e.message in
-      subst (TurnedIf (Says node e.from e.message)) t.turn_is
-      (effect-turned (Says node e.from e.message) (take_effect (taking node e) e.from e.message) k.timely (same e.message k.says))
+      sent-turned (Says node e.from e.message) t.effect turn after (take-timely (taking node e) e.from c at h e.message t.effect t.rule)
+      (same e.message (take-says (taking node e) e.from e.message t.effect t.rule)) t.sent
     where
-      same : (message : Message) → Says (taking node e) e.from message (take_effect (taking node e) e.from e.message).letters
-          → Says node e.from message (take_effect (taking node e) e.from e.message).letters
+      same : (message : Message) → Says (taking node e) e.from message t.effect.letters → Says node e.from message t.effect.letters
       same message s = s

@@ -12,6 +12,7 @@ use Rattle.lrc_protocol.specs.Turn.{TurnRecord, done, run_turn, is_repeat, empty
 use Rattle.lrc_protocol.specs.Log.{Input, run, taken, EntryRecord, Logged, outcome_of}
 use Rattle.lrc_protocol.specs.World.{World, Flying, with_turn, pending}
 use Rattle.lrc_protocol.specs.Follows.{turns_of}
+use Rattle.lrc_protocol.proofs.Ruled.{by_rule}
 use Rattle.lrc_protocol.proofs.Induction.{Comes}
 use Rattle.lrc_protocol.proofs.Worlds.{IsEntry, get_set_same, get_set_other, run-whole}
 use Rattle.lrc_invariants.proofs.Shape.{NodeShape, shape_at}
@@ -19,7 +20,7 @@ use Rattle.lrc_invariants.proofs.Sends.{by_itself, comes}
 use Rattle.lrc_invariants.proofs.Pending.{new_of, Took, took, Lost, Goes, all_pending, pending-goes}
 use Rattle.lrc_invariants.proofs.Reached.{IsReached}
 use Rattle.lrc_local.specs.Reached.{IsReached as IsReachedNode}
-use Rattle.lrc_coherence.proofs.Stocks.{Stocked, Stocking, alone as stocks_alone, again as stocks_again, anew as stocks_anew, StockingIf, stockings}
+use Rattle.lrc_coherence.proofs.Stocks.{Stocked, Stocking, alone as stocks_alone, again as stocks_again, anew as stocks_anew, stockings}
 use Rattle.lrc_coherence.proofs.Stored.{reached}
 
 -- the node in this place, of so many, is reached, and its time has an entry for each
@@ -86,5 +87,5 @@ pub turn_at : (program : Program) (nodes : ℕ) (options : OptionsRecord) (world
     → TurnBy l.node (pending world) input entry.turn after.node (pending (with_turn world flight n entry after))
 turn_at program nodes options world flight n l after input entry at come i r =
     turn_by l.node (pending world) input entry.turn after.node (pending (with_turn world flight n entry after)) i.turn_is
-    (subst (StockingIf l.node input) i.turn_is (stockings l.node input))
+    (stockings l.node input entry.turn after.node (by_rule l.node input entry.turn after.node i.turn_is))
     (pending-goes program nodes options world flight n l after input entry at come i (all_pending program nodes options r.events world r.runs))

@@ -2,7 +2,7 @@
 -- turn none; and they gain what the turn sends.
 use Rattle.std.proofs.Common.{◌≡◌, ◌⊎◌, ℕ, zero, suc, ◌+◌, ◌<◌, ◌≤◌, List, [], ◌∷◌, ◌++◌, Bool, true, false, length, refl, sym, ap, subst, ◌∙◌, inl, inr, arith}
 use Rattle.std.specs.Prelude.{Option, Some, None, ◌==◌, cond, not, remove, filter, slice_get, slice_set, slice_index, slice_index_or, if◌then◌else◌, nat_lt}
-use Rattle.std.proofs.lemmas.Bool.{cases_eq, eq-eqb, ltb-true, and_parts}
+use Rattle.std.proofs.lemmas.Bool.{cases_eq, eq-eqb, false≢true}
 use Rattle.std.proofs.lemmas.List.{length-set, map-append, length-replicate}
 use Rattle.std.proofs.lemmas.List.Elements.{filter-append}
 use Rattle.std.proofs.lemmas.Option.{same_Some, slice_get_within}
@@ -13,12 +13,14 @@ use Rattle.lrc_store.specs.Order.{placed}
 use Rattle.lrc_envelope.specs.Envelope.{EnvelopeRecord}
 use Rattle.lrc_protocol.specs.declared.event.Event.{Event}
 use Rattle.lrc_protocol.specs.Follows.{numbers_to}
-use Rattle.lrc_protocol.specs.Node.{Node, OptionsRecord}
-use Rattle.lrc_protocol.specs.Turn.{TurnRecord, Outcome, done, unexpected, take_turn, take_anew, is_addressed, is_repeat, empty_turn, turn_of, taking}
+use Rattle.lrc_protocol.specs.Node.{Node, Effect, OptionsRecord}
+use Rattle.lrc_protocol.specs.Turn.{TurnRecord, done, run_turn, take_turn, is_repeat, taking}
 use Rattle.lrc_protocol.specs.Expected.{is_expected}
-use Rattle.lrc_protocol.specs.Take.{take_effect}
 use Rattle.lrc_protocol.specs.Log.{Input, run, taken, EntryRecord, Logged}
+use Rattle.lrc_protocol.specs.Rules.{RunRule, TakeRule, IsSent, IsFor, TurnRule, by_run, by_repeat, by_message}
 use Rattle.lrc_protocol.specs.World.{World, Flying, fresh_world, with_turn, sent_by, pending, run_of}
+use Rattle.lrc_protocol.proofs.Ruled.{by_rule}
+use Rattle.lrc_protocol.proofs.Allowed.{expected_by_rule}
 use Rattle.lrc_protocol.proofs.Numbers.{GoOn}
 use Rattle.lrc_protocol.proofs.Worlds.{IsEntry, get_set_same, get_set_other, fresh_at}
 use Rattle.lrc_protocol.proofs.Turned.{Turned, Turns, turns}
@@ -39,29 +41,37 @@ abbrev pub new_of : Node → Input → Option EnvelopeRecord
 new_of node run = None
 new_of node (taken e) = if is_repeat node e then None else Some e
 
--- a message taken anew was expected, and its turn is that of its effect
+-- a message taken anew was expected, and its turn is made by the rule for it
 pub record Took (node : Node) (e : EnvelopeRecord) (turn : TurnRecord) (after : Node) : Type 0 where
-  pub addressed : is_addressed node e ≡ true
+  pub addressed : IsFor node e
   pub anew : is_repeat node e ≡ false
   pub expected : is_expected node e.from e.message ≡ true
-  pub turn_is : turn_of (take_effect (taking node e) e.from e.message) ≡ done turn after
+  pub effect : Effect
+  pub rule : TakeRule (taking node e) e.from e.message effect
+  pub sent : IsSent effect turn after
 
-addressed : (b : Bool) (o : Outcome) (turn : TurnRecord) (after : Node) → (if b then o else unexpected) ≡ done turn after → (b ≡ true) × (o ≡ done turn after)
-addressed true o turn after e = (refl, e)
-addressed false o turn after e = cc
+-- a turn that a node makes by itself is made by its rule
+pub record Ran (node : Node) (turn : TurnRecord) (after : Node) : Type 0 where
+  pub effect : Effect
+  pub rule : RunRule node effect
+  pub sent : IsSent effect turn after
 
-taken_anew : (b : Bool) (o : Outcome) (same : Outcome) (turn : TurnRecord) (after : Node) → b ≡ false → (if b then same else o) ≡ done turn after
-    → o ≡ done turn after
-taken_anew true o same turn after is e = cc
-taken_anew false o same turn after is e = e
+abbrev MadeBy : Node → Input → TurnRecord → Node → Type 0
+MadeBy node run turn after = Ran node turn after
+MadeBy node (taken e) turn after = is_repeat node e ≡ false → Took node e turn after
+
+made_by : (node : Node) (input : Input) (turn : TurnRecord) (after : Node) → TurnRule node input turn after → MadeBy node input turn after
+made_by node input turn after (by_run {effect = effect} r s) = record { effect = effect; rule = r; sent = s }
+made_by node input turn after (by_repeat e f again) = λ new. absurd (false≢true (sym new ∙ again))
+made_by node input turn after (by_message e {effect = effect} f new r s) = λ also.
+    record { addressed = f; anew = new; expected = expected_by_rule node e effect r; effect = effect; rule = r; sent = s }
+
+pub ran : (node : Node) (turn : TurnRecord) (after : Node) → run_turn node ≡ done turn after → Ran node turn after
+ran node turn after is = made_by node run turn after (by_rule node run turn after is)
 
 pub took : (node : Node) (e : EnvelopeRecord) (turn : TurnRecord) (after : Node) → is_repeat node e ≡ false → take_turn node e ≡ done turn after
     → Took node e turn after
-took node e turn after new is =
-    let outer : _ = addressed (is_addressed node e) (if is_repeat node e then done empty_turn node else take_anew node e) turn after is in
-    let inner : _ = addressed (is_expected node e.from e.message) (turn_of (take_effect (taking node e) e.from e.message)) turn after
-    (taken_anew (is_repeat node e) (take_anew node e) (done empty_turn node) turn after new outer.1) in
-    record { addressed = outer.0; anew = new; expected = inner.0; turn_is = inner.1 }
+took node e turn after new is = made_by node (taken e) turn after (by_rule node (taken e) turn after is) new
 
 -- ---- what is pending then
 
@@ -188,14 +198,10 @@ abbrev TakesFact : Node → Input → List (List ℕ) → Type 0
 TakesFact node run t = t ≡ node.mail.taken
 TakesFact node (taken e) t = (is_repeat node e ≡ true → t ≡ node.mail.taken) × (is_repeat node e ≡ false → t ≡ (taking node e).mail.taken)
 
-true_false : (b : Bool) → b ≡ true → b ≡ false → ⊥
-true_false true is not = cc
-true_false false is not = cc
-
 takes_fact : (node : Node) (input : Input) (t : List (List ℕ)) → Takes node input t → TakesFact node input t
 takes_fact node _ _ by_itself = refl
-takes_fact node _ _ (repeats e again) = (λ is. refl, λ not. absurd (true_false (is_repeat node e) again not))
-takes_fact node _ _ (anew e new) = (λ is. absurd (true_false (is_repeat node e) is new), λ not. refl)
+takes_fact node _ _ (repeats e again) = (λ is. refl, λ not. absurd (false≢true (sym not ∙ again)))
+takes_fact node _ _ (anew e new) = (λ is. absurd (false≢true (sym new ∙ is)), λ not. refl)
 
 cond_false : (c : Bool) (e : EnvelopeRecord) (rest : List EnvelopeRecord) → c ≡ false → cond c (e ∷ rest) rest ≡ rest
 cond_false true e rest is = cc
@@ -229,9 +235,7 @@ module _ (program : Program) (nodes : ℕ) (options : OptionsRecord) where
     k = took l.node e entry.turn after.node new i.turn_is
 
     from_node : e.from < nodes
-    from_node =
-        let both : _ = and_parts _ _ k.addressed in
-        subst (λ (s : Setting). e.from < s.nodes) (h.taken.sends.each n l at).setting (ltb-true _ _ both.1)
+    from_node = subst (λ (s : Setting). e.from < s.nodes) (h.taken.sends.each n l at).setting k.addressed.from_one
 
     numbers_taken : after.node.mail.taken ≡ (taking l.node e).mail.taken
     numbers_taken = (takes_fact l.node (taken e) after.node.mail.taken (subst (TakesIf l.node (taken e)) i.turn_is (takes l.node (taken e)))).1 new

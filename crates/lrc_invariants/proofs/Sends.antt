@@ -28,12 +28,11 @@ use Rattle.lrc_protocol.specs.Mail.{Collection, MOST_NUMBER}
 use Rattle.lrc_protocol.specs.Course.{Course, going, trapped, ended, deed_of, course_of}
 use Rattle.lrc_protocol.specs.Locks.{Locks, ticked, with_time, with_held, with_managed, next_time}
 use Rattle.lrc_protocol.specs.Barrier.{Barrier, with_arrive, with_manager}
-use Rattle.lrc_protocol.specs.Node.{Node, Effect, sends, acts, acts_by, value_read}
+use Rattle.lrc_protocol.specs.Node.{Node, Effect, with_locks, sends, acts, acts_by, value_read}
 use Rattle.lrc_protocol.specs.Letters.{letter, forward_to, grants_of, own_news, asks_for_collection, departure_of}
 use Rattle.lrc_protocol.specs.Letters.{discards_to, changes_request_of, page_request_of, requests_of}
 use Rattle.lrc_protocol.specs.Expected.{is_taken, are_arriving}
 use Rattle.lrc_protocol.specs.Run.{charged}
-use Rattle.lrc_protocol.specs.Take.{request_by}
 use Rattle.lrc_protocol.specs.Turn.{TurnRecord, Outcome, done, not_ready, unexpected, worn}
 use Rattle.lrc_protocol.specs.Turn.{taking, is_repeat, empty_turn}
 use Rattle.lrc_protocol.specs.Log.{Input, run, taken as taken_in, outcome_of}
@@ -198,10 +197,6 @@ pub record EffectSends (s : Site) (came : Came) (e : Effect) : Type 0 where
   pub moved : Moved acts s.course e.deed e.node.course
   pub sent : Sends s came acts e.node.mail.wait e.node.locks e.node.barrier e.letters
 
-abbrev pub SendsIf : Site → Came → Option Effect → Type 0
-SendsIf s came None = Unit {0}
-SendsIf s came (Some e) = EffectSends s came e
-
 rested : (s : Site) (came : Came) (letters : List Letter) (node : Node) → node.course ≡ s.course
     → Sends s came false node.mail.wait node.locks node.barrier letters → EffectSends s came (sends letters node)
 rested s came letters node c k = record { acts = false; moved = record { deed_is = refl; course_is = c }; sent = k }
@@ -299,25 +294,30 @@ run-sends node e (run_other {next = next} r own) = plain-sends node next r (own-
 
 -- ---- what a node does with a message
 
-request-sends : (node : Node) (from : ℕ) (m : LockRequestRecord) (b : Bool) → b ≡ true → m.lock < node.setting.locks
+-- what a request that goes on sends, and none is refused
+abbrev Passes : Node → ℕ → LockRequestRecord → Requested → Type 0
+Passes node from m (refuses_request fault) = ⊥
+Passes node from m (forwards to managed) =
+    EffectSends (site_of node) (comes from (LockRequest m))
+    (sends (forward_to to m.lock from m.time ∷ []) (with_locks node (with_managed managed node.locks)))
+
+request-passes : (node : Node) (from : ℕ) (m : LockRequestRecord) (b : Bool) → b ≡ true → m.lock < node.setting.locks
     → length m.time ≡ node.setting.nodes → manager_of node.setting.nodes m.lock ≡ node.setting.me
-    → EffectSends (site_of node) (comes from (LockRequest m))
-    (request_by node from m.lock m.time
+    → Passes node from m
     (if b
     then forwards (slice_index node.locks.managed.recent m.lock) (record node.locks.managed { recent = slice_set node.locks.managed.recent m.lock from })
-    else refuses_request NotMine))
-request-sends node from m true is lt counted mine =
+    else refuses_request NotMine)
+request-passes node from m true is lt counted mine =
     rested (site_of node) (comes from (LockRequest m)) _ _ refl (manages from m lt counted mine)
-request-sends node from m false is lt counted mine = cc
+request-passes node from m false is lt counted mine = cc
 
 -- a request goes on from a node of this shape, and not otherwise
-requested-sends : (node : Node) (from : ℕ) (m : LockRequestRecord) (r : Requested) → HasShape node.setting node.locks
+requested-passes : (node : Node) (from : ℕ) (m : LockRequestRecord) (r : Requested) → HasShape node.setting node.locks
     → m.lock < node.setting.locks → length m.time ≡ node.setting.nodes → manager_of node.setting.nodes m.lock ≡ node.setting.me
-    → requested node.locks.managed m.lock from ≡ r
-    → EffectSends (site_of node) (comes from (LockRequest m)) (request_by node from m.lock m.time r)
-requested-sends node from m r h lt counted mine is =
-    subst (λ (r : Requested). EffectSends (site_of node) (comes from (LockRequest m)) (request_by node from m.lock m.time r)) is
-    (request-sends node from m (manager_of node.locks.managed.nodes m.lock == node.locks.managed.me)
+    → requested node.locks.managed m.lock from ≡ r → Passes node from m r
+requested-passes node from m r h lt counted mine is =
+    subst (Passes node from m) is
+    (request-passes node from m (manager_of node.locks.managed.nodes m.lock == node.locks.managed.me)
     (eq-eqb _ _ (ap (λ k. manager_of k m.lock) h.managed_nodes ∙ mine ∙ sym h.manager)) lt counted mine)
 
 arriving-time : (node : Node) (from : ℕ) (time : List ℕ) (intervals : List IntervalRecord) → are_arriving node from time intervals ≡ true
@@ -346,9 +346,9 @@ brings-other node from message memory change (brings_base_copy m lt counted some
 take-sends : (node : Node) (from : ℕ) (message : Message) (e : Effect) → HasShape node.setting node.locks → TakeRule node from message e
     → EffectSends (site_of node) (comes from message) e
 take-sends node from message e h (take_request m to managed lt counted mine is) =
-    requested-sends node from m (forwards to managed) h lt counted mine is
+    requested-passes node from m (forwards to managed) h lt counted mine is
 take-sends node from message e h (take_request_unnoted m fault lt counted mine is) =
-    requested-sends node from m (refuses_request fault) h lt counted mine is
+    absurd (requested-passes node from m (refuses_request fault) h lt counted mine is)
 take-sends node from message e h (take_forward m lt asker counted managed taken) =
     rested (site_of node) (comes from (LockForward m)) _ _ refl (forwarding from m lt asker counted managed taken (grants-so node _))
 take-sends node from message e h (take_token m lt at news) =
@@ -439,6 +439,15 @@ numbered-letters me first sent (l ∷ letters) =
     letters-room (l ∷ letters) (nat_le (first + before) MOST_NUMBER) (option_map (λ more. (envelope_of me (first + before) l ∷ more.0, more.1)) more)
     (letters-one me (first + before) l letters more (numbered-letters me first (slice_set sent l.to (before + 1)) letters))
 
+-- what a turn sends are the letters of its effect, each from this node
+pub sent-letters : (e : Effect) (turn : TurnRecord) (after : Node) → IsSent e turn after → map letter_in turn.out ≡ e.letters
+sent-letters e turn after (with_numbers out sent is) =
+    subst (LettersIf e.letters) is (numbered-letters e.node.setting.me e.node.options.first e.node.mail.sent e.letters)
+
+pub sent-from : (e : Effect) (turn : TurnRecord) (after : Node) → IsSent e turn after → AllFrom after.setting.me turn.out
+sent-from e turn after (with_numbers out sent is) =
+    subst (FromIf e.node.setting.me) is (numbered-from e.node.setting.me e.node.options.first e.node.mail.sent e.letters)
+
 sent-by : (node : Node) (came : Came) (e : Effect) (turn : TurnRecord) (after : Node) → EffectSends (site_of node) came e
     → IsSent e turn after → Sent node came turn after
 sent-by node came e turn after k (with_numbers out sent is) = record {
@@ -446,8 +455,8 @@ sent-by node came e turn after k (with_numbers out sent is) = record {
   letters = e.letters;
   moved = subst (λ d. Moved k.acts node.course d e.node.course) (sym (deed_back e.node.setting.me e.deed)) k.moved;
   sent = k.sent;
-  out = subst (LettersIf e.letters) is (numbered-letters e.node.setting.me e.node.options.first e.node.mail.sent e.letters);
-  from = subst (FromIf e.node.setting.me) is (numbered-from e.node.setting.me e.node.options.first e.node.mail.sent e.letters);
+  out = sent-letters e _ _ (with_numbers out sent is);
+  from = sent-from e _ _ (with_numbers out sent is);
 }
 
 rule-sends : (node : Node) (input : Input) (turn : TurnRecord) (after : Node) → HasShape node.setting node.locks

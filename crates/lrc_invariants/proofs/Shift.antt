@@ -15,7 +15,7 @@ use Rattle.lrc_lock.specs.Held.{lock_at, is_free, taken, asked, released, forwar
 use Rattle.lrc_lock.specs.Managed.{ManagedRecord, forwards, requested}
 use Rattle.lrc_protocol.specs.Fetch.{Need}
 use Rattle.lrc_protocol.specs.Mail.{envelope_of, numbered, Letter, Wait, nothing, grant, departure, access, upkeep, discard}
-use Rattle.lrc_protocol.specs.Mail.{Collection, awaits_grant, awaits_departure, MOST_NUMBER}
+use Rattle.lrc_protocol.specs.Mail.{Collection, MOST_NUMBER}
 use Rattle.lrc_protocol.specs.Course.{Course, going, trapped, ended, deed_of, course_of}
 use Rattle.lrc_protocol.specs.Locks.{Locks, ticked, with_time, with_held, with_managed, next_time}
 use Rattle.lrc_protocol.specs.Node.{Node, Effect, sends, acts, acts_by, value_read}
@@ -143,10 +143,6 @@ pub record Shifts (p : Part) (e : Effect) : Type 0 where
   pub moved : Moved acts p.course e.deed e.node.course
   pub shift : Shift p acts e.node.mail.wait e.node.locks e.node.barrier.episode
 
-abbrev pub ShiftsIf : Part → Option Effect → Type 0
-ShiftsIf p None = Unit {0}
-ShiftsIf p (Some e) = Shifts p e
-
 sends-shifts : (p : Part) (letters : List Letter) (node : Node) → node.course ≡ p.course
     → Shift p false node.mail.wait node.locks node.barrier.episode → Shifts p (sends letters node)
 sends-shifts p letters node c s = record { acts = false; moved = record { deed_is = refl; course_is = c }; shift = s }
@@ -228,23 +224,6 @@ learnable node time intervals e =
     let news : _ = and_parts _ _ outer.0 in
     let time_is : _ = and_parts _ _ (and_parts _ _ news.0).0 in
     record { counted = eqb-true _ _ time_is.0; own = leb-true _ _ outer.1 }
-
--- the wait that a test of it shows
-pub awaits_lock : (lock : ℕ) (w : Wait) → awaits_grant lock w ≡ true → w ≡ grant lock
-awaits_lock lock (grant awaited) e = ap grant (eqb-true awaited lock e)
-awaits_lock lock nothing e = cc
-awaits_lock lock departure e = cc
-awaits_lock lock (access need) e = cc
-awaits_lock lock (upkeep collection needs) e = cc
-awaits_lock lock (discard collection) e = cc
-
-pub awaits_leave : (w : Wait) → awaits_departure w ≡ true → w ≡ departure
-awaits_leave departure e = refl
-awaits_leave nothing e = cc
-awaits_leave (grant lock) e = cc
-awaits_leave (access need) e = cc
-awaits_leave (upkeep collection needs) e = cc
-awaits_leave (discard collection) e = cc
 
 take-shifts : (node : Node) (from : ℕ) (message : Message) (e : Effect) → TakeRule node from message e → Shifts (part_of node) e
 take-shifts node from message e (take_request m to managed lt counted mine is) =

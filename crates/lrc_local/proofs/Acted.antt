@@ -1,57 +1,46 @@
 -- What each turn writes: a node's copies are what its open interval made of them.
-use Rattle.std.proofs.Common.{◌≡◌, ℕ, ◌<◌, List, [], ◌∷◌, ◌++◌, Bool, true, false, length, refl, sym, ap, subst, ◌∙◌, arith}
-use Rattle.std.specs.Prelude.{Option, Some, None, All, option_map, fold, map, nat_lt, if◌then◌else◌}
-use Rattle.std.specs.List.{list_all}
-use Rattle.std.proofs.lemmas.Bool.{and_parts}
+use Rattle.std.proofs.Common.{◌≡◌, ℕ, ◌<◌, List, [], ◌∷◌, ◌++◌, true, false, length, refl, sym, ap, subst, ◌∙◌, arith}
+use Rattle.std.specs.Prelude.{Option, Some, None, All, map, slice_index_or}
 use Rattle.std.proofs.lemmas.Option.{same_Some}
 use Rattle.std.proofs.lemmas.List.Elements.{All-head}
-use Rattle.lrc_trace.specs.declared.act.Act.{Act}
 use Rattle.lrc_trace.specs.declared.act.Deed.{Deed}
-use Rattle.lrc_trace.specs.Run.{act_of}
 use Rattle.lrc_page.specs.declared.size.Size.{Size}
 use Rattle.lrc_page.specs.Page.{words_of}
 use Rattle.lrc_page.specs.Place.{page_of, pages_of}
 use Rattle.lrc_exec.specs.Meaning.{Thread, Next, quiet, prints, reads, writes, acquires, releases, arrives, departs, traps, ends, next_of}
 use Rattle.lrc_store.specs.Interval.{IntervalRecord}
-use Rattle.lrc_store.specs.Store.{StoreRecord}
 use Rattle.lrc_envelope.specs.Envelope.{EnvelopeRecord}
 use Rattle.lrc_envelope.specs.declared.message.Message.{Message}
-use Rattle.lrc_envelope.specs.declared.message.Message.TheVariants.{LockRequest, LockForward, LockGrant, Arrive, Depart, Clean, Discard}
-use Rattle.lrc_envelope.specs.declared.message.Message.TheVariants.{ChangesRequest, ChangesReply, PageRequest, PageReply}
-use Rattle.lrc_lock.specs.Held.{lock_at, is_free}
-use Rattle.lrc_lock.specs.Managed.{Requested, refuses as refuses_request, forwards, requested}
-use Rattle.lrc_barrier.specs.Barrier.{ArriveStep, refuses as refuses_arrival, waits, departs as all_depart}
-use Rattle.lrc_barrier.specs.Barrier.{CleanStep, refuses_clean, awaits, discards as discards_all}
 use Rattle.lrc_protocol.specs.Copy.{Copy, valid, written, invalid, absent, is_readable, changes_of}
-use Rattle.lrc_protocol.specs.Memory.{Memory, copy_at, base_at, with_word, with_keepers, kept_pages, collected_at}
-use Rattle.lrc_protocol.specs.Fetch.{Base, Need, need_of, is_met, mended, with_changes, with_page}
-use Rattle.lrc_protocol.specs.Mail.{numbered, Letter, Wait, nothing, grant, departure, access, upkeep, discard}
-use Rattle.lrc_protocol.specs.Mail.{collection_of, needs_of, is_idle, MOST_NUMBER}
+use Rattle.lrc_protocol.specs.Memory.{Memory, copy_at, with_word, collected_at}
+use Rattle.lrc_protocol.specs.Fetch.{Base, Need, mended}
+use Rattle.lrc_protocol.specs.Mail.{Letter, Wait, nothing, grant, departure, access, upkeep, discard, needs_of}
 use Rattle.lrc_protocol.specs.Course.{Course, going, trapped, ended}
 use Rattle.lrc_protocol.specs.Locks.{next_time}
-use Rattle.lrc_protocol.specs.Barrier.{clean_step}
-use Rattle.lrc_protocol.specs.Node.{Node, Effect, makes, acts, acts_by, with_memory, waiting, begins_of, may_begin}
+use Rattle.lrc_protocol.specs.Node.{Node, Effect, makes, acts, acts_by, with_memory, waiting}
 use Rattle.lrc_protocol.specs.Letters.{requests_of}
-use Rattle.lrc_protocol.specs.Waits.{waits_or_goes_on, with_needs}
-use Rattle.lrc_protocol.specs.Expected.{is_expected}
-use Rattle.lrc_protocol.specs.Run.{own_index, closes as closes_interval, reaches, acquire_at, release_at, arrive_at, run_effect, charged}
-use Rattle.lrc_protocol.specs.Take.{take_departure, request_by, learns as learns_news, arrive_by, clean_by, discard_by}
-use Rattle.lrc_protocol.specs.Take.{page_reply_by, take_grant, take_effect, needs_to_keep, with_part}
-use Rattle.lrc_protocol.specs.Turn.{TurnRecord, Outcome, done, not_ready, unexpected, worn, turn_with, turn_of, turn_if}
-use Rattle.lrc_protocol.specs.Turn.{turn_by, take_anew, taking, is_addressed, is_repeat, empty_turn}
-use Rattle.lrc_protocol.specs.Log.{Input, run, taken as taken_in, outcome_of}
+use Rattle.lrc_protocol.specs.Run.{charged}
+use Rattle.lrc_protocol.specs.Take.{learns as learns_news}
+use Rattle.lrc_protocol.specs.Turn.{TurnRecord, taking}
+use Rattle.lrc_protocol.specs.Log.{Input}
+use Rattle.lrc_protocol.specs.Rules.{Accesses, access_read, access_write, IsOwn, own_quiet, own_print, own_trap, own_end}
+use Rattle.lrc_protocol.specs.Rules.{page_at, need_at, closed_for, keeping, collection_at, upkeep_at}
+use Rattle.lrc_protocol.specs.Rules.{RunRule, run_hit, run_miss, run_repair, run_acquire, run_ask, run_release, run_barrier, run_other}
+use Rattle.lrc_protocol.specs.Rules.{TakeRule, take_request, take_request_unnoted, take_forward, take_token, take_arrive}
+use Rattle.lrc_protocol.specs.Rules.{take_last_arrive, take_depart, take_collect, take_collect_at_once, take_reply, take_last_reply}
+use Rattle.lrc_protocol.specs.Rules.{take_kept_reply, take_last_kept_reply, take_clean, take_last_clean, take_discard}
+use Rattle.lrc_protocol.specs.Rules.{take_changes_request, take_page_request, IsSent, with_numbers, TurnRule, by_run, by_repeat, by_message}
 use Rattle.lrc_invariants.specs.Waiting.{next_in, is_departing, FixesNext}
 use Rattle.lrc_invariants.proofs.Counts.{lock_next, departure_next}
 use Rattle.lrc_invariants.proofs.TextHolds.{TextIs}
+use Rattle.lrc_invariants.proofs.Shift.{next-ready, deed_made, deed_back}
 use Rattle.lrc_local.specs.Needs.{FitsBase, FitsNeed, page_next, ReachesFor}
-use Rattle.lrc_local.specs.Waits.{NoneWritten, IsQuiet}
-use Rattle.lrc_local.specs.Opened.{after_deed, open_in, AreMadeBy}
-use Rattle.lrc_local.proofs.Words.{next-in_words, page-in_range}
+use Rattle.lrc_local.specs.Waits.{IsQuiet}
+use Rattle.lrc_local.specs.Opened.{after_deed, open_in, IsMadeBy, AreMadeBy}
+use Rattle.lrc_local.proofs.ByRules.{access-in_range, Brought, brought}
 use Rattle.lrc_local.proofs.Quiet.{learned-none}
-use Rattle.lrc_local.proofs.Needed.{changed_page, sent_page}
 use Rattle.lrc_local.proofs.Replies.{is-mended}
 use Rattle.lrc_local.proofs.Opened.{puts-made, closes-made, learns-made, discards-made, mends-made, cleans-made}
-use Rattle.lrc_invariants.proofs.Shift.{awaits_lock, awaits_leave}
 
 -- what is known of a node before its turn
 pub record Known (node : Node) : Type 0 where
@@ -110,20 +99,8 @@ module _ (ws : List (ℕ × ℕ)) where
   abbrev After : Effect → Type 0
   After e = AreMadeBy e.node.options.size e.node.memory (open_in e.node.mail.wait (after_one ws e.deed))
 
-  abbrev AfterIf : Option Effect → Type 0
-  AfterIf None = Unit {0}
-  AfterIf (Some e) = After e
-
   abbrev NotGrant : Node → Type 0
   NotGrant node = (x : List (ℕ × ℕ)) → open_in node.mail.wait x ≡ x
-
-  either : (b : Bool) (x y : Effect) → (b ≡ true → After x) → (b ≡ false → After y) → After (if b then x else y)
-  either true x y k l = k refl
-  either false x y k l = l refl
-
-  optional : (b : Bool) (x : Effect) → After x → AfterIf (if b then Some x else None)
-  optional true x k = k
-  optional false x k = tt
 
   as_open : (node : Node) (memory : Memory) (x : List (ℕ × ℕ)) → NotGrant node → AreMadeBy node.options.size memory x
       → AreMadeBy node.options.size memory (open_in node.mail.wait x)
@@ -155,251 +132,152 @@ module _ (ws : List (ℕ × ℕ)) where
       → Before node.options.size node.memory ws next → After (acts letters node)
   acts-made letters node next n o b = acts_by-made letters node node.course next n o b
 
+  -- what a node makes that waits so
+  waits-made : (node : Node) (w : Wait) → node.mail.wait ≡ w → Made node → AreMadeBy node.options.size node.memory (open_in w ws)
+  waits-made node w e m = subst (λ w. AreMadeBy node.options.size node.memory (open_in w ws)) e m
+
+  free : (node : Node) → node.mail.wait ≡ nothing → NotGrant node
+  free node idle x = ap (λ w. open_in w x) idle
+
   -- ---- by itself
 
-  module _ (node : Node) (known : Known node) (idle : node.mail.wait ≡ nothing) (made : Made node) where
-    here : AreMadeBy node.options.size node.memory ws
-    here = subst (λ w. AreMadeBy node.options.size node.memory (open_in w ws)) idle made
+  own-before : (size : Size) (memory : Memory) (next : Next) → IsOwn next → AreMadeBy size memory ws → Before size memory ws next
+  own-before size memory next (own_quiet after) m = m
+  own-before size memory next (own_print value after) m = m
+  own-before size memory next (own_trap cause) m = m
+  own-before size memory next own_end m = m
 
-    free : NotGrant node
-    free x = ap (λ w. open_in w x) idle
+  access-before : (size : Size) (memory : Memory) (next : Next) (word : ℕ) → Accesses next word
+      → is_readable (copy_at memory (page_of word size)) ≡ true → AreMadeBy size memory ws → Before size memory ws next
+  access-before size memory next word (access_read w after) r m = m
+  access-before size memory next word (access_write w value after) r m = (m, r)
 
-    reaches-made : (page : ℕ) (next : Next) → next_in node.course ≡ Some next → page < pages_of node.setting.words node.options.size
-        → ((memory : Memory) → is_readable (copy_at memory page) ≡ true → AreMadeBy node.options.size memory ws → Before node.options.size memory ws next)
-        → After (reaches node page)
-    reaches-made page next n lt b =
-        let need : Need = need_of node.setting.nodes node.memory page in
-        either (is_readable (copy_at node.memory page)) _ _
-        (λ r. acts-made [] node next n free (b node.memory r here))
-        (λ r. either (is_met need) _ _
-        (λ met. acts-made (requests_of need) (waiting nothing (with_memory node (mended node.memory need))) next n (λ x. refl)
-        (b (mended node.memory need) (is-mended node.memory need page refl (omega (arith, lt, known.copies)))
-        (mends-made node.options.size node.memory need ws (unreadable (copy_at node.memory page) r) here)))
-        (λ unmet. here))
+  closed : (node : Node) (next : Next) → AreMadeBy node.options.size (closed_for node next).memory []
+  closed node next = closes-made node.options.size node.setting.me (next_time node.setting.me node.locks.time) node.memory
 
-    closed : AreMadeBy node.options.size (closes_interval node).memory []
-    closed = closes-made node.options.size node.setting.me (next_time node.setting.me node.locks.time) node.memory
-
-    pub run-made : (next : Next) → next_in node.course ≡ Some next → AfterIf (run_effect node next)
-    run-made (quiet after) n = acts-made [] node (quiet after) n free here
-    run-made (prints value after) n = acts-made [] node (prints value after) n free here
-    run-made (reads word after) n =
-        reaches-made (page_of word node.options.size) (reads word after) n
-        (page-in_range word node.setting.words node.options.size (next-in_words node.setting node.course (reads word after) known.text n)) (λ memory r m. m)
-    run-made (writes word value after) n =
-        reaches-made (page_of word node.options.size) (writes word value after) n
-        (page-in_range word node.setting.words node.options.size (next-in_words node.setting node.course (writes word value after) known.text n))
-        (λ memory r m. (m, r))
-    run-made (acquires lock after) n =
-        optional (nat_lt (own_index node) MOST_NUMBER) (acquire_at lock (closes_interval node))
-        (either (is_free (lock_at node.locks.held lock)) _ _
-        (λ b. acts-made [] _ (acquires lock after) n free closed)
-        (λ b. closed))
-    run-made (releases lock after) n =
-        optional (nat_lt (own_index node) MOST_NUMBER) (release_at lock (closes_interval node)) (acts-made _ _ (releases lock after) n free closed)
-    run-made (arrives after) n =
-        optional (nat_lt (own_index node) MOST_NUMBER) (arrive_at (closes_interval node)) (acts-made _ _ (arrives after) n (λ x. refl) closed)
-    run-made (departs after) n = acts-made [] node (departs after) n free here
-    run-made (traps cause) n = acts-made [] node (traps cause) n free here
-    run-made ends n = acts-made [] node ends n free here
+  run-made : (node : Node) (e : Effect) → Known node → Made node → RunRule node e → After e
+  run-made node e k m (run_hit {next = next} {word = word} r a readable) =
+      acts-made [] (charged node next) next (next-ready node next r) (free node r.idle)
+      (access-before node.options.size node.memory next word a readable (waits-made node nothing r.idle m))
+  run-made node e k m (run_miss r a away unmet) = waits-made node nothing r.idle m
+  run-made node e k m (run_repair {next = next} {word = word} r a away met) =
+      let need : Need = need_at node (page_at node word) in
+      let repaired : Memory = mended node.memory need in
+      let lt : page_at node word < pages_of node.setting.words node.options.size = access-in_range node next word k.text r a in
+      acts-made (requests_of need) (waiting nothing (with_memory (charged node next) repaired)) next (next-ready node next r) (λ x. refl)
+      (access-before node.options.size repaired next word a (is-mended node.memory need (page_at node word) refl (omega (arith, lt, k.copies)))
+      (mends-made node.options.size node.memory need ws (unreadable (copy_at node.memory (page_at node word)) away)
+      (waits-made node nothing r.idle m)))
+  run-made node e k m (run_acquire lock after r room here) =
+      acts-made [] _ (acquires lock after) (next-ready node (acquires lock after) r) (free node r.idle) (closed node (acquires lock after))
+  run-made node e k m (run_ask lock after r room away) = closed node (acquires lock after)
+  run-made node e k m (run_release lock after r room) =
+      acts-made _ _ (releases lock after) (next-ready node (releases lock after) r) (free node r.idle) (closed node (releases lock after))
+  run-made node e k m (run_barrier after r room) =
+      acts-made _ _ (arrives after) (next-ready node (arrives after) r) (λ x. refl) (closed node (arrives after))
+  run-made node e k m (run_other {next = next} r own) =
+      acts-made [] (charged node next) next (next-ready node next r) (free node r.idle)
+      (own-before node.options.size node.memory next own (waits-made node nothing r.idle m))
 
   -- ---- with a message
 
-  -- where the wait and the memory stay
-  request-made : (node : Node) (from lock : ℕ) (time : List ℕ) (r : Requested) → Made node → After (request_by node from lock time r)
-  request-made node from lock time (refuses_request fault) m = m
-  request-made node from lock time (forwards to managed) m = m
-
-  arrival-made : (node : Node) (step : Option ArriveStep) → Made node → After (arrive_by node step)
-  arrival-made node None m = m
-  arrival-made node (Some (refuses_arrival fault)) m = m
-  arrival-made node (Some (waits manager)) m = m
-  arrival-made node (Some (all_depart departures manager)) m = m
-
-  clean-made : (node : Node) (step : Option CleanStep) → Made node → After (clean_by node step)
-  clean-made node None m = m
-  clean-made node (Some (refuses_clean fault)) m = m
-  clean-made node (Some (awaits manager)) m = m
-  clean-made node (Some (discards_all episode manager)) m = m
-
-  page_reply-made : (node : Node) (from page : ℕ) (base : Option (List ℕ)) → Made node → After (page_reply_by node from page base)
-  page_reply-made node from page None m = m
-  page_reply-made node from page (Some values) m = m
-
   -- the text departs
-  leaves-made : (letters : List Letter) (node : Node) (w : Wait) → FixesNext w (next_in node.course)
-      → ((next : Option Next) → FixesNext w next → is_departing next ≡ true)
-      → NotGrant node → AreMadeBy node.options.size node.memory ws → After (acts letters node)
-  leaves-made letters node w f says o m =
-      let next : (x : Thread) × (next_in node.course ≡ Some (departs x)) = departure_next (next_in node.course) (says (next_in node.course) f) in
-      acts-made letters node (departs next.0) next.1 o m
+  leaves-made : (node : Node) → is_departing (next_in node.course) ≡ true → NotGrant node → AreMadeBy node.options.size node.memory ws
+      → After (acts [] node)
+  leaves-made node leaving o m =
+      let next : (x : Thread) × (next_in node.course ≡ Some (departs x)) = departure_next (next_in node.course) leaving in
+      acts-made [] node (departs next.0) next.1 o m
 
-  discard-made : (node : Node) (w : Wait) → node.mail.wait ≡ w → FixesNext w (next_in node.course) → Made node → After (discard_by node (collection_of w))
-  discard-made node (discard collection) e f m =
-      leaves-made [] (waiting nothing (with_memory node (collected_at node.setting.me collection.time node.memory))) (discard collection) f (λ next x. x)
-      (λ x. refl)
-      (discards-made node.options.size node.setting.me collection.time node.memory ws
-      (subst (λ w. AreMadeBy node.options.size node.memory (open_in w ws)) e m))
-  discard-made node nothing e f m = m
-  discard-made node (grant lock) e f m = m
-  discard-made node departure e f m = m
-  discard-made node (access need) e f m = m
-  discard-made node (upkeep collection needs) e f m = m
+  -- what was learned with a departure
+  learned-made : (node : Node) (time : List ℕ) (intervals : List IntervalRecord) → node.mail.wait ≡ departure → Made node
+      → AreMadeBy node.options.size (learns_news time intervals node).memory ws
+  learned-made node time intervals at m =
+      learns-made node.options.size node.locks.time intervals node.memory ws (waits-made node departure at m)
 
-  -- something came for pages; the store may know more changes than before
-  comes-made : (node : Node) (store : StoreRecord) (change : Need → Need) → ((need : Need) → (change need).page ≡ need.page) → Known node → (w : Wait)
-      → node.mail.wait ≡ w
-      → Made node → After (waits_or_goes_on [] (with_memory node (record node.memory { store = store })) (with_needs change w))
-  comes-made node store change same known (access need) e m =
+  brought-made : (size : Size) (before after : Memory) (change : Need → Need) → Brought before after change → AreMadeBy size before ws
+      → AreMadeBy size after ws
+  brought-made size before after change b m page =
+      subst (λ (copies : List Copy). IsMadeBy size page ws (slice_index_or copies page absent)) (sym b.copies) (m page)
+
+  -- with the last reply at a miss the page is mended, and the access made
+  mended-made : (node : Node) (memory : Memory) (change : Need → Need) (need : Need) → Known node → node.mail.wait ≡ access need
+      → Brought node.memory memory change → AreMadeBy node.options.size memory ws
+      → After (acts [] (waiting nothing (with_memory node (mended memory (change need)))))
+  mended-made node memory change need k at b m =
       let size : Size = node.options.size in
-      let now : Memory = record node.memory { store = store } in
-      let here : AreMadeBy size node.memory ws = subst (λ w. AreMadeBy size node.memory (open_in w ws)) e m in
-      let fits : FitsNeed node.setting.nodes (pages_of node.setting.words size) (words_of size) node.memory need =
-      All-head (FitsNeed node.setting.nodes (pages_of node.setting.words size) (words_of size) node.memory) need []
-      (subst (λ w. All (FitsNeed node.setting.nodes (pages_of node.setting.words size) (words_of size) node.memory) (needs_of w)) e known.needs) in
-      let next : _ = access_by size ws need.page (next_in node.course) (subst (ReachesFor size (next_in node.course)) e known.reaching) in
-      let unread : changes_of (copy_at now (change need).page) ≡ None =
-      ap (λ p. changes_of (copy_at node.memory p)) (same need) ∙ fits-unwritten node.setting.nodes (words_of size)
-      (copy_at node.memory need.page) need.base fits.base in
-      either (is_met (change need)) _ _
-      (λ met. acts-made [] (waiting nothing (with_memory node (mended now (change need)))) next.0 next.1 (λ x. refl)
-      (next.2 (mended now (change need)) (is-mended now (change need) need.page (same need) (omega (arith, fits.in_range, known.copies)))
-      (mends-made size now (change need) ws unread here)))
-      (λ unmet. here)
-  comes-made node store change same known (upkeep collection needs) e m =
-      let size : Size = node.options.size in
-      let now : Memory = record node.memory { store = store } in
-      let here : AreMadeBy size node.memory ws = subst (λ w. AreMadeBy size node.memory (open_in w ws)) e m in
-      let none : NoneWritten node.memory = subst (λ w. IsQuiet w node.memory) e known.quiet in
-      either (list_all is_met (map change needs)) _ _
-      (λ met. cleans-made size (map change needs) collection.kept now ws none here)
-      (λ unmet. here)
-  comes-made node store change same known nothing e m = subst (λ w. AreMadeBy node.options.size node.memory (open_in w ws)) e m
-  comes-made node store change same known (grant lock) e m = subst (λ w. AreMadeBy node.options.size node.memory (open_in w ws)) e m
-  comes-made node store change same known departure e m = subst (λ w. AreMadeBy node.options.size node.memory (open_in w ws)) e m
-  comes-made node store change same known (discard collection) e m = subst (λ w. AreMadeBy node.options.size node.memory (open_in w ws)) e m
+      let Fits : Need → Type 0 = FitsNeed node.setting.nodes (pages_of node.setting.words size) (words_of size) node.memory in
+      let fits : Fits need = All-head Fits need [] (subst (λ w. All Fits (needs_of w)) at k.needs) in
+      let next : _ = access_by size ws need.page (next_in node.course) (subst (ReachesFor size (next_in node.course)) at k.reaching) in
+      let unread : changes_of (copy_at memory (change need).page) ≡ None =
+      ap (λ p. changes_of (copy_at memory p)) (b.page need)
+      ∙ ap (λ (copies : List Copy). changes_of (slice_index_or copies need.page absent)) b.copies
+      ∙ fits-unwritten node.setting.nodes (words_of size) (copy_at node.memory need.page) need.base fits.base in
+      acts-made [] _ next.0 next.1 (λ x. refl)
+      (next.2 (mended memory (change need))
+      (is-mended memory (change need) need.page (b.page need) (omega (arith, fits.in_range, k.copies, ap (λ (l : List Copy). length l) b.copies)))
+      (mends-made size memory (change need) ws unread m))
 
-  depart-made : (node : Node) (collect : Bool) (time : List ℕ) (intervals : List IntervalRecord) → Known node → node.mail.wait ≡ departure → Made node
-      → After (take_departure node collect time intervals)
-  depart-made node collect time intervals known e m =
-      let size : Size = node.options.size in
-      let here : AreMadeBy size node.memory ws = subst (λ w. AreMadeBy size node.memory (open_in w ws)) e m in
-      let knowing : Node = learns_news time intervals node in
-      let learned_so : AreMadeBy size knowing.memory ws = learns-made size node.locks.time intervals node.memory ws here in
-      let none : NoneWritten knowing.memory = learned-none node.locks.time intervals node.memory (subst (λ w. IsQuiet w node.memory) e known.quiet) in
-      let keeping : Node = with_memory knowing (with_keepers knowing.memory) in
-      let kept : List ℕ = kept_pages node.setting.me keeping.memory in
-      let needs : List Need = needs_to_keep keeping kept in
-      either collect _ _
-      (λ yes. either (list_all is_met needs) _ _ (λ met. cleans-made size needs kept keeping.memory ws none learned_so) (λ unmet. learned_so))
-      (λ no. leaves-made [] (waiting nothing knowing) departure (subst (λ w. FixesNext w (next_in node.course)) e known.fits) (λ next x. x)
-      (λ x. refl) learned_so)
-
-  grant-made : (node : Node) (lock : ℕ) (time : List ℕ) (intervals : List IntervalRecord) → Known node → node.mail.wait ≡ grant lock → Made node
-      → After (take_grant node lock time intervals)
-  grant-made node lock time intervals known e m =
-      let size : Size = node.options.size in
-      let here : AreMadeBy size node.memory [] = subst (λ w. AreMadeBy size node.memory (open_in w ws)) e m in
-      let next : (x : Thread) × (next_in node.course ≡ Some (acquires lock x)) =
-      lock_next (next_in node.course) lock (subst (λ w. FixesNext w (next_in node.course)) e known.fits) in
-      acts-made [] _ (acquires lock next.0) next.1 (λ x. refl) (learns-made size node.locks.time intervals node.memory [] here)
-
-  take-made : (node : Node) (envelope : EnvelopeRecord) (from : ℕ) (message : Message) → is_expected node from message ≡ true
-      → Known (taking node envelope) → Made node
-      → After (take_effect (taking node envelope) from message)
-  take-made node envelope from (LockRequest m) e k made = request-made (taking node envelope) from m.lock m.time (requested node.locks.managed m.lock from) made
-  take-made node envelope from (LockForward m) e k made = made
-  take-made node envelope from (LockGrant m) e k made =
-      let outer : _ = and_parts _ _ e in
-      let inner : _ = and_parts _ _ outer.0 in
-      grant-made (taking node envelope) m.lock m.time m.intervals k (awaits_lock m.lock node.mail.wait inner.1) made
-  take-made node envelope from (Arrive m) e k made = arrival-made (taking node envelope) _ made
-  take-made node envelope from (Depart m) e k made =
-      let outer : _ = and_parts _ _ e in
-      let covered : _ = and_parts _ _ outer.0 in
-      let counted : _ = and_parts _ _ covered.0 in
-      let waited : _ = and_parts _ _ counted.0 in
-      depart-made (taking node envelope) m.collect m.time m.intervals k (awaits_leave node.mail.wait waited.1) made
-  take-made node envelope from (Clean episode) e k made = clean-made (taking node envelope) (clean_step node.barrier from episode) made
-  take-made node envelope from (Discard episode) e k made = discard-made (taking node envelope) node.mail.wait refl k.fits made
-  take-made node envelope from (ChangesRequest m) e k made = made
-  take-made node envelope from (ChangesReply m) e k made =
-      comes-made (taking node envelope) (fold (with_part from m.page) node.memory.store m.parts) (with_changes m.page from)
-      (changed_page m.page from) k node.mail.wait refl made
-  take-made node envelope from (PageRequest page) e k made = page_reply-made (taking node envelope) from page (base_at node.memory page) made
-  take-made node envelope from (PageReply m) e k made =
-      comes-made (taking node envelope) node.memory.store (with_page m.page m.values) (sent_page m.page m.values) k node.mail.wait refl made
+  take-made : (node : Node) (from : ℕ) (message : Message) (e : Effect) → Known node → Made node → TakeRule node from message e → After e
+  take-made node from message e k made (take_request m to managed lt counted mine is) = made
+  take-made node from message e k made (take_request_unnoted m fault lt counted mine is) = made
+  take-made node from message e k made (take_forward m lt asker counted managed accepted) = made
+  take-made node from message e k made (take_token m lt at news) =
+      let next : (x : Thread) × (next_in node.course ≡ Some (acquires m.lock x)) =
+      lock_next (next_in node.course) m.lock (subst (λ w. FixesNext w (next_in node.course)) at k.fits) in
+      acts-made [] _ (acquires m.lock next.0) next.1 (λ x. refl)
+      (learns-made node.options.size node.locks.time m.intervals node.memory [] (waits-made node (grant m.lock) at made))
+  take-made node from message e k made (take_arrive m before after at news is) = made
+  take-made node from message e k made (take_last_arrive m before after departures at news is) = made
+  take-made node from message e k made (take_depart m d c) =
+      leaves-made (waiting nothing (learns_news m.time m.intervals node)) (subst (λ w. FixesNext w (next_in node.course)) d.awaited k.fits)
+      (λ x. refl) (learned-made node m.time m.intervals d.awaited made)
+  take-made node from message e k made (take_collect m d c unmet) = learned-made node m.time m.intervals d.awaited made
+  take-made node from message e k made (take_collect_at_once m d c met) =
+      cleans-made node.options.size (upkeep_at node m) (collection_at node m).kept (keeping node m).memory ws
+      (learned-none node.locks.time m.intervals node.memory (subst (λ w. IsQuiet w node.memory) d.awaited k.quiet))
+      (learned-made node m.time m.intervals d.awaited made)
+  take-made node from message e k made (take_reply {memory = memory} {change = change} need b at unmet) =
+      brought-made node.options.size node.memory memory change (brought node from message memory change b) (waits-made node (access need) at made)
+  take-made node from message e k made (take_last_reply {memory = memory} {change = change} need b at met) =
+      let came : Brought node.memory memory change = brought node from message memory change b in
+      mended-made node memory change need k at came
+      (brought-made node.options.size node.memory memory change came (waits-made node (access need) at made))
+  take-made node from message e k made (take_kept_reply {memory = memory} {change = change} collection needs b at unmet) =
+      brought-made node.options.size node.memory memory change (brought node from message memory change b)
+      (waits-made node (upkeep collection needs) at made)
+  take-made node from message e k made (take_last_kept_reply {memory = memory} {change = change} collection needs b at met) =
+      let came : Brought node.memory memory change = brought node from message memory change b in
+      cleans-made node.options.size (map change needs) collection.kept memory ws
+      (subst (λ (copies : List Copy). All (λ copy. changes_of copy ≡ None) copies) (sym came.copies)
+      (subst (λ w. IsQuiet w node.memory) at k.quiet))
+      (brought-made node.options.size node.memory memory change came (waits-made node (upkeep collection needs) at made))
+  take-made node from message e k made (take_clean episode before after at is) = made
+  take-made node from message e k made (take_last_clean episode over before after at is) = made
+  take-made node from message e k made (take_discard episode collection f at is) =
+      leaves-made (waiting nothing (with_memory node (collected_at node.setting.me collection.time node.memory)))
+      (subst (λ w. FixesNext w (next_in node.course)) at k.fits) (λ x. refl)
+      (discards-made node.options.size node.setting.me collection.time node.memory ws (waits-made node (discard collection) at made))
+  take-made node from message e k made (take_changes_request m lt all) = made
+  take-made node from message e k made (take_page_request page values lt other at) = made
 
 -- ---- turns
 
-abbrev pub deed_of_turn : TurnRecord → Option Deed
-deed_of_turn turn = option_map (λ act. act.deed) turn.act
+-- the writes of the open interval after a turn
+abbrev pub MadeAfter : List (ℕ × ℕ) → TurnRecord → Node → Type 0
+MadeAfter ws turn after = AreMadeBy after.options.size after.memory (open_in after.mail.wait (after_one ws (deed_made turn)))
 
--- where an outcome is a turn, the writes of the open interval after it
-abbrev pub MadeAfter : List (ℕ × ℕ) → Outcome → Type 0
-MadeAfter ws (done turn after) = AreMadeBy after.options.size after.memory (open_in after.mail.wait (after_one ws (deed_of_turn turn)))
-MadeAfter ws not_ready = Unit {0}
-MadeAfter ws unexpected = Unit {0}
-MadeAfter ws worn = Unit {0}
-
-deed_back : (me : ℕ) (deed : Option Deed) → option_map (λ (act : Act). act.deed) (option_map (act_of me) deed) ≡ deed
-deed_back me None = refl
-deed_back me (Some d) = refl
-
-sent-made : (ws : List (ℕ × ℕ)) (e : Effect) (n : Option (List EnvelopeRecord × List ℕ)) → After ws e → MadeAfter ws (turn_with e n)
-sent-made ws e None m = tt
-sent-made ws e (Some (out, sent)) m =
+sent-made : (ws : List (ℕ × ℕ)) (e : Effect) (turn : TurnRecord) (after : Node) → After ws e → IsSent e turn after → MadeAfter ws turn after
+sent-made ws e turn after m (with_numbers out sent is) =
     subst (λ d. AreMadeBy e.node.options.size e.node.memory (open_in e.node.mail.wait (after_one ws d))) (sym (deed_back e.node.setting.me e.deed)) m
-
-effect-made : (ws : List (ℕ × ℕ)) (e : Effect) → After ws e → MadeAfter ws (turn_of e)
-effect-made ws e m = sent-made ws e (numbered e.node.setting.me e.node.options.first e.node.mail.sent e.letters) m
-
-effect_if-made : (ws : List (ℕ × ℕ)) (o : Option Effect) → AfterIf ws o → MadeAfter ws (turn_if o)
-effect_if-made ws None m = tt
-effect_if-made ws (Some e) m = effect-made ws e m
-
-begun-made : (ws : List (ℕ × ℕ)) (node : Node) (next : Next) (b : Bool) → Known (charged node next) → node.mail.wait ≡ nothing → next_in node.course ≡ Some next
-    → Made ws node → MadeAfter ws (turn_by node (if b then Some next else None))
-begun-made ws node next true k w n m = effect_if-made ws (run_effect (charged node next) next) (run-made ws (charged node next) k w m next n)
-begun-made ws node next false k w n m = tt
-
-charged-known : (node : Node) (next : Next) → Known node → Known (charged node next)
-charged-known node next k = record { text = k.text; fits = k.fits; quiet = k.quiet; copies = k.copies; needs = k.needs; reaching = k.reaching }
 
 taking-known : (node : Node) (envelope : EnvelopeRecord) → Known node → Known (taking node envelope)
 taking-known node envelope k = record { text = k.text; fits = k.fits; quiet = k.quiet; copies = k.copies; needs = k.needs; reaching = k.reaching }
 
-course-made : (ws : List (ℕ × ℕ)) (node : Node) (c : Course) → Known node → node.mail.wait ≡ nothing → node.course ≡ c → Made ws node
-    → MadeAfter ws (turn_by node (begins_of node.left c))
-course-made ws node (going thread) k w e m =
-    begun-made ws node (next_of thread) (may_begin node.left (next_of thread)) (charged-known node (next_of thread) k) w (ap next_in e) m
-course-made ws node (trapped cause) k w e m = tt
-course-made ws node ended k w e m = tt
-
-wait-made : (ws : List (ℕ × ℕ)) (node : Node) (w : Wait) → Known node → node.mail.wait ≡ w → Made ws node
-    → MadeAfter ws (turn_by node (if is_idle w then begins_of node.left node.course else None))
-wait-made ws node nothing k e m = course-made ws node node.course k e refl m
-wait-made ws node (grant lock) k e m = tt
-wait-made ws node departure k e m = tt
-wait-made ws node (access need) k e m = tt
-wait-made ws node (upkeep collection needs) k e m = tt
-wait-made ws node (discard collection) k e m = tt
-
-expected_or_not : (ws : List (ℕ × ℕ)) (b : Bool) (o : Outcome) → (b ≡ true → MadeAfter ws o) → MadeAfter ws (if b then o else unexpected)
-expected_or_not ws true o h = h refl
-expected_or_not ws false o h = tt
-
-repeated_or_not : (ws : List (ℕ × ℕ)) (node : Node) (b : Bool) (o : Outcome) → Made ws node → MadeAfter ws o
-    → MadeAfter ws (if b then done empty_turn node else o)
-repeated_or_not ws node true o m h = m
-repeated_or_not ws node false o m h = h
-
--- each input leaves of the copies what the open interval made of them, or is no turn
-pub turn-made : (ws : List (ℕ × ℕ)) (node : Node) (input : Input) → Known node → Made ws node → MadeAfter ws (outcome_of node input)
-turn-made ws node run k m = wait-made ws node node.mail.wait k refl m
-turn-made ws node (taken_in envelope) k m =
-    expected_or_not ws (is_addressed node envelope) _
-    (λ a. repeated_or_not ws node (is_repeat node envelope) (take_anew node envelope) m
-    (expected_or_not ws (is_expected node envelope.from envelope.message) (turn_of (take_effect (taking node envelope) envelope.from envelope.message))
-    (λ e. effect-made ws (take_effect (taking node envelope) envelope.from envelope.message)
-    (take-made ws node envelope envelope.from envelope.message e (taking-known node envelope k) m))))
+-- each turn leaves of the copies what the open interval made of them
+pub turn-made : (ws : List (ℕ × ℕ)) (node : Node) (input : Input) (turn : TurnRecord) (after : Node) → Known node → Made ws node
+    → TurnRule node input turn after → MadeAfter ws turn after
+turn-made ws node input turn after k m (by_run {effect = e} r s) = sent-made ws e turn after (run-made ws node e k m r) s
+turn-made ws node input turn after k m (by_repeat envelope f again) = m
+turn-made ws node input turn after k m (by_message envelope {effect = e} f new r s) =
+    sent-made ws e turn after
+    (take-made ws (taking node envelope) envelope.from envelope.message e (taking-known node envelope k) m r) s

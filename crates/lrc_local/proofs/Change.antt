@@ -174,14 +174,19 @@ news node time intervals e =
       own = leb-true _ _ outer.1;
     }
 
+pub reply_in : (node : Node) (from : ℕ) (m : ChangesReplyRecord) → m.page < pages_in (view_of node) → list_all (are_changes node) m.parts ≡ true
+    → list_any (awaits_changes m.page from (map (λ (part : IndexedChangesRecord). part.index) m.parts)) (needs_of node.mail.wait) ≡ true
+    → Reply (view_of node) from m
+reply_in node from m lt all some = record {
+  in_range = lt;
+  changes = each_passes (are_changes node) (λ part. All (λ change. change.offset < words_of node.options.size) part.changes)
+      (λ part b. each_passes (λ change. nat_lt change.offset (words_of node.options.size)) (λ change. change.offset < words_of node.options.size)
+      (λ change c. ltb-true _ _ c) part.changes b) m.parts all;
+  asked = some;
+}
+
 pub reply : (node : Node) (from : ℕ) (m : ChangesReplyRecord) → is_changes_reply node from m ≡ true → Reply (view_of node) from m
 reply node from m e =
     let outer : _ = and_parts _ _ e in
     let inner : _ = and_parts _ _ outer.0 in
-    record {
-      in_range = ltb-true _ _ inner.0;
-      changes = each_passes (are_changes node) (λ part. All (λ change. change.offset < words_of node.options.size) part.changes)
-          (λ part b. each_passes (λ change. nat_lt change.offset (words_of node.options.size)) (λ change. change.offset < words_of node.options.size)
-          (λ change c. ltb-true _ _ c) part.changes b) m.parts inner.1;
-      asked = outer.1;
-    }
+    reply_in node from m (ltb-true _ _ inner.0) inner.1 outer.1

@@ -30,6 +30,7 @@ pub mod Remembered
 pub mod MetNeeds
 pub mod Sized
 pub mod Opened
+pub mod ByRules
 pub mod Acted
 pub mod Always
 pub mod Wrote

@@ -22,6 +22,7 @@ use Rattle.lrc_protocol.specs.Run.{own_index}
 use Rattle.lrc_protocol.specs.Turn.{TurnRecord, Outcome, done, not_ready, unexpected, worn}
 use Rattle.lrc_protocol.specs.Log.{Input, outcome_of, Local, local_after, local_step}
 use Rattle.lrc_protocol.specs.Traced.{Traced, untraced, traced, traced_by, traced_step, with_access_by, with_deed, with_act}
+use Rattle.lrc_protocol.proofs.Ruled.{by_rule}
 use Rattle.lrc_protocol.proofs.Traces.{traced_node, traced_more}
 use Rattle.lrc_protocol.proofs.Turned.{Turned, Turns, turns}
 use Rattle.lrc_invariants.specs.Waiting.{next_in}
@@ -34,7 +35,7 @@ use Rattle.lrc_local.specs.Traced.{IsTraced, CanNoteDeed, CanNoteAct}
 use Rattle.lrc_local.proofs.Acted.{Known}
 use Rattle.lrc_local.proofs.Always.{known_at, ranged_at}
 use Rattle.lrc_local.proofs.Leads.{at_start, local_more, one_more}
-use Rattle.lrc_local.proofs.Steps.{accesses, spent, SpendsAfter, turn-spends}
+use Rattle.lrc_local.proofs.Steps.{accesses, spent, turn-spends}
 use Rattle.lrc_local.proofs.Words.{InWords, next-in_words}
 
 -- ---- the open interval
@@ -239,7 +240,7 @@ module _ (node : Node) (trace : TraceRecord) (input : Input) (turn : TurnRecord)
   spends : spent after + accesses (deed_made turn) ≤ after.options.steps
   spends =
       subst (λ (o : OptionsRecord). spent after + accesses (deed_made turn) ≤ o.steps) (sym turned.options)
-      (subst (SpendsAfter node.options.steps) e (turn-spends node.options.steps node input known_here.fits fits.paid))
+      (turn-spends node.options.steps node input turn after known_here.fits fits.paid (by_rule node input turn after e))
 
   word_is : IsInWords after.setting.words (deed_made turn)
   word_is =

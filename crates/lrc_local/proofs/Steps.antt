@@ -1,46 +1,34 @@
 -- The steps of a node pay for the intervals that it closes and for its accesses.
-use Rattle.std.proofs.Common.{◌≡◌, ℕ, ◌+◌, ◌<◌, ◌≤◌, List, [], Bool, true, false, length, refl, sym, ap, subst, ◌∙◌, ⊎_elim, arith}
-use Rattle.std.specs.Prelude.{Option, Some, None, option_map, fold, map, nat_lt, slice_set, if◌then◌else◌}
-use Rattle.std.specs.List.{list_all}
-use Rattle.std.proofs.lemmas.Bool.{and_parts, cases_lt, leb-true}
+use Rattle.std.proofs.Common.{◌≡◌, ℕ, ◌+◌, ◌<◌, ◌≤◌, List, [], true, length, refl, sym, ap, subst, ◌∙◌, ⊎_elim, arith}
+use Rattle.std.specs.Prelude.{Option, Some, None, slice_set}
+use Rattle.std.proofs.lemmas.Bool.{cases_lt}
 use Rattle.std.proofs.lemmas.List.{get_or_past, length-set}
 use Rattle.std.proofs.lemmas.Option.{same_Some}
-use Rattle.lrc_trace.specs.declared.act.Act.{Act}
 use Rattle.lrc_trace.specs.declared.act.Deed.{Deed}
 use Rattle.lrc_trace.specs.declared.act.Deed.TheVariants.{Read, Write}
-use Rattle.lrc_trace.specs.Run.{act_of}
 use Rattle.lrc_time.specs.Time.{entry, joined}
 use Rattle.lrc_time.proofs.Times.{entry-set_same, entry-joined}
-use Rattle.lrc_page.specs.Place.{page_of}
 use Rattle.lrc_exec.specs.Meaning.{Thread, Next, quiet, prints, reads, writes, acquires, releases, arrives, departs, traps, ends, next_of}
 use Rattle.lrc_store.specs.Interval.{IntervalRecord}
-use Rattle.lrc_envelope.specs.Envelope.{EnvelopeRecord}
 use Rattle.lrc_envelope.specs.declared.message.Message.{Message}
-use Rattle.lrc_envelope.specs.declared.message.Message.TheVariants.{LockRequest, LockForward, LockGrant, Arrive, Depart, Clean, Discard}
-use Rattle.lrc_envelope.specs.declared.message.Message.TheVariants.{ChangesRequest, ChangesReply, PageRequest, PageReply}
-use Rattle.lrc_lock.specs.Held.{lock_at, is_free}
-use Rattle.lrc_lock.specs.Managed.{Requested, refuses as refuses_request, forwards, requested}
-use Rattle.lrc_barrier.specs.Barrier.{ArriveStep, refuses as refuses_arrival, waits, departs as all_depart}
-use Rattle.lrc_barrier.specs.Barrier.{CleanStep, refuses_clean, awaits, discards as discards_all}
-use Rattle.lrc_protocol.specs.Copy.{is_readable}
-use Rattle.lrc_protocol.specs.Memory.{Memory, copy_at, base_at, with_keepers, kept_pages, collected_at}
-use Rattle.lrc_protocol.specs.Fetch.{Need, need_of, is_met, mended, with_changes, with_page}
-use Rattle.lrc_protocol.specs.Mail.{numbered, Letter, Wait, nothing, grant, departure, access, upkeep, discard, collection_of, is_idle, MOST_NUMBER}
+use Rattle.lrc_protocol.specs.Memory.{collected_at}
+use Rattle.lrc_protocol.specs.Mail.{Letter, Wait, nothing, access}
 use Rattle.lrc_protocol.specs.Course.{Course, going, trapped, ended, deed_of, cost_of}
-use Rattle.lrc_protocol.specs.Barrier.{clean_step}
-use Rattle.lrc_protocol.specs.Node.{Node, Effect, value_read, acts, acts_by, with_memory, waiting, begins_of, may_begin}
-use Rattle.lrc_protocol.specs.Letters.{requests_of}
-use Rattle.lrc_protocol.specs.Waits.{waits_or_goes_on, with_needs}
-use Rattle.lrc_protocol.specs.Expected.{is_expected}
-use Rattle.lrc_protocol.specs.Run.{own_index, closes, reaches, acquire_at, release_at, arrive_at, run_effect, charged}
-use Rattle.lrc_protocol.specs.Take.{take_departure, request_by, learns, arrive_by, clean_by, discard_by}
-use Rattle.lrc_protocol.specs.Take.{page_reply_by, take_grant, take_effect, needs_to_keep, with_part}
-use Rattle.lrc_protocol.specs.Turn.{TurnRecord, Outcome, done, not_ready, unexpected, worn, turn_with, turn_of, turn_if}
-use Rattle.lrc_protocol.specs.Turn.{turn_by, take_anew, taking, is_addressed, is_repeat, empty_turn}
-use Rattle.lrc_protocol.specs.Log.{Input, run, taken as taken_in, outcome_of}
+use Rattle.lrc_protocol.specs.Node.{Node, Effect, value_read, acts, acts_by, with_memory, waiting}
+use Rattle.lrc_protocol.specs.Expected.{is_learnable}
+use Rattle.lrc_protocol.specs.Run.{own_index, closes, charged}
+use Rattle.lrc_protocol.specs.Take.{learns}
+use Rattle.lrc_protocol.specs.Turn.{TurnRecord, taking}
+use Rattle.lrc_protocol.specs.Log.{Input}
+use Rattle.lrc_protocol.specs.Rules.{Accesses, access_read, access_write}
+use Rattle.lrc_protocol.specs.Rules.{RunRule, run_hit, run_miss, run_repair, run_acquire, run_ask, run_release, run_barrier, run_other}
+use Rattle.lrc_protocol.specs.Rules.{TakeRule, take_request, take_request_unnoted, take_forward, take_token, take_arrive}
+use Rattle.lrc_protocol.specs.Rules.{take_last_arrive, take_depart, take_collect, take_collect_at_once, take_reply, take_last_reply}
+use Rattle.lrc_protocol.specs.Rules.{take_kept_reply, take_last_kept_reply, take_clean, take_last_clean, take_discard}
+use Rattle.lrc_protocol.specs.Rules.{take_changes_request, take_page_request, IsSent, with_numbers, TurnRule, by_run, by_repeat, by_message}
 use Rattle.lrc_invariants.specs.Waiting.{next_in, is_access, is_departing, FixesNext}
 use Rattle.lrc_invariants.proofs.Counts.{lock_next, departure_next}
-use Rattle.lrc_invariants.proofs.Shift.{part_of, Learnable, learnable, awaits_lock, awaits_leave}
+use Rattle.lrc_invariants.proofs.Shift.{next-ready, learnable, deed_made, deed_back}
 
 -- an access that is made, by the deed, or to be made, by what the text does next; and one that is begun
 abbrev pub accesses : Option Deed → ℕ
@@ -64,10 +52,6 @@ spent node = own_index node + is_begun node.mail.wait + node.left
 -- with one closed interval more for an access that is made, they are no more than this
 abbrev pub Spends : ℕ → Effect → Type 0
 Spends most e = spent e.node + accesses e.deed ≤ most
-
-abbrev SpendsIf : ℕ → Option Effect → Type 0
-SpendsIf most None = Unit {0}
-SpendsIf most (Some e) = Spends most e
 
 deed_accesses : (value : ℕ) (next : Next) → accesses (Some (deed_of value next)) ≡ accesses_next next
 deed_accesses value (quiet after) = refl
@@ -106,6 +90,10 @@ access_one (Some (departs after)) e = cc
 access_one (Some (traps cause)) e = cc
 access_one (Some ends) e = cc
 
+access_costs : (next : Next) (word : ℕ) → Accesses next word → cost_of next ≡ 1
+access_costs next word (access_read w after) = refl
+access_costs next word (access_write w value after) = refl
+
 -- an entry that was set
 set_most : (time : List ℕ) (me k : ℕ) → entry (slice_set time me k) me ≤ k
 set_most time me k =
@@ -116,15 +104,10 @@ set_most time me k =
     omega (arith, none))
     (cases_lt me (length time))
 
+ticked : (node : Node) → own_index (closes node) ≤ own_index node + 1
+ticked node = set_most node.locks.time node.setting.me (own_index node + 1)
+
 module _ (most : ℕ) where
-  either : (b : Bool) (x y : Effect) → (b ≡ true → Spends most x) → (b ≡ false → Spends most y) → Spends most (if b then x else y)
-  either true x y k l = k refl
-  either false x y k l = l refl
-
-  optional : (b : Bool) (x : Effect) → Spends most x → SpendsIf most (if b then Some x else None)
-  optional true x k = k
-  optional false x k = tt
-
   acts_by-spends : (letters : List Letter) (node : Node) (c : Course) (next : Next) → next_in c ≡ Some next → spent node + accesses_next next ≤ most
       → Spends most (acts_by letters node c)
   acts_by-spends letters node (going thread) next n h =
@@ -141,220 +124,79 @@ module _ (most : ℕ) where
 
   -- ---- by itself, with a step paid for what is begun
 
-  module _ (node : Node) (idle : node.mail.wait ≡ nothing) where
-    none : is_begun node.mail.wait ≡ 0
-    none = ap is_begun idle
-
-    reaches-spends : (page : ℕ) (next : Next) → next_in node.course ≡ Some next → accesses_next next ≡ 1 → spent node + 1 ≤ most
-        → Spends most (reaches node page)
-    reaches-spends page next n one h =
-        let need : Need = need_of node.setting.nodes node.memory page in
-        either (is_readable (copy_at node.memory page)) _ _
-        (λ r. acts-spends [] node next n (omega (arith, one, h)))
-        (λ r. either (is_met need) _ _
-        (λ met. acts-spends (requests_of need) (waiting nothing (with_memory node (mended node.memory need))) next n (omega (arith, one, h, none)))
-        (λ unmet. omega (arith, h, none)))
-
-    ticked : own_index (closes node) ≤ own_index node + 1
-    ticked = set_most node.locks.time node.setting.me (own_index node + 1)
-
-    run-spends : (next : Next) → next_in node.course ≡ Some next → spent node + cost_of next ≤ most → SpendsIf most (run_effect node next)
-    run-spends (quiet after) n h = acts-spends [] node (quiet after) n (omega (arith, h))
-    run-spends (prints value after) n h = acts-spends [] node (prints value after) n (omega (arith, h))
-    run-spends (reads word after) n h = reaches-spends (page_of word node.options.size) (reads word after) n refl h
-    run-spends (writes word value after) n h = reaches-spends (page_of word node.options.size) (writes word value after) n refl h
-    run-spends (acquires lock after) n h =
-        optional (nat_lt (own_index node) MOST_NUMBER) (acquire_at lock (closes node))
-        (either (is_free (lock_at node.locks.held lock)) _ _
-        (λ b. acts-spends [] _ (acquires lock after) n (omega (arith, h, ticked)))
-        (λ b. omega (arith, h, ticked)))
-    run-spends (releases lock after) n h =
-        optional (nat_lt (own_index node) MOST_NUMBER) (release_at lock (closes node)) (acts-spends _ _ (releases lock after) n (omega (arith, h, ticked)))
-    run-spends (arrives after) n h =
-        optional (nat_lt (own_index node) MOST_NUMBER) (arrive_at (closes node)) (acts-spends _ _ (arrives after) n (omega (arith, h, ticked)))
-    run-spends (departs after) n h = acts-spends [] node (departs after) n (omega (arith, h))
-    run-spends (traps cause) n h = acts-spends [] node (traps cause) n (omega (arith, h))
-    run-spends ends n h = acts-spends [] node ends n (omega (arith, h))
+  run-spends : (node : Node) (e : Effect) → spent node ≤ most → RunRule node e → Spends most e
+  run-spends node e h (run_hit {next = next} r a readable) =
+      acts-spends [] (charged node next) next (next-ready node next r) (omega (arith, costs next, r.paid, h))
+  run-spends node e h (run_miss {next = next} {word = word} r a away unmet) = omega (arith, access_costs next word a, r.paid, h)
+  run-spends node e h (run_repair {next = next} r a away met) =
+      acts-spends _ _ next (next-ready node next r) (omega (arith, costs next, r.paid, h))
+  run-spends node e h (run_acquire lock after r room free) =
+      acts-spends [] _ (acquires lock after) (next-ready node (acquires lock after) r) (omega (arith, r.paid, ticked node, h))
+  run-spends node e h (run_ask lock after r room away) = omega (arith, r.paid, ticked node, h, ap is_begun r.idle)
+  run-spends node e h (run_release lock after r room) =
+      acts-spends _ _ (releases lock after) (next-ready node (releases lock after) r) (omega (arith, r.paid, ticked node, h))
+  run-spends node e h (run_barrier after r room) =
+      acts-spends _ _ (arrives after) (next-ready node (arrives after) r) (omega (arith, r.paid, ticked node, h))
+  run-spends node e h (run_other {next = next} r own) =
+      acts-spends [] (charged node next) next (next-ready node next r) (omega (arith, costs next, r.paid, h))
 
   -- ---- with a message
 
-  request-spends : (node : Node) (from lock : ℕ) (time : List ℕ) (r : Requested) → spent node ≤ most → Spends most (request_by node from lock time r)
-  request-spends node from lock time (refuses_request fault) h = omega (arith, h)
-  request-spends node from lock time (forwards to managed) h = omega (arith, h)
-
-  arrival-spends : (node : Node) (step : Option ArriveStep) → spent node ≤ most → Spends most (arrive_by node step)
-  arrival-spends node None h = omega (arith, h)
-  arrival-spends node (Some (refuses_arrival fault)) h = omega (arith, h)
-  arrival-spends node (Some (waits manager)) h = omega (arith, h)
-  arrival-spends node (Some (all_depart departures manager)) h = omega (arith, h)
-
-  clean-spends : (node : Node) (step : Option CleanStep) → spent node ≤ most → Spends most (clean_by node step)
-  clean-spends node None h = omega (arith, h)
-  clean-spends node (Some (refuses_clean fault)) h = omega (arith, h)
-  clean-spends node (Some (awaits manager)) h = omega (arith, h)
-  clean-spends node (Some (discards_all episode manager)) h = omega (arith, h)
-
-  page_reply-spends : (node : Node) (from page : ℕ) (base : Option (List ℕ)) → spent node ≤ most → Spends most (page_reply_by node from page base)
-  page_reply-spends node from page None h = omega (arith, h)
-  page_reply-spends node from page (Some values) h = omega (arith, h)
-
   -- the text departs
-  leaves-spends : (letters : List Letter) (node : Node) → is_departing (next_in node.course) ≡ true → spent node ≤ most → Spends most (acts letters node)
-  leaves-spends letters node d h =
+  leaves-spends : (node : Node) → is_departing (next_in node.course) ≡ true → spent node ≤ most → Spends most (acts [] node)
+  leaves-spends node d h =
       let next : (x : Thread) × (next_in node.course ≡ Some (departs x)) = departure_next (next_in node.course) d in
-      acts-spends letters node (departs next.0) next.1 (omega (arith, h))
-
-  discard-spends : (node : Node) (w : Wait) → node.mail.wait ≡ w → FixesNext w (next_in node.course) → spent node ≤ most
-      → Spends most (discard_by node (collection_of w))
-  discard-spends node (discard collection) e f h =
-      leaves-spends [] (waiting nothing (with_memory node (collected_at node.setting.me collection.time node.memory))) f (omega (arith, h))
-  discard-spends node nothing e f h = omega (arith, h)
-  discard-spends node (grant lock) e f h = omega (arith, h)
-  discard-spends node departure e f h = omega (arith, h)
-  discard-spends node (access need) e f h = omega (arith, h)
-  discard-spends node (upkeep collection needs) e f h = omega (arith, h)
-
-  comes-spends : (node : Node) (memory : Memory) (change : Need → Need) (w : Wait) → node.mail.wait ≡ w → FixesNext w (next_in node.course) → spent node ≤ most
-      → Spends most (waits_or_goes_on [] (with_memory node memory) (with_needs change w))
-  comes-spends node memory change (access need) e f h =
-      let begun : is_begun node.mail.wait ≡ 1 = ap is_begun e in
-      let next : _ = access_one (next_in node.course) f in
-      either (is_met (change need)) _ _
-      (λ met. acts-spends [] _ next.0 next.1 (omega (arith, h, begun, next.2)))
-      (λ unmet. omega (arith, h, begun))
-  comes-spends node memory change (upkeep collection needs) e f h =
-      either (list_all is_met (map change needs)) _ _ (λ met. omega (arith, h)) (λ unmet. omega (arith, h))
-  comes-spends node memory change nothing e f h = omega (arith, h)
-  comes-spends node memory change (grant lock) e f h = omega (arith, h)
-  comes-spends node memory change departure e f h = omega (arith, h)
-  comes-spends node memory change (discard collection) e f h = omega (arith, h)
+      acts-spends [] node (departs next.0) next.1 (omega (arith, h))
 
   -- what is learned of this node is no news
-  known : (node : Node) (time : List ℕ) → Learnable (part_of node) time → entry (joined node.locks.time time) node.setting.me ≡ own_index node
-  known node time k = omega (arith, entry-joined node.locks.time time node.setting.me, k.own)
+  known : (node : Node) (time : List ℕ) (intervals : List IntervalRecord) → is_learnable node time intervals ≡ true
+      → entry (joined node.locks.time time) node.setting.me ≡ own_index node
+  known node time intervals news =
+      omega (arith, entry-joined node.locks.time time node.setting.me, (learnable node time intervals news).own)
 
-  depart-spends : (node : Node) (collect : Bool) (time : List ℕ) (intervals : List IntervalRecord) → node.mail.wait ≡ departure
-      → FixesNext node.mail.wait (next_in node.course) → Learnable (part_of node) time → spent node ≤ most
-      → Spends most (take_departure node collect time intervals)
-  depart-spends node collect time intervals e f k h =
-      let same = known node time k in
-      let knowing : Node = learns time intervals node in
-      let keeping : Node = with_memory knowing (with_keepers knowing.memory) in
-      let needs : List Need = needs_to_keep keeping (kept_pages node.setting.me keeping.memory) in
-      either collect _ _
-      (λ yes. either (list_all is_met needs) _ _ (λ met. omega (arith, h, same)) (λ unmet. omega (arith, h, same)))
-      (λ no. leaves-spends [] (waiting nothing knowing) (subst (λ w. FixesNext w (next_in node.course)) e f) (omega (arith, h, same)))
-
-  grant-spends : (node : Node) (lock : ℕ) (time : List ℕ) (intervals : List IntervalRecord) → node.mail.wait ≡ grant lock
-      → FixesNext node.mail.wait (next_in node.course) → Learnable (part_of node) time → spent node ≤ most → Spends most (take_grant node lock time intervals)
-  grant-spends node lock time intervals e f k h =
-      let same = known node time k in
-      let next : (x : Thread) × (next_in node.course ≡ Some (acquires lock x)) =
-      lock_next (next_in node.course) lock (subst (λ w. FixesNext w (next_in node.course)) e f) in
-      acts-spends [] _ (acquires lock next.0) next.1 (omega (arith, h, same))
-
-  take-spends : (node : Node) (envelope : EnvelopeRecord) (from : ℕ) (message : Message) → is_expected node from message ≡ true
-      → FixesNext node.mail.wait (next_in node.course) → spent node ≤ most → Spends most (take_effect (taking node envelope) from message)
-  take-spends node envelope from (LockRequest m) e f h = request-spends (taking node envelope) from m.lock m.time (requested node.locks.managed m.lock from) h
-  take-spends node envelope from (LockForward m) e f h = omega (arith, h)
-  take-spends node envelope from (LockGrant m) e f h =
-      let outer : _ = and_parts _ _ e in
-      let inner : _ = and_parts _ _ outer.0 in
-      grant-spends (taking node envelope) m.lock m.time m.intervals (awaits_lock m.lock node.mail.wait inner.1) f (learnable node m.time m.intervals outer.1) h
-  take-spends node envelope from (Arrive m) e f h = arrival-spends (taking node envelope) _ h
-  take-spends node envelope from (Depart m) e f h =
-      let outer : _ = and_parts _ _ e in
-      let covered : _ = and_parts _ _ outer.0 in
-      let counted : _ = and_parts _ _ covered.0 in
-      let waited : _ = and_parts _ _ counted.0 in
-      depart-spends (taking node envelope) m.collect m.time m.intervals (awaits_leave node.mail.wait waited.1) f (learnable node m.time m.intervals outer.1) h
-  take-spends node envelope from (Clean episode) e f h = clean-spends (taking node envelope) (clean_step node.barrier from episode) h
-  take-spends node envelope from (Discard episode) e f h = discard-spends (taking node envelope) node.mail.wait refl f h
-  take-spends node envelope from (ChangesRequest m) e f h = omega (arith, h)
-  take-spends node envelope from (ChangesReply m) e f h =
-      comes-spends (taking node envelope) (record node.memory { store = fold (with_part from m.page) node.memory.store m.parts }) (with_changes m.page from)
-      node.mail.wait refl f h
-  take-spends node envelope from (PageRequest page) e f h = page_reply-spends (taking node envelope) from page (base_at node.memory page) h
-  take-spends node envelope from (PageReply m) e f h =
-      comes-spends (taking node envelope) node.memory (with_page m.page m.values) node.mail.wait refl f h
+  take-spends : (node : Node) (from : ℕ) (message : Message) (e : Effect) → FixesNext node.mail.wait (next_in node.course) → spent node ≤ most
+      → TakeRule node from message e → Spends most e
+  take-spends node from message e f h (take_request m to managed lt counted mine is) = omega (arith, h)
+  take-spends node from message e f h (take_request_unnoted m fault lt counted mine is) = omega (arith, h)
+  take-spends node from message e f h (take_forward m lt asker counted managed accepted) = omega (arith, h)
+  take-spends node from message e f h (take_token m lt at news) =
+      let next : (x : Thread) × (next_in node.course ≡ Some (acquires m.lock x)) =
+      lock_next (next_in node.course) m.lock (subst (λ w. FixesNext w (next_in node.course)) at f) in
+      acts-spends [] _ (acquires m.lock next.0) next.1 (omega (arith, h, known node m.time m.intervals news))
+  take-spends node from message e f h (take_arrive m before after at news is) = omega (arith, h)
+  take-spends node from message e f h (take_last_arrive m before after departures at news is) = omega (arith, h)
+  take-spends node from message e f h (take_depart m d c) =
+      leaves-spends (waiting nothing (learns m.time m.intervals node)) (subst (λ w. FixesNext w (next_in node.course)) d.awaited f)
+      (omega (arith, h, known node m.time m.intervals d.learnable))
+  take-spends node from message e f h (take_collect m d c unmet) = omega (arith, h, known node m.time m.intervals d.learnable)
+  take-spends node from message e f h (take_collect_at_once m d c met) = omega (arith, h, known node m.time m.intervals d.learnable)
+  take-spends node from message e f h (take_reply need b at unmet) = omega (arith, h, ap is_begun at)
+  take-spends node from message e f h (take_last_reply need b at met) =
+      let next : _ = access_one (next_in node.course) (subst (λ w. FixesNext w (next_in node.course)) at f) in
+      acts-spends [] _ next.0 next.1 (omega (arith, h, ap is_begun at, next.2))
+  take-spends node from message e f h (take_kept_reply collection needs b at unmet) = omega (arith, h)
+  take-spends node from message e f h (take_last_kept_reply collection needs b at met) = omega (arith, h)
+  take-spends node from message e f h (take_clean episode before after at is) = omega (arith, h)
+  take-spends node from message e f h (take_last_clean episode over before after at is) = omega (arith, h)
+  take-spends node from message e f h (take_discard episode collection from_manager at is) =
+      leaves-spends (waiting nothing (with_memory node (collected_at node.setting.me collection.time node.memory)))
+      (subst (λ w. FixesNext w (next_in node.course)) at f) (omega (arith, h))
+  take-spends node from message e f h (take_changes_request m lt all) = omega (arith, h)
+  take-spends node from message e f h (take_page_request page values lt other at) = omega (arith, h)
 
 -- ---- turns
 
-abbrev pub deed_of_turn : TurnRecord → Option Deed
-deed_of_turn turn = option_map (λ act. act.deed) turn.act
+abbrev pub SpendsAfter : ℕ → TurnRecord → Node → Type 0
+SpendsAfter most turn after = spent after + accesses (deed_made turn) ≤ most
 
-abbrev pub SpendsAfter : ℕ → Outcome → Type 0
-SpendsAfter most (done turn after) = spent after + accesses (deed_of_turn turn) ≤ most
-SpendsAfter most not_ready = Unit {0}
-SpendsAfter most unexpected = Unit {0}
-SpendsAfter most worn = Unit {0}
+sent-spends : (most : ℕ) (e : Effect) (turn : TurnRecord) (after : Node) → Spends most e → IsSent e turn after → SpendsAfter most turn after
+sent-spends most e turn after h (with_numbers out sent is) =
+    subst (λ d. spent e.node + accesses d ≤ most) (sym (deed_back e.node.setting.me e.deed)) h
 
-deed_back : (me : ℕ) (deed : Option Deed) → option_map (λ (act : Act). act.deed) (option_map (act_of me) deed) ≡ deed
-deed_back me None = refl
-deed_back me (Some d) = refl
-
-sent-spends : (most : ℕ) (e : Effect) (n : Option (List EnvelopeRecord × List ℕ)) → Spends most e → SpendsAfter most (turn_with e n)
-sent-spends most e None h = tt
-sent-spends most e (Some (out, sent)) h = subst (λ d. spent e.node + accesses d ≤ most) (sym (deed_back e.node.setting.me e.deed)) h
-
-effect-spends : (most : ℕ) (e : Effect) → Spends most e → SpendsAfter most (turn_of e)
-effect-spends most e h = sent-spends most e (numbered e.node.setting.me e.node.options.first e.node.mail.sent e.letters) h
-
-effect_if-spends : (most : ℕ) (o : Option Effect) → SpendsIf most o → SpendsAfter most (turn_if o)
-effect_if-spends most None h = tt
-effect_if-spends most (Some e) h = effect-spends most e h
-
-begun-spends : (most : ℕ) (node : Node) (next : Next) (b : Bool) → (b ≡ true → cost_of next ≤ node.left) → node.mail.wait ≡ nothing
-    → next_in node.course ≡ Some next → spent node ≤ most → SpendsAfter most (turn_by node (if b then Some next else None))
-begun-spends most node next true may w n h =
-    effect_if-spends most (run_effect (charged node next) next) (run-spends most (charged node next) w next n (omega (arith, may refl, h)))
-begun-spends most node next false may w n h = tt
-
--- what may be begun can be paid
-paid : (left : ℕ) (next : Next) → may_begin left next ≡ true → cost_of next ≤ left
-paid left (departs after) e = cc
-paid left (quiet after) e = leb-true 1 left e
-paid left (prints value after) e = leb-true 1 left e
-paid left (reads word after) e = leb-true 1 left e
-paid left (writes word value after) e = leb-true 1 left e
-paid left (acquires lock after) e = leb-true 1 left e
-paid left (releases lock after) e = leb-true 1 left e
-paid left (arrives after) e = leb-true 1 left e
-paid left (traps cause) e = leb-true 1 left e
-paid left ends e = omega arith
-
-course-spends : (most : ℕ) (node : Node) (c : Course) → node.mail.wait ≡ nothing → node.course ≡ c → spent node ≤ most
-    → SpendsAfter most (turn_by node (begins_of node.left c))
-course-spends most node (going thread) w e h =
-    begun-spends most node (next_of thread) (may_begin node.left (next_of thread)) (paid node.left (next_of thread)) w (ap next_in e) h
-course-spends most node (trapped cause) w e h = tt
-course-spends most node ended w e h = tt
-
-wait-spends : (most : ℕ) (node : Node) (w : Wait) → node.mail.wait ≡ w → spent node ≤ most
-    → SpendsAfter most (turn_by node (if is_idle w then begins_of node.left node.course else None))
-wait-spends most node nothing e h = course-spends most node node.course e refl h
-wait-spends most node (grant lock) e h = tt
-wait-spends most node departure e h = tt
-wait-spends most node (access need) e h = tt
-wait-spends most node (upkeep collection needs) e h = tt
-wait-spends most node (discard collection) e h = tt
-
-expected_or_not : (most : ℕ) (b : Bool) (o : Outcome) → (b ≡ true → SpendsAfter most o) → SpendsAfter most (if b then o else unexpected)
-expected_or_not most true o h = h refl
-expected_or_not most false o h = tt
-
-repeated_or_not : (most : ℕ) (node : Node) (b : Bool) (o : Outcome) → spent node ≤ most → SpendsAfter most o
-    → SpendsAfter most (if b then done empty_turn node else o)
-repeated_or_not most node true o h k = omega (arith, h)
-repeated_or_not most node false o h k = k
-
--- each input spends no more than there is, or is no turn
-pub turn-spends : (most : ℕ) (node : Node) (input : Input) → FixesNext node.mail.wait (next_in node.course) → spent node ≤ most
-    → SpendsAfter most (outcome_of node input)
-turn-spends most node run f h = wait-spends most node node.mail.wait refl h
-turn-spends most node (taken_in envelope) f h =
-    expected_or_not most (is_addressed node envelope) _
-    (λ a. repeated_or_not most node (is_repeat node envelope) (take_anew node envelope) h
-    (expected_or_not most (is_expected node envelope.from envelope.message) (turn_of (take_effect (taking node envelope) envelope.from envelope.message))
-    (λ e. effect-spends most (take_effect (taking node envelope) envelope.from envelope.message)
-    (take-spends most node envelope envelope.from envelope.message e f h))))
+-- each turn spends no more than there is
+pub turn-spends : (most : ℕ) (node : Node) (input : Input) (turn : TurnRecord) (after : Node) → FixesNext node.mail.wait (next_in node.course)
+    → spent node ≤ most → TurnRule node input turn after → SpendsAfter most turn after
+turn-spends most node input turn after f h (by_run {effect = e} r s) = sent-spends most e turn after (run-spends most node e h r) s
+turn-spends most node input turn after f h (by_repeat envelope addressed again) = omega (arith, h)
+turn-spends most node input turn after f h (by_message envelope {effect = e} addressed new r s) =
+    sent-spends most e turn after (take-spends most (taking node envelope) envelope.from envelope.message e f h r) s

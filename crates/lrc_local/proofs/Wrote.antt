@@ -15,19 +15,21 @@ use Rattle.lrc_protocol.specs.Node.{OptionsRecord, fresh_node}
 use Rattle.lrc_protocol.specs.Turn.{TurnRecord, Outcome, done, not_ready, unexpected, worn}
 use Rattle.lrc_protocol.specs.Follows.{deeds_in}
 use Rattle.lrc_protocol.specs.Log.{Input, outcome_of, Local, local_after, local_step}
+use Rattle.lrc_protocol.proofs.Ruled.{by_rule}
+use Rattle.lrc_invariants.proofs.Shift.{deed_made}
 use Rattle.lrc_local.specs.Reached.{LeadsTo}
 use Rattle.lrc_local.specs.Opened.{after_deed, open_writes, open_in, IsMadeBy, AreMadeBy}
 use Rattle.lrc_local.proofs.Leads.{at_start, one_more}
-use Rattle.lrc_local.proofs.Acted.{Made, MadeAfter, after_one, deed_of_turn, turn-made}
+use Rattle.lrc_local.proofs.Acted.{Made, after_one, turn-made}
 use Rattle.lrc_local.proofs.Always.{slice_index_or-replicate, known_at}
 
 -- the writes after one turn more
 open-more : (turns : List TurnRecord) (turn : TurnRecord) → open_writes (deeds_in (turns ++ turn ∷ [])) ≡ after_one (open_writes (deeds_in turns))
-    (deed_of_turn turn)
+    (deed_made turn)
 open-more turns turn =
-    ap (fold after_deed []) (filter_map-append deed_of_turn turns (turn ∷ []))
-    ∙ fold-append after_deed [] (deeds_in turns) (filter_map deed_of_turn (turn ∷ []))
-    ∙ one_deed (open_writes (deeds_in turns)) (deed_of_turn turn)
+    ap (fold after_deed []) (filter_map-append deed_made turns (turn ∷ []))
+    ∙ fold-append after_deed [] (deeds_in turns) (filter_map deed_made (turn ∷ []))
+    ∙ one_deed (open_writes (deeds_in turns)) (deed_made turn)
   where
     one_deed : (ws : List (ℕ × ℕ)) (d : Option Deed) → fold after_deed ws (cons_option d []) ≡ after_one ws d
     one_deed ws None = refl
@@ -49,24 +51,23 @@ module _ (program : Program) (nodes : ℕ) (options : OptionsRecord) (me : ℕ) 
   WroteIf None = Unit {0}
   WroteIf (Some l) = Wrote l
 
-  by_outcome : (l : Local) (input : Input) (o : Outcome) → outcome_of l.node input ≡ o → LeadsTo program nodes options me l
-      → MadeAfter (open_writes (deeds_in l.turns)) o → WroteIf (local_after l.turns o)
+  by_outcome : (l : Local) (input : Input) (o : Outcome) → outcome_of l.node input ≡ o → Wrote l → WroteIf (local_after l.turns o)
   unfolding Wrote WroteIf
-  by_outcome l input (done turn after) e leads m = (
-    one_more program nodes options me l input turn after leads e,
-    subst (λ ws. AreMadeBy after.options.size after.memory (open_in after.mail.wait ws)) (sym (open-more l.turns turn)) m,
+  by_outcome l input (done turn after) e w = (
+    one_more program nodes options me l input turn after w.0 e,
+    subst (λ ws. AreMadeBy after.options.size after.memory (open_in after.mail.wait ws)) (sym (open-more l.turns turn))
+        (turn-made (open_writes (deeds_in l.turns)) l.node input turn after
+        (known_at l.node (record { program = program; nodes = nodes; options = options; me = me; turns = l.turns; leads = w.0 })) w.1
+        (by_rule l.node input turn after e)),
   )
-  by_outcome l input not_ready e leads m = tt
-  by_outcome l input unexpected e leads m = tt
-  by_outcome l input worn e leads m = tt
+  by_outcome l input not_ready e w = tt
+  by_outcome l input unexpected e w = tt
+  by_outcome l input worn e w = tt
 
   by_step : (o : Option Local) (input : Input) → WroteIf o → WroteIf (local_step o input)
   unfolding Wrote WroteIf
   by_step None input w = tt
-  by_step (Some l) input w =
-      by_outcome l input (outcome_of l.node input) refl w.0
-      (turn-made (open_writes (deeds_in l.turns)) l.node input
-      (known_at l.node (record { program = program; nodes = nodes; options = options; me = me; turns = l.turns; leads = w.0 })) w.1)
+  by_step (Some l) input w = by_outcome l input (outcome_of l.node input) refl w
 
   by_inputs : (inputs : List Input) (o : Option Local) → WroteIf o → WroteIf (fold local_step o inputs)
   by_inputs [] o w = w

@@ -4,6 +4,7 @@ use Rattle.std.specs.Prelude.{Option, Some, None, option_map, unwrap_or, is_some
 use Rattle.std.specs.List.{list_all}
 use Rattle.std.proofs.lemmas.Bool.{and_from, eq-eqb, ne_eqb, lt-ltb, le-leb}
 use Rattle.lrc_exec.specs.Meaning.{Next, acquires, releases, arrives}
+use Rattle.lrc_envelope.specs.Envelope.{EnvelopeRecord}
 use Rattle.lrc_envelope.specs.declared.message.Message.{Message}
 use Rattle.lrc_envelope.specs.declared.message.Message.TheVariants.{Arrive, Depart, Clean}
 use Rattle.lrc_envelope.specs.Records.{ArriveRecord, DepartRecord}
@@ -202,6 +203,13 @@ take-made node from message effect (take_changes_request m lt all) = (and_from _
 take-made node from message effect (take_page_request page values lt other at) =
     (and_from _ _ (and_from _ _ (lt-ltb _ _ lt) (ap not (ne_eqb _ _ other))) (ap is_some at), ap (page_reply_by node from page) at)
 
+-- a message that a rule takes, its number taken, was expected
+pub expected_by_rule : (node : Node) (envelope : EnvelopeRecord) (effect : Effect)
+    → TakeRule (taking node envelope) envelope.from envelope.message effect → is_expected node envelope.from envelope.message ≡ true
+expected_by_rule node envelope effect r =
+    sym (still_expected node envelope envelope.from envelope.message)
+    ∙ (take-made (taking node envelope) envelope.from envelope.message effect r).0
+
 -- ---- turns
 
 -- each turn that a rule makes is what comes of the input
@@ -212,11 +220,8 @@ allowed node input turn after (by_repeat envelope f again) =
     then_one (is_addressed node envelope) _ _ (and_from _ _ (eq-eqb _ _ f.to_it) (lt-ltb _ _ f.from_one))
     ∙ then_one (is_repeat node envelope) _ _ again
 allowed node input turn after (by_message envelope {effect = effect} f new r s) =
-    let made : IsTaken (taking node envelope) envelope.from envelope.message effect =
-    take-made (taking node envelope) envelope.from envelope.message effect r in
     then_one (is_addressed node envelope) _ _ (and_from _ _ (eq-eqb _ _ f.to_it) (lt-ltb _ _ f.from_one))
     ∙ else_one (is_repeat node envelope) _ _ new
-    ∙ then_one (is_expected node envelope.from envelope.message) _ _
-    (sym (still_expected node envelope envelope.from envelope.message) ∙ made.0)
-    ∙ ap turn_of made.1
+    ∙ then_one (is_expected node envelope.from envelope.message) _ _ (expected_by_rule node envelope effect r)
+    ∙ ap turn_of (take-made (taking node envelope) envelope.from envelope.message effect r).1
     ∙ sent-made effect turn after s
