@@ -1,28 +1,31 @@
 -- How often nodes have arrived, by how many states were found; and states that orders lead to, by how they were found.
-use Rattle.std.proofs.Common.{◌≡◌, ℕ, zero, suc, ◌+◌, ◌<◌, ◌≤◌, List, [], ◌∷◌, ◌++◌, Bool, true, false, inl, inr}
+use Rattle.std.proofs.Common.{◌≡◌, ℕ, zero, suc, ◌+◌, ◌<◌, ◌≤◌, [], ◌∷◌, ◌++◌, Bool, true, false, inl, inr}
 use Rattle.std.proofs.Common.{length, refl, sym, subst, ◌∙◌, ap, arith, replicate}
-use Rattle.std.specs.Prelude.{Option, Some, None, slice_get, slice_index, slice_set, if◌then◌else◌}
+use Rattle.std.specs.Prelude.{Option, Some, None, slice_index, slice_set, if◌then◌else◌}
 use Rattle.std.proofs.lemmas.Bool.{cases_lt, cases_eq}
-use Rattle.std.proofs.lemmas.List.{get_or-set_same, get_or-set_other, get_or_past, length-set, length_push}
-use Rattle.std.proofs.lemmas.Option.{same_Some, some_pair_parts, option_and_then_some, get_or_from_slice_get, slice_get_within}
+use Rattle.std.proofs.lemmas.List.{get_or-set_same, get_or-set_other, get_or_past, length-set}
+use Rattle.std.proofs.lemmas.Option.{some_pair_parts, option_and_then_some}
 use Rattle.lrc_lang.specs.declared.program.Program.{Program}
 use Rattle.lrc_trace.specs.declared.act.Deed.{Deed}
 use Rattle.lrc_trace.specs.declared.act.Deed.TheVariants.{Quiet, Print, Read, Write, Acquire, Release, Arrive, Depart, Trap, End}
 use Rattle.lrc_trace.specs.Run.{act_of}
-use Rattle.lrc_trace.proofs.Positions.{slice_get-front, slice_get-seam}
 use Rattle.lrc_exec.specs.declared.spot.Flat.{Flat}
 use Rattle.lrc_exec.specs.Flat.{IsCodeOf}
 use Rattle.lrc_exec.specs.Meaning.{Thread, Next, quiet, prints, reads, writes, acquires, releases, arrives, departs, traps, ends, next_of}
 use Rattle.lrc_exec.specs.Plain.{Plain, deed_of, is_free, all_arrived, with_thread, thread_in, plain_step, plain_start}
 use Rattle.lrc_theory.proofs.Plainly.{one_more, plain_from-joined}
+use Rattle.lrc_explore.specs.declared.kept.States.{States}
 use Rattle.lrc_explore.specs.declared.state.State.{State}
 use Rattle.lrc_explore.specs.declared.search.Found.{Found}
 use Rattle.lrc_explore.specs.declared.search.Origin.{Origin}
+use Rattle.lrc_explore.specs.Kept.{AreFull, IsAddedAt, IsAt, Widens, size}
 use Rattle.lrc_explore.specs.Meeting.{IsReached}
-use Rattle.lrc_explore.specs.States.{plain_at, begun, IsState}
+use Rattle.lrc_explore.specs.States.{plain_at, begun}
 use Rattle.lrc_explore.specs.Search.{Stands, Steps, IsFound}
 use Rattle.lrc_explore.specs.Limit.{AreCounted, HasMoreStates, MeetsMore}
-use Rattle.lrc_explore.proofs.Searching.{stands_one, stands_grown}
+use Rattle.lrc_explore.proofs.Searching.{stands_one, stands_grown, stands_within}
+use Rattle.lrc_explore.proofs.Listing.{distinct_from, listed, listed_at}
+use Rattle.lrc_explore.proofs.Widening.{added_all}
 
 -- a deed with the machine after it, where it can be done
 abbrev done : Deed → Plain → Option (Deed × Plain)
@@ -127,18 +130,13 @@ zero_at zero k = refl
 zero_at (suc n) zero = refl
 zero_at (suc n) (suc k) = zero_at n k
 
-pub counted_first : (flat : Flat) (place : ℕ) (start : State) (keys : List State) → keys ≡ start ∷ [] → plain_at flat start ≡ begun flat place → AreCounted keys
-counted_first flat place start keys are is k s at node =
-    let at' : slice_get (start ∷ []) k ≡ Some s = ap (λ l. slice_get l k) (sym are) ∙ at in
-    let within = slice_get_within (start ∷ []) k s at' in
-    let first : k ≡ 0 = omega arith in
-    let same : start ≡ s = same_Some start s (ap (slice_get (start ∷ [])) (sym first) ∙ at') in
-    let none : slice_index s.arrivals.items node ≡ 0 =
-    ap (λ (x : State). slice_index x.arrivals.items node) (sym same) ∙ ap (λ (m : Plain). slice_index m.arrivals node) is ∙ zero_at flat.nodes node in
-    omega arith
+pub counted_first : (flat : Flat) (place : ℕ) (start : State) → plain_at flat start ≡ begun flat place → (node : ℕ)
+    → slice_index start.arrivals.items node ≤ 0
+counted_first flat place start is node =
+    let none : slice_index start.arrivals.items node ≡ 0 = ap (λ (m : Plain). slice_index m.arrivals node) is ∙ zero_at flat.nodes node in omega arith
 
 -- at the state at a place
-pub counted_there : (flat : Flat) (states : List State) (state : State) (place node : ℕ) → AreCounted states → Stands flat states place (plain_at flat state)
+pub counted_there : (flat : Flat) (states : States) (state : State) (place node : ℕ) → AreCounted states → Stands flat states place (plain_at flat state)
     → slice_index state.arrivals.items node ≤ place
 counted_there flat states state place node counted there =
     let same : slice_index there.state.arrivals.items node ≡ slice_index state.arrivals.items node =
@@ -146,37 +144,33 @@ counted_there flat states state place node counted there =
     let few = counted place there.state there.there node in
     omega arith
 
--- one state more
-pub counted_more : (flat : Flat) (old new : List State) (state : State) (origin : Origin) → AreCounted old → Steps flat old origin (plain_at flat state)
-    → new ≡ old ++ state ∷ [] → AreCounted new
-counted_more flat old new state origin counted steps keys k s at node = elim (cases_lt k (length old)) [
-  | inl lt ↦
-      let before = sym (slice_get-front old (state ∷ []) k lt) ∙ sym (ap (λ l. slice_get l k) keys) ∙ at in
-      counted k s before node
-  | inr le ↦
-      let within = slice_get_within new k s at in
-      let long = ap length keys ∙ length_push old state in
-      let last : k ≡ length old = omega arith in
-      let seam : slice_get new k ≡ Some state = ap (λ l. slice_get l k) keys ∙ ap (slice_get (old ++ state ∷ [])) last ∙ slice_get-seam old state [] in
-      let is : state ≡ s = same_Some state s (sym seam ∙ at) in
-      let here : slice_index s.arrivals.items node ≡ slice_index state.arrivals.items node = ap (λ (x : State). slice_index x.arrivals.items node) (sym is) in
-      let more = step_counts steps.before (plain_at flat state) origin.node node steps.deed steps.stepped in
-      let parent : slice_index steps.parent.state.arrivals.items node ≡ slice_index steps.before.arrivals node =
-      ap (λ (m : Plain). slice_index m.arrivals node) steps.parent.same in
-      let few = counted origin.parent steps.parent.state steps.parent.there node in
-      let earlier = slice_get_within old origin.parent steps.parent.state steps.parent.there in
-      omega arith
-]
+-- at a state to which a step leads
+pub counted_step : (flat : Flat) (states : States) (state : State) (origin : Origin) → AreCounted states → Steps flat states origin (plain_at flat state)
+    → (node : ℕ) → slice_index state.arrivals.items node ≤ size states
+counted_step flat states state origin counted steps node =
+    let more = step_counts steps.before (plain_at flat state) origin.node node steps.deed steps.stepped in
+    let parent : slice_index steps.parent.state.arrivals.items node ≡ slice_index steps.before.arrivals node =
+    ap (λ (m : Plain). slice_index m.arrivals node) steps.parent.same in
+    let few = counted origin.parent steps.parent.state steps.parent.there node in
+    let earlier = stands_within steps.before steps.parent in
+    omega arith
+
+-- one state more, if it is new
+pub counted_put : (old new : States) (place : ℕ) (added : Bool) (state : State) → Widens old new → AreFull old → IsAddedAt old new place added
+    → IsAt new place state → AreCounted old → ((node : ℕ) → slice_index state.arrivals.items node ≤ size old) → AreCounted new
+counted_put old new place added state w full put at counted last =
+    added_all old new place added state w full put at (λ k s. (node : ℕ) → slice_index s.arrivals.items node ≤ k) counted
+    (λ is s c node. subst (λ xs. slice_index xs node ≤ size old) (sym c.arrivals) (last node))
 
 -- some order leads to each state that was found
 module _ (program : Program) (flat : Flat) (found : Found) (sound : IsFound flat found)
-    (start : Stands flat found.states.keys 0 (plain_start program flat.nodes)) where
-  reached_below : (bound k : ℕ) (state : State) → k < bound → slice_get found.states.keys k ≡ Some state → IsReached program flat.nodes (plain_at flat state)
+    (start : Stands flat found.states 0 (plain_start program flat.nodes)) where
+  reached_below : (bound k : ℕ) (state : State) → k < bound → IsAt found.states k state → IsReached program flat.nodes (plain_at flat state)
   reached_below zero k state lt at = absurd (omega arith)
   reached_below (suc bound) k state lt at = elim (cases_eq k 0) [
     | inl first ↦
-        let here : Stands flat found.states.keys 0 (plain_at flat state) =
-        record { state = state; there = ap (slice_get found.states.keys) (sym first) ∙ at; same = refl } in
+        let here : Stands flat found.states 0 (plain_at flat state) =
+        record { state = state; there = subst (λ n. IsAt found.states n state) first at; same = refl } in
         record { order = []; acts = []; led = ap (λ m. Some ([], m)) (stands_one (plain_start program flat.nodes) (plain_at flat state) start here) }
     | inr later ↦
         let from = sound.from k state (omega arith) at in
@@ -195,23 +189,26 @@ module _ (program : Program) (flat : Flat) (found : Found) (sound : IsFound flat
         }
   ]
 
-  pub reached_all : (k : ℕ) (state : State) → slice_get found.states.keys k ≡ Some state → IsReached program flat.nodes (plain_at flat state)
+  pub reached_all : (k : ℕ) (state : State) → IsAt found.states k state → IsReached program flat.nodes (plain_at flat state)
   reached_all k state at = reached_below (k + 1) k state (omega arith) at
 
 -- a search that met more states than a bound
-pub has_more : (program : Program) (flat : Flat) (place most : ℕ) (first : List State) → IsCodeOf flat.code.now place program.statements.items
+pub has_more : (program : Program) (flat : Flat) (place most : ℕ) (first : States) → IsCodeOf flat.code.now place program.statements.items
     → flat.words ≡ program.words → flat.locks ≡ program.locks → Stands flat first 0 (plain_start program flat.nodes) → MeetsMore flat first most
     → HasMoreStates program flat.nodes most
-has_more program flat place most first code words locks start m = record {
-  flat = flat;
-  place = place;
-  code = code;
-  words = words;
-  locks = locks;
-  states = m.found.states.keys;
-  many = m.many;
-  distinct = m.distinct;
-  valid = λ k state at. subst (IsState flat) (get_or_from_slice_get m.found.states.keys k state state at)
-      (m.sound.valid k state (slice_get_within m.found.states.keys k state at));
-  reached = reached_all program flat m.found m.sound (stands_grown m.grows start);
-}
+has_more program flat place most first code words locks start m =
+    let all = listed m.found.states m.sound.full in
+    let at = listed_at m.found.states all.list all.from in
+    record {
+      flat = flat;
+      place = place;
+      code = code;
+      words = words;
+      locks = locks;
+      states = all.list;
+      many = subst (λ n. most < n) (sym all.long) m.many;
+      distinct = distinct_from m.found.states 0 all.list m.sound.distinct all.from;
+      valid = λ k state there. m.sound.valid k state (at k state there);
+      reached = λ k state there.
+          reached_all program flat m.found m.sound (stands_grown m.widens start) k state (at k state there);
+    }

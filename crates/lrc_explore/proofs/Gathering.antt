@@ -3,23 +3,22 @@ use Rattle.std.proofs.Common.{◌≡◌, ℕ, ◌+◌, ◌<◌, ◌≤◌, List,
 use Rattle.std.proofs.Common.{zero, suc}
 use Rattle.std.proofs.lemmas.List.FromFn.{length-map-range_with_len}
 use Rattle.lrc_lang.specs.declared.program.Program.{Program}
-use Rattle.std.specs.Prelude.{◌↔◌, Some, All, get_or, map, slice_get, slice_index, if◌then◌else◌}
+use Rattle.std.specs.Prelude.{◌↔◌, Some, map, slice_get, slice_index, if◌then◌else◌}
 use Rattle.std.proofs.lemmas.Bool.{cases_lt, cases_eq}
 use Rattle.std.proofs.lemmas.List.{get_or-map, length_push, length-map}
-use Rattle.std.proofs.lemmas.Option.{same_Some, get_or_from_slice_get, slice_get-get_or, some_pair_parts, slice_get_within}
+use Rattle.std.proofs.lemmas.Option.{same_Some, get_or_from_slice_get, some_pair_parts, slice_get_within}
 use Rattle.lrc_trace.proofs.Positions.{slice_get-front, slice_get-seam}
 use Rattle.lrc_explore.specs.States.{IsState}
 use Rattle.lrc_explore.specs.Outcome.{FitsNoted, IsLed, CountsUpTo, HasNoted, HasNextBelow, EndsWith, HasOutcome, IsDone, IsDoneAt, IsOutcome}
 use Rattle.lrc_explore.specs.Stuck.{IsStill}
-use Rattle.lrc_explore.specs.declared.state.State.{State}
 use Rattle.lrc_explore.specs.declared.outcomes.Outcome.{Outcome}
-use Rattle.lrc_exec.specs.declared.spot.Spot.{Spot}
 use Rattle.lrc_exec.specs.Spots.{spot_thread}
 use Rattle.lrc_exec.proofs.PlainLaws.{plain_from-begins}
 use Rattle.lrc_explore.proofs.Standing.{step_within}
 use Rattle.lrc_explore.proofs.Counting.{step_threads, zero_at}
 use Rattle.lrc_exec.specs.Plain.{Plain, plain_step, plain_from, plain_start}
-use Rattle.lrc_explore.proofs.Searching.{grows_not, stands_on, copy_same, item_at}
+use Rattle.lrc_explore.proofs.Keeping.{stands_on, item_at}
+use Rattle.lrc_explore.proofs.Searching.{copy_same}
 use Rattle.lrc_explore.proofs.Noting.{notes_more, no_more}
 use Rattle.lrc_exec.specs.declared.spot.Flat.{Flat}
 use Rattle.lrc_explore.specs.declared.outcomes.Noted.{Noted}
@@ -29,8 +28,8 @@ use Rattle.lrc_trace.specs.declared.act.Deed.{Deed}
 use Rattle.lrc_trace.specs.Run.{act_of}
 use Rattle.lrc_theory.proofs.Plainly.{one_more, plain_from-joined}
 use Rattle.lrc_explore.specs.Notes.{noted, notes_of, notes_from}
-use Rattle.lrc_explore.specs.States.{begun, thread_begun, plain_at, spot_stopped, IsCopy}
-use Rattle.lrc_explore.specs.Search.{Grows}
+use Rattle.lrc_explore.specs.States.{begun, thread_begun, plain_at, IsCopy}
+use Rattle.lrc_explore.specs.Kept.{Grows}
 use Rattle.lrc_explore.specs.Outcome.{AreLed, AreSound, AreDone}
 
 -- a search that began with these states is done with those before a place
@@ -40,12 +39,7 @@ pub record Going (flat : Flat) (start : ℕ) (first : List Noted) (gathered : Ga
   pub sound : AreSound flat (begun flat start) gathered.outcomes.keys
   pub done : AreDone flat gathered.states.keys gathered.outcomes.keys place
 
--- a list to which an item is put, or which stays
-pub put_grows : {A : Type 0} (b : Bool) (old new : List A) (x : A) → new ≡ (if b then old else old ++ x ∷ []) → Grows old new
-put_grows true old new x is = grows_not old new is
-put_grows false old new x is = record { more = x ∷ []; is = is }
-
--- so what holds of the old ones at their places, and of the item at the end, holds of all
+-- where an item is put to a list, or it stays, what holds of the old ones at their places, and of the item at the end, holds of all
 pub put_all : {A : Type 0} (P : ℕ → A → Type 0) (b : Bool) (old new : List A) (x : A) → new ≡ (if b then old else old ++ x ∷ [])
     → ((k : ℕ) (y : A) → slice_get old k ≡ Some y → P k y) → P (length old) x → (k : ℕ) (y : A) → slice_get new k ≡ Some y → P k y
 put_all P true old new x is before last k y at = before k y (ap (λ l. slice_get l k) (sym is) ∙ at)
@@ -106,22 +100,6 @@ next_more flat old new key after bound deed g before step noted_is has node othe
 
 pub grown_length : {A : Type 0} (old new : List A) → Grows old new → length old ≤ length new
 grown_length old new g = let e = ap length g.is in omega (arith, length-append old g.more)
-
--- the item at a place of a slice
-pub item_there : {A : Type 0} (items slice : List A) (place : ℕ) (held : A) → slice ≡ items → place < length items → held ≡ get_or slice place held
-    → slice_get items place ≡ Some held
-item_there items slice place held are lt is =
-    ap (λ l. slice_get l place) (sym are) ∙ slice_get-get_or slice place held (subst (λ l. place < length l) (sym are) lt) ∙ ap Some (sym is)
-
-pub copy_state : (flat : Flat) (a b : State) → IsCopy a b → IsState flat b → IsState flat a
-copy_state flat a b c s = record {
-  memory = ap length c.memory ∙ s.memory;
-  holders = ap length c.holders ∙ s.holders;
-  arrivals = ap length c.arrivals ∙ s.arrivals;
-  spots = ap length c.spots ∙ s.spots;
-  within = subst (All (λ (x : Spot). x.place ≤ length flat.code.now)) (sym c.spots) s.within;
-  blank = subst (All (λ (x : Spot). x.stopped ≡ true → x ≡ spot_stopped x.me)) (sym c.spots) s.blank;
-}
 
 -- an order that leads to where no node can make an act has an outcome
 pub ends_there : (flat : Flat) (start : Plain) (held key : Noted) → IsLed flat start held → IsCopy key.state held.state → key.notes.items ≡ held.notes.items

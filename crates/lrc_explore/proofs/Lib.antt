@@ -1,3 +1,8 @@
+pub mod Keeping
+pub mod Adding
+pub mod KeptAlike
+pub mod Widening
+pub mod Listing
 pub mod Effects
 pub mod Reduced
 pub mod Reducing

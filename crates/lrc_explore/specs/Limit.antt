@@ -6,15 +6,17 @@ use Rattle.lrc_exec.specs.Plain.{Plain}
 use Rattle.lrc_exec.specs.declared.spot.Flat.{Flat}
 use Rattle.lrc_exec.specs.Flat.{IsCodeOf}
 use Rattle.lrc_explore.specs.declared.state.State.{State}
+use Rattle.lrc_explore.specs.declared.kept.States.{States}
 use Rattle.lrc_explore.specs.declared.search.Found.{Found}
 use Rattle.lrc_explore.specs.declared.search.End.{End}
 use Rattle.lrc_explore.specs.declared.search.End.TheVariants as end
 use Rattle.lrc_explore.specs.declared.search.ExploreFault.{ExploreFault}
 use Rattle.lrc_explore.specs.declared.search.ExploreFault.TheVariants.{BadNodes, TooMany, NoMemory}
 use Rattle.lrc_explore.specs.contracts.state.StatePartialEq.TheImpl.{eq-value}
+use Rattle.lrc_explore.specs.Kept.{IsAt, Widens, size}
 use Rattle.lrc_explore.specs.Meeting.{IsReached}
 use Rattle.lrc_explore.specs.States.{plain_at, IsState}
-use Rattle.lrc_explore.specs.Search.{IsFound, Grows}
+use Rattle.lrc_explore.specs.Search.{IsFound}
 
 -- more states than a bound over the program's code, no two of them equal, to each of which some order leads
 pub record HasMoreStates (program : Program) (nodes most : ℕ) : Type 0 where
@@ -36,24 +38,23 @@ pub record FitsIn (program : Program) (nodes most : ℕ) : Type 0 where
   pub all : (machine : Plain) → IsReached program nodes machine → Contains states machine
 
 -- a search that went past all of its states met no more than a bound
-abbrev pub FitsEnd : List State → (most : ℕ) → End → Type 0
+abbrev pub FitsEnd : States → (most : ℕ) → End → Type 0
 FitsEnd states most (end.Meeting place p q) = Unit {0}
-FitsEnd states most (end.Through stuck) = length states ≤ most
+FitsEnd states most (end.Through stuck) = size states ≤ most
 
 -- a search that began with these states met more than a bound
-pub record MeetsMore (flat : Flat) (first : List State) (most : ℕ) : Type 0 where
+pub record MeetsMore (flat : Flat) (first : States) (most : ℕ) : Type 0 where
   pub found : Found
   pub sound : IsFound flat found
-  pub grows : Grows first found.states.keys
-  pub many : most < length found.states.keys
-  pub distinct : IsDistinct eq-value.it found.states.keys
+  pub widens : Widens first found.states
+  pub many : most < size found.states
 
 -- why a search gives up: it met too many states, or had no memory
-abbrev pub IsFault : Flat → List State → (most : ℕ) → ExploreFault → Type 0
+abbrev pub IsFault : Flat → States → (most : ℕ) → ExploreFault → Type 0
 IsFault flat first most BadNodes = ⊥
 IsFault flat first most TooMany = MeetsMore flat first most
 IsFault flat first most NoMemory = Unit {0}
 
 -- no node has arrived more often at a state than there are states before it
-abbrev pub AreCounted : List State → Type 0
-AreCounted states = (k : ℕ) (state : State) → slice_get states k ≡ Some state → (node : ℕ) → slice_index state.arrivals.items node ≤ k
+abbrev pub AreCounted : States → Type 0
+AreCounted states = (k : ℕ) (state : State) → IsAt states k state → (node : ℕ) → slice_index state.arrivals.items node ≤ k

@@ -1,6 +1,7 @@
 //! Races of a program by its states: where two nodes of the plain machine are about to make conflicting accesses.
 #![tactic(auto)]
 
+pub mod kept;
 pub mod laws;
 pub mod notes;
 pub mod outcomes;

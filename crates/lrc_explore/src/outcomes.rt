@@ -114,7 +114,7 @@ impl Gathered {
     ghost use Rattle.std.specs.Prelude.{◌≡◌, ◌≢◌, ◌<◌, ◌≤◌, ◌^◌, IfOk, IfErr, OnOk, length, []};
     ghost use Rattle.lrc_exec.specs.Spots.{IsFlat};
     ghost use Rattle.lrc_explore.specs.States.{IsState, begun, plain_at};
-    ghost use Rattle.lrc_explore.specs.Search.{Grows};
+    ghost use Rattle.lrc_explore.specs.Kept.{Grows};
     ghost use Rattle.lrc_explore.specs.Outcome.{AreLed, AreSound, AreDone, HasNoted, HasNextBelow, IsLed, IsDoneAt, IsCopyAt, CountsUpTo, MeetsMoreNoted};
 
     // The start alone.

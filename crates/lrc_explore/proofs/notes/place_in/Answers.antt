@@ -11,8 +11,11 @@ some_act = record { node = 0; deed = Quiet }
 
 pub returns-then-notes-place-clause-place : goal.returns-then-notes-place-clause-place
 returns-then-notes-place-clause-place c =
-    sym (position_or_len_is (λ (note : Act). nat_lt c.args.node note.node) c.args.notes.now c.loop-place.place some_act
-    (omega (arith, c.loop-place-test.true, c.loop-place.auto.place-end)) (λ k lt. c.loop-place.invariant k some_act lt) (λ lt. lt-ltb c.args.node (get_or c.args.notes.now c.loop-place.place some_act).node c.if-notes-place.true))
+    let notes = c.args.notes.now in
+    let place = c.loop-place.place in
+    sym (position_or_len_is (λ (note : Act). nat_lt c.args.node note.node) notes place some_act
+    (omega (arith, c.loop-place-test.true, c.loop-place.auto.place-end)) (λ k lt. c.loop-place.invariant k some_act lt)
+    (λ lt. lt-ltb c.args.node (get_or notes place some_act).node c.if-notes-place.true))
 
 pub returns-clause-place : goal.returns-clause-place
 returns-clause-place c =

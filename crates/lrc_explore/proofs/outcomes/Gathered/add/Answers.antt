@@ -1,7 +1,8 @@
 use Rattle.std.proofs.Common.{sym}
 use Rattle.lrc_explore.specs.States.{begun}
 use Rattle.lrc_explore.proofs.Alike.{noted_same}
-use Rattle.lrc_explore.proofs.Gathering.{put_grows, led_put}
+use Rattle.lrc_explore.proofs.Keeping.{put_grows}
+use Rattle.lrc_explore.proofs.Gathering.{led_put}
 use Rattle.lrc_explore.proofs.outcomes.Gathered.add.Goals as goal
 
 pub returns-clause-grows : goal.returns-clause-grows

@@ -2,7 +2,7 @@ use Rattle.std.proofs.Common.{◌∙◌, ap, arith}
 use Rattle.std.specs.Prelude.{slice_index}
 use Rattle.std.proofs.lemmas.Option.{slice_get_within}
 use Rattle.lrc_explore.specs.States.{begun, plain_at}
-use Rattle.lrc_explore.proofs.Searching.{grows_again}
+use Rattle.lrc_explore.proofs.Keeping.{grows_again}
 use Rattle.lrc_explore.proofs.Counting.{step_counts}
 use Rattle.lrc_explore.proofs.Gathering.{led_next, next_more, grown_length}
 use Rattle.lrc_explore.proofs.outcomes.Gathered.expand.Goals as goal

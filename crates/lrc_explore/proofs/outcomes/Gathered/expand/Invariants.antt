@@ -1,7 +1,7 @@
 -- What a step of the nodes so far leads to is there.
 use Rattle.std.proofs.Common.{◌≡◌}
 use Rattle.lrc_explore.specs.States.{begun}
-use Rattle.lrc_explore.specs.Search.{Grows}
+use Rattle.lrc_explore.specs.Kept.{Grows}
 use Rattle.lrc_explore.specs.Outcome.{AreLed, HasNextBelow}
 use Rattle.lrc_explore.proofs.outcomes.Gathered.expand.Given as goal
 

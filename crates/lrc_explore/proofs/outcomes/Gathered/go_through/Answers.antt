@@ -1,5 +1,5 @@
 use Rattle.std.proofs.Common.{◌<◌, length, arith}
-use Rattle.lrc_explore.proofs.Searching.{grows_again}
+use Rattle.lrc_explore.proofs.Keeping.{grows_again}
 use Rattle.lrc_explore.proofs.Gathering.{done_more}
 use Rattle.lrc_explore.proofs.outcomes.Gathered.go_through.Goals as goal
 

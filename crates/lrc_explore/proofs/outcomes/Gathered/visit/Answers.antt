@@ -1,9 +1,11 @@
 use Rattle.std.proofs.Common.{◌≡◌, ◌∙◌, sym, subst, true, false}
 use Rattle.lrc_explore.specs.States.{begun}
-use Rattle.lrc_explore.specs.Search.{Grows}
+use Rattle.lrc_explore.specs.Kept.{Grows}
 use Rattle.lrc_explore.specs.Outcome.{AreSound, EndsWith}
 use Rattle.lrc_explore.proofs.Alike.{acts_same}
-use Rattle.lrc_explore.proofs.Gathering.{item_there, copy_state, ends_there, done_at, put_grows, put_all}
+use Rattle.lrc_explore.proofs.Keeping.{item_in, put_grows}
+use Rattle.lrc_explore.proofs.Searching.{copy_state}
+use Rattle.lrc_explore.proofs.Gathering.{ends_there, done_at, put_all}
 use Rattle.lrc_explore.proofs.outcomes.Gathered.visit.Goals as goal
 
 pub expand-requires-clause-there : goal.expand-requires-clause-there
@@ -12,7 +14,7 @@ expand-requires-clause-there c =
     let keys = c.args.self.now.states.keys in
     let held = c.index-as_slice-place.result in
     let key = c.in_ok-key.key in
-    let there = item_there keys c.as_slice.result.now c.args.place held c.as_slice.ensures.keys c.requires.within c.index-as_slice-place.is in
+    let there = item_in keys c.as_slice.result.now c.args.place held c.as_slice.ensures.keys c.requires.within c.index-as_slice-place.is in
     record { held = held; there = there; state = c.in_ok-key.ensures.state; notes = c.in_ok-key.ensures.notes }
 
 pub expand-requires-clause-state : goal.expand-requires-clause-state
@@ -21,7 +23,7 @@ expand-requires-clause-state c =
     let keys = c.args.self.now.states.keys in
     let held = c.index-as_slice-place.result in
     let key = c.in_ok-key.key in
-    let there = item_there keys c.as_slice.result.now c.args.place held c.as_slice.ensures.keys c.requires.within c.index-as_slice-place.is in
+    let there = item_in keys c.as_slice.result.now c.args.place held c.as_slice.ensures.keys c.requires.within c.index-as_slice-place.is in
     copy_state flat key.state held.state c.in_ok-key.ensures.state (c.requires.led.valid c.args.place held there)
 
 pub is_still-requires-clause-state : goal.is_still-requires-clause-state
@@ -30,7 +32,7 @@ is_still-requires-clause-state c =
     let keys = c.args.self.now.states.keys in
     let held = c.index-as_slice-place.result in
     let key = c.in_ok-key.key in
-    let there = item_there keys c.as_slice.result.now c.args.place held c.as_slice.ensures.keys c.requires.within c.index-as_slice-place.is in
+    let there = item_in keys c.as_slice.result.now c.args.place held c.as_slice.ensures.keys c.requires.within c.index-as_slice-place.is in
     copy_state flat key.state held.state c.in_ok-key.ensures.state (c.requires.led.valid c.args.place held there)
 
 pub returns-in_ok-insert_full-clause-more : goal.returns-in_ok-insert_full-clause-more
@@ -44,7 +46,7 @@ returns-in_ok-insert_full-clause-sound c =
     let keys = c.args.self.now.states.keys in
     let held = c.index-as_slice-place.result in
     let key = c.in_ok-key.key in
-    let there = item_there keys c.as_slice.result.now c.args.place held c.as_slice.ensures.keys c.requires.within c.index-as_slice-place.is in
+    let there = item_in keys c.as_slice.result.now c.args.place held c.as_slice.ensures.keys c.requires.within c.index-as_slice-place.is in
     let start = begun flat c.args.start in
     put_all (λ k o. EndsWith start flat.nodes o.notes.items) _ c.expand.new.self.outcomes.keys c.insert_full.new.self.keys _
     c.in_ok-insert_full.ensures.keys (subst (AreSound flat start) (sym c.in_ok-expand.ensures.same) c.requires.sound)
@@ -57,7 +59,7 @@ returns-in_ok-insert_full-clause-done c =
     let keys = c.args.self.now.states.keys in
     let held = c.index-as_slice-place.result in
     let key = c.in_ok-key.key in
-    let there = item_there keys c.as_slice.result.now c.args.place held c.as_slice.ensures.keys c.requires.within c.index-as_slice-place.is in
+    let there = item_in keys c.as_slice.result.now c.args.place held c.as_slice.ensures.keys c.requires.within c.index-as_slice-place.is in
     let s = c.in_ok-insert_full.ensures.stored in
     done_at flat keys c.expand.new.self.states.keys c.insert_full.new.self.keys c.args.place held key c.in_ok-expand.ensures.grows there
     c.in_ok-key.ensures.state c.in_ok-key.ensures.notes c.in_ok-expand.ensures.next
@@ -69,7 +71,7 @@ returns-else-is_still-clause-done c =
     let keys = c.args.self.now.states.keys in
     let held = c.index-as_slice-place.result in
     let key = c.in_ok-key.key in
-    let there = item_there keys c.as_slice.result.now c.args.place held c.as_slice.ensures.keys c.requires.within c.index-as_slice-place.is in
+    let there = item_in keys c.as_slice.result.now c.args.place held c.as_slice.ensures.keys c.requires.within c.index-as_slice-place.is in
     done_at flat keys c.expand.new.self.states.keys c.expand.new.self.outcomes.keys c.args.place held key c.in_ok-expand.ensures.grows there
     c.in_ok-key.ensures.state c.in_ok-key.ensures.notes c.in_ok-expand.ensures.next
     (λ still. let t = c.is_still.ensures.1 still in let x : true ≡ false = sym t ∙ c.if-is_still.false in cc)

@@ -1,4 +1,5 @@
-use Rattle.std.proofs.Common.{◌+◌, ◌<◌, ◌∙◌, sym, subst, length, arith}
+use Rattle.std.proofs.Common.{◌+◌, ◌<◌, ◌∙◌, sym, subst, arith}
+use Rattle.lrc_explore.specs.Kept.{size}
 use Rattle.lrc_explore.specs.Search.{IsVisit}
 use Rattle.lrc_explore.proofs.Exploring.{Going, going_stuck, going_past, gone_through}
 use Rattle.lrc_explore.proofs.search.Found.go_through.Goals.{in-Stuck, in-Past}
@@ -7,28 +8,28 @@ use Rattle.lrc_explore.proofs.search.Found.go_through.Goals as goal
 pub loop-place-preserved : goal.loop-place-preserved
 loop-place-preserved c =
     let flat = c.args.flat.now in
-    let first = c.args.self.now.states.keys in
+    let first = c.args.self.now.states in
     let old = c.loop-place.self in
     let new = c.visit.new.self in
     let place = c.loop-place.place in
-    let lt : place < length old.states.keys = omega (arith, c.loop-place-test.true, c.len.ensures.len) in (
+    let lt : place < size old.states = omega (arith, c.loop-place-test.true, c.len.ensures.len) in (
       elim c.match-branch-2.branch [
         | in-Stuck w ↦
             going_stuck flat first old new place c.loop-place.stuck c.loop-place.invariant.0 c.in_ok-p.ensures.found
-            c.in_ok-p.ensures.counted c.in_ok-p.ensures.grows lt
-            c.match-branch-2.stuck (w.stuck-is ∙ w.or-stuck.ensures) (subst (IsVisit flat new.states.keys place) w.in-Stuck.is c.in_ok-p.ensures.visit)
+            c.in_ok-p.ensures.counted c.in_ok-p.ensures.widens lt
+            c.match-branch-2.stuck (w.stuck-is ∙ w.or-stuck.ensures) (subst (IsVisit flat new.states place) w.in-Stuck.is c.in_ok-p.ensures.visit)
         | in-Past w ↦
             subst (Going flat first new (place + 1)) (sym w.stuck-is)
             (going_past flat first old new place c.loop-place.stuck c.loop-place.invariant.0 c.in_ok-p.ensures.found
-            c.in_ok-p.ensures.counted c.in_ok-p.ensures.grows lt
-            (subst (IsVisit flat new.states.keys place) w.in-Past.is c.in_ok-p.ensures.visit))
+            c.in_ok-p.ensures.counted c.in_ok-p.ensures.widens lt
+            (subst (IsVisit flat new.states place) w.in-Past.is c.in_ok-p.ensures.visit))
       ],
       (λ le. omega (arith, le, c.if-len-most.false, c.len-in-loop-place.ensures.len, c.loop-place-test.true, c.len.ensures.len)),
     )
 
 pub returns-clause-end : goal.returns-clause-end
 returns-clause-end c =
-    gone_through c.args.flat.now c.args.self.now.states.keys c.loop-place.self c.loop-place.place c.loop-place.stuck c.loop-place.invariant.0
+    gone_through c.args.flat.now c.args.self.now.states c.loop-place.self c.loop-place.place c.loop-place.stuck c.loop-place.invariant.0
     (omega (arith, c.loop-place-test.false, c.len.ensures.len))
 
 pub returns-then-len-most-clause-faults : goal.returns-then-len-most-clause-faults
@@ -37,9 +38,8 @@ returns-then-len-most-clause-faults c =
     record {
       found = c.loop-place.self;
       sound = i.sound;
-      grows = i.grows;
+      widens = i.widens;
       many = omega (arith, c.if-len-most.true, c.len-in-loop-place.ensures.len);
-      distinct = c.len-in-loop-place.ensures.unique;
     }
 
 pub returns-clause-fits : goal.returns-clause-fits

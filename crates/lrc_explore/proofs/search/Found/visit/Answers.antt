@@ -1,29 +1,41 @@
--- What was seen at a copy of the state was seen at the state.
-use Rattle.std.proofs.Common.{◌≡◌, ◌∙◌, sym, true, false}
+-- What was seen at the state at a place.
+use Rattle.std.proofs.Common.{◌≡◌, ◌∙◌, refl, sym, true, false}
 use Rattle.lrc_explore.specs.States.{plain_at}
+use Rattle.lrc_explore.specs.Search.{Stands}
 use Rattle.lrc_explore.proofs.Searching.{stands_grown}
-use Rattle.lrc_explore.proofs.Exploring.{copy_stands}
 use Rattle.lrc_explore.proofs.search.Found.visit.Goals as goal
+
+pub state-requires : goal.state-requires
+state-requires c = c.requires.found.full c.args.place c.requires.within
+
+pub meeting-requires-clause-state : goal.meeting-requires-clause-state
+meeting-requires-clause-state c = c.requires.found.valid c.args.place c.in_ok-state.state c.in_ok-state.ensures
 
 pub returns-in-Some-clause-visit : goal.returns-in-Some-clause-visit
 returns-in-Some-clause-visit c =
     let flat = c.args.flat.now in
-    let there = copy_stands flat c.args.self.now.states.keys c.as_slice.result.now c.args.place c.index-as_slice-place.result c.in_ok-state.state
-    c.as_slice.ensures.keys c.requires.within c.index-as_slice-place.is c.in_ok-state.ensures in
-    (plain_at flat c.in_ok-state.state, there, c.in-Some.ensures.1)
+    let state = c.in_ok-state.state in
+    let there : Stands flat c.args.self.now.states c.args.place (plain_at flat state) =
+    record { state = state; there = c.in_ok-state.ensures; same = refl } in
+    (plain_at flat state, there, c.in-Some.ensures.1)
+
+pub expand-requires-clause-state : goal.expand-requires-clause-state
+expand-requires-clause-state c = c.requires.found.valid c.args.place c.in_ok-state.state c.in_ok-state.ensures
 
 pub expand-requires-clause-there : goal.expand-requires-clause-there
-expand-requires-clause-there c =
-    copy_stands c.args.flat.now c.args.self.now.states.keys c.as_slice.result.now c.args.place c.index-as_slice-place.result c.in_ok-state.state
-    c.as_slice.ensures.keys c.requires.within c.index-as_slice-place.is c.in_ok-state.ensures
+expand-requires-clause-there c = record { state = c.in_ok-state.state; there = c.in_ok-state.ensures; same = refl }
+
+pub is_stuck-requires-clause-state : goal.is_stuck-requires-clause-state
+is_stuck-requires-clause-state c = c.requires.found.valid c.args.place c.in_ok-state.state c.in_ok-state.ensures
 
 pub returns-then-is_stuck-clause-visit : goal.returns-then-is_stuck-clause-visit
 returns-then-is_stuck-clause-visit c =
     let flat = c.args.flat.now in
-    let there = copy_stands flat c.args.self.now.states.keys c.as_slice.result.now c.args.place c.index-as_slice-place.result c.in_ok-state.state
-    c.as_slice.ensures.keys c.requires.within c.index-as_slice-place.is c.in_ok-state.ensures in (
-      plain_at flat c.in_ok-state.state,
-      stands_grown c.in_ok-expand.ensures.grows there,
+    let state = c.in_ok-state.state in
+    let there : Stands flat c.args.self.now.states c.args.place (plain_at flat state) =
+    record { state = state; there = c.in_ok-state.ensures; same = refl } in (
+      plain_at flat state,
+      stands_grown c.in_ok-expand.ensures.widens there,
       record { calm = c.in_default.ensures; after = c.in_ok-expand.ensures.after },
       c.is_stuck.ensures.0 c.if-is_stuck.true,
     )
@@ -31,10 +43,11 @@ returns-then-is_stuck-clause-visit c =
 pub returns-clause-visit : goal.returns-clause-visit
 returns-clause-visit c =
     let flat = c.args.flat.now in
-    let there = copy_stands flat c.args.self.now.states.keys c.as_slice.result.now c.args.place c.index-as_slice-place.result c.in_ok-state.state
-    c.as_slice.ensures.keys c.requires.within c.index-as_slice-place.is c.in_ok-state.ensures in (
-      plain_at flat c.in_ok-state.state,
-      stands_grown c.in_ok-expand.ensures.grows there,
+    let state = c.in_ok-state.state in
+    let there : Stands flat c.args.self.now.states c.args.place (plain_at flat state) =
+    record { state = state; there = c.in_ok-state.ensures; same = refl } in (
+      plain_at flat state,
+      stands_grown c.in_ok-expand.ensures.widens there,
       record { calm = c.in_default.ensures; after = c.in_ok-expand.ensures.after },
       λ stuck. let t = c.is_stuck.ensures.1 stuck in let x : true ≡ false = sym t ∙ c.if-is_stuck.false in cc,
     )

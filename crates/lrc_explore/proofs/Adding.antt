@@ -1,0 +1,37 @@
+-- A state that is added to kept ones.
+use Rattle.std.proofs.Common.{◌≡◌, ℕ, zero, suc, ◌<◌, List, [], ◌∷◌, ◌++◌, ◌||◌, Bool, true, false, length, refl, ◌∙◌, ap, arith}
+use Rattle.std.specs.Prelude.{get_or, not, if◌then◌else◌}
+use Rattle.std.specs.List.{list_any, position_or_len}
+use Rattle.std.proofs.lemmas.List.{length_push}
+use Rattle.std.proofs.lemmas.List.Sums.{position_or_len_is}
+use Rattle.lrc_explore.specs.declared.kept.Kept.{Kept}
+use Rattle.lrc_explore.specs.declared.kept.States.{States}
+use Rattle.lrc_explore.specs.contracts.kept.KeptPartialEq.TheImpl.{eq-value as kept_eq}
+use Rattle.lrc_explore.specs.Kept.{IsAddedAt}
+
+first_false : (a b : Bool) → (a || b) ≡ false → a ≡ false
+first_false true b e = cc
+first_false false b e = refl
+
+second_false : (a b : Bool) → (a || b) ≡ false → b ≡ false
+second_false true b e = cc
+second_false false b e = e
+
+each_fails : {A : Type 0} (test : A → Bool) (xs : List A) (d : A) → list_any test xs ≡ false → (k : ℕ) → k < length xs → test (get_or xs k d) ≡ false
+each_fails test [] d e k lt = absurd (omega arith)
+each_fails test (x ∷ xs) d e zero lt = first_false (test x) (list_any test xs) e
+each_fails test (x ∷ xs) d e (suc k) lt = each_fails test xs d (second_false (test x) (list_any test xs) e) k (omega arith)
+
+-- where none passes, the first place that passes is the end
+none_passes : {A : Type 0} (test : A → Bool) (xs : List A) (d : A) → list_any test xs ≡ false → position_or_len test xs ≡ length xs
+none_passes test xs d e =
+    position_or_len_is test xs (length xs) d (omega arith) (each_fails test xs d e) (λ lt. absurd (omega (arith, lt)))
+
+pub added_at : (old new : States) (kept : Kept) (place : ℕ) (b added : Bool) → list_any (kept_eq.it kept) old.kept.keys ≡ b → added ≡ not b
+    → new.kept.keys ≡ (if b then old.kept.keys else old.kept.keys ++ kept ∷ []) → place ≡ position_or_len (kept_eq.it kept) old.kept.keys
+    → IsAddedAt old new place added
+added_at old new kept place true true has is keys at = cc
+added_at old new kept place true false has is keys at = ap length keys
+added_at old new kept place false true has is keys at =
+    (at ∙ none_passes (kept_eq.it kept) old.kept.keys kept has, ap length keys ∙ length_push old.kept.keys kept)
+added_at old new kept place false false has is keys at = cc
