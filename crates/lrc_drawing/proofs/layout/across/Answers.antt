@@ -1,0 +1,15 @@
+use Rattle.std.proofs.Common.{◌≤◌, ◌*◌, arith}
+use Rattle.std.proofs.lemmas.Nat.{mul-le}
+use Rattle.lrc_drawing.proofs.layout.across.Goals as goal
+
+pub overflow_mul-result : goal.overflow_mul-result
+overflow_mul-result c =
+    let most : c.args.column * c.args.pitch ≤ 18446744073709551616 * 16384 =
+    mul-le c.args.column c.args.pitch 18446744073709551616 16384 (omega arith) c.requires in
+    omega (arith, most)
+
+pub returns : goal.returns
+returns c =
+    let most : c.args.column * c.args.pitch ≤ 18446744073709551616 * 16384 =
+    mul-le c.args.column c.args.pitch 18446744073709551616 16384 (omega arith) c.requires in
+    omega (arith, most)

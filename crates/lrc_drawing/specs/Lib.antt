@@ -1,0 +1,3 @@
+pub mod Heights
+pub mod Marks
+pub mod Shown

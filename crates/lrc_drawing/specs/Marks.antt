@@ -1,0 +1,65 @@
+-- What a reader sees in a tree of elements, read off it in order: words with the height of their foot, straight lines with the heights of
+-- their ends, and hints.
+use Rattle.std.specs.Prelude.{ℕ, Bool, true, false, List, [], ◌∷◌, ◌++◌, cond}
+use Rattle.std.specs.List.{flat_map}
+use Rattle.lrc_svg.specs.declared.element.Attribute.{Attribute}
+use Rattle.lrc_svg.specs.declared.element.Content.{Content, Row_of-Content, end_of-Content, more_of-Content}
+use Rattle.lrc_svg.specs.declared.element.Content.TheVariants.{Text, Element'}
+use Rattle.lrc_svg.specs.declared.name.Key.{Key}
+use Rattle.lrc_svg.specs.declared.name.Key.TheVariants as keys
+use Rattle.lrc_svg.specs.declared.name.Tag.{Tag}
+use Rattle.lrc_svg.specs.declared.name.Tag.TheVariants as tags
+
+pub data Mark : Type 0 where
+  word : (foot : List ℕ) → (words : List ℕ) → Mark
+  stroke : (from to : List ℕ) → Mark
+  hint : (words : List ℕ) → Mark
+
+abbrev is_foot : Key → Bool
+is_foot keys.Y = true
+is_foot other = false
+
+abbrev is_from : Key → Bool
+is_from keys.FromY = true
+is_from other = false
+
+abbrev is_to : Key → Bool
+is_to keys.ToY = true
+is_to other = false
+
+-- the value of the first attribute of such a name
+abbrev pub value_of : (Key → Bool) → List Attribute → List ℕ
+value_of is [] = []
+value_of is (first ∷ more) = cond (is first.key) first.value.items (value_of is more)
+
+-- what an element shows by itself, with these words in it
+abbrev pub own : Tag → List Attribute → (words : List ℕ) → List Mark
+own tags.Label attributes words = word (value_of is_foot attributes) words ∷ []
+own tags.Line attributes words = stroke (value_of is_from attributes) (value_of is_to attributes) ∷ []
+own tags.Hint attributes words = hint words ∷ []
+own other attributes words = []
+
+-- words that stand alone
+abbrev pub plain_words : Content → List ℕ
+plain_words (Text words) = words.items
+plain_words (Element' tag attributes shape inside) = []
+
+abbrev pub row_words : {m : _} → Row_of-Content m → List ℕ
+row_words end_of-Content = []
+row_words (more_of-Content first more) = plain_words first ++ row_words more
+
+abbrev pub words_of : List Content → List ℕ
+words_of contents = flat_map plain_words contents
+
+abbrev mutual
+  pub marks : Content → List Mark
+  marks (Text words) = []
+  marks (Element' tag attributes shape inside) = own tag attributes.items (row_words inside) ++ row_marks inside
+
+  pub row_marks : {m : _} → Row_of-Content m → List Mark
+  row_marks end_of-Content = []
+  row_marks (more_of-Content first more) = marks first ++ row_marks more
+
+-- what all these show
+abbrev pub all_marks : List Content → List Mark
+all_marks contents = flat_map marks contents

@@ -1,0 +1,185 @@
+// Where things stand, in pixels: columns from the left, rows from the top.
+
+ghost use Rattle.std.specs.Prelude.{◌≡◌, ◌≤◌, ◌<◌, ◌+◌, ◌*◌, ◌^◌};
+ghost use Rattle.lrc_drawing.specs.Heights.{height};
+
+use lrc_picture::{Arrow, Lost, Picture, Race, Row};
+
+/// The height of a row's middle.
+pub(crate) fn height(row: usize) -> u128
+    ensures { result ≡ height row }
+{
+    124 + 24 * row as u128
+}
+
+/// The height of a line below so many others.
+pub(crate) fn height_below(lines: u128, place: usize) -> u128
+    requires { lines < 2 ^ 66 }
+    ensures { result ≡ height (lines + place) }
+{
+    124 + 24 * (lines + place as u128)
+}
+
+/// Where a column begins and ends.
+#[derive(Clone, Copy)]
+pub(crate) struct Lane {
+    pub left: u128,
+    pub right: u128,
+}
+
+/// How many letters stand beside each other at most: in what was done, in times, in invalid pages, in places, in kinds of messages, and in groups
+/// of races.
+#[derive(Clone, Copy)]
+pub(crate) struct Layout {
+    words: u8,
+    time: u8,
+    invalid: u8,
+    place: u8,
+    label: u8,
+    group: u8,
+}
+
+// How many letters there are, 255 at most.
+fn letters(words: &[u8]) -> u8 {
+    words.len().min(255) as u8
+}
+
+/// How wide so many letters are.
+pub(crate) fn width(letters: u64) -> u128
+    ensures { result ≤ 8 * letters }
+{
+    letters as u128 * 73 / 10
+}
+
+// How wide a part of a row is, with a gap behind it.
+fn part(letters: u8) -> u128
+    ensures { result ≤ 2048 }
+{
+    if letters == 0 {
+        0
+    } else {
+        width(u64::from(letters) + 1)
+    }
+}
+
+// How far a column is from the first.
+fn across(column: usize, pitch: u128) -> u128
+    requires { pitch ≤ 16384 }
+    ensures { result ≤ 2 ^ 78 }
+{
+    column as u128 * pitch
+}
+
+impl Layout {
+    ghost use Rattle.std.specs.Prelude.{◌<◌, ◌≤◌, ◌+◌, ◌^◌};
+
+    /// The layout of a picture.
+    pub(crate) fn of(picture: &Picture) -> Layout {
+        let mut layout = Layout {
+            words: 8,
+            time: 0,
+            invalid: 0,
+            place: 0,
+            label: 6,
+            group: 0,
+        };
+        for row in &picture.rows {
+            layout = layout.with_row(row);
+        }
+        for arrow in &picture.arrows {
+            layout = layout.with_arrow(arrow);
+        }
+        for lost in &picture.lost {
+            layout = layout.with_lost(lost);
+        }
+        for race in &picture.races {
+            layout = layout.with_race(race);
+        }
+        layout
+    }
+
+    fn with_row(self, row: &Row) -> Layout {
+        Layout {
+            words: self.words.max(letters(row.words.as_slice())),
+            time: self.time.max(letters(row.time.as_slice())),
+            invalid: self.invalid.max(letters(row.invalid.as_slice())),
+            place: self.place.max(letters(row.place.as_slice())),
+            ..self
+        }
+    }
+
+    fn with_arrow(self, arrow: &Arrow) -> Layout {
+        Layout {
+            label: self.label.max(letters(arrow.label.as_slice())),
+            ..self
+        }
+    }
+
+    fn with_lost(self, lost: &Lost) -> Layout {
+        Layout {
+            label: self.label.max(letters(lost.label.as_slice())),
+            ..self
+        }
+    }
+
+    fn with_race(self, race: &Race) -> Layout {
+        Layout {
+            group: self.group.max(letters(race.label.as_slice())),
+            ..self
+        }
+    }
+
+    /// How far groups of races go.
+    pub(crate) fn group(self) -> u128 {
+        100 + part(self.group)
+    }
+
+    /// Where a row's time begins, from the column's left.
+    pub(crate) fn time(self) -> u128
+        ensures { result ≤ 2054 }
+    {
+        part(self.words) + 6
+    }
+
+    /// Where its invalid pages begin.
+    pub(crate) fn invalid(self) -> u128
+        ensures { result ≤ 4102 }
+    {
+        self.time() + part(self.time)
+    }
+
+    // How wide a column is.
+    fn lane(self) -> u128
+        ensures { result ≤ 8198 }
+    {
+        self.invalid() + part(self.invalid) + part(self.place)
+    }
+
+    // How far it is from a column's left to that of the next: between them are kinds of messages and the ends of their arrows.
+    fn pitch(self) -> u128
+        ensures { result ≤ 10300 }
+    {
+        self.lane() + part(self.label) + 36
+    }
+
+    /// Where a column begins.
+    pub(crate) fn left(self, column: usize) -> u128
+        ensures least { 100 ≤ result }
+        ensures most { result < 2 ^ 90 }
+    {
+        100 + across(column, self.pitch())
+    }
+
+    /// A column.
+    pub(crate) fn column(self, column: usize) -> Lane
+        ensures least { 100 ≤ result.left }
+        ensures order { result.left ≤ result.right }
+        ensures most { result.right < 2 ^ 91 }
+    {
+        let left = self.left(column);
+        Lane {
+            left,
+            right: left + self.lane(),
+        }
+    }
+}

@@ -1,0 +1,162 @@
+// A picture as a document.
+
+ghost use Rattle.std.specs.Prelude.{◌≡◌, ◌++◌, IfOk, OnOk};
+ghost use Rattle.lrc_drawing.specs.Marks.{all_marks};
+ghost use Rattle.lrc_drawing.specs.Shown.{ground_marks, kind_marks, picture_marks, run_marks};
+
+use crate::arrows::{push_all_lost, push_arrow_labels, push_arrows, push_lost_labels};
+use crate::heading::{LEGEND_WIDTH, push_columns, push_legend, push_title};
+use crate::layout::{Layout, height_below, width};
+use crate::paint::{Point, push_number};
+use crate::races::{push_bands, push_races};
+use crate::rows::push_rows;
+use lrc_picture::Picture;
+use lrc_svg::{Attribute, Content, Document, Key};
+use std::alloc::{AllocError, Global};
+
+// How large a picture is, and down to where its columns go.
+#[derive(Clone, Copy)]
+struct Size {
+    whole: Point,
+    foot: u128,
+}
+
+impl Size {
+    fn of(layout: Layout, picture: &Picture) -> Size {
+        let foot = height_below(picture.rows.len() as u128, picture.lost.len());
+        let columns = layout.left(picture.columns.len());
+        let words = layout.group().max(width(picture.title.len() as u64) + 16);
+        Size {
+            whole: Point {
+                x: columns.max(words).max(LEGEND_WIDTH),
+                y: foot + 24 * picture.races.len() as u128,
+            },
+            foot: foot - 10,
+        }
+    }
+}
+
+// The attributes of the whole.
+fn attributes_of(alloc: Global, size: Point) -> Result<Vec<Attribute>, AllocError> {
+    let mut view = Vec::from_slice(alloc, b"0 0 ")?;
+    push_number(&mut view, size.x)?;
+    view.extend_from_slice(b" ")?;
+    push_number(&mut view, size.y)?;
+    let mut across = Vec::new(alloc);
+    push_number(&mut across, size.x)?;
+    let mut down = Vec::new(alloc);
+    push_number(&mut down, size.y)?;
+    Ok(vec![in alloc;
+        Attribute {
+            key: Key::Space,
+            value: Vec::from_slice(alloc, b"http://www.w3.org/2000/svg")?
+        },
+        Attribute {
+            key: Key::View,
+            value: view
+        },
+        Attribute {
+            key: Key::Width,
+            value: across
+        },
+        Attribute {
+            key: Key::Height,
+            value: down
+        },
+        Attribute {
+            key: Key::Family,
+            value: Vec::from_slice(alloc, b"DejaVu Sans Mono, Menlo, Consolas, monospace")?
+        },
+        Attribute {
+            key: Key::FontSize,
+            value: Vec::from_slice(alloc, b"12")?
+        },
+    ]?)
+}
+
+// Adds barriers, and columns over them.
+fn push_ground(
+    alloc: Global,
+    contents: &mut Vec<Content>,
+    layout: Layout,
+    size: Size,
+    picture: &Picture,
+) -> Result<(), AllocError>
+    ensures { OnOk result (all_marks contents.new.items ≡ all_marks contents.old.items ++ ground_marks picture.now) }
+{
+    push_bands(alloc, contents, size.whole.x, picture.bands.as_slice())?;
+    push_columns(
+        alloc,
+        contents,
+        layout,
+        size.foot,
+        picture.columns.as_slice(),
+    )
+}
+
+// Adds lines, and rows over them.
+fn push_run(
+    alloc: Global,
+    contents: &mut Vec<Content>,
+    layout: Layout,
+    picture: &Picture,
+) -> Result<(), AllocError>
+    ensures { OnOk result (all_marks contents.new.items ≡ all_marks contents.old.items ++ run_marks picture.now) }
+{
+    let rows = picture.rows.len();
+    let used = rows as u128 + picture.lost.len() as u128;
+    push_arrows(alloc, contents, layout, picture.arrows.as_slice())?;
+    push_all_lost(alloc, contents, layout, rows, picture.lost.as_slice())?;
+    push_races(alloc, contents, layout, used, picture.races.as_slice())?;
+    push_rows(alloc, contents, layout, picture.rows.as_slice())
+}
+
+// Adds the kinds of messages.
+fn push_kinds(
+    alloc: Global,
+    contents: &mut Vec<Content>,
+    layout: Layout,
+    picture: &Picture,
+) -> Result<(), AllocError>
+    ensures { OnOk result (all_marks contents.new.items ≡ all_marks contents.old.items ++ kind_marks picture.now) }
+{
+    push_arrow_labels(alloc, contents, layout, picture.arrows.as_slice())?;
+    push_lost_labels(
+        alloc,
+        contents,
+        layout,
+        picture.rows.len(),
+        picture.lost.as_slice(),
+    )
+}
+
+// Adds all that a picture shows.
+fn push_picture(
+    alloc: Global,
+    contents: &mut Vec<Content>,
+    layout: Layout,
+    size: Size,
+    picture: &Picture,
+) -> Result<(), AllocError>
+    ensures { OnOk result (all_marks contents.new.items ≡ all_marks contents.old.items ++ picture_marks picture.now) }
+{
+    push_title(alloc, contents, size.whole, picture.title.as_slice())?;
+    push_legend(alloc, contents)?;
+    push_ground(alloc, contents, layout, size, picture)?;
+    push_run(alloc, contents, layout, picture)?;
+    push_kinds(alloc, contents, layout, picture)
+}
+
+/// The picture as a document: what it shows, in order, is the definition's.
+pub fn document_of(alloc: Global, picture: &Picture) -> Result<Document, AllocError>
+    ensures { IfOk result (λ document. all_marks document.inside.items ≡ picture_marks picture.now) }
+{
+    let layout = Layout::of(picture);
+    let size = Size::of(layout, picture);
+    let mut inside = Vec::new(alloc);
+    push_picture(alloc, &mut inside, layout, size, picture)?;
+    Ok(Document {
+        attributes: attributes_of(alloc, size.whole)?,
+        inside,
+    })
+}

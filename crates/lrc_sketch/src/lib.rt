@@ -1,0 +1,11 @@
+//! A picture of a run as text, for a terminal of 100 columns: a line for each turn, with the nodes' columns at the left and words behind
+//! them.
+#![tactic(auto)]
+
+mod columns;
+pub mod laws;
+mod lines;
+mod phrases;
+mod whole;
+
+pub use whole::sketch;

@@ -1,0 +1,221 @@
+// Where things stand in a drawing, and how they look. What is wanted is of a drawing made by another program.
+
+use lrc_drawing::document_of;
+use lrc_picture::{Arrow, Band, Kind, Lost, Picture, Race, Row};
+use lrc_svg::document_part;
+use std::alloc::{AllocError, Global};
+
+// The root, its size, the ground and the title.
+const FIRST: &[u8] =
+    b"<svg xmlns=\"http://www.w3.org/2000/svg\" viewBox=\"0 0 1092 268\" width=\"1092\" height=\"268\" \
+      font-family=\"DejaVu Sans Mono, Menlo, Consolas, monospace\" font-size=\"12\"><rect x=\"0\" y=\"0\" \
+      width=\"1092\" height=\"268\" fill=\"#ffffff\" stroke=\"none\" stroke-width=\"0\" \
+      stroke-dasharray=\"none\"></rect><text x=\"8\" y=\"24\" text-anchor=\"start\" fill=\"#1a1a1a\" \
+      font-weight=\"bold\">sample</text>";
+
+// The barrier, columns, arrows, the race, rows and kinds of messages.
+const REST: &[u8] =
+    b"<rect x=\"0\" y=\"184\" width=\"1092\" height=\"24\" fill=\"#ebe4f8\" stroke=\"#b9a8e0\" \
+      stroke-width=\"1\" stroke-dasharray=\"none\"></rect><text x=\"8\" y=\"200\" text-anchor=\"start\" \
+      fill=\"#1a1a1a\" font-weight=\"normal\">barrier 1</text><rect x=\"100\" y=\"84\" width=\"210\" \
+      height=\"150\" fill=\"none\" stroke=\"#b4b4b4\" stroke-width=\"1\" stroke-dasharray=\"none\"></rect>\
+      <rect x=\"100\" y=\"84\" width=\"210\" height=\"20\" fill=\"#e4e4e4\" stroke=\"#b4b4b4\" \
+      stroke-width=\"1\" stroke-dasharray=\"none\"></rect><text x=\"106\" y=\"98\" text-anchor=\"start\" \
+      fill=\"#1a1a1a\" font-weight=\"bold\">node 0</text><rect x=\"440\" y=\"84\" width=\"210\" \
+      height=\"150\" fill=\"none\" stroke=\"#b4b4b4\" stroke-width=\"1\" stroke-dasharray=\"none\"></rect>\
+      <rect x=\"440\" y=\"84\" width=\"210\" height=\"20\" fill=\"#e4e4e4\" stroke=\"#b4b4b4\" \
+      stroke-width=\"1\" stroke-dasharray=\"none\"></rect><text x=\"446\" y=\"98\" text-anchor=\"start\" \
+      fill=\"#1a1a1a\" font-weight=\"bold\">node 1</text><g><title>lock 0</title><line x1=\"432\" \
+      y1=\"124\" x2=\"322\" y2=\"148\" stroke=\"#1f5f9f\" stroke-width=\"1.5\" stroke-dasharray=\"none\">\
+      </line><path d=\"M432 124h8\" fill=\"none\" stroke=\"#1f5f9f\" stroke-width=\"1.5\" \
+      stroke-dasharray=\"none\"></path><path d=\"M322 148h-12 l9 -4 v8 l-9 -4\" fill=\"#1f5f9f\" \
+      stroke=\"#1f5f9f\" stroke-width=\"1.5\" stroke-dasharray=\"none\"></path></g><g><title>\
+      granted</title><line x1=\"318\" y1=\"148\" x2=\"428\" y2=\"172\" stroke=\"#1f5f9f\" \
+      stroke-width=\"1.5\" stroke-dasharray=\"6 4\"></line><path d=\"M318 148h-8\" fill=\"none\" \
+      stroke=\"#1f5f9f\" stroke-width=\"1.5\" stroke-dasharray=\"none\"></path><path d=\"M428 172h12 l-9 \
+      -4 v8 l9 -4\" fill=\"#1f5f9f\" stroke=\"#1f5f9f\" stroke-width=\"1.5\" stroke-dasharray=\"none\">\
+      </path></g><g><title>never</title><line x1=\"318\" y1=\"196\" x2=\"318\" y2=\"220\" \
+      stroke=\"#1f5f9f\" stroke-width=\"1.5\" stroke-dasharray=\"none\"></line><path d=\"M318 196h-8\" \
+      fill=\"none\" stroke=\"#1f5f9f\" stroke-width=\"1.5\" stroke-dasharray=\"none\"></path><path \
+      d=\"M318 220m-5 -5 l10 10 m-10 0 l10 -10\" fill=\"none\" stroke=\"#1f5f9f\" stroke-width=\"2\" \
+      stroke-dasharray=\"none\"></path></g><g><title>a &lt; b</title><line x1=\"440\" y1=\"172\" \
+      x2=\"310\" y2=\"196\" stroke=\"#c80000\" stroke-width=\"3\" stroke-dasharray=\"none\"></line><path \
+      d=\"M440 172m-5 -5 h10 v10 h-10 z\" fill=\"#c80000\" stroke=\"none\" stroke-width=\"0\" \
+      stroke-dasharray=\"none\"></path><path d=\"M310 196m-5 -5 h10 v10 h-10 z\" fill=\"#c80000\" \
+      stroke=\"none\" stroke-width=\"0\" stroke-dasharray=\"none\"></path><text x=\"100\" y=\"248\" \
+      text-anchor=\"start\" fill=\"#c80000\" font-weight=\"normal\">race 1</text></g><g><title>turn \
+      0</title><rect x=\"440\" y=\"115\" width=\"210\" height=\"18\" fill=\"#dedede\" stroke=\"#1a1a1a\" \
+      stroke-width=\"1.5\" stroke-dasharray=\"3 3\"></rect><text x=\"446\" y=\"128\" \
+      text-anchor=\"start\" fill=\"#1a1a1a\" font-weight=\"normal\">waits</text><text x=\"519\" y=\"128\" \
+      text-anchor=\"start\" fill=\"#1d6b35\" font-weight=\"normal\"></text><text x=\"548\" y=\"128\" \
+      text-anchor=\"start\" fill=\"#a04800\" font-weight=\"normal\"></text><text x=\"644\" y=\"128\" \
+      text-anchor=\"end\" fill=\"#5a5a5a\" font-weight=\"normal\">line 3</text></g><g><title>turn \
+      1</title><rect x=\"100\" y=\"139\" width=\"210\" height=\"18\" fill=\"#eef4fa\" stroke=\"#a8bccf\" \
+      stroke-width=\"1\" stroke-dasharray=\"none\"></rect><text x=\"106\" y=\"152\" text-anchor=\"start\" \
+      fill=\"#1a1a1a\" font-weight=\"normal\">takes</text><text x=\"179\" y=\"152\" text-anchor=\"start\" \
+      fill=\"#1d6b35\" font-weight=\"normal\"></text><text x=\"208\" y=\"152\" text-anchor=\"start\" \
+      fill=\"#a04800\" font-weight=\"normal\"></text><text x=\"304\" y=\"152\" text-anchor=\"end\" \
+      fill=\"#5a5a5a\" font-weight=\"normal\">line 3</text></g><g><title>act 0</title><rect x=\"440\" \
+      y=\"163\" width=\"210\" height=\"18\" fill=\"#ffffff\" stroke=\"#1a1a1a\" stroke-width=\"1\" \
+      stroke-dasharray=\"none\"></rect><rect x=\"440\" y=\"181\" width=\"210\" height=\"3\" \
+      fill=\"#1a1a1a\" stroke=\"none\" stroke-width=\"0\" stroke-dasharray=\"none\"></rect><text \
+      x=\"446\" y=\"176\" text-anchor=\"start\" fill=\"#1a1a1a\" font-weight=\"normal\">acquire 0</text>\
+      <text x=\"519\" y=\"176\" text-anchor=\"start\" fill=\"#1d6b35\" font-weight=\"normal\">0,1</text>\
+      <text x=\"548\" y=\"176\" text-anchor=\"start\" fill=\"#a04800\" font-weight=\"normal\">page \
+      0</text><text x=\"644\" y=\"176\" text-anchor=\"end\" fill=\"#5a5a5a\" font-weight=\"normal\">line \
+      3</text></g><g><title>act 1</title><rect x=\"100\" y=\"187\" width=\"210\" height=\"18\" \
+      fill=\"#d9cdf2\" stroke=\"#4b2f90\" stroke-width=\"2\" stroke-dasharray=\"none\"></rect><text \
+      x=\"106\" y=\"200\" text-anchor=\"start\" fill=\"#1a1a1a\" font-weight=\"normal\">arrive</text>\
+      <text x=\"179\" y=\"200\" text-anchor=\"start\" fill=\"#1d6b35\" font-weight=\"normal\"></text>\
+      <text x=\"208\" y=\"200\" text-anchor=\"start\" fill=\"#a04800\" font-weight=\"normal\"></text>\
+      <text x=\"304\" y=\"200\" text-anchor=\"end\" fill=\"#5a5a5a\" font-weight=\"normal\">line 3</text>\
+      </g><rect x=\"321\" y=\"151\" width=\"91\" height=\"13\" fill=\"#ffffff\" stroke=\"none\" \
+      stroke-width=\"0\" stroke-dasharray=\"none\"></rect><text x=\"323\" y=\"161\" text-anchor=\"start\" \
+      fill=\"#1f5f9f\" font-weight=\"normal\">lock-request</text><rect x=\"352\" y=\"175\" width=\"77\" \
+      height=\"13\" fill=\"#ffffff\" stroke=\"none\" stroke-width=\"0\" stroke-dasharray=\"none\"></rect>\
+      <text x=\"427\" y=\"185\" text-anchor=\"end\" fill=\"#1f5f9f\" font-weight=\"normal\">\
+      lock-grant</text><text x=\"306\" y=\"224\" text-anchor=\"end\" fill=\"#1f5f9f\" \
+      font-weight=\"normal\">arrive</text></svg>\n";
+
+fn bytes(alloc: Global, words: &[u8]) -> Result<Vec<u8>, AllocError> {
+    Vec::from_slice(alloc, words)
+}
+
+// A row that has words and a hint alone.
+fn row(
+    alloc: Global,
+    column: u8,
+    kind: Kind,
+    words: &[u8],
+    hint: &[u8],
+) -> Result<Row, AllocError> {
+    Ok(Row {
+        column,
+        kind,
+        words: bytes(alloc, words)?,
+        time: Vec::new(alloc),
+        invalid: Vec::new(alloc),
+        place: bytes(alloc, b"line 3")?,
+        hint: bytes(alloc, hint)?,
+        closes: false,
+    })
+}
+
+fn push_act(alloc: Global, rows: &mut Vec<Row>) -> Result<(), AllocError> {
+    let mut act = row(alloc, 1, Kind::Act, b"acquire 0", b"act 0")?;
+    act.time.extend_from_slice(b"0,1")?;
+    act.invalid.extend_from_slice(b"page 0")?;
+    act.closes = true;
+    rows.push(act)?;
+    Ok(())
+}
+
+fn push_rows(alloc: Global, rows: &mut Vec<Row>) -> Result<(), AllocError> {
+    rows.push(row(alloc, 1, Kind::Wait, b"waits", b"turn 0")?)?;
+    rows.push(row(alloc, 0, Kind::Message, b"takes", b"turn 1")?)?;
+    push_act(alloc, rows)?;
+    rows.push(row(alloc, 0, Kind::Barrier, b"arrive", b"act 1")?)?;
+    Ok(())
+}
+
+fn push_arrows(alloc: Global, arrows: &mut Vec<Arrow>) -> Result<(), AllocError> {
+    arrows.push(Arrow {
+        from: 0,
+        sender: 1,
+        to: 1,
+        receiver: 0,
+        again: false,
+        label: bytes(alloc, b"lock-request")?,
+        hint: bytes(alloc, b"lock 0")?,
+    })?;
+    arrows.push(Arrow {
+        from: 1,
+        sender: 0,
+        to: 2,
+        receiver: 1,
+        again: true,
+        label: bytes(alloc, b"lock-grant")?,
+        hint: bytes(alloc, b"granted")?,
+    })?;
+    Ok(())
+}
+
+fn push_lost(alloc: Global, lost: &mut Vec<Lost>) -> Result<(), AllocError> {
+    lost.push(Lost {
+        from: 3,
+        sender: 0,
+        receiver: 0,
+        label: bytes(alloc, b"arrive")?,
+        hint: bytes(alloc, b"never")?,
+    })?;
+    Ok(())
+}
+
+fn push_race(alloc: Global, races: &mut Vec<Race>) -> Result<(), AllocError> {
+    races.push(Race {
+        from: 2,
+        first: 1,
+        to: 3,
+        second: 0,
+        label: bytes(alloc, b"race 1")?,
+        hint: bytes(alloc, b"a < b")?,
+    })?;
+    Ok(())
+}
+
+fn push_band(alloc: Global, bands: &mut Vec<Band>) -> Result<(), AllocError> {
+    bands.push(Band {
+        from: 3,
+        to: 3,
+        label: bytes(alloc, b"barrier 1")?,
+    })?;
+    Ok(())
+}
+
+fn push_columns(alloc: Global, columns: &mut Vec<Vec<u8>>) -> Result<(), AllocError> {
+    columns.push(bytes(alloc, b"node 0")?)?;
+    columns.push(bytes(alloc, b"node 1")?)?;
+    Ok(())
+}
+
+// Fills a picture with one of each.
+fn fill(alloc: Global, picture: &mut Picture) -> Result<(), AllocError> {
+    picture.title.extend_from_slice(b"sample")?;
+    push_columns(alloc, &mut picture.columns)?;
+    push_rows(alloc, &mut picture.rows)?;
+    push_arrows(alloc, &mut picture.arrows)?;
+    push_lost(alloc, &mut picture.lost)?;
+    push_band(alloc, &mut picture.bands)?;
+    push_race(alloc, &mut picture.races)
+}
+
+fn blank(alloc: Global) -> Picture {
+    Picture {
+        title: Vec::new(alloc),
+        columns: Vec::new(alloc),
+        rows: Vec::new(alloc),
+        arrows: Vec::new(alloc),
+        lost: Vec::new(alloc),
+        bands: Vec::new(alloc),
+        races: Vec::new(alloc),
+    }
+}
+
+// The text of the drawing.
+fn drawn(alloc: Global) -> Result<Vec<u8>, AllocError> {
+    let mut picture = blank(alloc);
+    fill(alloc, &mut picture)?;
+    let document = document_of(alloc, &picture)?;
+    document_part(alloc, &document)
+}
+
+// Whether the drawing begins and ends so.
+fn is_drawn(alloc: Global) -> Result<bool, AllocError> {
+    let text = drawn(alloc)?;
+    Ok(text.starts_with(FIRST) && text.ends_with(REST))
+}
+
+#[test]
+fn things_stand_where_they_should(rt: HostRuntime) {
+    assert!(rt; is_drawn(rt.alloc()) == Ok(true));
+}
