@@ -22,8 +22,8 @@ pub struct Arrow {
     pub again: bool,
 }
 
-// Whether a turn takes the message.
-fn takes(turn: &TurnOf<'_>, envelope: &Envelope) -> bool
+/// Whether a turn takes the message.
+pub fn takes(turn: &TurnOf<'_>, envelope: &Envelope) -> bool
     ensures { result ≡ takes_it envelope.now turn.now }
 {
     let entry = turn.entry;
@@ -47,8 +47,8 @@ fn push_if(positions: &mut Vec<usize>, position: usize, is_wanted: bool) -> Resu
     Ok(())
 }
 
-// The positions of the turns that take a message.
-fn takers(
+/// The positions of the turns that take a message.
+pub fn takers(
     alloc: Global,
     turns: &[TurnOf<'_>],
     envelope: &Envelope,

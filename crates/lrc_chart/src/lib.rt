@@ -6,6 +6,6 @@ mod counts;
 mod row;
 mod turn;
 
-pub use arrow::{Arrow, arrows_of};
+pub use arrow::{Arrow, arrows_of, takers, takes};
 pub use row::{Row, rows_of};
 pub use turn::{TurnOf, turns_of};

@@ -8,4 +8,5 @@ pub mod laws;
 mod site;
 mod whole;
 
+pub use site::{Site, act_at, site_of};
 pub use whole::explain;

@@ -15,8 +15,8 @@ pub struct Site {
     pub later_writes: bool,
 }
 
-// The act at a position; past the last one an act that does nothing.
-pub(crate) fn act_at(acts: &[Act], position: usize) -> Act
+/// The act at a position; past the last one an act that does nothing.
+pub fn act_at(acts: &[Act], position: usize) -> Act
     ensures { result ≡ act_at acts.now position }
 {
     if position < acts.len() {
@@ -45,8 +45,8 @@ fn writes(deed: Deed) -> bool
     matches!(deed, Deed::Write(_, _))
 }
 
-// The site of the acts at two positions.
-pub(crate) fn site_of(acts: &[Act], lines: &[u32], pair: Pair) -> Site
+/// The site of the acts at two positions.
+pub fn site_of(acts: &[Act], lines: &[u32], pair: Pair) -> Site
     ensures { result ≡ site_of acts.now lines.now pair }
 {
     Site {

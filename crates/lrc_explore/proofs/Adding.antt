@@ -1,12 +1,9 @@
--- A state that is added to kept ones.
+-- An item that is put to a list, if it is new.
 use Rattle.std.proofs.Common.{◌≡◌, ℕ, zero, suc, ◌<◌, List, [], ◌∷◌, ◌++◌, ◌||◌, Bool, true, false, length, refl, ◌∙◌, ap, arith}
 use Rattle.std.specs.Prelude.{get_or, not, if◌then◌else◌}
 use Rattle.std.specs.List.{list_any, position_or_len}
 use Rattle.std.proofs.lemmas.List.{length_push}
 use Rattle.std.proofs.lemmas.List.Sums.{position_or_len_is}
-use Rattle.lrc_explore.specs.declared.kept.Kept.{Kept}
-use Rattle.lrc_explore.specs.declared.kept.States.{States}
-use Rattle.lrc_explore.specs.contracts.kept.KeptPartialEq.TheImpl.{eq-value as kept_eq}
 use Rattle.lrc_explore.specs.Kept.{IsAddedAt}
 
 first_false : (a b : Bool) → (a || b) ≡ false → a ≡ false
@@ -27,11 +24,10 @@ none_passes : {A : Type 0} (test : A → Bool) (xs : List A) (d : A) → list_an
 none_passes test xs d e =
     position_or_len_is test xs (length xs) d (omega arith) (each_fails test xs d e) (λ lt. absurd (omega (arith, lt)))
 
-pub added_at : (old new : States) (kept : Kept) (place : ℕ) (b added : Bool) → list_any (kept_eq.it kept) old.kept.keys ≡ b → added ≡ not b
-    → new.kept.keys ≡ (if b then old.kept.keys else old.kept.keys ++ kept ∷ []) → place ≡ position_or_len (kept_eq.it kept) old.kept.keys
-    → IsAddedAt old new place added
-added_at old new kept place true true has is keys at = cc
-added_at old new kept place true false has is keys at = ap length keys
-added_at old new kept place false true has is keys at =
-    (at ∙ none_passes (kept_eq.it kept) old.kept.keys kept has, ap length keys ∙ length_push old.kept.keys kept)
-added_at old new kept place false false has is keys at = cc
+-- an item that is put to a list, if it is new
+pub added_at : {A : Type 0} (E : A → A → Bool) (old new : List A) (item : A) (place : ℕ) (b added : Bool) → list_any (E item) old ≡ b → added ≡ not b
+    → new ≡ (if b then old else old ++ item ∷ []) → place ≡ position_or_len (E item) old → IsAddedAt (length old) (length new) place added
+added_at E old new item place true true has is keys at = cc
+added_at E old new item place true false has is keys at = ap length keys
+added_at E old new item place false true has is keys at = (at ∙ none_passes (E item) old item has, ap length keys ∙ length_push old item)
+added_at E old new item place false false has is keys at = cc

@@ -1,4 +1,4 @@
--- Acts that compare equal are equal, and so are notes.
+-- Acts that compare equal are equal.
 use Rattle.std.proofs.Common.{◌≡◌, List, [], ◌∷◌, true, refl, ◌∙◌, ap}
 use Rattle.std.specs.Prelude.{nat_eq}
 use Rattle.std.proofs.lemmas.Bool.{and_parts, eqb-true}
@@ -11,12 +11,6 @@ use Rattle.lrc_trace.specs.declared.act.Deed.TheVariants.{Quiet, Print, Read, Wr
 use Rattle.lrc_trace.specs.contracts.act.CausePartialEq.TheImpl.{eq-value as cause_eq}
 use Rattle.lrc_trace.specs.contracts.act.DeedPartialEq.TheImpl.{eq-value as deed_eq}
 use Rattle.lrc_trace.specs.contracts.act.ActPartialEq.TheImpl.{eq-value as act_eq}
-use Rattle.lrc_exec.specs.declared.spot.Flat.{Flat}
-use Rattle.lrc_explore.specs.declared.outcomes.Noted.{Noted}
-use Rattle.lrc_explore.specs.contracts.outcomes.NotedPartialEq.TheImpl.{eq-value as noted_eq}
-use Rattle.lrc_explore.specs.contracts.state.StatePartialEq.TheImpl.{eq-value as state_eq}
-use Rattle.lrc_explore.specs.States.{plain_at}
-use Rattle.lrc_explore.proofs.Same.{state_same}
 
 cause_same : (a b : Cause) → cause_eq.it a b ≡ true → a ≡ b
 cause_same DivisionByZero DivisionByZero e = refl
@@ -57,8 +51,3 @@ acts_same (x ∷ xs) (y ∷ ys) e =
     let first = act_same x y parts.0 in
     let rest = acts_same xs ys parts.1 in
     cc
-
-pub noted_same : (flat : Flat) (a b : Noted) → noted_eq.it a b ≡ true → (plain_at flat a.state ≡ plain_at flat b.state) × (a.notes.items ≡ b.notes.items)
-noted_same flat a b e =
-    let p = and_parts (state_eq.it a.state b.state) (pointwise act_eq.it a.notes.items b.notes.items) e in
-    (state_same flat a.state b.state p.0, acts_same a.notes.items b.notes.items p.1)

@@ -20,12 +20,13 @@ use Rattle.lrc_explore.specs.declared.search.Found.{Found}
 use Rattle.lrc_explore.specs.declared.search.Origin.{Origin}
 use Rattle.lrc_explore.specs.Kept.{AreFull, IsAddedAt, IsAt, Widens, size}
 use Rattle.lrc_explore.specs.Meeting.{IsReached}
-use Rattle.lrc_explore.specs.States.{plain_at, begun}
+use Rattle.lrc_explore.specs.contracts.state.StatePartialEq.TheImpl.{eq-value as state_eq}
+use Rattle.lrc_explore.specs.States.{plain_at, begun, IsCopy}
 use Rattle.lrc_explore.specs.Search.{Stands, Steps, IsFound}
 use Rattle.lrc_explore.specs.Limit.{AreCounted, HasMoreStates, MeetsMore}
 use Rattle.lrc_explore.proofs.Searching.{stands_one, stands_grown, stands_within}
-use Rattle.lrc_explore.proofs.Listing.{distinct_from, listed, listed_at}
-use Rattle.lrc_explore.proofs.Widening.{added_all}
+use Rattle.lrc_explore.proofs.Stores.{added_all, listed, listed_apart}
+use Rattle.lrc_explore.proofs.Widening.{apart_at, states_store}
 
 -- a deed with the machine after it, where it can be done
 abbrev done : Deed → Plain → Option (Deed × Plain)
@@ -156,10 +157,10 @@ counted_step flat states state origin counted steps node =
     omega arith
 
 -- one state more, if it is new
-pub counted_put : (old new : States) (place : ℕ) (added : Bool) (state : State) → Widens old new → AreFull old → IsAddedAt old new place added
+pub counted_put : (old new : States) (place : ℕ) (added : Bool) (state : State) → Widens old new → AreFull old → IsAddedAt (size old) (size new) place added
     → IsAt new place state → AreCounted old → ((node : ℕ) → slice_index state.arrivals.items node ≤ size old) → AreCounted new
 counted_put old new place added state w full put at counted last =
-    added_all old new place added state w full put at (λ k s. (node : ℕ) → slice_index s.arrivals.items node ≤ k) counted
+    added_all IsAt size Widens IsCopy states_store old new place added state w full put at (λ k s. (node : ℕ) → slice_index s.arrivals.items node ≤ k) counted
     (λ is s c node. subst (λ xs. slice_index xs node ≤ size old) (sym c.arrivals) (last node))
 
 -- some order leads to each state that was found
@@ -197,8 +198,7 @@ pub has_more : (program : Program) (flat : Flat) (place most : ℕ) (first : Sta
     → flat.words ≡ program.words → flat.locks ≡ program.locks → Stands flat first 0 (plain_start program flat.nodes) → MeetsMore flat first most
     → HasMoreStates program flat.nodes most
 has_more program flat place most first code words locks start m =
-    let all = listed m.found.states m.sound.full in
-    let at = listed_at m.found.states all.list all.from in
+    let all = listed IsAt size Widens IsCopy states_store m.found.states m.sound.full in
     record {
       flat = flat;
       place = place;
@@ -207,8 +207,8 @@ has_more program flat place most first code words locks start m =
       locks = locks;
       states = all.list;
       many = subst (λ n. most < n) (sym all.long) m.many;
-      distinct = distinct_from m.found.states 0 all.list m.sound.distinct all.from;
-      valid = λ k state there. m.sound.valid k state (at k state there);
+      distinct = listed_apart IsAt size Widens IsCopy states_store state_eq.it m.found.states (apart_at m.found.states m.sound.distinct) all;
+      valid = λ k state there. m.sound.valid k state (all.at k state there);
       reached = λ k state there.
-          reached_all program flat m.found m.sound (stands_grown m.widens start) k state (at k state there);
+          reached_all program flat m.found m.sound (stands_grown m.widens start) k state (all.at k state there);
     }

@@ -23,11 +23,11 @@ use Rattle.lrc_explore.specs.Kept.{AreDistinct, IsKept}
 use Rattle.lrc_explore.proofs.Same.{pointwise_same, option_same, spot_same, kept_same}
 use Rattle.lrc_explore.proofs.Keeping.{item_at}
 
-both_true : (a b : Bool) → a ≡ true → b ≡ true → (a && b) ≡ true
+pub both_true : (a b : Bool) → a ≡ true → b ≡ true → (a && b) ≡ true
 both_true true b e f = f
 both_true false b e f = cc
 
-nat_itself : (n : ℕ) → nat_eq n n ≡ true
+pub nat_itself : (n : ℕ) → nat_eq n n ≡ true
 nat_itself n = eq-eqb n n refl
 
 option_itself : (x : Option ℕ) → option_eq nat_eq x x ≡ true
@@ -47,7 +47,7 @@ spot_itself s =
     both_true _ _ (nat_itself s.me) (both_true _ _ (nat_itself s.place) (both_true _ _ (each_itself nat_eq nat_itself s.privates)
     (both_true _ _ (each_itself beq beq_itself s.held) (both_true _ _ (beq_itself s.arrived) (beq_itself s.stopped)))))
 
-equal_items : {A : Type 0} (E : A → A → Bool) → ((a : A) → E a a ≡ true) → (xs ys : List A) → xs ≡ ys → pointwise E xs ys ≡ true
+pub equal_items : {A : Type 0} (E : A → A → Bool) → ((a : A) → E a a ≡ true) → (xs ys : List A) → xs ≡ ys → pointwise E xs ys ≡ true
 equal_items E same xs ys e = subst (λ l. pointwise E xs l ≡ true) e (each_itself E same xs)
 
 state_alike : (a b : State) → a.memory.items ≡ b.memory.items → a.holders.items ≡ b.holders.items → a.arrivals.items ≡ b.arrivals.items
@@ -79,7 +79,7 @@ not_later E x y (k ∷ ks) zero all at e =
 not_later E x y (k ∷ ks) (suc j) all at e = not_later E x y ks j all.1 at e
 
 -- of distinct items two that are equal, either way round, stand at one place
-one_place : {A : Type 0} (E : A → A → Bool) (ks : List A) → IsDistinct E ks → (i j : ℕ) (x y : A) → slice_get ks i ≡ Some x → slice_get ks j ≡ Some y
+pub one_place : {A : Type 0} (E : A → A → Bool) (ks : List A) → IsDistinct E ks → (i j : ℕ) (x y : A) → slice_get ks i ≡ Some x → slice_get ks j ≡ Some y
     → E x y ≡ true → E y x ≡ true → i ≡ j
 one_place E [] d i j x y at there e f = cc
 one_place E (k ∷ ks) d zero zero x y at there e f = refl

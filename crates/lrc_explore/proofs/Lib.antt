@@ -1,8 +1,9 @@
 pub mod Keeping
 pub mod Adding
 pub mod KeptAlike
+pub mod Stores
 pub mod Widening
-pub mod Listing
+pub mod Ways
 pub mod Effects
 pub mod Reduced
 pub mod Reducing

@@ -1,16 +1,20 @@
 -- Kept states to which others are added.
-use Rattle.std.proofs.Common.{◌≡◌, ℕ, ◌<◌, ◌≤◌, List, Bool, true, false, inl, inr, refl, sym, subst, ◌∙◌, ap, arith}
-use Rattle.std.specs.Prelude.{slice_index}
-use Rattle.std.proofs.lemmas.Bool.{cases_lt}
-use Rattle.std.proofs.lemmas.Option.{same_Some, slice_get_within}
+use Rattle.std.proofs.Common.{◌≡◌, ℕ, ◌<◌, List, Bool, true, false, refl, sym, subst, ◌∙◌, ap}
+use Rattle.std.specs.Prelude.{Some, get_or, slice_get, slice_index}
+use Rattle.std.specs.List.{IsDistinct}
+use Rattle.std.proofs.lemmas.Map.Keys.{apart_from_distinct}
+use Rattle.std.proofs.lemmas.Option.{get_or_from_slice_get, same_Some, slice_get_within}
 use Rattle.lrc_exec.specs.declared.spot.Spot.{Spot}
 use Rattle.lrc_explore.specs.declared.kept.Kept.{Kept}
 use Rattle.lrc_explore.specs.declared.kept.States.{States}
 use Rattle.lrc_explore.specs.declared.state.State.{State}
+use Rattle.lrc_explore.specs.contracts.kept.KeptPartialEq.TheImpl.{eq-value as kept_eq}
+use Rattle.lrc_explore.specs.contracts.state.StatePartialEq.TheImpl.{eq-value as state_eq}
 use Rattle.lrc_explore.specs.States.{IsCopy}
-use Rattle.lrc_explore.specs.Kept.{AreFull, AreThere, Grows, IsAddedAt, IsAt, IsKept, IsPlace, Widens, size}
+use Rattle.lrc_explore.specs.Kept.{AreDistinct, AreThere, Grows, IsAt, IsKept, Widens, size}
 use Rattle.lrc_explore.proofs.Keeping.{grows_again, item_at, stands_on}
-use Rattle.lrc_explore.proofs.KeptAlike.{copies}
+use Rattle.lrc_explore.proofs.KeptAlike.{alike, copies}
+use Rattle.lrc_explore.proofs.Stores.{IsStore}
 
 there_grown : {old new : List Spot} {places : List ℕ} {spots : List Spot} → Grows old new → AreThere old places spots → AreThere new places spots
 there_grown {places = places} {spots = spots} g t = record {
@@ -63,48 +67,30 @@ at_same {states = states} x c = record {
   };
 }
 
--- what is kept at an old place was kept there
-pub at_before : {old new : States} {place : ℕ} {state : State} → Widens old new → IsPlace old place → IsAt new place state → IsAt old place state
-at_before w p a = at_same p.at (at_copy a (at_grown w p.at))
+-- so kept states are a store
+pub states_store : IsStore IsAt size Widens IsCopy
+states_store = record {
+  within = λ states k state at. at_within at;
+  grown = λ old new k state w at. at_grown w at;
+  copy = λ states k s t at there. at_copy at there;
+  same = λ states k s t at c. at_same at c;
+}
 
--- where a state is added, if it is new
-module _ (old new : States) (place : ℕ) (added : Bool) (state : State) (w : Widens old new) (full : AreFull old) (is : IsAddedAt old new place added)
-    (at : IsAt new place state) where
-  -- what holds of the old states at their places, and of the one at the end, holds of all
-  pub added_all : (P : ℕ → State → Type 0) → ((k : ℕ) (s : State) → IsAt old k s → P k s) → (added ≡ true → (s : State) → IsCopy s state → P (size old) s)
-      → (k : ℕ) (s : State) → IsAt new k s → P k s
-  added_all P before last k s here = elim (cases_lt k (size old)) [
-    | inl lt ↦ before k s (at_before w (full k lt) here)
-    | inr le ↦ put_last P last k s here le added refl is
-  ]
-    where
-      put_last : (P : ℕ → State → Type 0) → (added ≡ true → (s : State) → IsCopy s state → P (size old) s) → (k : ℕ) (s : State) → IsAt new k s
-          → size old ≤ k → (b : Bool) → added ≡ b → IsAddedAt old new place b → P k s
-      put_last P last k s here le true e put =
-          let within = at_within here in
-          let long = put.1 in
-          let end : k ≡ size old = omega (arith, within, long, le) in
-          let one : IsAt new place s = subst (λ n. IsAt new n s) (end ∙ sym put.0) here in
-          subst (λ n. P n s) (sym end) (last e s (at_copy one at))
-      put_last P last k s here le false e put = let within = at_within here in absurd (omega (arith, within, put, le))
+pub not_true : (a b : Bool) → a ≡ false → (b ≡ true → a ≡ true) → b ≡ false
+not_true a false fails back = refl
+not_true a true fails back = let yes = back refl in cc
 
-  full_put : (b : Bool) → IsAddedAt old new place b → AreFull new
-  full_put true put k lt = elim (cases_lt k (size old)) [
-    | inl less ↦ let p = full k less in record { state = p.state; at = at_grown w p.at }
-    | inr le ↦
-        let long = put.1 in
-        let end : place ≡ k = put.0 ∙ omega (arith, lt, le, long) in
-        record { state = state; at = subst (λ n. IsAt new n state) end at }
-  ]
-  full_put false put k lt = let p = full k (omega (arith, lt, put)) in record { state = p.state; at = at_grown w p.at }
+-- items at two places of distinct ones are not equal
+pub apart_in : {A : Type 0} (E : A → A → Bool) (xs : List A) (i j : ℕ) (x y : A) → IsDistinct E xs → slice_get xs i ≡ Some x → slice_get xs j ≡ Some y
+    → i < j → E x y ≡ false
+apart_in E xs i j x y distinct at there lt =
+    let within = slice_get_within xs j y there in
+    let apart = apart_from_distinct E xs i j x distinct lt within in
+    subst (λ z. E x z ≡ false) (get_or_from_slice_get xs j y x there)
+    (subst (λ z. E z (get_or xs j x) ≡ false) (get_or_from_slice_get xs i x x at) apart)
 
-  pub full_more : AreFull new
-  full_more = full_put added is
-
-  first_put : size old ≡ 0 → (b : Bool) → IsAddedAt old new place b → (b ≡ true) × (place ≡ 0)
-  first_put none true put = (refl, put.0 ∙ none)
-  first_put none false put = let within = at_within at in absurd (omega (arith, within, put, none))
-
-  -- the first state is new
-  pub first_added : size old ≡ 0 → (added ≡ true) × (place ≡ 0)
-  first_added none = first_put none added is
+-- and nor are states that are kept at two places
+pub apart_at : (states : States) → AreDistinct states → (i j : ℕ) (s t : State) → IsAt states i s → IsAt states j t → i < j → state_eq.it s t ≡ false
+apart_at states distinct i j s t x y lt =
+    not_true (kept_eq.it x.kept y.kept) (state_eq.it s t) (apart_in kept_eq.it states.kept.keys i j x.kept y.kept distinct.kept x.there y.there lt)
+    (alike states x.kept y.kept s t x.is y.is distinct).1

@@ -46,9 +46,8 @@ pub record IsAt (states : States) (place : ℕ) (state : State) : Type 0 where
   pub is : IsKept states kept state
 
 -- some state is
-pub record IsPlace (states : States) (place : ℕ) : Type 0 where
-  pub state : State
-  pub at : IsAt states place state
+abbrev pub IsPlace : States → (place : ℕ) → Type 0
+IsPlace states place = (state : State) × IsAt states place state
 
 -- at each place before the end some state is kept
 abbrev pub AreFull : States → Type 0
@@ -70,10 +69,10 @@ pub record AreDistinct (states : States) : Type 0 where
   pub spots : AreSpotsDistinct states.spots.keys
   pub kept : IsDistinct kept_eq.it states.kept.keys
 
--- a state that is new stands behind the others, and else there are as many as before
-abbrev pub IsAddedAt : (old new : States) (place : ℕ) (added : Bool) → Type 0
-IsAddedAt old new place true = (place ≡ size old) × (size new ≡ size old + 1)
-IsAddedAt old new place false = size new ≡ size old
+-- what is new stands behind the others, and else there are as many as before
+abbrev pub IsAddedAt : (before after place : ℕ) (added : Bool) → Type 0
+IsAddedAt before after place true = (place ≡ before) × (after ≡ before + 1)
+IsAddedAt before after place false = after ≡ before
 
 -- two states are kept alike exactly where they are alike
 abbrev pub AreAlikeTogether : (a b : Kept) (s t : State) → Type 0

@@ -6,4 +6,5 @@ pub mod Verdict
 pub mod Search
 pub mod Limit
 pub mod Notes
+pub mod Noted
 pub mod Outcome

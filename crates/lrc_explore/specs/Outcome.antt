@@ -1,7 +1,7 @@
 -- Outcomes of a program, and how they are searched for.
 use Rattle.std.specs.List.{IsDistinct}
 use Rattle.lrc_exec.specs.Flat.{IsCodeOf}
-use Rattle.lrc_explore.specs.contracts.outcomes.NotedPartialEq.TheImpl.{eq-value}
+use Rattle.lrc_explore.specs.contracts.noted.NotedPartialEq.TheImpl.{eq-value}
 use Rattle.std.specs.Prelude.{length, ◌≡◌, ℕ, ◌<◌, ◌≤◌, List, Some, Contains, slice_get, slice_index}
 use Rattle.lrc_lang.specs.declared.program.Program.{Program}
 use Rattle.lrc_trace.specs.declared.act.Act.{Act}
@@ -9,10 +9,12 @@ use Rattle.lrc_trace.specs.declared.act.Deed.{Deed}
 use Rattle.lrc_trace.specs.Run.{act_of}
 use Rattle.lrc_exec.specs.Plain.{Plain, plain_step, plain_start, plain_from}
 use Rattle.lrc_exec.specs.declared.spot.Flat.{Flat}
-use Rattle.lrc_explore.specs.declared.outcomes.Noted.{Noted}
+use Rattle.lrc_explore.specs.declared.noted.Noted.{Noted}
+use Rattle.lrc_explore.specs.declared.noted.NotedStates.{NotedStates}
 use Rattle.lrc_explore.specs.declared.outcomes.Outcome.{Outcome}
 use Rattle.lrc_explore.specs.Notes.{notes_of, noted}
-use Rattle.lrc_explore.specs.States.{plain_at, IsState, IsCopy}
+use Rattle.lrc_explore.specs.Noted.{AreNotedDistinct, AreNotedFull, IsNotedAt}
+use Rattle.lrc_explore.specs.States.{plain_at, IsState}
 use Rattle.lrc_explore.specs.Stuck.{IsStill}
 
 -- an order from this start after which no node can make an act, and what is noted of its acts
@@ -43,10 +45,10 @@ pub record IsLed (flat : Flat) (start : Plain) (key : Noted) : Type 0 where
   pub are : notes_of flat.nodes acts ≡ key.notes.items
 
 -- one of the states stands for this one, with these notes
-pub record HasNoted (flat : Flat) (keys : List Noted) (machine : Plain) (notes : List Act) : Type 0 where
+pub record HasNoted (flat : Flat) (all : NotedStates) (machine : Plain) (notes : List Act) : Type 0 where
   pub place : ℕ
   pub key : Noted
-  pub there : slice_get keys place ≡ Some key
+  pub there : IsNotedAt all place key
   pub same : plain_at flat key.state ≡ machine
   pub noted : key.notes.items ≡ notes
 
@@ -56,37 +58,42 @@ pub record AreLed (flat : Flat) (start : Plain) (keys : List Noted) : Type 0 whe
   pub led : (k : ℕ) (key : Noted) → slice_get keys k ≡ Some key → IsLed flat start key
   pub counted : (k : ℕ) (key : Noted) → slice_get keys k ≡ Some key → (node : ℕ) → slice_index key.state.arrivals.items node ≤ k
 
+-- no node has arrived more often than so
+abbrev pub CountsUpTo : (most : ℕ) → Noted → Type 0
+CountsUpTo most key = (node : ℕ) → slice_index key.state.arrivals.items node ≤ most
+
+-- the state is in order, led to, and no node has arrived more often than so
+pub record IsGathered (flat : Flat) (start : Plain) (most : ℕ) (key : Noted) : Type 0 where
+  pub valid : IsState flat key.state
+  pub led : IsLed flat start key
+  pub counted : CountsUpTo most key
+
+-- so are all, each of them stands once, and no node has arrived more often than there are states before
+pub record AreGathered (flat : Flat) (start : Plain) (all : NotedStates) : Type 0 where
+  pub full : AreNotedFull all
+  pub distinct : AreNotedDistinct all
+  pub each : (k : ℕ) (key : Noted) → IsNotedAt all k key → IsGathered flat start k key
+
 -- the states have all that a step of a node below a bound leads to from this one
-abbrev pub HasNextBelow : Flat → List Noted → Noted → ℕ → Type 0
-HasNextBelow flat keys key bound = (node : ℕ) (deed : Deed) (after : Plain) → node < bound → plain_step (plain_at flat key.state) node ≡ Some (deed, after)
-    → HasNoted flat keys after (noted key.notes.items (act_of node deed))
+abbrev pub HasNextBelow : Flat → NotedStates → Noted → ℕ → Type 0
+HasNextBelow flat all key bound = (node : ℕ) (deed : Deed) (after : Plain) → node < bound → plain_step (plain_at flat key.state) node ≡ Some (deed, after)
+    → HasNoted flat all after (noted key.notes.items (act_of node deed))
 
 -- the outcomes are of orders from this start
 abbrev pub AreSound : Flat → Plain → List Outcome → Type 0
 AreSound flat start outcomes = (k : ℕ) (outcome : Outcome) → slice_get outcomes k ≡ Some outcome → EndsWith start flat.nodes outcome.notes.items
 
 -- the state at a place has all next ones, and its outcome where it is still
-pub record IsDone (flat : Flat) (keys : List Noted) (outcomes : List Outcome) (key : Noted) : Type 0 where
-  pub next : (bound : ℕ) → HasNextBelow flat keys key bound
+pub record IsDone (flat : Flat) (all : NotedStates) (outcomes : List Outcome) (key : Noted) : Type 0 where
+  pub next : (bound : ℕ) → HasNextBelow flat all key bound
   pub gathered : IsStill (plain_at flat key.state) → HasOutcome outcomes key.notes.items
 
 -- so it is of the states before an index, and of the one at a place
-abbrev pub AreDone : Flat → List Noted → List Outcome → (index : ℕ) → Type 0
-AreDone flat keys outcomes index = (k : ℕ) (key : Noted) → k < index → slice_get keys k ≡ Some key → IsDone flat keys outcomes key
+abbrev pub AreDone : Flat → NotedStates → List Outcome → (index : ℕ) → Type 0
+AreDone flat all outcomes index = (k : ℕ) (key : Noted) → k < index → IsNotedAt all k key → IsDone flat all outcomes key
 
-abbrev pub IsDoneAt : Flat → List Noted → List Outcome → (place : ℕ) → Type 0
-IsDoneAt flat keys outcomes place = (key : Noted) → slice_get keys place ≡ Some key → IsDone flat keys outcomes key
-
--- the state at a place, and a copy of it
-pub record IsCopyAt (flat : Flat) (keys : List Noted) (place : ℕ) (key : Noted) : Type 0 where
-  pub held : Noted
-  pub there : slice_get keys place ≡ Some held
-  pub state : IsCopy key.state held.state
-  pub notes : key.notes.items ≡ held.notes.items
-
--- no node has arrived more often than so
-abbrev pub CountsUpTo : (most : ℕ) → Noted → Type 0
-CountsUpTo most key = (node : ℕ) → slice_index key.state.arrivals.items node ≤ most
+abbrev pub IsDoneAt : Flat → NotedStates → List Outcome → (place : ℕ) → Type 0
+IsDoneAt flat all outcomes place = (key : Noted) → IsNotedAt all place key → IsDone flat all outcomes key
 
 -- all states to which some order leads, each with what is noted of its acts, are among so many
 pub record FitsNoted (program : Program) (nodes most : ℕ) : Type 0 where

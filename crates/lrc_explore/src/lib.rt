@@ -3,6 +3,7 @@
 
 pub mod kept;
 pub mod laws;
+pub mod noted;
 pub mod notes;
 pub mod outcomes;
 pub mod search;

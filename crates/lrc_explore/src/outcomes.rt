@@ -5,14 +5,14 @@ ghost use Rattle.lrc_trace.specs.declared.act.Act.{Act};
 ghost use Rattle.lrc_explore.specs.Verdict.{AreNodes};
 ghost use Rattle.lrc_explore.specs.Outcome.{FitsNoted, HasMoreNoted, HasOutcome, IsOutcome};
 
-use crate::notes::note;
+use crate::noted::{Noted, NotedStates};
 use crate::search::{ExploreFault, count_of};
-use crate::state::{State, copied};
+use crate::state::State;
 use indexmap::IndexSet;
 use lrc_exec::code::Code;
 use lrc_exec::spot::Flat;
 use lrc_lang::program::Program;
-use lrc_trace::act::{Act, Deed};
+use lrc_trace::act::Act;
 use std::alloc::{AllocError, Global};
 
 /// What the nodes print, each one's in order, and how each ends: the prints, the traps and the ends, node by node.
@@ -21,17 +21,10 @@ pub struct Outcome {
     pub notes: Vec<Act>,
 }
 
-// A state, and what was noted on the way to it.
-#[derive(PartialEq, Eq, Hash, Drop)]
-pub(crate) struct Noted {
-    state: State,
-    notes: Vec<Act>,
-}
-
 // States, each once, in the order in which they were found, and the outcomes of those at which no node can make an act.
 #[derive(Drop)]
 pub(crate) struct Gathered {
-    states: IndexSet<Noted>,
+    states: NotedStates,
     outcomes: IndexSet<Outcome>,
 }
 
@@ -62,72 +55,25 @@ pub fn outcomes(
     Ok(gathered.outcomes)
 }
 
-impl Noted {
-    ghost use Rattle.std.specs.Prelude.{◌≡◌, ◌<◌, ◌-◌, ◌^◌, IfOk, Some, length, option_map, slice_index};
-    ghost use Rattle.lrc_trace.specs.Run.{act_of};
-    ghost use Rattle.lrc_exec.specs.Plain.{plain_step};
-    ghost use Rattle.lrc_exec.specs.Spots.{IsFlat};
-    ghost use Rattle.lrc_explore.specs.Notes.{noted};
-    ghost use Rattle.lrc_explore.specs.States.{plain_at, IsState, IsCopy};
-
-    // The same state and notes.
-    fn copy(&self, alloc: Global) -> Result<Noted, AllocError>
-        ensures state { IfOk result (λ copy. IsCopy copy.state self.now.state) }
-        ensures notes { IfOk result (λ copy. copy.notes.items ≡ self.now.notes.items) }
-    {
-        Ok(Noted {
-            state: self.state.copy(alloc)?,
-            notes: copied(alloc, &self.notes)?,
-        })
-    }
-
-    // The state after a deed, with its note.
-    fn after(
-        &self,
-        alloc: Global,
-        flat: &Flat,
-        node: usize,
-        deed: Deed,
-    ) -> Result<Noted, AllocError>
-        requires flat { IsFlat flat.now }
-        requires state { IsState flat.now self.now.state }
-        requires node { node < flat.now.nodes }
-        requires can { option_map (λ step. step.0) (plain_step (plain_at flat.now self.now.state) node) ≡ Some deed }
-        requires room { slice_index self.now.state.arrivals.items node < 2 ^ 64 - 1 }
-        ensures made { IfOk result (λ after. plain_step (plain_at flat.now self.now.state) node ≡ Some (deed, plain_at flat.now after.state)) }
-        ensures state { IfOk result (λ after. IsState flat.now after.state) }
-        ensures notes { IfOk result (λ after. after.notes.items ≡ noted self.now.notes.items (act_of node deed)) }
-    {
-        let _nodes = flat.nodes;
-        let mut after = self.copy(alloc)?;
-        after.state.make(flat, node, deed);
-        let act = Act {
-            node: node as u8,
-            deed,
-        };
-        note(&mut after.notes, act)?;
-        Ok(after)
-    }
-}
-
 impl Gathered {
     ghost use Rattle.std.specs.Prelude.{◌≡◌, ◌≢◌, ◌<◌, ◌≤◌, ◌^◌, IfOk, IfErr, OnOk, length, []};
     ghost use Rattle.lrc_exec.specs.Spots.{IsFlat};
     ghost use Rattle.lrc_explore.specs.States.{IsState, begun, plain_at};
     ghost use Rattle.lrc_explore.specs.Kept.{Grows};
-    ghost use Rattle.lrc_explore.specs.Outcome.{AreLed, AreSound, AreDone, HasNoted, HasNextBelow, IsLed, IsDoneAt, IsCopyAt, CountsUpTo, MeetsMoreNoted};
+    ghost use Rattle.lrc_explore.specs.Noted.{IsNotedAt, WidensNoted, count};
+    ghost use Rattle.lrc_explore.specs.Outcome.{AreGathered, AreSound, AreDone, HasNoted, HasNextBelow, IsLed, IsDoneAt, CountsUpTo, MeetsMoreNoted};
 
     // The start alone.
     fn new(alloc: Global, flat: &Flat, place: usize) -> Result<Gathered, AllocError>
         requires { place ≤ length flat.now.code.now }
-        ensures led { IfOk result (λ new. AreLed flat.now (begun flat.now place) new.states.keys) }
-        ensures start { IfOk result (λ new. HasNoted flat.now new.states.keys (begun flat.now place) []) }
+        ensures led { IfOk result (λ new. AreGathered flat.now (begun flat.now place) new.states) }
+        ensures start { IfOk result (λ new. HasNoted flat.now new.states (begun flat.now place) []) }
         ensures none { IfOk result (λ new. new.outcomes.keys ≡ []) }
     {
-        let mut states = IndexSet::new(alloc);
+        let mut states = NotedStates::new(alloc);
         let state = State::start(alloc, flat, place)?;
         let notes = Vec::new(alloc);
-        states.insert(Noted { state, notes })?;
+        let (_place, _new) = states.add(alloc, Noted { state, notes })?;
         let outcomes = IndexSet::new(alloc);
         Ok(Gathered { states, outcomes })
     }
@@ -141,13 +87,13 @@ impl Gathered {
         most: usize,
     ) -> Result<(), ExploreFault>
         requires flat { IsFlat flat.now }
-        requires led { AreLed flat.now (begun flat.now start) self.old.states.keys }
+        requires led { AreGathered flat.now (begun flat.now start) self.old.states }
         requires none { self.old.outcomes.keys ≡ [] }
-        ensures grows { OnOk result (Grows self.old.states.keys self.new.states.keys) }
-        ensures led { OnOk result (AreLed flat.now (begun flat.now start) self.new.states.keys) }
+        ensures widens { OnOk result (WidensNoted self.old.states self.new.states) }
+        ensures led { OnOk result (AreGathered flat.now (begun flat.now start) self.new.states) }
         ensures sound { OnOk result (AreSound flat.now (begun flat.now start) self.new.outcomes.keys) }
-        ensures done { OnOk result (AreDone flat.now self.new.states.keys self.new.outcomes.keys (length self.new.states.keys)) }
-        ensures fits { OnOk result (length self.new.states.keys ≤ most) }
+        ensures done { OnOk result (AreDone flat.now self.new.states self.new.outcomes.keys (count self.new.states)) }
+        ensures fits { OnOk result (count self.new.states ≤ most) }
         ensures nodes { IfErr result (λ fault. fault ≢ ExploreFault.BadNodes) }
         ensures faults { IfErr result (λ fault. fault ≡ ExploreFault.TooMany → MeetsMoreNoted flat.now (begun flat.now start) most) }
     {
@@ -171,18 +117,17 @@ impl Gathered {
         place: usize,
     ) -> Result<(), AllocError>
         requires flat { IsFlat flat.now }
-        requires led { AreLed flat.now (begun flat.now start) self.old.states.keys }
+        requires led { AreGathered flat.now (begun flat.now start) self.old.states }
         requires sound { AreSound flat.now (begun flat.now start) self.old.outcomes.keys }
-        requires within { place < length self.old.states.keys }
+        requires within { place < count self.old.states }
         requires small { place < 2 ^ 63 }
-        ensures grows { OnOk result (Grows self.old.states.keys self.new.states.keys) }
-        ensures led { OnOk result (AreLed flat.now (begun flat.now start) self.new.states.keys) }
+        ensures widens { OnOk result (WidensNoted self.old.states self.new.states) }
+        ensures led { OnOk result (AreGathered flat.now (begun flat.now start) self.new.states) }
         ensures more { OnOk result (Grows self.old.outcomes.keys self.new.outcomes.keys) }
         ensures sound { OnOk result (AreSound flat.now (begun flat.now start) self.new.outcomes.keys) }
-        ensures done { OnOk result (IsDoneAt flat.now self.new.states.keys self.new.outcomes.keys place) }
+        ensures done { OnOk result (IsDoneAt flat.now self.new.states self.new.outcomes.keys place) }
     {
-        let held = &self.states.as_slice()[place];
-        let key = held.copy(alloc)?;
+        let key = self.states.noted(alloc, place)?;
         self.expand(alloc, flat, start, place, &key)?;
         if key.state.is_still(flat) {
             self.outcomes.insert_full(Outcome { notes: key.notes })?;
@@ -200,37 +145,43 @@ impl Gathered {
         key: &Noted,
     ) -> Result<(), AllocError>
         requires flat { IsFlat flat.now }
-        requires led { AreLed flat.now (begun flat.now start) self.old.states.keys }
-        requires there { IsCopyAt flat.now self.old.states.keys place key.now }
+        requires led { AreGathered flat.now (begun flat.now start) self.old.states }
+        requires there { IsNotedAt self.old.states place key.now }
         requires small { place < 2 ^ 63 }
         requires state { IsState flat.now key.now.state }
-        ensures grows { OnOk result (Grows self.old.states.keys self.new.states.keys) }
-        ensures led { OnOk result (AreLed flat.now (begun flat.now start) self.new.states.keys) }
+        ensures widens { OnOk result (WidensNoted self.old.states self.new.states) }
+        ensures led { OnOk result (AreGathered flat.now (begun flat.now start) self.new.states) }
         ensures same { self.new.outcomes.keys ≡ self.old.outcomes.keys }
-        ensures next { OnOk result (HasNextBelow flat.now self.new.states.keys key.now (length key.now.state.spots.items)) }
+        ensures next { OnOk result (HasNextBelow flat.now self.new.states key.now (length key.now.state.spots.items)) }
     {
         for node in 0..key.state.spots.len() {
             let Some(deed) = key.state.next_deed(flat, node) else {
                 continue;
             };
             let after = key.after(alloc, flat, node, deed)?;
-            self.add(flat, start, after)?;
+            self.add(alloc, flat, start, after)?;
         }
         Ok(())
     }
 
     // One state more, if it is new.
-    fn add(&mut self, flat: &Flat, start: usize, after: Noted) -> Result<(), AllocError>
-        requires led { AreLed flat.now (begun flat.now start) self.old.states.keys }
+    fn add(
+        &mut self,
+        alloc: Global,
+        flat: &Flat,
+        start: usize,
+        after: Noted,
+    ) -> Result<(), AllocError>
+        requires led { AreGathered flat.now (begun flat.now start) self.old.states }
         requires state { IsState flat.now after.state }
         requires led_to { IsLed flat.now (begun flat.now start) after }
-        requires counted { CountsUpTo (length self.old.states.keys) after }
-        ensures grows { OnOk result (Grows self.old.states.keys self.new.states.keys) }
-        ensures led { OnOk result (AreLed flat.now (begun flat.now start) self.new.states.keys) }
+        requires counted { CountsUpTo (count self.old.states) after }
+        ensures widens { OnOk result (WidensNoted self.old.states self.new.states) }
+        ensures led { OnOk result (AreGathered flat.now (begun flat.now start) self.new.states) }
         ensures same { self.new.outcomes.keys ≡ self.old.outcomes.keys }
-        ensures has { OnOk result (HasNoted flat.now self.new.states.keys (plain_at flat.now after.state) after.notes.items) }
+        ensures has { OnOk result (HasNoted flat.now self.new.states (plain_at flat.now after.state) after.notes.items) }
     {
-        self.states.insert_full(after)?;
+        let (_place, _new) = self.states.add(alloc, after)?;
         Ok(())
     }
 }

@@ -21,8 +21,8 @@ returns-clause-exact c = λ notes.
     (c.locks.ensures ∙ ap (λ (x : Program). x.locks) is) (c.parts-place.ensures.leads ∙ ap (λ (x : Program). x.statements.items) is) in
     let e = c.in_ok-go_through.ensures in
     subst (λ n. HasOutcome c.go_through.new.self.outcomes.keys notes ↔ IsOutcome program n notes) c.in_ok-nodes.ensures.0
-    (exact program flat place c.go_through.new.self.states.keys c.go_through.new.self.outcomes.keys start
-    (noted_grown e.grows c.in_ok-gathered.ensures.start) e.done e.sound notes)
+    (exact program flat place c.go_through.new.self.states c.go_through.new.self.outcomes.keys start
+    (noted_grown e.widens c.in_ok-gathered.ensures.start) e.done e.sound notes)
 
 pub returns-clause-fits : goal.returns-clause-fits
 returns-clause-fits c =
@@ -36,8 +36,8 @@ returns-clause-fits c =
     (c.locks.ensures ∙ ap (λ (x : Program). x.locks) is) (c.parts-place.ensures.leads ∙ ap (λ (x : Program). x.statements.items) is) in
     let e = c.in_ok-go_through.ensures in
     subst (λ n. FitsNoted program n most) c.in_ok-nodes.ensures.0
-    (fits_noted program flat place most c.go_through.new.self.states.keys c.go_through.new.self.outcomes.keys start
-    (noted_grown e.grows c.in_ok-gathered.ensures.start) e.done e.fits)
+    (fits_noted program flat place most c.go_through.new.self.states c.go_through.new.self.outcomes.keys start
+    (noted_grown e.widens c.in_ok-gathered.ensures.start) e.led.full e.done e.fits)
 
 -- a fault is handed up as it is
 fault_up : {T : Type 0} (r : Result T ExploreFault) (fault : ExploreFault) (P : ExploreFault → Type 0) → IsErrAnd r (λ f. f ≡ fault) → P fault → IfErr r P

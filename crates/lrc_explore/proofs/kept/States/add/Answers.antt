@@ -2,7 +2,7 @@ use Rattle.std.proofs.Common.{◌≡◌, refl, sym, subst}
 use Rattle.std.specs.Prelude.{Some, slice_get}
 use Rattle.lrc_explore.specs.declared.kept.Kept.{Kept}
 use Rattle.lrc_explore.specs.declared.kept.Shared.{Shared}
-use Rattle.lrc_explore.specs.declared.kept.States.{States}
+use Rattle.lrc_explore.specs.contracts.kept.KeptPartialEq.TheImpl.{eq-value as kept_eq}
 use Rattle.lrc_explore.specs.Kept.{AreThere}
 use Rattle.lrc_explore.proofs.Same.{shared_same, kept_same}
 use Rattle.lrc_explore.proofs.Keeping.{put_grows}
@@ -11,10 +11,9 @@ use Rattle.lrc_explore.proofs.kept.States.add.Goals as goal
 
 pub returns-clause-added : goal.returns-clause-added
 returns-clause-added c =
-    let new : States = record { shared = c.insert_full.new.self; spots = c.places_of.new.all; kept = c.insert_full-2.new.self } in
     let kept : Kept = record { shared = c.in_ok-shared.shared; spots = c.in_ok-spots.spots } in
     let e = c.in_ok-place.ensures in
-    added_at c.args.self.now new kept c.in_ok-place.place _ c.in_ok-place.added refl e.added e.keys e.index
+    added_at kept_eq.it c.args.self.now.kept.keys c.insert_full-2.new.self.keys kept c.in_ok-place.place _ c.in_ok-place.added refl e.added e.keys e.index
 
 pub returns-clause-widens : goal.returns-clause-widens
 returns-clause-widens c = record {

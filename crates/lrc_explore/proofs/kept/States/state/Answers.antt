@@ -7,7 +7,7 @@ use Rattle.lrc_explore.proofs.kept.States.state.Goals as goal
 
 pub returns : goal.returns
 returns c =
-    let at = c.requires.at in
+    let at = c.requires.1 in
     let states = c.args.self.now in
     let kept = c.index-as_slice-place.result in
     let shared = c.index-as_slice-kept.result in

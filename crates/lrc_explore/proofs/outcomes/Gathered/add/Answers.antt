@@ -1,20 +1,20 @@
-use Rattle.std.proofs.Common.{sym}
+use Rattle.std.proofs.Common.{refl}
 use Rattle.lrc_explore.specs.States.{begun}
-use Rattle.lrc_explore.proofs.Alike.{noted_same}
-use Rattle.lrc_explore.proofs.Keeping.{put_grows}
-use Rattle.lrc_explore.proofs.Gathering.{led_put}
+use Rattle.lrc_explore.proofs.Gathering.{gathered_put}
 use Rattle.lrc_explore.proofs.outcomes.Gathered.add.Goals as goal
-
-pub returns-clause-grows : goal.returns-clause-grows
-returns-clause-grows c = put_grows _ c.args.self.now.states.keys c.insert_full.new.self.keys c.args.after c.in_ok-insert_full.ensures.keys
 
 pub returns-clause-led : goal.returns-clause-led
 returns-clause-led c =
-    led_put c.args.flat.now (begun c.args.flat.now c.args.start) _ c.args.self.now.states.keys c.insert_full.new.self.keys c.args.after
-    c.in_ok-insert_full.ensures.keys c.requires.led c.requires.state c.requires.led_to c.requires.counted
+    let flat = c.args.flat.now in
+    let e = c.in_ok-_place.ensures in
+    gathered_put flat (begun flat c.args.start) c.args.self.now.states c.add.new.self c.args.after c.in_ok-_place._place c.in_ok-_place._new c.requires.led
+    (record { valid = c.requires.state; led = c.requires.led_to; counted = c.requires.counted }) e.widens e.distinct e.added e.there
 
 pub returns-clause-has : goal.returns-clause-has
-returns-clause-has c =
-    let s = c.in_ok-insert_full.ensures.stored in
-    let same = noted_same c.args.flat.now c.args.after s.0 s.2 in
-    record { place = _; key = s.0; there = s.1; same = sym same.0; noted = sym same.1 }
+returns-clause-has c = record {
+  place = c.in_ok-_place._place;
+  key = c.args.after;
+  there = c.in_ok-_place.ensures.there;
+  same = refl;
+  noted = refl;
+}

@@ -1,12 +1,12 @@
 -- The states before the place are done; past all of them there are no more than there may be.
-use Rattle.std.proofs.Common.{◌≤◌, ◌-◌, length}
+use Rattle.std.proofs.Common.{◌≤◌, ◌-◌}
+use Rattle.lrc_explore.specs.Noted.{count}
 use Rattle.lrc_explore.proofs.Gathering.{Going}
 use Rattle.lrc_explore.proofs.outcomes.Gathered.go_through.Given as goal
 
 abbrev pub invariant-loop-place : goal.invariant-loop-place
 invariant-loop-place l =
-    Going l.flat l.start l.initial.self.states.keys l.self l.place
-    × (length l.self.states.keys ≤ l.place → length l.self.states.keys ≤ l.most)
+    Going l.flat l.start l.initial.self.states l.self l.place × (count l.self.states ≤ l.place → count l.self.states ≤ l.most)
 
 abbrev pub decreases-loop-place : goal.decreases-loop-place
 decreases-loop-place l = l.most - l.place

@@ -3,37 +3,18 @@ use Rattle.lrc_explore.specs.States.{begun}
 use Rattle.lrc_explore.specs.Kept.{Grows}
 use Rattle.lrc_explore.specs.Outcome.{AreSound, EndsWith}
 use Rattle.lrc_explore.proofs.Alike.{acts_same}
-use Rattle.lrc_explore.proofs.Keeping.{item_in, put_grows}
-use Rattle.lrc_explore.proofs.Searching.{copy_state}
+use Rattle.lrc_explore.proofs.Keeping.{put_grows}
 use Rattle.lrc_explore.proofs.Gathering.{ends_there, done_at, put_all}
 use Rattle.lrc_explore.proofs.outcomes.Gathered.visit.Goals as goal
 
-pub expand-requires-clause-there : goal.expand-requires-clause-there
-expand-requires-clause-there c =
-    let flat = c.args.flat.now in
-    let keys = c.args.self.now.states.keys in
-    let held = c.index-as_slice-place.result in
-    let key = c.in_ok-key.key in
-    let there = item_in keys c.as_slice.result.now c.args.place held c.as_slice.ensures.keys c.requires.within c.index-as_slice-place.is in
-    record { held = held; there = there; state = c.in_ok-key.ensures.state; notes = c.in_ok-key.ensures.notes }
+pub noted-requires : goal.noted-requires
+noted-requires c = c.requires.led.full c.args.place c.requires.within
 
 pub expand-requires-clause-state : goal.expand-requires-clause-state
-expand-requires-clause-state c =
-    let flat = c.args.flat.now in
-    let keys = c.args.self.now.states.keys in
-    let held = c.index-as_slice-place.result in
-    let key = c.in_ok-key.key in
-    let there = item_in keys c.as_slice.result.now c.args.place held c.as_slice.ensures.keys c.requires.within c.index-as_slice-place.is in
-    copy_state flat key.state held.state c.in_ok-key.ensures.state (c.requires.led.valid c.args.place held there)
+expand-requires-clause-state c = (c.requires.led.each c.args.place c.in_ok-key.key c.in_ok-key.ensures).valid
 
 pub is_still-requires-clause-state : goal.is_still-requires-clause-state
-is_still-requires-clause-state c =
-    let flat = c.args.flat.now in
-    let keys = c.args.self.now.states.keys in
-    let held = c.index-as_slice-place.result in
-    let key = c.in_ok-key.key in
-    let there = item_in keys c.as_slice.result.now c.args.place held c.as_slice.ensures.keys c.requires.within c.index-as_slice-place.is in
-    copy_state flat key.state held.state c.in_ok-key.ensures.state (c.requires.led.valid c.args.place held there)
+is_still-requires-clause-state c = (c.requires.led.each c.args.place c.in_ok-key.key c.in_ok-key.ensures).valid
 
 pub returns-in_ok-insert_full-clause-more : goal.returns-in_ok-insert_full-clause-more
 returns-in_ok-insert_full-clause-more c =
@@ -43,35 +24,23 @@ returns-in_ok-insert_full-clause-more c =
 pub returns-in_ok-insert_full-clause-sound : goal.returns-in_ok-insert_full-clause-sound
 returns-in_ok-insert_full-clause-sound c =
     let flat = c.args.flat.now in
-    let keys = c.args.self.now.states.keys in
-    let held = c.index-as_slice-place.result in
     let key = c.in_ok-key.key in
-    let there = item_in keys c.as_slice.result.now c.args.place held c.as_slice.ensures.keys c.requires.within c.index-as_slice-place.is in
     let start = begun flat c.args.start in
     put_all (λ k o. EndsWith start flat.nodes o.notes.items) _ c.expand.new.self.outcomes.keys c.insert_full.new.self.keys _
     c.in_ok-insert_full.ensures.keys (subst (AreSound flat start) (sym c.in_ok-expand.ensures.same) c.requires.sound)
-    (ends_there flat start held key (c.requires.led.led c.args.place held there) c.in_ok-key.ensures.state c.in_ok-key.ensures.notes
-    (c.is_still.ensures.0 c.if-is_still.true))
+    (ends_there flat start key (c.requires.led.each c.args.place key c.in_ok-key.ensures).led (c.is_still.ensures.0 c.if-is_still.true))
 
 pub returns-in_ok-insert_full-clause-done : goal.returns-in_ok-insert_full-clause-done
 returns-in_ok-insert_full-clause-done c =
-    let flat = c.args.flat.now in
-    let keys = c.args.self.now.states.keys in
-    let held = c.index-as_slice-place.result in
     let key = c.in_ok-key.key in
-    let there = item_in keys c.as_slice.result.now c.args.place held c.as_slice.ensures.keys c.requires.within c.index-as_slice-place.is in
+    let e = c.in_ok-expand.ensures in
     let s = c.in_ok-insert_full.ensures.stored in
-    done_at flat keys c.expand.new.self.states.keys c.insert_full.new.self.keys c.args.place held key c.in_ok-expand.ensures.grows there
-    c.in_ok-key.ensures.state c.in_ok-key.ensures.notes c.in_ok-expand.ensures.next
+    done_at c.args.flat.now c.args.self.now.states c.expand.new.self.states c.insert_full.new.self.keys c.args.place key e.widens c.in_ok-key.ensures e.next
     (λ still. record { place = _; outcome = s.0; there = s.1; same = sym (acts_same key.notes.items s.0.notes.items s.2) })
 
 pub returns-else-is_still-clause-done : goal.returns-else-is_still-clause-done
 returns-else-is_still-clause-done c =
-    let flat = c.args.flat.now in
-    let keys = c.args.self.now.states.keys in
-    let held = c.index-as_slice-place.result in
     let key = c.in_ok-key.key in
-    let there = item_in keys c.as_slice.result.now c.args.place held c.as_slice.ensures.keys c.requires.within c.index-as_slice-place.is in
-    done_at flat keys c.expand.new.self.states.keys c.expand.new.self.outcomes.keys c.args.place held key c.in_ok-expand.ensures.grows there
-    c.in_ok-key.ensures.state c.in_ok-key.ensures.notes c.in_ok-expand.ensures.next
-    (λ still. let t = c.is_still.ensures.1 still in let x : true ≡ false = sym t ∙ c.if-is_still.false in cc)
+    let e = c.in_ok-expand.ensures in
+    done_at c.args.flat.now c.args.self.now.states c.expand.new.self.states c.expand.new.self.outcomes.keys c.args.place key e.widens c.in_ok-key.ensures
+    e.next (λ still. let t = c.is_still.ensures.1 still in let x : true ≡ false = sym t ∙ c.if-is_still.false in cc)

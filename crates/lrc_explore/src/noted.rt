@@ -1,0 +1,133 @@
+// States with what was noted on the way to them, each once: a state is kept once, however much was noted of it.
+
+ghost use Rattle.std.specs.Prelude.{◌≡◌};
+
+use crate::kept::States;
+use crate::notes::note;
+use crate::state::{State, copied};
+use indexmap::IndexSet;
+use lrc_exec::spot::Flat;
+use lrc_trace::act::{Act, Deed};
+use std::alloc::{AllocError, Global};
+
+/// A state, and what was noted on the way to it.
+#[derive(PartialEq, Eq, Hash, Drop)]
+pub struct Noted {
+    pub state: State,
+    pub notes: Vec<Act>,
+}
+
+/// The place of a state, and what was noted on the way to it.
+#[derive(PartialEq, Eq, Hash, Drop)]
+pub struct Way {
+    pub place: usize,
+    pub notes: Vec<Act>,
+}
+
+/// States with notes, each once, in the order in which they were added.
+#[derive(Drop)]
+pub struct NotedStates {
+    pub states: States,
+    pub ways: IndexSet<Way>,
+}
+
+impl Noted {
+    ghost use Rattle.std.specs.Prelude.{◌≡◌, ◌<◌, ◌-◌, ◌^◌, IfOk, Some, length, option_map, slice_index};
+    ghost use Rattle.lrc_trace.specs.Run.{act_of};
+    ghost use Rattle.lrc_exec.specs.Plain.{plain_step};
+    ghost use Rattle.lrc_exec.specs.Spots.{IsFlat};
+    ghost use Rattle.lrc_explore.specs.Notes.{noted};
+    ghost use Rattle.lrc_explore.specs.States.{plain_at, IsState, IsCopy};
+
+    // The same state and notes.
+    fn copy(&self, alloc: Global) -> Result<Noted, AllocError>
+        ensures state { IfOk result (λ copy. IsCopy copy.state self.now.state) }
+        ensures notes { IfOk result (λ copy. copy.notes.items ≡ self.now.notes.items) }
+    {
+        Ok(Noted {
+            state: self.state.copy(alloc)?,
+            notes: copied(alloc, &self.notes)?,
+        })
+    }
+
+    /// The state after a deed, with its note.
+    pub fn after(
+        &self,
+        alloc: Global,
+        flat: &Flat,
+        node: usize,
+        deed: Deed,
+    ) -> Result<Noted, AllocError>
+        requires flat { IsFlat flat.now }
+        requires state { IsState flat.now self.now.state }
+        requires node { node < flat.now.nodes }
+        requires can { option_map (λ step. step.0) (plain_step (plain_at flat.now self.now.state) node) ≡ Some deed }
+        requires room { slice_index self.now.state.arrivals.items node < 2 ^ 64 - 1 }
+        ensures made { IfOk result (λ after. plain_step (plain_at flat.now self.now.state) node ≡ Some (deed, plain_at flat.now after.state)) }
+        ensures state { IfOk result (λ after. IsState flat.now after.state) }
+        ensures notes { IfOk result (λ after. after.notes.items ≡ noted self.now.notes.items (act_of node deed)) }
+    {
+        let _nodes = flat.nodes;
+        let mut after = self.copy(alloc)?;
+        after.state.make(flat, node, deed);
+        let act = Act {
+            node: node as u8,
+            deed,
+        };
+        note(&mut after.notes, act)?;
+        Ok(after)
+    }
+}
+
+impl NotedStates {
+    ghost use Rattle.std.specs.Prelude.{◌≡◌, ◌<◌, ◌^◌, IfOk, OnOk};
+    ghost use Rattle.lrc_explore.specs.Kept.{IsAddedAt};
+    ghost use Rattle.lrc_explore.specs.Noted.{AreNotedDistinct, IsNotedAt, IsNotedPlace, WidensNoted, count};
+
+    /// No states.
+    pub fn new(alloc: Global) -> NotedStates
+        ensures empty { count result ≡ 0 }
+        ensures distinct { AreNotedDistinct result }
+    {
+        NotedStates {
+            states: States::new(alloc),
+            ways: IndexSet::new(alloc),
+        }
+    }
+
+    /// How many there are.
+    pub fn len(&self) -> usize
+        ensures len { result ≡ count self.now }
+        ensures small { result < 2 ^ 63 }
+    {
+        self.ways.len()
+    }
+
+    /// The state at a place, with its notes.
+    pub fn noted(&self, alloc: Global, place: usize) -> Result<Noted, AllocError>
+        requires { IsNotedPlace self.now place }
+        ensures { IfOk result (IsNotedAt self.now place) }
+    {
+        let way = &self.ways.as_slice()[place];
+        Ok(Noted {
+            state: self.states.state(alloc, way.place)?,
+            notes: copied(alloc, &way.notes)?,
+        })
+    }
+
+    /// Adds a state with its notes, if it is new with these: its place, and whether it is new.
+    pub fn add(&mut self, alloc: Global, noted: Noted) -> Result<(usize, bool), AllocError>
+        requires distinct { AreNotedDistinct self.old }
+        ensures widens { OnOk result (WidensNoted self.old self.new) }
+        ensures distinct { OnOk result (AreNotedDistinct self.new) }
+        ensures there { IfOk result (λ added. IsNotedAt self.new added.0 noted) }
+        ensures added { IfOk result (λ added. IsAddedAt (count self.old) (count self.new) added.0 added.1) }
+    {
+        let (place, _new) = self.states.add(alloc, noted.state)?;
+        let (way, added) = self.ways.insert_full(Way {
+            place,
+            notes: noted.notes,
+        })?;
+        Ok((way, added))
+    }
+}
