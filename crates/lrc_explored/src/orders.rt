@@ -70,6 +70,7 @@ fn free_told(
     requires never { NeverStuck program.now nodes }
     ensures { IfOk result (λ printout. TellsOrders program.now nodes lines.now (whole_text printout.parts.items) printout.status) }
 {
+    // For the proof: the lines are in range.
     let _lines = lines;
     let mut parts = Vec::new(alloc);
     parts.push(Vec::from_slice(alloc, b"race free in every order\nno order gets stuck\n")?)?;

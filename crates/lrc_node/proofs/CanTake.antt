@@ -15,11 +15,11 @@ use Rattle.lrc_invariants.specs.Waiting.{next_in, acquiring, is_departing, Fixes
 use Rattle.lrc_local.specs.Reached.{IsReached}
 use Rattle.lrc_local.specs.Ranges.{CollectsAt}
 use Rattle.lrc_local.specs.Waits.{IsQuiet}
-use Rattle.lrc_local.proofs.Tokened.{come_to}
+use Rattle.lrc_local.proofs.Tokened.{awaited_here, come_to, is_shaped}
 use Rattle.lrc_local.proofs.Always.{can_be_added, ranged_at, exact_at, quiet_at}
 use Rattle.lrc_memory.specs.Turns.{CanBeAdded}
 use Rattle.lrc_node.specs.Text.{asked_in}
-use Rattle.lrc_node.specs.Taken.{IsTaking}
+use Rattle.lrc_lock.specs.Lock.{manager_of}
 use Rattle.lrc_node.specs.Taking.{CanDiscard, CanTake}
 use Rattle.std.specs.Prelude.{map}
 use Rattle.lrc_envelope.specs.Records.{ArriveRecord}
@@ -80,6 +80,14 @@ departs_asked (Some (arrives after)) e = cc
 departs_asked (Some (departs after)) e = refl
 departs_asked (Some (traps cause)) e = cc
 departs_asked (Some ends) e = cc
+
+grant_wait : (wait : Wait) (lock : ℕ) → awaits_grant lock wait ≡ true → wait ≡ grant lock
+grant_wait nothing lock e = cc
+grant_wait (grant other) lock e = ap grant (eqb-true other lock e)
+grant_wait departure lock e = cc
+grant_wait (access need) lock e = cc
+grant_wait (upkeep collection needs) lock e = cc
+grant_wait (discard collection) lock e = cc
 
 grant_next : (wait : Wait) (o : Option Next) (lock : ℕ) → awaits_grant lock wait ≡ true → FixesNext wait o → option_map ask_of o ≡ Some (Acquire lock)
 grant_next nothing o lock e f = cc
@@ -143,6 +151,7 @@ closed_at node (discard collection) e q = q
 pub can_discard : (node : Node) → IsReached node → awaits_discard node.mail.wait ≡ true → CanDiscard node
 can_discard node r e = record {
   next = discard_next node.mail.wait (next_in node.course) e (fits_next node r);
+  waits = e;
   closed = closed_at node node.mail.wait e (quiet_at node r);
   time = λ collection at.
       let present : collection.time ≡ node.locks.time = subst (CollectsAt node.locks.time) at (ranged_at node r).present in (
@@ -200,16 +209,30 @@ can_collect node r sender number time intervals waits e =
 -- a node that is reached can take what it expects
 pub can_take : (node : Node) → IsReached node → (from sender number : ℕ) (message : Message) → is_expected node from message ≡ true
     → CanTake (record node { mail = with_taken sender number node.mail }) from message
-can_take node r from sender number (LockRequest m) e = ltb-true _ _ (and_parts _ _ (and_parts _ _ e).0).0
+can_take node r from sender number (LockRequest m) e =
+    let a = and_parts _ _ e in
+    let shape = is_shaped node r in (
+      ltb-true _ _ (and_parts _ _ a.0).0,
+      ap (λ n. manager_of n m.lock) shape.managed_nodes ∙ eqb-true _ _ a.1 ∙ sym shape.manager,
+    )
 can_take node r from sender number (LockForward m) e =
-    let a = and_parts _ _ (and_parts _ _ (and_parts _ _ e).0).0 in
+    let whole = and_parts _ _ e in
+    let a = and_parts _ _ (and_parts _ _ whole.0).0 in
     let b = and_parts _ _ a.0 in
-    (ltb-true _ _ b.0, ltb-true _ _ b.1, eqb-true _ _ a.1)
+    (ltb-true _ _ b.0, ltb-true _ _ b.1, eqb-true _ _ a.1, whole.1)
 can_take node r from sender number (LockGrant m) e =
     let a = and_parts _ _ e in
     let b = and_parts _ _ a.0 in
-    (ltb-true _ _ b.0, granted_asked node r m.lock b.1, news_time node m.time m.intervals a.1, learnable_added node r m.time m.intervals a.1)
-can_take node r from sender number (Arrive m) e = arriving node from m (and_parts _ _ e).1
+    let waits = grant_wait node.mail.wait m.lock b.1 in (
+      ltb-true _ _ b.0,
+      awaited_here node r m.lock waits,
+      granted_asked node r m.lock b.1,
+      news_time node m.time m.intervals a.1,
+      learnable_added node r m.time m.intervals a.1,
+    )
+can_take node r from sender number (Arrive m) e =
+    let a = and_parts _ _ e in
+    (a.0, arriving node from m a.1)
 can_take node r from sender number (Depart m) e =
     let a = and_parts _ _ e in
     let waits = (and_parts _ _ (and_parts _ _ (and_parts _ _ a.0).0).0).1 in (
@@ -218,10 +241,10 @@ can_take node r from sender number (Depart m) e =
       learnable_added node r m.time m.intervals a.1,
       can_collect node r sender number m.time m.intervals waits a.1,
     )
-can_take node r from sender number (Clean episode) e = tt
+can_take node r from sender number (Clean episode) e = e
 can_take node r from sender number (Discard episode) e =
     let d = can_discard node r (and_parts _ _ (and_parts _ _ e).0).1 in
-    record { next = d.next; closed = d.closed; time = d.time }
+    record { next = d.next; waits = d.waits; closed = d.closed; time = d.time }
 can_take node r from sender number (ChangesRequest m) e = below_copies node r m.page (and_parts _ _ e).0
 can_take node r from sender number (ChangesReply m) e = (
   awaited_at node r from m e,
@@ -236,10 +259,7 @@ can_take node r from sender number (PageReply m) e =
           (page_goes_on node r from m.page m.values (eqb-true _ _ (and_parts _ _ a.0).1) a.1),
     )
 
--- a node that has just taken the number of a message can take the message
-pub taking_can : (node : Node) (from : ℕ) (message : Message) → IsTaking node from message → CanTake node from message
-taking_can node from message is =
-    subst (λ n. CanTake n from message) (sym is.now) (can_take is.before is.reached from is.envelope.from is.envelope.number message is.expected)
-
-pub taking_from : (node : Node) (from : ℕ) (message : Message) → IsTaking node from message → from < node.setting.nodes
-taking_from node from message is = subst (λ (n : Node). from < n.setting.nodes) (sym is.now) is.one_of_them
+-- a node that has just taken the number of a message that it expected can take the message
+pub taking_can : (before node : Node) (from sender number : ℕ) (message : Message) → IsReached before → is_expected before from message ≡ true
+    → node ≡ record before { mail = with_taken sender number before.mail } → CanTake node from message
+taking_can before node from sender number message r e is = subst (λ n. CanTake n from message) (sym is) (can_take before r from sender number message e)

@@ -15,3 +15,4 @@ pub mod Takes
 pub mod Requests
 pub mod Leading
 pub mod Ending
+pub mod Newest

@@ -1,6 +1,7 @@
 -- A node with its log, as contracts see it.
 use Rattle.std.specs.Prelude.{◌≡◌, ℕ, true, false, nat_le, ◌⊎◌, Option, Some, None, is_some, IfErr, List, [], ◌∷◌, ◌++◌, filter_map, Result, Ok, Err}
 use Rattle.std.specs.List.{last_or}
+use Rattle.std.specs.Option.{option_to_list}
 use Rattle.lrc_trace.specs.declared.act.Act.{Act}
 use Rattle.lrc_trace.specs.declared.act.Deed.{Deed}
 use Rattle.lrc_trace.specs.declared.act.Deed.TheVariants as deeds
@@ -48,6 +49,10 @@ Logs l outcome new (Err Failed) = ⊥
 
 abbrev pub LogsTo : LoggedNode → Input → ℕ → LoggedNode → Result (Unit {0}) NodeFault → Type 0
 LogsTo old input came new result = (l : Logged) → old ≡ sound l → Logs l (logs l input came) new result
+
+-- the newest turn of a log alone, if there is one
+abbrev pub newest : List EntryRecord → List EntryRecord
+newest log = option_to_list (last_or None log)
 
 -- the access of a turn that is logged is noted in the trace, which stays as it is where the input is refused
 abbrev pub NotesIn : TracedLog → TracedLog → Result (Unit {0}) NodeFault → Type 0

@@ -1,14 +1,19 @@
 -- What a node has where it takes a message that it expects.
-use Rattle.std.specs.Prelude.{ℕ, ◌≡◌, ◌≢◌, ◌<◌, ◌≤◌, Some, AllPairs, length}
+use Rattle.std.specs.Prelude.{ℕ, ◌≡◌, ◌≢◌, ◌<◌, ◌≤◌, IsTrue, Some, AllPairs, false, length, option_map, unwrap_or}
 use Rattle.lrc_time.specs.Time.{entry}
 use Rattle.lrc_exec.specs.declared.machine.Ask.TheVariants.{Acquire, Barrier}
 use Rattle.lrc_envelope.specs.declared.message.Message.{Message}
 use Rattle.lrc_envelope.specs.declared.message.Message.TheVariants.{LockRequest, LockForward, LockGrant, Arrive, Depart, Clean, Discard}
 use Rattle.lrc_envelope.specs.declared.message.Message.TheVariants.{ChangesRequest, ChangesReply, PageRequest, PageReply}
-use Rattle.lrc_barrier.specs.Barrier.{IsArrival}
+use Rattle.lrc_barrier.specs.Barrier.{IsArrival, is_accepted}
+use Rattle.lrc_invariants.specs.Tokens.{is_awaited}
+use Rattle.lrc_lock.specs.Held.{forwarded, lock_at}
+use Rattle.lrc_lock.specs.Lock.{manager_of}
 use Rattle.lrc_memory.specs.Turns.{AreAwaited, CanBeAdded, IsClosed}
+use Rattle.lrc_protocol.specs.Barrier.{arrive_step, clean_step}
+use Rattle.lrc_protocol.specs.Expected.{is_clean, is_taken}
 use Rattle.lrc_protocol.specs.Fetch.{with_changes, with_page}
-use Rattle.lrc_protocol.specs.Mail.{Collection, discard, needs_of}
+use Rattle.lrc_protocol.specs.Mail.{Collection, awaits_discard, discard, needs_of}
 use Rattle.lrc_protocol.specs.Node.{Node}
 use Rattle.lrc_protocol.specs.Take.{learns}
 use Rattle.lrc_protocol.specs.Waits.{with_needs}
@@ -20,23 +25,28 @@ use Rattle.lrc_node.specs.Text.{asked_in}
 -- a node that waits for the word to discard has nothing written, and collects up to a time that covers its own intervals
 pub record CanDiscard (node : Node) : Type 0 where
   pub next : asked_in node.course ≡ Some Barrier
+  pub waits : IsTrue (awaits_discard node.mail.wait)
   pub closed : IsClosed node.memory
   pub time : (collection : Collection) → node.mail.wait ≡ discard collection
       → (length collection.time ≡ node.setting.nodes)
       × (entry node.memory.store.last node.setting.me ≤ entry collection.time node.setting.me)
 
 abbrev pub CanTake : Node → ℕ → Message → Type 0
-CanTake node from (LockRequest m) = m.lock < node.setting.locks
+CanTake node from (LockRequest m) =
+    (m.lock < node.setting.locks) × (manager_of node.locks.managed.nodes m.lock ≡ node.locks.managed.me)
 CanTake node from (LockForward m) =
     (m.lock < node.setting.locks) × (m.asker < node.setting.nodes) × (length m.time ≡ node.setting.nodes)
+    × IsTrue (is_taken (forwarded node.locks.held m.lock m.asker m.time))
 CanTake node from (LockGrant m) =
-    (m.lock < node.setting.locks) × (asked_in node.course ≡ Some (Acquire m.lock)) × (length m.time ≡ node.setting.nodes)
-    × CanBeAdded node.memory.store m.intervals
-CanTake node from (Arrive m) = IsArrival node.setting.nodes from (arrival_in m)
+    (m.lock < node.setting.locks) × IsTrue (is_awaited (lock_at node.locks.held m.lock)) × (asked_in node.course ≡ Some (Acquire m.lock))
+    × (length m.time ≡ node.setting.nodes) × CanBeAdded node.memory.store m.intervals
+CanTake node from (Arrive m) =
+    IsTrue (unwrap_or (option_map is_accepted (arrive_step node.barrier from (arrival_in m))) false)
+    × IsArrival node.setting.nodes from (arrival_in m)
 CanTake node from (Depart m) =
     (asked_in node.course ≡ Some Barrier) × (length m.time ≡ node.setting.nodes) × CanBeAdded node.memory.store m.intervals
     × CanCollect (learns m.time m.intervals node)
-CanTake node from (Clean episode) = Unit {0}
+CanTake node from (Clean episode) = IsTrue (unwrap_or (option_map is_clean (clean_step node.barrier from episode)) false)
 CanTake node from (Discard episode) = CanDiscard node
 CanTake node from (ChangesRequest m) = m.page < length node.memory.copies
 CanTake node from (ChangesReply m) =

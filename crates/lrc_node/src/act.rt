@@ -13,7 +13,7 @@ use lrc_mail::Letter;
 use std::alloc::AllocError;
 
 impl NodeState<'_> {
-    /// Makes the access that the text asks for next, if it asks for one. The value is what is read, else 0.
+    // Makes the access that the text asks for next, if it asks for one. The value is what is read, else 0.
     fn access(&mut self, asked: Option<Ask>) -> Result<u64, AllocError>
         requires { CanAccess self.old asked }
         ensures value { IfOk result (λ value. value ≡ value_asked self.old asked) }

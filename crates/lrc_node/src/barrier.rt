@@ -1,17 +1,15 @@
 // A node's part in barriers.
 
-ghost use Rattle.std.specs.Prelude.{◌≡◌, ◌⊎◌, ℕ, ◌<◌, ◌≤◌, IfOk, IfErr, IfSome, None, OnErr, Some, length, false, option_map, unwrap_or};
+ghost use Rattle.std.specs.Prelude.{◌≡◌, ℕ, ◌<◌, ◌≤◌, IfOk, IfSome, IsTrue, OnErr, Some, length, false, option_map, unwrap_or};
 ghost use Rattle.lrc_barrier.specs.Barrier.{is_accepted, IsArrival};
 ghost use Rattle.lrc_barrier.specs.declared.arrival.Arrival.{Arrival as ArrivalRecord};
 ghost use Rattle.lrc_protocol.specs.Expected.{is_clean};
 ghost use Rattle.lrc_protocol.specs.Barrier.{arrive_step, clean_step, fresh_barrier, last_from, with_arrive};
 ghost use Rattle.lrc_protocol.specs.Mail.{MOST_NUMBER};
 ghost use Rattle.lrc_node.specs.Barrier.{arrival_taken, clean_taken, AreDepartures, IsOfNodes, SameBarrier};
-ghost use Rattle.lrc_node.specs.declared.fault.NodeFault.TheVariants.{NoMemory, Unexpected};
 
-use crate::fault::NodeFault;
 use lrc_barrier::{Arrival, BarrierFault, Departures, Manager};
-use std::alloc::Global;
+use std::alloc::{AllocError, Global};
 use std::marker::Model;
 
 /// How often a node has arrived, and up to which of its intervals it has sent them with an arrival. Node 0 has the
@@ -112,47 +110,45 @@ impl Barrier {
         }
     }
 
-    /// The manager takes another node's arrival; the last one gives the departures. `Unexpected` if the manager isn't here
-    /// or doesn't accept it. An error leaves the barrier as it was.
+    /// The manager, which is here and accepts it, takes another node's arrival; the last one gives the departures. An error
+    /// leaves the barrier as it was.
     pub(crate) fn take_arrival(
         &mut self,
         from: u8,
         arrival: &Arrival,
-    ) -> Result<Option<Departures>, NodeFault>
+    ) -> Result<Option<Departures>, AllocError>
+        requires accepted { IsTrue (unwrap_or (option_map is_accepted (arrive_step self.old from arrival.now)) false) }
         requires own { IfSome self.old.manager (λ manager. (from < length manager.last) × IsArrival (length manager.last) from arrival.now) }
         requires begun { 1 ≤ arrival.now.episode }
         ensures taken { IfOk result (λ answer. arrival_taken self.old (arrive_step self.old from arrival.now) ≡ Some (answer, self.new)) }
-        ensures refused { arrival_taken self.old (arrive_step self.old from arrival.now) ≡ None → result ≡ Err Unexpected }
-        ensures memory { IfErr result (λ fault. (arrival_taken self.old (arrive_step self.old from arrival.now) ≡ None) ⊎ (fault ≡ NoMemory)) }
         ensures same { SameBarrier self.old self.new }
         ensures unchanged { OnErr result (self.new ≡ self.old) }
         ensures departures { (nodes : ℕ) → IsOfNodes nodes self.old → IfOk result (λ answer. IfSome answer (AreDepartures nodes)) }
     {
         let Some(manager) = &mut self.manager else {
-            return Err(NodeFault::Unexpected);
+            unreachable!()
         };
         match manager.arrive(from, arrival) {
             Ok(departures) => Ok(departures),
-            Err(BarrierFault::NoMemory) => Err(NodeFault::NoMemory),
-            Err(BarrierFault::WrongEpisode | BarrierFault::Twice) => Err(NodeFault::Unexpected),
+            Err(BarrierFault::NoMemory) => Err(AllocError),
+            Err(BarrierFault::WrongEpisode | BarrierFault::Twice) => unreachable!(),
         }
     }
 
-    /// The manager takes a node's Clean; the last one gives the episode of which all may discard. `Unexpected`, with
-    /// nothing changed, if the manager isn't here or doesn't accept it.
-    pub(crate) fn take_clean(&mut self, from: u8, episode: u32) -> Result<Option<u32>, NodeFault>
-        requires { IfSome self.old.manager (λ manager. from < length manager.last) }
-        ensures taken { IfOk result (λ answer. clean_taken self.old (clean_step self.old from episode) ≡ Some (answer, self.new)) }
-        ensures refused { IfErr result (λ fault. (fault ≡ Unexpected)
-            × (clean_taken self.old (clean_step self.old from episode) ≡ None) × (self.new ≡ self.old)) }
+    /// The manager, which is here and accepts it, takes a node's Clean; the last one gives the episode of which all may
+    /// discard.
+    pub(crate) fn take_clean(&mut self, from: u8, episode: u32) -> Option<u32>
+        requires accepted { IsTrue (unwrap_or (option_map is_clean (clean_step self.old from episode)) false) }
+        requires from { IfSome self.old.manager (λ manager. from < length manager.last) }
+        ensures taken { clean_taken self.old (clean_step self.old from episode) ≡ Some (result, self.new) }
         ensures same { SameBarrier self.old self.new }
     {
         let Some(manager) = &mut self.manager else {
-            return Err(NodeFault::Unexpected);
+            unreachable!()
         };
-        match manager.clean(from, episode) {
-            Ok(last) => Ok(last),
-            Err(_) => Err(NodeFault::Unexpected),
-        }
+        let Ok(last) = manager.clean(from, episode) else {
+            unreachable!()
+        };
+        last
     }
 }

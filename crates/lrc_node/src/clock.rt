@@ -1,9 +1,10 @@
 // A node's clock, the tokens that it has or awaits, and the locks that it manages.
 
-ghost use Rattle.std.specs.Prelude.{◌≡◌, ℕ, ◌+◌, ◌<◌, ◌≤◌, List, IfOk, IfSome, IsTrue, length};
+ghost use Rattle.std.specs.Prelude.{◌≡◌, ℕ, ◌+◌, ◌<◌, ◌≤◌, List, IfSome, IsTrue, Ok, length};
 ghost use Rattle.lrc_time.specs.Time.{entry};
-ghost use Rattle.lrc_lock.specs.Held.{answer_of, asked, forwarded, grant_answer, granted, held_after, is_free, is_held, lock_at, pass_of, released, taken};
-ghost use Rattle.lrc_lock.specs.Lock.{IsPass};
+ghost use Rattle.lrc_lock.specs.Held.{asked, forwarded, granted, held_after, is_free, is_held, lock_at, pass_of, released, taken};
+ghost use Rattle.lrc_invariants.specs.Tokens.{is_awaited};
+ghost use Rattle.lrc_lock.specs.Lock.{IsPass, manager_of};
 ghost use Rattle.lrc_lock.specs.Managed.{managed_after, requested, answer_of as request_answer};
 ghost use Rattle.lrc_lock.specs.declared.state.LockState.TheVariants.{Away};
 ghost use Rattle.lrc_protocol.specs.Expected.{is_taken};
@@ -11,7 +12,7 @@ ghost use Rattle.lrc_protocol.specs.Locks.{fresh_locks, next_time, ticked, with_
 ghost use Rattle.lrc_protocol.specs.Mail.{MOST_NUMBER};
 ghost use Rattle.lrc_node.specs.Clock.{IsClock, SameClock};
 
-use lrc_lock::{Held, LockFault, Managed, Pass};
+use lrc_lock::{Held, Managed, Pass};
 use lrc_time::Time;
 use std::marker::Model;
 
@@ -139,45 +140,50 @@ impl Clock {
         self.held.accepts(lock, asker)
     }
 
-    /// Another node's request, with its time, is forwarded to this one. The pass is there if the token leaves at once.
-    /// Refused as [`Held::forward`] says, with nothing changed.
-    pub(crate) fn forward(
-        &mut self,
-        lock: u8,
-        asker: u8,
-        time: Time,
-    ) -> Result<Option<Pass>, LockFault>
+    /// Another node's request, with its time, is forwarded to this one, which takes it. The pass is there if the token
+    /// leaves at once.
+    pub(crate) fn forward(&mut self, lock: u8, asker: u8, time: Time) -> Option<Pass>
         requires lock { lock < length self.old.held.locks }
         requires asker { asker < length self.old.time }
         requires counted { length time ≡ length self.old.time }
-        ensures answer { result ≡ answer_of (forwarded self.old.held lock asker time) }
+        requires taken { IsTrue (is_taken (forwarded self.old.held lock asker time)) }
+        ensures answer { result ≡ pass_of (forwarded self.old.held lock asker time) }
         ensures clock { self.new ≡ with_held (held_after self.old.held lock (forwarded self.old.held lock asker time)) self.old }
         ensures same { SameClock self.old self.new }
-        ensures pass { IfOk result (λ answer. IfSome answer (IsPass self.old.held.me (length self.old.time))) }
+        ensures pass { IfSome result (IsPass self.old.held.me (length self.old.time)) }
     {
-        self.held.forward(lock, asker, time)
+        let Ok(pass) = self.held.forward(lock, asker, time) else {
+            unreachable!()
+        };
+        pass
     }
 
-    /// The token comes, and the node holds the lock. Refused, with nothing changed, if the token isn't awaited.
-    pub(crate) fn granted(&mut self, lock: u8) -> Result<(), LockFault>
-        requires { lock < length self.old.held.locks }
-        ensures answer { result ≡ grant_answer (granted self.old.held lock) }
+    /// The token comes, which was awaited, and the node holds the lock.
+    pub(crate) fn granted(&mut self, lock: u8)
+        requires lock { lock < length self.old.held.locks }
+        requires awaited { IsTrue (is_awaited (lock_at self.old.held lock)) }
         ensures clock { self.new ≡ with_held (held_after self.old.held lock (granted self.old.held lock)) self.old }
         ensures same { SameClock self.old self.new }
     {
-        self.held.granted(lock)
+        let Ok(()) = self.held.granted(lock) else {
+            unreachable!()
+        };
     }
 
     /// The node to which a request for a lock that this node manages goes on; from now on the asker is the one that asked
-    /// last. Refused, with nothing changed, if another node manages the lock.
-    pub(crate) fn request(&mut self, lock: u8, asker: u8) -> Result<u8, LockFault>
+    /// last.
+    pub(crate) fn request(&mut self, lock: u8, asker: u8) -> u8
         requires lock { lock < length self.old.held.locks }
         requires asker { asker < length self.old.time }
-        ensures answer { result ≡ request_answer (requested self.old.managed lock asker) }
+        requires managed { manager_of self.old.managed.nodes lock ≡ self.old.managed.me }
+        ensures answer { request_answer (requested self.old.managed lock asker) ≡ Ok result }
         ensures clock { self.new ≡ with_managed (managed_after self.old.managed (requested self.old.managed lock asker)) self.old }
         ensures same { SameClock self.old self.new }
-        ensures to { IfOk result (λ to. to < length self.old.time) }
+        ensures to { result < length self.old.time }
     {
-        self.managed.request(lock, asker)
+        let Ok(to) = self.managed.request(lock, asker) else {
+            unreachable!()
+        };
+        to
     }
 }

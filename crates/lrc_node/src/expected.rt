@@ -39,7 +39,7 @@ impl NodeState<'_> {
         }
     }
 
-    /// How many pages there are.
+    // How many pages there are.
     fn pages(&self) -> u16
         ensures exact { result ≡ pages_of self.now.setting.words self.now.options.size }
         ensures copies { result ≡ length self.now.memory.copies }
@@ -47,7 +47,7 @@ impl NodeState<'_> {
         pages_of(self.words, self.options.size)
     }
 
-    /// Whether a time and intervals are in range, and the time covers each stamp.
+    // Whether a time and intervals are in range, and the time covers each stamp.
     fn fits(&self, news: &News) -> bool
         ensures { result ≡ is_news self.now news.now.time news.now.intervals }
     {
@@ -59,7 +59,7 @@ impl NodeState<'_> {
         )
     }
 
-    /// Whether the node can learn the news.
+    // Whether the node can learn the news.
     fn can_learn(&self, news: &News) -> bool
         ensures { result ≡ is_learnable self.now news.now.time news.now.intervals }
     {
@@ -72,14 +72,14 @@ impl NodeState<'_> {
             )
     }
 
-    /// A request of a lock: this node manages it.
+    // A request of a lock: this node manages it.
     fn expects_request(&self, m: &LockRequest) -> bool
         ensures { (from : ℕ) → result ≡ is_expected self.now from (messages.LockRequest m.now) }
     {
         m.lock < self.locks && m.time.nodes() == self.nodes && m.lock % self.nodes == self.me
     }
 
-    /// A forwarded request: its sender manages the lock, and the token is here or awaited, with no successor yet.
+    // A forwarded request: its sender manages the lock, and the token is here or awaited, with no successor yet.
     fn expects_forward(&self, from: u8, m: &LockForward) -> bool
         ensures { result ≡ is_expected self.now from (messages.LockForward m.now) }
     {
@@ -90,14 +90,14 @@ impl NodeState<'_> {
             && self.clock.accepts(m.lock, m.asker)
     }
 
-    /// A grant: this node awaits it, and can learn the news.
+    // A grant: this node awaits it, and can learn the news.
     fn expects_grant(&self, m: &LockGrant) -> bool
         ensures { (from : ℕ) → result ≡ is_expected self.now from (messages.LockGrant m.now) }
     {
         m.lock < self.locks && self.mail.wait().awaits_grant(m.lock) && self.can_learn(&m.news)
     }
 
-    /// An arrival: the manager is here and accepts it, with its sender's own intervals.
+    // An arrival: the manager is here and accepts it, with its sender's own intervals.
     fn expects_arrival(&self, from: u8, m: &Arrive) -> bool
         requires { from < self.now.setting.nodes }
         ensures { result ≡ is_expected self.now from (messages.Arrive m.now) }
@@ -105,7 +105,7 @@ impl NodeState<'_> {
         self.barrier.accepts(from, m.episode) && self.are_arriving(from, &m.news)
     }
 
-    /// Whether the news are the sender's own intervals, from one past the last that the manager has of it.
+    // Whether the news are the sender's own intervals, from one past the last that the manager has of it.
     fn are_arriving(&self, from: u8, news: &News) -> bool
         requires { from < self.now.setting.nodes }
         ensures { result ≡ are_arriving self.now from news.now.time news.now.intervals }
@@ -117,7 +117,7 @@ impl NodeState<'_> {
         are_between(news.intervals.as_slice(), from, last, news.time.at(from))
     }
 
-    /// A departure: from node 0, for the episode from which the node awaits to depart; its time covers the node's.
+    // A departure: from node 0, for the episode from which the node awaits to depart; its time covers the node's.
     fn expects_departure(&self, from: u8, m: &Depart) -> bool
         ensures { result ≡ is_expected self.now from (messages.Depart m.now) }
     {
@@ -129,7 +129,7 @@ impl NodeState<'_> {
             && self.can_learn(&m.news)
     }
 
-    /// A Clean: the manager is here and accepts it.
+    // A Clean: the manager is here and accepts it.
     fn expects_clean(&self, from: u8, m: &Clean) -> bool
         requires { from < self.now.setting.nodes }
         ensures { result ≡ is_expected self.now from (messages.Clean m.now) }
@@ -137,21 +137,21 @@ impl NodeState<'_> {
         self.barrier.accepts_clean(from, m.episode)
     }
 
-    /// The word to discard: from node 0, for the collection for which this node has sent its Clean.
+    // The word to discard: from node 0, for the collection for which this node has sent its Clean.
     fn expects_discard(&self, from: u8, m: &Discard) -> bool
         ensures { result ≡ is_expected self.now from (messages.Discard m.now) }
     {
         from == 0 && self.mail.wait().awaits_discard() && m.episode == self.barrier.episode()
     }
 
-    /// A request of changes: each index is of a stored interval of this node that names the page.
+    // A request of changes: each index is of a stored interval of this node that names the page.
     fn expects_changes_request(&self, m: &ChangesRequest) -> bool
         ensures { (from : ℕ) → result ≡ is_expected self.now from (messages.ChangesRequest m.now) }
     {
         m.page < self.pages() && has_notices(&self.memory, self.me, m.page, m.indices.as_slice())
     }
 
-    /// Changes: just these of that page are awaited from their sender.
+    // Changes: just these of that page are awaited from their sender.
     fn expects_changes(&self, from: u8, m: &ChangesReply) -> bool
         ensures { result ≡ is_expected self.now from (messages.ChangesReply m.now) }
     {
@@ -161,14 +161,14 @@ impl NodeState<'_> {
             && self.mail.wait().awaits_changes(m.page, from, parts)
     }
 
-    /// A request of a base copy: from another node, and one is kept here.
+    // A request of a base copy: from another node, and one is kept here.
     fn expects_page_request(&self, from: u8, m: &PageRequest) -> bool
         ensures { result ≡ is_expected self.now from (messages.PageRequest m.now) }
     {
         m.page < self.pages() && from != self.me && self.memory.base(m.page).is_some()
     }
 
-    /// A base copy: it is awaited from its sender, and has a value for each word of a page.
+    // A base copy: it is awaited from its sender, and has a value for each word of a page.
     fn expects_page(&self, from: u8, m: &PageReply) -> bool
         ensures { result ≡ is_expected self.now from (messages.PageReply m.now) }
     {
@@ -178,7 +178,7 @@ impl NodeState<'_> {
     }
 }
 
-/// Whether each of these intervals of a node is stored and names the page.
+// Whether each of these intervals of a node is stored and names the page.
 fn has_notices(memory: &Memory, node: u8, page: u16, indices: &[u32]) -> bool
     ensures { result ≡ list_all (λ index. is_some (notice_at memory.now.memory.store (record { node = node; index = index; page = page }))) indices.now }
 {

@@ -23,7 +23,7 @@ pub(crate) fn one(alloc: Global, to: u8, message: Message) -> Result<Vec<Letter>
     Ok(letters)
 }
 
-/// The time with another entry of one node.
+// The time with another entry of one node.
 fn with_entry(time: &Time, node: u8, entry: u32) -> Time
     requires { node < length time.now }
     ensures { result ≡ slice_set time.now node entry }

@@ -4,7 +4,7 @@ ghost use Rattle.std.specs.Prelude.{◌≡◌, Err, IfErr, MatchResult, None, []
 ghost use Rattle.lrc_protocol.specs.Log as log;
 ghost use Rattle.lrc_protocol.specs.Turn.{is_ready};
 ghost use Rattle.lrc_node.specs.Fault.{MayAnswer, is_final};
-ghost use Rattle.lrc_node.specs.Logged.{Enters, LogsTo, MakesRoom, NotesFailing, NotesIn, end_next, ended_by, seen_input, sound};
+ghost use Rattle.lrc_node.specs.Logged.{Enters, LogsTo, MakesRoom, NotesFailing, NotesIn, end_next, ended_by, newest, seen_input, sound};
 ghost use Rattle.lrc_node.specs.Text.{end_of};
 ghost use Rattle.lrc_node.specs.declared.fault.NodeFault.TheVariants.{Failed};
 
@@ -194,6 +194,18 @@ impl<'c> Logged<'c> {
         ensures { result.now ≡ self.now.logged.log }
     {
         self.log.as_slice()
+    }
+
+    /// Forgets all turns but the newest. Nothing that the node does later depends on the others.
+    pub fn forget(&mut self)
+        ensures log { self.new.logged ≡ record { node = self.old.logged.node; log = newest self.old.logged.log } }
+        ensures trace { self.new.trace ≡ self.old.trace }
+    {
+        let count = self.log.len();
+        if count > 1 {
+            self.log.swap(0, count - 1);
+            self.log.truncate(1);
+        }
     }
 
     /// The turns with their stamps, and the trace, once the run is over. Takes no memory.

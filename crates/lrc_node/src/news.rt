@@ -9,8 +9,8 @@ ghost use Rattle.lrc_node.specs.News.{AreRuns, IsBroken};
 use lrc_store::Interval;
 use lrc_time::Time;
 
-/// How far intervals lead from a time on, where those of each node follow one another from just above its entry. None
-/// where they don't.
+// How far intervals lead from a time on, where those of each node follow one another from just above its entry. None
+// where they don't.
 fn reached(known: &Time, intervals: &[Interval]) -> Option<Time>
     requires { All (λ interval. interval.node < length known.now) intervals.now }
     ensures reached { IfSome result (AreRuns known.now intervals.now) }

@@ -49,7 +49,7 @@ impl NodeState<'_> {
         Ok(turn)
     }
 
-    /// Notes the access of an act, which the node has just made, if it is one. An error leaves the trace as it was.
+    // Notes the access of an act, which the node has just made, if it is one. An error leaves the trace as it was.
     fn note(&self, trace: &mut Trace, act: Option<Act>) -> Result<(), AllocError>
         requires { CanNoteAct self.now trace.old act }
         ensures noted { OnOk result (trace.new ≡ with_act self.now act trace.old) }
@@ -72,12 +72,13 @@ impl NodeState<'_> {
         }
     }
 
-    /// Notes an access that the node has just made, in the interval that is open. An error leaves the trace as it was.
+    // Notes an access that the node has just made, in the interval that is open. An error leaves the trace as it was.
     fn note_access(&self, trace: &mut Trace, word: u32, is_write: bool) -> Result<(), AllocError>
         requires { CanNote self.now trace.old word }
         ensures noted { OnOk result (trace.new ≡ with_access_by self.now word is_write trace.old) }
         ensures kept { OnErr result (trace.new ≡ trace.old) }
     {
+        // For the proof: the steps are in range.
         let _steps = self.options.steps;
         let time = self.clock.next();
         trace.note(

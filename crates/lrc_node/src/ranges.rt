@@ -21,7 +21,7 @@ pub(crate) fn covers(time: &Time, other: &Time) -> bool
     time.covers(other)
 }
 
-/// Whether an interval is one of so many nodes, with a stamp of as many entries, and names only pages below so many.
+// Whether an interval is one of so many nodes, with a stamp of as many entries, and names only pages below so many.
 fn is_in_range(nodes: u8, pages: u16, interval: &Interval) -> bool
     ensures { result ≡ is_in_range nodes pages interval.now }
 {
@@ -30,14 +30,14 @@ fn is_in_range(nodes: u8, pages: u16, interval: &Interval) -> bool
         && are_below(pages, interval.pages.as_slice())
 }
 
-/// Whether all pages are below so many.
+// Whether all pages are below so many.
 fn are_below(pages: u16, named: &[u16]) -> bool
     ensures { result ≡ list_all (λ page. nat_lt page pages) named.now }
 {
     named.iter().all(|page| *page < pages)
 }
 
-/// Whether all intervals are in range.
+// Whether all intervals are in range.
 fn are_in_range(nodes: u8, pages: u16, intervals: &[Interval]) -> bool
     ensures { result ≡ list_all (is_in_range nodes pages) intervals.now }
 {
@@ -46,7 +46,7 @@ fn are_in_range(nodes: u8, pages: u16, intervals: &[Interval]) -> bool
         .all(|interval| is_in_range(nodes, pages, interval))
 }
 
-/// Whether the time covers the stamp of each interval.
+// Whether the time covers the stamp of each interval.
 fn all_covered(time: &Time, intervals: &[Interval]) -> bool
     requires { All (λ interval. length interval.stamp ≡ length time.now) intervals.now }
     ensures { result ≡ list_all (λ interval. covers time.now interval.stamp) intervals.now }
@@ -83,7 +83,7 @@ pub(crate) fn are_of(node: u8, intervals: &[Interval]) -> bool
     intervals.iter().all(|interval| interval.node == node)
 }
 
-/// Whether the offsets of all changes are below so many words.
+// Whether the offsets of all changes are below so many words.
 fn are_on_page(words: u16, changes: &Changes) -> bool
     ensures { result ≡ list_all (λ change. nat_lt change.offset words) changes.now }
 {

@@ -62,9 +62,6 @@ impl NodeState<'_> {
         ensures setting { self.new.setting ≡ self.old.setting }
     {
         self.mail.wait_for(Wait::Access(need));
-        Effect {
-            deed: None,
-            letters,
-        }
+        Effect::sending(letters)
     }
 }

@@ -23,7 +23,7 @@ impl NodeState<'_> {
         self.mail.wait().is_idle() && self.text.is_ready()
     }
 
-    /// What the node begins, if it is ready. The step is counted.
+    // What the node begins, if it is ready. The step is counted.
     fn next(&mut self) -> Option<Ask>
         ensures asked { result ≡ option_map ask_of (begins self.old) }
         ensures node { self.new ≡ begun_node self.old }
@@ -50,7 +50,7 @@ impl NodeState<'_> {
         self.send(effect)
     }
 
-    /// Begins what the text asks for. `Worn` where an interval's index would be too large.
+    // Begins what the text asks for. `Worn` where an interval's index would be too large.
     fn begin(&mut self, ask: Ask) -> Result<Effect, NodeFault>
         requires next { asked_in self.old.course ≡ Some ask }
         requires can { CanBegin self.old ask }

@@ -52,10 +52,7 @@ impl NodeState<'_> {
         let time = self.clock.time().copy();
         let request = Message::LockRequest(LockRequest { lock, time });
         let letters = one(self.alloc, lock % self.nodes, request)?;
-        Ok(Effect {
-            deed: None,
-            letters,
-        })
+        Ok(Effect::sending(letters))
     }
 
     /// Releases a lock that the node holds, and grants it to the successor.

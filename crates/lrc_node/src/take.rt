@@ -38,7 +38,7 @@ impl NodeState<'_> {
         self.take_anew(envelope)
     }
 
-    /// Whether a message is for this node, and from one of the nodes.
+    // Whether a message is for this node, and from one of the nodes.
     fn is_addressed(&self, envelope: &Envelope) -> bool
         ensures addressed { result ≡ is_addressed self.now envelope.now }
         ensures from { result ≡ true → envelope.now.from < self.now.setting.nodes }
@@ -46,7 +46,7 @@ impl NodeState<'_> {
         envelope.to == self.me && envelope.from < self.nodes
     }
 
-    /// Whether a message from one of the nodes was taken here before.
+    // Whether a message from one of the nodes was taken here before.
     fn is_repeat(&self, envelope: &Envelope) -> bool
         requires { envelope.now.from < self.now.setting.nodes }
         ensures { result ≡ is_repeat self.now envelope.now }
@@ -54,7 +54,7 @@ impl NodeState<'_> {
         self.mail.was_taken(envelope.from, envelope.number)
     }
 
-    /// Takes a message that is expected and was not taken before.
+    // Takes a message that is expected and was not taken before.
     fn take_anew(&mut self, envelope: &Envelope) -> Result<Turn, NodeFault>
         requires reached { IsReached self.old }
         requires from { envelope.now.from < self.old.setting.nodes }

@@ -3,7 +3,6 @@
 ghost use Rattle.std.specs.Prelude.{◌≡◌, ◌<◌, IfOk};
 ghost use Rattle.lrc_protocol.specs.Take.{take_effect};
 ghost use Rattle.lrc_node.specs.State.{seen_effect, AreFor};
-ghost use Rattle.lrc_node.specs.Taken.{IsTaking};
 ghost use Rattle.lrc_node.specs.Taking.{CanTake};
 
 use crate::state::NodeState;
@@ -12,17 +11,8 @@ use lrc_envelope::Message;
 use std::alloc::AllocError;
 
 impl NodeState<'_> {
-    /// Does what a message from a node asks for, which was expected and whose number is taken.
+    /// Does what a message from a node asks for, which the node can take.
     pub(crate) fn take_message(&mut self, from: u8, message: &Message) -> Result<Effect, AllocError>
-        requires { IsTaking self.old from message.now }
-        ensures effect { IfOk result (λ effect. take_effect self.old from message.now ≡ seen_effect effect self.new) }
-        ensures to { IfOk result (λ effect. AreFor self.new.setting.nodes effect.letters.items) }
-    {
-        self.do_message(from, message)
-    }
-
-    /// Does what a message asks for, by its kind.
-    fn do_message(&mut self, from: u8, message: &Message) -> Result<Effect, AllocError>
         requires from { from < self.old.setting.nodes }
         requires can { CanTake self.old from message.now }
         ensures effect { IfOk result (λ effect. take_effect self.old from message.now ≡ seen_effect effect self.new) }

@@ -31,7 +31,7 @@ impl NodeState<'_> {
         }
     }
 
-    /// Goes on with what is awaited of pages, after something came for it.
+    // Goes on with what is awaited of pages, after something came for it.
     fn go_on(&mut self, wait: Wait) -> Result<Effect, AllocError>
         requires { CanGoOn self.old (seen_wait wait) }
         ensures effect { IfOk result (λ effect. waits_or_goes_on [] self.old (seen_wait wait) ≡ seen_effect effect self.new) }
@@ -43,10 +43,7 @@ impl NodeState<'_> {
             wait => {
                 self.mail.wait_for(wait);
                 let letters = Vec::new(self.alloc);
-                Ok(Effect {
-                    deed: None,
-                    letters,
-                })
+                Ok(Effect::sending(letters))
             }
         }
     }

@@ -18,7 +18,7 @@ use lrc_envelope::{
 use lrc_memory::Memory;
 use std::alloc::{AllocError, Global};
 
-/// What a node's own intervals changed in a page.
+// What a node's own intervals changed in a page.
 fn parts_of(
     alloc: Global,
     memory: &mut Memory,
@@ -34,6 +34,7 @@ fn parts_of(
     let asked = indices.as_slice();
     for index in asked {
         let changes = memory.changes_of(page, *index)?;
+        // For the proof: the changes ascend.
         let _ascending = changes.len();
         parts.push(IndexedChanges {
             index: *index,
@@ -60,10 +61,7 @@ impl NodeState<'_> {
         let parts = parts_of(self.alloc, &mut self.memory, page, &request.indices)?;
         let reply = Message::ChangesReply(ChangesReply { page, parts });
         let letters = one(self.alloc, from, reply)?;
-        Ok(Effect {
-            deed: None,
-            letters,
-        })
+        Ok(Effect::sending(letters))
     }
 
     /// A node asks for the base copy of a page.
@@ -89,9 +87,6 @@ impl NodeState<'_> {
             }
             None => Vec::new(self.alloc),
         };
-        Ok(Effect {
-            deed: None,
-            letters,
-        })
+        Ok(Effect::sending(letters))
     }
 }

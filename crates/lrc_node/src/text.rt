@@ -74,7 +74,7 @@ impl<'c> Text<'c> {
         }
     }
 
-    /// What the text would begin: none where it has stopped or is at a barrier, or its steps are used up.
+    // What the text would begin: none where it has stopped or is at a barrier, or its steps are used up.
     fn begins(&self) -> Option<Ask>
         ensures asked { result ≡ option_map ask_of (begun_by self.now) }
         ensures paid { IfSome result (λ ask. cost_asked ask ≤ self.now.left) }
@@ -139,7 +139,7 @@ impl<'c> Text<'c> {
     }
 }
 
-/// What is begun where this is asked for, with so many steps left.
+// What is begun where this is asked for, with so many steps left.
 fn allowed(ask: Ask, left: u32) -> Option<Ask>
     ensures asked { result ≡ allowed_with left ask }
     ensures paid { IfSome result (λ ask. cost_asked ask ≤ left) }
@@ -147,7 +147,7 @@ fn allowed(ask: Ask, left: u32) -> Option<Ask>
     if ask.cost() <= left { Some(ask) } else { None }
 }
 
-/// Where a text stands once it has done what it asked for.
+// Where a text stands once it has done what it asked for.
 fn stand_after(ask: Ask) -> TextStanding
     ensures { result ≡ standing_after ask }
 {
@@ -159,7 +159,7 @@ fn stand_after(ask: Ask) -> TextStanding
     }
 }
 
-/// Makes a thread's next deed, a read with this value, and answers where the text stands then.
+// Makes a thread's next deed, a read with this value, and answers where the text stands then.
 fn step(machine: &mut Machine<'_>, ask: Ask, value: u64) -> (Deed, TextStanding)
     requires ask { ask ≡ ask_of (next_of machine.old) }
     requires not_arrived { machine.old.arrived ≡ false }

@@ -1,5 +1,7 @@
 // What a turn does.
 
+ghost use Rattle.std.specs.Prelude.{◌≡◌, None};
+
 use lrc_envelope::Envelope;
 use lrc_mail::Letter;
 use lrc_trace::act::{Act, Deed};
@@ -25,4 +27,16 @@ impl Model for Turn {
 pub(crate) struct Effect {
     pub deed: Option<Deed>,
     pub letters: Vec<Letter>,
+}
+
+impl Effect {
+    /// No act is made, and these letters are sent.
+    pub(crate) fn sending(letters: Vec<Letter>) -> Effect
+        ensures { result ≡ record { deed = None; letters = letters } }
+    {
+        Effect {
+            deed: None,
+            letters,
+        }
+    }
 }

@@ -1,6 +1,7 @@
 // One node's mailbox.
 
-ghost use Rattle.std.specs.Prelude.{◌≡◌, [], ◌∷◌, true, false, IfOk, IfErr, IfSome, IsErrAnd, OnErr, OnOk, All, IsTrue, ◌↔◌};
+ghost use Rattle.std.specs.Prelude.{◌≡◌, ◌≢◌, ◌%◌, [], ◌∷◌, true, false, length, IfOk, IfErr, IfSome, IsErrAnd, OnErr, OnOk, All, IsTrue, ◌↔◌};
+ghost use Rattle.lrc_envelope.specs.declared.picker.Picker.TheVariants.{Twice};
 ghost use Rattle.lrc_post.specs.declared.fault.PostFault.TheVariants.{Closed, NoMemory};
 ghost use Rattle.lrc_post.specs.Mailbox.{with_puts, IsCutShort, Gives};
 ghost use Rattle.lrc_post.specs.Wires.{IsLegal, IsTakenBy, in_flight};
@@ -161,6 +162,8 @@ impl Mailbox {
         ensures ok { OnOk result (self.new ≡ with_puts self.old from (parcel ∷ [])) }
         ensures err { OnErr result (self.new ≡ self.old) }
         ensures back { IfErr result (λ refused. refused.1 ≡ parcel) }
+        ensures closed { self.old.closed ≡ true → IsErrAnd result (λ refused. refused.0 ≡ Closed) }
+        ensures other { parcel.to ≢ self.old.owner → IsErrAnd result (λ refused. refused.0 ≡ Closed) }
         ensures open { self.old.closed ≡ false → parcel.to ≡ self.old.owner → IfErr result (λ refused. refused.0 ≡ NoMemory) }
     {
         if self.closed || parcel.to != self.owner {
@@ -180,7 +183,9 @@ impl Mailbox {
     }
 
     /// Whether the parcel that is given next was given before, as with `Twice` after the first of its two takes.
-    pub(crate) fn is_halfway(&self) -> bool {
+    pub(crate) fn is_halfway(&self) -> bool
+        ensures { IsTrue result ↔ ((self.now.picker ≡ Twice) × (length (in_flight self.now.picker self.now.history) % 2 ≡ 1)) }
+    {
         self.picker == Picker::Twice && self.flight.len() % 2 == 1
     }
 
@@ -193,9 +198,7 @@ impl Mailbox {
         parcels.reverse();
         while let Some(parcel) = parcels.pop() {
             if let Err(refused) = self.put(from, parcel) {
-                let Ok(()) = parcels.push(refused) else {
-                    unreachable!()
-                };
+                parcels.push_reserved(refused);
                 parcels.reverse();
                 return Err(parcels);
             }
@@ -220,9 +223,7 @@ impl Mailbox {
             stamp: parcel.stamp,
             bytes: parcel.bytes,
         };
-        let Ok(()) = self.history.push(put) else {
-            unreachable!()
-        };
+        self.history.push_reserved(put);
         line_up(&mut self.flight, self.picker, place);
         Ok(())
     }

@@ -65,9 +65,7 @@ impl Post {
         parcels.reverse();
         while let Some(parcel) = parcels.pop() {
             if let Err((fault, refused)) = self.put(rt, from, parcel) {
-                let Ok(()) = parcels.push(refused) else {
-                    unreachable!()
-                };
+                parcels.push_reserved(refused);
                 parcels.reverse();
                 return Err(Unput { fault, parcels });
             }
@@ -140,10 +138,9 @@ impl Post {
                 ),
                 None => Mailbox::empty(owner, self.picker, self.alloc),
             };
-            let _ = mailbox.history();
-            let Ok(()) = mailboxes.push(mailbox) else {
-                unreachable!()
-            };
+            // For the proof: the history of a mailbox is legal.
+            let _history = mailbox.history();
+            mailboxes.push_reserved(mailbox);
         }
         Wires { mailboxes }
     }

@@ -29,13 +29,9 @@ pub(crate) fn line_up(flight: &mut VecDeque<usize>, picker: Picker, place: usize
     requires room { deque_len flight.old + 2 ≤ deque_capacity flight.old }
     ensures { flight.new.items ≡ flight.old.items ++ replicate (times picker) place }
 {
-    let Ok(()) = flight.push_back(place) else {
-        unreachable!()
-    };
+    flight.push_back_reserved(place);
     if picker == Picker::Twice {
-        let Ok(()) = flight.push_back(place) else {
-            unreachable!()
-        };
+        flight.push_back_reserved(place);
     }
 }
 

@@ -19,6 +19,13 @@ use lrc_world::report::SimFault;
 use lrc_world::simulate::replay;
 use std::alloc::{AllocError, Global};
 
+/// What nodes left behind: their turns, and the mailboxes of the post between them.
+#[derive(Drop)]
+pub(crate) struct Remains<'w> {
+    pub logs: Vec<Vec<Entry>>,
+    pub wires: &'w [Mailbox],
+}
+
 /// The fault of a run whose first failure is this one. Where the node wore out, all turns are made once more as one run, with what
 /// wore it out behind them: the fault is `Worn` only where that run wears out too. It does, since the nodes made these turns.
 pub(crate) fn fault_of(
@@ -26,17 +33,17 @@ pub(crate) fn fault_of(
     program: &Program,
     nodes: u8,
     options: &Options,
-    logs: Vec<Vec<Entry>>,
-    wires: &[Mailbox],
+    remains: Remains<'_>,
     failure: Failure,
 ) -> RunFault
+    requires few { length remains.logs.items ≤ 16 }
     ensures worn { result ≡ RunFault.Worn → (events : List AnyEvent) × IsWornBy program.now nodes options.now events }
     ensures soon { result ≡ RunFault.Worn → WearsOutSoon program.now nodes options.now }
     ensures late { IsLate result }
     ensures stop { AnswersStop failure.stop result }
 {
     match failure.stop {
-        Stop::Worn => worn_out(alloc, program, nodes, options, logs, wires, failure.node),
+        Stop::Worn => worn_out(alloc, program, nodes, options, remains, failure.node),
         Stop::Closed | Stop::NoMemory => RunFault::NoMemory,
     }
 }
@@ -47,19 +54,20 @@ fn worn_out(
     program: &Program,
     nodes: u8,
     options: &Options,
-    logs: Vec<Vec<Entry>>,
-    wires: &[Mailbox],
+    remains: Remains<'_>,
     node: usize,
 ) -> RunFault
+    requires few { length remains.logs.items ≤ 16 }
     ensures worn { result ≡ RunFault.Worn → (events : List AnyEvent) × IsWornBy program.now nodes options.now events }
     ensures soon { result ≡ RunFault.Worn → WearsOutSoon program.now nodes options.now }
     ensures late { IsLate result }
 {
-    let events = match events_until(alloc, logs, wires, node) {
+    let events = match events_until(alloc, remains, node) {
         Ok(events) => events,
         Err(fault) => return RunFault::from(fault),
     };
     let turns = events.as_slice();
+    // For the proof: there are fewer than 2^64.
     let _count = count_of(turns);
     match replay(alloc, program, u32::from(nodes), options, turns) {
         Err(SimFault::Worn) => RunFault::Worn,
@@ -78,21 +86,15 @@ pub(crate) fn count_of(events: &[Event]) -> usize
 }
 
 // The events that make all turns, and behind them the one at which the node wore out.
-fn events_until(
-    alloc: Global,
-    mut logs: Vec<Vec<Entry>>,
-    wires: &[Mailbox],
-    node: usize,
-) -> Result<Vec<Event>, WeaveFault> {
+fn events_until(alloc: Global, remains: Remains<'_>, node: usize) -> Result<Vec<Event>, WeaveFault>
+    requires few { length remains.logs.items ≤ 16 }
+{
+    let Remains { mut logs, wires } = remains;
     if let Some(log) = logs.get_mut(node)
         && let Some(mailbox) = wires.get(node)
     {
         let last = unfinished(alloc, log.as_slice(), mailbox)?;
         log.push(last)?;
-    }
-    // There is at most one log for each node, so there are never more.
-    if logs.len() > 16 {
-        return Err(WeaveFault::NoMemory);
     }
     events_of(alloc, logs.as_slice())
 }

@@ -1,6 +1,6 @@
 // What is left of nodes that lived on threads.
 
-ghost use Rattle.std.specs.Prelude.{◌≡◌, ◌++◌, [], ◌∷◌, true, None, Some, IfNone, IfSome, length};
+ghost use Rattle.std.specs.Prelude.{◌≡◌, ◌≤◌, ◌+◌, ◌++◌, [], ◌∷◌, true, None, Some, IfNone, IfSome, length};
 
 use crate::stop::Stop;
 use lrc_node::Entry;
@@ -33,6 +33,7 @@ pub(crate) fn added(lives: Lives, life: Life) -> Lives
     ensures next { IfNone lives.failure (IfSome life.fault (λ stop. result.failure ≡ Some (record { node = length lives.logs.items; stop = stop }))) }
     ensures none { IfNone result.failure
         ((lives.failure ≡ None) × (life.fault ≡ None) × (result.logs.items ≡ lives.logs.items ++ life.log ∷ [])) }
+    ensures count { length result.logs.items ≤ length lives.logs.items + 1 }
 {
     let Lives { mut logs, failure } = lives;
     let Life { log, fault } = life;
@@ -72,6 +73,7 @@ fn first_of(
 pub(crate) fn of_all(lives: Lives, nodes: u8) -> Lives
     ensures first { IfSome lives.failure (λ failure. result.failure ≡ Some failure) }
     ensures none { IfNone result.failure ((lives.failure ≡ None) × (result.logs ≡ lives.logs) × (length result.logs.items ≡ nodes)) }
+    ensures logs { result.logs ≡ lives.logs }
 {
     let Lives { logs, failure } = lives;
     let node = logs.len();

@@ -1,6 +1,6 @@
 // The nodes of a run, each on a thread of its own.
 
-ghost use Rattle.std.specs.Prelude.{◌≡◌, ◌<◌, ◌≤◌, [], IfNone, IfOk, map};
+ghost use Rattle.std.specs.Prelude.{◌≡◌, ◌<◌, ◌≤◌, [], IfNone, IfOk, length, map};
 ghost use Rattle.lrc_protocol.specs.Node.{fresh_node};
 ghost use Rattle.lrc_weave.specs.Logs.{AreLogs};
 ghost use Rattle.lrc_run.specs.Threads.{AreFirstLogs, AreOwedFrom};
@@ -45,16 +45,18 @@ pub(crate) fn logs_of<C: Coded + Sync, G: Gate + Sync, R: Threads + Wait + Sync>
 ) -> Result<Lives, AllocError>
     requires code { C.program_of code.now ≡ program.now }
     requires few { nodes ≤ 16 }
-    ensures { IfOk result (λ lives. IfNone lives.failure
+    ensures logs { IfOk result (λ lives. IfNone lives.failure
         (AreLogs program.now nodes options.now (map (λ log. log.items) lives.logs.items))) }
+    ensures few { IfOk result (λ lives. length lives.logs.items ≤ nodes) }
 {
     thread::scope(
         thread::scope_env(),
         rt,
         |scope| -> Result<Lives, AllocError>
             requires { (C.program_of code.now ≡ program.now) × (nodes ≤ 16) }
-            ensures { IfOk result (λ lives. IfNone lives.failure
+            ensures logs { IfOk result (λ lives. IfNone lives.failure
                 (AreLogs program.entry.now nodes options.entry.now (map (λ log. log.items) lives.logs.items))) }
+            ensures few { IfOk result (λ lives. length lives.logs.items ≤ nodes) }
         {
             let logs = Vec::with_capacity(alloc, usize::from(nodes))?;
             let mut threads = Vec::with_capacity(alloc, usize::from(nodes))?;
@@ -93,8 +95,10 @@ fn joined<R: Threads>(
     threads: Vec<PromisedHandle<Life, LogOf<'_>>>,
 ) -> Lives
     requires none { room.items ≡ [] }
+    requires few { length threads.items ≤ nodes }
     requires owed { AreOwedFrom program.now nodes options.now 0 (map (λ handle. handle.promise) threads.items) }
-    ensures { IfNone result.failure (AreFirstLogs program.now nodes options.now (map (λ log. log.items) result.logs.items)) }
+    ensures logs { IfNone result.failure (AreFirstLogs program.now nodes options.now (map (λ log. log.items) result.logs.items)) }
+    ensures few { length result.logs.items ≤ nodes }
 {
     let mut lives = Lives {
         logs: room,

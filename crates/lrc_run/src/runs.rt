@@ -16,11 +16,11 @@ ghost use Rattle.lrc_world.specs.Range.{AreNodes, AreSteps};
 ghost use Rattle.lrc_world.specs.Report.{IsWornBy};
 ghost use Rattle.lrc_run.specs.Run.{AreWiresOf, IsLate, IsWovenReport, WearsOutSoon, turns_of};
 
-use crate::failure::{count_of, fault_of};
+use crate::failure::{Remains, count_of, fault_of};
 use crate::fault::RunFault;
 use crate::gate::Gate;
 use crate::nodes::logs_of;
-use lrc_envelope::Picker;
+use lrc_envelope::{MOST_NODES, Picker};
 use lrc_exec::code::Code;
 use lrc_lang::program::Program;
 use lrc_node::{Entry, Options};
@@ -187,8 +187,10 @@ fn live<G: Gate + Sync, R: Threads + Wait + Sync>(
             program,
             nodes,
             options,
-            lives.logs,
-            wires.mailboxes(),
+            Remains {
+                logs: lives.logs,
+                wires: wires.mailboxes(),
+            },
             failure,
         )),
     }
@@ -224,6 +226,7 @@ fn told(
 {
     let events = weave(alloc, logs, wires)?;
     let turns = events.as_slice();
+    // For the proof: there are fewer than 2^64.
     let _count = count_of(turns);
     match replay(alloc, program, nodes, options, turns) {
         Ok((report, true)) => Ok((report, events)),
@@ -241,7 +244,7 @@ fn check(nodes: u32, options: &Options) -> Result<u8, RunFault>
         (λ fault. ((fault ≡ RunFault.BadNodes) × ¬ AreNodes nodes)
         ⊎ ((fault ≡ RunFault.BadSteps) × AreNodes nodes × ¬ AreSteps options.now.steps)) }
 {
-    if nodes < 1 || nodes > 16 {
+    if nodes < 1 || nodes > u32::from(MOST_NODES) {
         return Err(RunFault::BadNodes);
     }
     if options.steps < 1 || options.steps > MOST_STEPS {

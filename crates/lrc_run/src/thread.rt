@@ -33,7 +33,7 @@ pub fn on_thread<G: Gate, R: Wait>(
     requires few { nodes ≤ 16 }
     ensures { IfNone result.fault (IsLogOf (fresh_node code.now nodes options.now me) result.log.items) }
 {
-    let life = live(rt, alloc, code, nodes, options, post, gate, me);
+    let life = life_of(rt, alloc, code, nodes, options, post, gate, me);
     if life.fault.is_some() {
         post.close(rt);
     }
@@ -41,7 +41,7 @@ pub fn on_thread<G: Gate, R: Wait>(
 }
 
 // The same, but a node that fails leaves the post as it is.
-fn live<G: Gate, R: Wait>(
+fn life_of<G: Gate, R: Wait>(
     rt: &R,
     alloc: Global,
     code: &Code<'_>,

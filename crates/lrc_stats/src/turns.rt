@@ -28,7 +28,7 @@ pub fn turns_made(logs: &[Vec<Entry>]) -> Result<u64, AllocError>
     Ok(count)
 }
 
-/// The kinds of deeds, counted from 0.
+// The kinds of deeds, counted from 0.
 fn deed_kind(deed: Deed) -> u8
     ensures { result ≡ deed_kind deed }
 {

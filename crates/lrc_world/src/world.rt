@@ -327,7 +327,8 @@ fn envelope_in(alloc: Global, bytes: &[u8]) -> Result<Envelope, SimFault>
 {
     match decode(alloc, bytes) {
         Ok(envelope) => Ok(envelope),
-        Err(_fault) => Err(SimFault::NoMemory),
+        Err(WireFault::NoMemory) => Err(SimFault::NoMemory),
+        Err(_) => unreachable!(),
     }
 }
 

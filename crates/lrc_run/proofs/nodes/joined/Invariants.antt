@@ -1,9 +1,11 @@
-use Rattle.std.proofs.Common.{IfNone, map}
+use Rattle.std.proofs.Common.{◌+◌, ◌≤◌, IfNone, length, map}
 use Rattle.std.specs.Vec.Iter.{into_iter_items}
 use Rattle.lrc_run.proofs.Joined.{AreSoFar}
 use Rattle.lrc_run.proofs.nodes.joined.Given as goal
 
--- where no thread failed so far, the logs are theirs, and the others owe theirs
+-- where no thread failed so far, the logs are theirs, and the others owe theirs; with those there is one for each node at most
 abbrev pub invariant-loop-thread : goal.invariant-loop-thread
-invariant-loop-thread g l = IfNone l.lives.failure
+invariant-loop-thread g l =
+    IfNone l.lives.failure
     (AreSoFar l.program l.nodes l.options (map (λ log. log.items) l.lives.logs.items) (map (λ handle. handle.promise) (into_iter_items l.thread-iterator)))
+    × (length l.lives.logs.items + length (into_iter_items l.thread-iterator) ≤ l.nodes)

@@ -4,10 +4,10 @@ use Rattle.lrc_barrier.specs.Barrier.{ManagerRecord}
 use Rattle.lrc_node.specs.Barrier.{KeepsEpisodes, IsOfNodes}
 use Rattle.lrc_node.proofs.Episodes.{kept_after, are_departures}
 use Rattle.lrc_node.proofs.barrier.Barrier.take_arrival.Goals as goal
-use Rattle.lrc_node.proofs.barrier.Barrier.take_arrival.Goals.{in-Ok, in-Err-NoMemory, in-Err-WrongEpisode}
+use Rattle.lrc_node.proofs.barrier.Barrier.take_arrival.Goals.{in-Ok, in-Err-NoMemory}
 
-pub invariant_of-self-2 : goal.invariant_of-self-2
-invariant_of-self-2 c =
+pub invariant_of-self : goal.invariant_of-self
+invariant_of-self c =
     let each : KeepsEpisodes c.in-Some.manager = subst (λ (o : Option ManagerRecord). IfSome o KeepsEpisodes) c.in-Some.is c.self.invariant in
     kept_after c.in-Some.manager c.arrive.new.self c.arrive.result c.args.from c.args.arrival.now c.arrive.ensures.manager
     c.arrive.ensures.err each c.requires.begun
@@ -21,5 +21,4 @@ returns-clause-departures c = λ nodes of_nodes.
       | in-Ok w ↦ rw w.result-is (are_departures nodes c.in-Some.manager c.args.from c.args.arrival.now w.in-Ok.departures of each
           c.requires.begun w.in-Ok.ensures.answer w.in-Ok.ensures.departures)
       | in-Err-NoMemory w ↦ rw w.result-is tt
-      | in-Err-WrongEpisode w ↦ rw w.result-is tt
     ]

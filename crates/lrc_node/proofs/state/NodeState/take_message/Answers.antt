@@ -1,8 +1,10 @@
-use Rattle.lrc_node.proofs.CanTake.{taking_can, taking_from}
+use Rattle.std.proofs.Common.{sym, ◌∙◌, ap}
+use Rattle.lrc_envelope.specs.Records.{DepartRecord}
+use Rattle.lrc_protocol.specs.Take.{take_effect, take_departure}
 use Rattle.lrc_node.proofs.state.NodeState.take_message.Goals as goal
 
-pub do_message-requires-clause-from : goal.do_message-requires-clause-from
-do_message-requires-clause-from c = taking_from c.args.self.now c.args.from c.args.message.now c.requires
-
-pub do_message-requires-clause-can : goal.do_message-requires-clause-can
-do_message-requires-clause-can c = taking_can c.args.self.now c.args.from c.args.message.now c.requires
+pub returns-in-Depart-clause-effect : goal.returns-in-Depart-clause-effect
+returns-in-Depart-clause-effect c =
+    let kind = ap (take_effect c.args.self.now c.args.from) c.in-Depart.is in
+    let said = ap (λ (m : DepartRecord). take_departure c.args.self.now m.collect m.time m.intervals) (sym c.m.view_is) in
+    rw (kind ∙ said) c.take_departure.ensures.effect

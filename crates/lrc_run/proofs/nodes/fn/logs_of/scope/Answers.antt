@@ -1,4 +1,4 @@
-use Rattle.std.proofs.Common.{◌≡◌, ◌++◌, [], ◌∷◌, sym, ap, subst, map, rules}
+use Rattle.std.proofs.Common.{◌≡◌, ◌≤◌, ◌++◌, [], ◌∷◌, sym, ap, subst, arith, length, map, rules}
 use Rattle.lrc_run.specs.declared.nodes.LogOf.{LogOf}
 use Rattle.lrc_run.specs.Threads.{AreOwedFrom}
 use Rattle.lrc_run.proofs.Joined.{started_more, all_logs}
@@ -9,14 +9,15 @@ pub loop-me-preserved : goal.loop-me-preserved
 loop-me-preserved g c =
     let items : c.push.new.self.items ≡ c.loop-me.threads.items ++ c.in-Ok.thread ∷ [] = search rules in
     let promised = c.in-Ok.ensures.ok in
-    started_more c.captures.program.now c.captures.nodes c.captures.options.now (λ handle. handle.promise) c.loop-me.threads.items c.push.new.self.items
+    let more = started_more c.captures.program.now c.captures.nodes c.captures.options.now (λ handle. handle.promise) c.loop-me.threads.items c.push.new.self.items
     c.in-Ok.thread c.loop-me.me items c.loop-me.invariant.0 c.loop-me.invariant.1
     (record {
       its_program = ap (λ (o : LogOf). o.program.now) promised;
       its_nodes = ap (λ (o : LogOf). o.nodes) promised;
       its_options = ap (λ (o : LogOf). o.options) promised;
       its_number = ap (λ (o : LogOf). o.me) promised;
-    })
+    }) in
+    (more.0, more.1, omega (arith, c.loop-me-test.true))
 
 pub joined-requires : goal.joined-requires
 joined-requires g c = record {
@@ -33,9 +34,20 @@ joined-requires g c = record {
         subst (λ threads. AreOwedFrom c.captures.program.now c.captures.nodes c.captures.options.now 0 (map (λ handle. handle.promise) threads))
         (sym items) c.loop-me.invariant.1
   ];
+  few = elim c.loop-me-test.branch [
+    | else-loop-me-test w ↦ subst (λ threads. length threads.items ≤ c.captures.nodes) (sym w.threads-is)
+        (omega (arith, c.loop-me.invariant.0, c.loop-me.invariant.2))
+    | then-loop-me-test+in_default w ↦ subst (λ threads. length threads.items ≤ c.captures.nodes) (sym w.threads-is)
+        (omega (arith, c.loop-me.invariant.0, c.loop-me.invariant.2))
+    | then-loop-me-test+in-Ok+then-is_err w ↦
+        let items : c.loop-me-test.threads.items ≡ c.loop-me.threads.items = search rules in
+        subst (λ threads. length threads ≤ c.captures.nodes) (sym items) (omega (arith, c.loop-me.invariant.0, c.loop-me.invariant.2))
+  ];
 }
 
 pub returns : goal.returns
-returns g c =
-    all_logs c.captures.program.now c.captures.nodes c.captures.options.now (λ logs. logs.items) (λ log. log.items) c.joined.result.logs c.of_all.result.logs
-    c.joined.result.failure c.of_all.result.failure c.of_all.ensures.none c.joined.ensures
+returns g c = record {
+  logs = all_logs c.captures.program.now c.captures.nodes c.captures.options.now (λ logs. logs.items) (λ log. log.items) c.joined.result.logs
+      c.of_all.result.logs c.joined.result.failure c.of_all.result.failure c.of_all.ensures.none c.joined.ensures.logs;
+  few = subst (λ logs. length logs.items ≤ c.captures.nodes) (sym c.of_all.ensures.logs) c.joined.ensures.few;
+}

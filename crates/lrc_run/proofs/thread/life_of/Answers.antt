@@ -3,7 +3,7 @@ use Rattle.lrc_protocol.specs.Node.{Node, fresh_node}
 use Rattle.lrc_run.specs.declared.stop.Stop.TheVariants.{Closed}
 use Rattle.lrc_run.specs.Worker.{IsLogOf, unmade}
 use Rattle.lrc_run.proofs.Threads.{anyway, whole_log, cut_log}
-use Rattle.lrc_run.proofs.thread.live.Goals as goal
+use Rattle.lrc_run.proofs.thread.life_of.Goals as goal
 
 pub returns-in-Ok-work : goal.returns-in-Ok-work
 returns-in-Ok-work g c =
