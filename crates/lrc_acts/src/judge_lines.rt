@@ -1,6 +1,7 @@
 // The lines in which a judge of acts tells what it found.
 
-ghost use Rattle.std.specs.Prelude.{◌≡◌, ◌++◌, OnOk, codes, decimal};
+ghost use Rattle.std.specs.Prelude.{◌≡◌, ◌++◌, OnErr, OnOk, codes, decimal};
+ghost use Rattle.lrc_text.specs.Front.{BeginsWith};
 ghost use Rattle.lrc_acts.specs.JudgeLines.{kind_text, later_values_text, pair_line, place_text, unlazy_line, unordered_line, unsynchronized_line, values_text};
 
 use lrc_text::push_number;
@@ -30,7 +31,8 @@ pub struct RacingAccesses {
 
 /// Adds the line on the first act that is not well synchronized.
 pub fn push_unsynchronized(text: &mut Vec<u8>, place: Place) -> Result<(), AllocError>
-    ensures { OnOk result (text.new.items ≡ text.old.items ++ unsynchronized_line place) }
+    ensures ok { OnOk result (text.new.items ≡ text.old.items ++ unsynchronized_line place) }
+    ensures err { OnErr result (BeginsWith text.new.items text.old.items) }
 {
     text.extend_from_slice(b"not well synchronized")?;
     push_place(text, place)?;
@@ -44,7 +46,8 @@ pub fn push_unlazy(
     value: u64,
     allowed: &[u64],
 ) -> Result<(), AllocError>
-    ensures { OnOk result (text.new.items ≡ text.old.items ++ unlazy_line place value allowed.now) }
+    ensures ok { OnOk result (text.new.items ≡ text.old.items ++ unlazy_line place value allowed.now) }
+    ensures err { OnErr result (BeginsWith text.new.items text.old.items) }
 {
     push_read(text, b"does not read lazily", place, value)?;
     text.extend_from_slice(b", allowed ")?;
@@ -59,7 +62,8 @@ pub fn push_unordered(
     value: u64,
     last: u64,
 ) -> Result<(), AllocError>
-    ensures { OnOk result (text.new.items ≡ text.old.items ++ unordered_line place value last) }
+    ensures ok { OnOk result (text.new.items ≡ text.old.items ++ unordered_line place value last) }
+    ensures err { OnErr result (BeginsWith text.new.items text.old.items) }
 {
     push_read(text, b"does not read in order", place, value)?;
     push_last(text, last)
@@ -67,7 +71,8 @@ pub fn push_unordered(
 
 /// Adds the line of two accesses that race.
 pub fn push_pair(text: &mut Vec<u8>, pair: RacingAccesses) -> Result<(), AllocError>
-    ensures { OnOk result (text.new.items ≡ text.old.items ++ pair_line pair) }
+    ensures ok { OnOk result (text.new.items ≡ text.old.items ++ pair_line pair) }
+    ensures err { OnErr result (BeginsWith text.new.items text.old.items) }
 {
     push_number(text, b"race acts ", pair.earlier as u64)?;
     push_number(text, b" ", pair.later as u64)?;
@@ -80,7 +85,8 @@ pub fn push_pair(text: &mut Vec<u8>, pair: RacingAccesses) -> Result<(), AllocEr
 }
 
 fn push_last(text: &mut Vec<u8>, last: u64) -> Result<(), AllocError>
-    ensures { OnOk result (text.new.items ≡ text.old.items ++ codes ", last written " ++ decimal last ++ codes "\n") }
+    ensures ok { OnOk result (text.new.items ≡ text.old.items ++ codes ", last written " ++ decimal last ++ codes "\n") }
+    ensures err { OnErr result (BeginsWith text.new.items text.old.items) }
 {
     push_number(text, b", last written ", last)?;
     text.extend_from_slice(b"\n")
@@ -88,7 +94,8 @@ fn push_last(text: &mut Vec<u8>, last: u64) -> Result<(), AllocError>
 
 // Adds what a read does, where it is, and what it gives.
 fn push_read(text: &mut Vec<u8>, does: &[u8], place: Place, value: u64) -> Result<(), AllocError>
-    ensures { OnOk result (text.new.items ≡ text.old.items ++ does.now ++ place_text place ++ codes ": read " ++ decimal value) }
+    ensures ok { OnOk result (text.new.items ≡ text.old.items ++ does.now ++ place_text place ++ codes ": read " ++ decimal value) }
+    ensures err { OnErr result (BeginsWith text.new.items text.old.items) }
 {
     text.extend_from_slice(does)?;
     push_place(text, place)?;
@@ -96,14 +103,16 @@ fn push_read(text: &mut Vec<u8>, does: &[u8], place: Place, value: u64) -> Resul
 }
 
 fn push_place(text: &mut Vec<u8>, place: Place) -> Result<(), AllocError>
-    ensures { OnOk result (text.new.items ≡ text.old.items ++ place_text place) }
+    ensures ok { OnOk result (text.new.items ≡ text.old.items ++ place_text place) }
+    ensures err { OnErr result (BeginsWith text.new.items text.old.items) }
 {
     push_number(text, b" at act ", place.position as u64)?;
     push_number(text, b", line ", u64::from(place.line))
 }
 
 fn push_values(text: &mut Vec<u8>, values: &[u64]) -> Result<(), AllocError>
-    ensures { OnOk result (text.new.items ≡ text.old.items ++ values_text values.now) }
+    ensures ok { OnOk result (text.new.items ≡ text.old.items ++ values_text values.now) }
+    ensures err { OnErr result (BeginsWith text.new.items text.old.items) }
 {
     match values.split_first() {
         Some((first, rest)) => {
@@ -115,7 +124,8 @@ fn push_values(text: &mut Vec<u8>, values: &[u64]) -> Result<(), AllocError>
 }
 
 fn push_later_values(text: &mut Vec<u8>, values: &[u64]) -> Result<(), AllocError>
-    ensures { OnOk result (text.new.items ≡ text.old.items ++ later_values_text values.now) }
+    ensures ok { OnOk result (text.new.items ≡ text.old.items ++ later_values_text values.now) }
+    ensures err { OnErr result (BeginsWith text.new.items text.old.items) }
 {
     for value in values {
         push_number(text, b", ", *value)?;

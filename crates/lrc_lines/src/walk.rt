@@ -1,6 +1,6 @@
 // A node on its way through the text.
 
-ghost use Rattle.std.specs.Prelude.{◌≡◌, ◌≤◌, IfOk, OnOk};
+ghost use Rattle.std.specs.Prelude.{◌≡◌, ◌≤◌, IfOk, OnErr, OnOk};
 ghost use Rattle.lrc_exec.specs.Ask.{ask_of};
 ghost use Rattle.lrc_exec.specs.Meaning.{next_of};
 ghost use Rattle.lrc_lines.specs.Seen.{walk_of};
@@ -58,10 +58,11 @@ impl<'c> Walk<'c> {
         self.way.line(end)
     }
 
-    /// The node does this deed. After an error nothing is promised of where it is.
+    /// The node does this deed. After an error it is where it was.
     #[tactic(auto, using(crate::proofs::Following::led_onward))]
     pub fn follow(&mut self, deed: Deed) -> Result<(), AllocError>
-        ensures { OnOk result (walk_of self.new ≡ led (walk_of self.old) deed) }
+        ensures ok { OnOk result (walk_of self.new ≡ led (walk_of self.old) deed) }
+        ensures err { OnErr result (walk_of self.new ≡ walk_of self.old) }
     {
         match deed {
             Deed::Arrive | Deed::Trap(_) | Deed::End => Ok(()),
@@ -73,13 +74,14 @@ impl<'c> Walk<'c> {
     // The statement that comes next is done, where a read gets the value. A thread that has stopped stays where it is.
     #[tactic(auto, using(crate::proofs::Following::onward_stopped, crate::proofs::Following::onward_going, crate::proofs::Following::goes_takes))]
     fn onward(&mut self, value: u64) -> Result<(), AllocError>
-        ensures { OnOk result (walk_of self.new ≡ onward value (walk_of self.old)) }
+        ensures ok { OnOk result (walk_of self.new ≡ onward value (walk_of self.old)) }
+        ensures err { OnErr result (walk_of self.new ≡ walk_of self.old) }
     {
         if !goes_on(self.machine.ask()) {
             return Ok(());
         }
-        let holds = self.machine.condition_holds();
+        self.way.pass(self.machine.condition_holds())?;
         self.machine.answer(value);
-        self.way.pass(holds)
+        Ok(())
     }
 }

@@ -1,6 +1,6 @@
 // The nodes of a run on their ways through the text.
 
-ghost use Rattle.std.specs.Prelude.{◌≡◌, ◌++◌, ◌∷◌, [], ℕ, List, map, slice_index_or, IfOk, OnOk};
+ghost use Rattle.std.specs.Prelude.{◌≡◌, ◌++◌, ◌∷◌, [], ℕ, List, map, slice_index_or, IfOk, OnErr, OnOk};
 ghost use Rattle.lrc_lang.specs.declared.program.Program.{Program};
 ghost use Rattle.lrc_exec.specs.Ask.{ask_of};
 ghost use Rattle.lrc_exec.specs.Meaning.{next_of};
@@ -86,11 +86,12 @@ impl<'c> Walks<'c> {
         }
     }
 
-    /// An act is done. After an error nothing is promised of where its node is.
+    /// An act is done. After an error every node is where it was.
     pub fn follow(&mut self, act: &Act) -> Result<(), AllocError>
         ensures walks { (program : Program) (nodes : ℕ) (lines : List ℕ) (before : List Act)
             → walks_of self.old ≡ walks_behind program nodes lines before
             → OnOk result (walks_of self.new ≡ walks_behind program nodes lines (before ++ act.now ∷ [])) }
+        ensures err { OnErr result (walks_of self.new ≡ walks_of self.old) }
         ensures end { self.new.end ≡ self.old.end }
     {
         let node = usize::from(act.node);

@@ -1,6 +1,7 @@
 // What a thread has still to do, each statement with its lines.
 
-ghost use Rattle.std.specs.Prelude.{◌≡◌, ◌∷◌, ◌++◌, List, drop, fold, slice_index_or, IfOk, OnOk};
+ghost use Rattle.std.specs.Prelude.{◌≡◌, ◌∷◌, ◌+◌, ◌++◌, ◌≤◌, List, drop, fold, slice_index_or, IfOk, OnErr, OnOk};
+ghost use Rattle.std.specs.Vec.{vec_capacity, vec_len};
 ghost use Rattle.lrc_lines.specs.Tasks.{behind, tasks, passed, line_of};
 ghost use Rattle.lrc_lines.specs.Ways.{todo_of};
 
@@ -84,11 +85,14 @@ impl<'c> Way<'c> {
         }
     }
 
-    // These statements come first.
+    // These statements come first. Only where there is no room is memory asked for.
     #[tactic(auto, using(crate::proofs::Passing::todo_of_push))]
     fn open(&mut self, statements: &'c [Statement], lines: &'c [u32]) -> Result<(), AllocError>
-        ensures { OnOk result (todo_of self.new.stretches.items
+        ensures ok { OnOk result (todo_of self.new.stretches.items
             ≡ tasks statements.now lines.now ++ todo_of self.old.stretches.items) }
+        ensures full { OnErr result (vec_capacity self.old.stretches ≤ vec_len self.old.stretches) }
+        ensures room { vec_capacity self.old.stretches ≤ vec_capacity self.new.stretches }
+        ensures more { vec_len self.new.stretches ≤ vec_len self.old.stretches + 1 }
     {
         if let [first, others @ ..] = statements {
             self.stretches.push(Stretch {
@@ -100,11 +104,14 @@ impl<'c> Way<'c> {
         Ok(())
     }
 
-    // What comes next is done, or its condition was evaluated.
+    // What comes next is done, or its condition was evaluated. Passing needs room for one stretch at most, which is got before
+    // anything changes.
     #[tactic(auto, using(crate::proofs::Passing::passings))]
     pub(crate) fn pass(&mut self, holds: bool) -> Result<(), AllocError>
-        ensures { OnOk result (todo_of self.new.stretches.items ≡ passed holds (todo_of self.old.stretches.items)) }
+        ensures ok { OnOk result (todo_of self.new.stretches.items ≡ passed holds (todo_of self.old.stretches.items)) }
+        ensures err { OnErr result (self.new.stretches.items ≡ self.old.stretches.items) }
     {
+        self.stretches.reserve(1)?;
         let Some(stretch) = self.stretches.pop() else {
             return Ok(());
         };
@@ -131,8 +138,11 @@ impl<'c> Way<'c> {
 
     // What stands in a stretch behind its first statement comes first.
     fn leave(&mut self, stretch: Stretch<'c>) -> Result<(), AllocError>
-        ensures { OnOk result (todo_of self.new.stretches.items
+        ensures ok { OnOk result (todo_of self.new.stretches.items
             ≡ tasks stretch.entry.others.now (behind stretch.entry.first.now stretch.entry.lines.now) ++ todo_of self.old.stretches.items) }
+        ensures full { OnErr result (vec_capacity self.old.stretches ≤ vec_len self.old.stretches) }
+        ensures room { vec_capacity self.old.stretches ≤ vec_capacity self.new.stretches }
+        ensures more { vec_len self.new.stretches ≤ vec_len self.old.stretches + 1 }
     {
         self.open(stretch.others, behind(stretch.first, stretch.lines))
     }

@@ -1,6 +1,7 @@
 // Changes of pages in words.
 
-ghost use Rattle.std.specs.Prelude.{◌≡◌, ◌++◌, IfOk, OnOk, codes};
+ghost use Rattle.std.specs.Prelude.{◌≡◌, ◌++◌, IfOk, OnErr, OnOk, codes};
+ghost use Rattle.lrc_text.specs.Front.{BeginsWith};
 ghost use Rattle.lrc_messages.specs.Lists.{before, joined, joined_or_dash};
 ghost use Rattle.lrc_messages.specs.MessageText.{change_text, part_text, words_in};
 
@@ -11,7 +12,8 @@ use lrc_text::push_number;
 use std::alloc::{AllocError, Global};
 
 fn push_change(text: &mut Vec<u8>, place: usize, change: Change) -> Result<(), AllocError>
-    ensures { OnOk result (text.new.items ≡ text.old.items ++ before place (codes ",") ++ change_text change) }
+    ensures ok { OnOk result (text.new.items ≡ text.old.items ++ before place (codes ",") ++ change_text change) }
+    ensures err { OnErr result (BeginsWith text.new.items text.old.items) }
 {
     push_before(text, place, b",")?;
     push_number(text, b"", u64::from(change.offset))?;
@@ -19,7 +21,8 @@ fn push_change(text: &mut Vec<u8>, place: usize, change: Change) -> Result<(), A
 }
 
 fn push_changes(text: &mut Vec<u8>, changes: &Changes) -> Result<(), AllocError>
-    ensures { OnOk result (text.new.items ≡ text.old.items ++ joined (codes ",") change_text changes.now) }
+    ensures ok { OnOk result (text.new.items ≡ text.old.items ++ joined (codes ",") change_text changes.now) }
+    ensures err { OnErr result (BeginsWith text.new.items text.old.items) }
 {
     for place in 0..changes.len() {
         push_change(text, place, changes.at(place))?;
@@ -28,7 +31,8 @@ fn push_changes(text: &mut Vec<u8>, changes: &Changes) -> Result<(), AllocError>
 }
 
 fn push_changes_or_dash(text: &mut Vec<u8>, changes: &Changes) -> Result<(), AllocError>
-    ensures { OnOk result (text.new.items ≡ text.old.items ++ joined_or_dash (codes ",") change_text changes.now) }
+    ensures ok { OnOk result (text.new.items ≡ text.old.items ++ joined_or_dash (codes ",") change_text changes.now) }
+    ensures err { OnErr result (BeginsWith text.new.items text.old.items) }
 {
     if changes.is_empty() {
         text.extend_from_slice(b"-")
@@ -38,7 +42,8 @@ fn push_changes_or_dash(text: &mut Vec<u8>, changes: &Changes) -> Result<(), All
 }
 
 fn push_part(text: &mut Vec<u8>, place: usize, part: &IndexedChanges) -> Result<(), AllocError>
-    ensures { OnOk result (text.new.items ≡ text.old.items ++ before place (codes " ") ++ part_text part.now) }
+    ensures ok { OnOk result (text.new.items ≡ text.old.items ++ before place (codes " ") ++ part_text part.now) }
+    ensures err { OnErr result (BeginsWith text.new.items text.old.items) }
 {
     push_before(text, place, b" ")?;
     push_number(text, b"", u64::from(part.index))?;
@@ -49,7 +54,8 @@ fn push_part(text: &mut Vec<u8>, place: usize, part: &IndexedChanges) -> Result<
 
 /// Adds what intervals changed, each with its index.
 pub(crate) fn push_parts(text: &mut Vec<u8>, parts: &Parts) -> Result<(), AllocError>
-    ensures { OnOk result (text.new.items ≡ text.old.items ++ joined (codes " ") part_text parts.now) }
+    ensures ok { OnOk result (text.new.items ≡ text.old.items ++ joined (codes " ") part_text parts.now) }
+    ensures err { OnErr result (BeginsWith text.new.items text.old.items) }
 {
     for place in 0..parts.len() {
         push_part(text, place, parts.at(place))?;
@@ -66,7 +72,8 @@ fn words_in(alloc: Global, page: &Page) -> Result<Changes, AllocError>
 
 /// Adds the words of a page that are not 0.
 pub(crate) fn push_words(alloc: Global, text: &mut Vec<u8>, page: &Page) -> Result<(), AllocError>
-    ensures { OnOk result (text.new.items ≡ text.old.items ++ joined_or_dash (codes ",") change_text (words_in page.now)) }
+    ensures ok { OnOk result (text.new.items ≡ text.old.items ++ joined_or_dash (codes ",") change_text (words_in page.now)) }
+    ensures err { OnErr result (BeginsWith text.new.items text.old.items) }
 {
     let words = words_in(alloc, page)?;
     push_changes_or_dash(text, &words)

@@ -1,7 +1,8 @@
 // A line for each message that a node takes or sends.
 
-ghost use Rattle.std.specs.Prelude.{◌≡◌, ◌<◌, ◌≤◌, ◌++◌, IfOk, MatchOption, OnOk, length};
+ghost use Rattle.std.specs.Prelude.{◌≡◌, ◌<◌, ◌≤◌, ◌++◌, IfOk, MatchOption, OnErr, OnOk, length};
 ghost use Rattle.std.specs.Prelude.{codes, if◌then◌else◌};
+ghost use Rattle.lrc_text.specs.Front.{BeginsWith};
 ghost use Rattle.lrc_wire.specs.declared.limits.TheConstants.{MOST_BODY_BYTES};
 ghost use Rattle.lrc_wire.specs.declared.version.Version.TheVariants.{Two};
 ghost use Rattle.lrc_wire.specs.Runs.{runs_of};
@@ -23,7 +24,8 @@ pub fn push_taken(
     envelope: &Envelope,
     again: bool,
 ) -> Result<(), AllocError>
-    ensures { OnOk result (text.new.items ≡ text.old.items ++ taken_text node envelope.now again) }
+    ensures ok { OnOk result (text.new.items ≡ text.old.items ++ taken_text node envelope.now again) }
+    ensures err { OnErr result (BeginsWith text.new.items text.old.items) }
 {
     push_number(text, b"# node ", u64::from(node))?;
     push_number(text, b" takes ", u64::from(envelope.number))?;
@@ -39,8 +41,9 @@ fn push_said(
     message: &Message,
     again: bool,
 ) -> Result<(), AllocError>
-    ensures { OnOk result (text.new.items
+    ensures ok { OnOk result (text.new.items
         ≡ text.old.items ++ (if again then codes " again" else codes ": " ++ message_text message.now)) }
+    ensures err { OnErr result (BeginsWith text.new.items text.old.items) }
 {
     if again {
         return text.extend_from_slice(b" again");
@@ -65,7 +68,8 @@ fn size_of(alloc: Global, envelope: &Envelope) -> Result<Option<u64>, AllocError
 }
 
 fn push_size(alloc: Global, text: &mut Vec<u8>, envelope: &Envelope) -> Result<(), AllocError>
-    ensures { OnOk result (text.new.items ≡ text.old.items ++ size_text envelope.now) }
+    ensures ok { OnOk result (text.new.items ≡ text.old.items ++ size_text envelope.now) }
+    ensures err { OnErr result (BeginsWith text.new.items text.old.items) }
 {
     match size_of(alloc, envelope)? {
         Some(count) => push_number(text, b"", count),
@@ -80,7 +84,8 @@ pub fn push_sent(
     node: u8,
     envelope: &Envelope,
 ) -> Result<(), AllocError>
-    ensures { OnOk result (text.new.items ≡ text.old.items ++ sent_text node envelope.now) }
+    ensures ok { OnOk result (text.new.items ≡ text.old.items ++ sent_text node envelope.now) }
+    ensures err { OnErr result (BeginsWith text.new.items text.old.items) }
 {
     push_number(text, b"# node ", u64::from(node))?;
     push_number(text, b" sends ", u64::from(envelope.number))?;
@@ -99,7 +104,8 @@ pub fn push_all_sent(
     node: u8,
     out: &[Envelope],
 ) -> Result<(), AllocError>
-    ensures { OnOk result (text.new.items ≡ text.old.items ++ sent_texts node out.now) }
+    ensures ok { OnOk result (text.new.items ≡ text.old.items ++ sent_texts node out.now) }
+    ensures err { OnErr result (BeginsWith text.new.items text.old.items) }
 {
     for envelope in out {
         push_sent(alloc, text, node, envelope)?;

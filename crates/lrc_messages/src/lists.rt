@@ -1,6 +1,7 @@
 // Lists in words.
 
-ghost use Rattle.std.specs.Prelude.{◌≡◌, ◌++◌, OnOk};
+ghost use Rattle.std.specs.Prelude.{◌≡◌, ◌++◌, OnErr, OnOk};
+ghost use Rattle.lrc_text.specs.Front.{BeginsWith};
 ghost use Rattle.lrc_show.specs.Json.{entry_text, with_commas};
 ghost use Rattle.lrc_messages.specs.Lists.{before};
 
@@ -11,7 +12,8 @@ use std::alloc::AllocError;
 
 /// Adds what stands before an item at this place of a list: the sign, but before the first nothing.
 pub(crate) fn push_before(text: &mut Vec<u8>, place: usize, sign: &[u8]) -> Result<(), AllocError>
-    ensures { OnOk result (text.new.items ≡ text.old.items ++ before place sign.now) }
+    ensures ok { OnOk result (text.new.items ≡ text.old.items ++ before place sign.now) }
+    ensures err { OnErr result (BeginsWith text.new.items text.old.items) }
 {
     if place == 0 {
         Ok(())
@@ -22,7 +24,8 @@ pub(crate) fn push_before(text: &mut Vec<u8>, place: usize, sign: &[u8]) -> Resu
 
 // Adds a number at this place of a list with commas.
 fn push_listed(text: &mut Vec<u8>, place: usize, number: u64) -> Result<(), AllocError>
-    ensures { OnOk result (text.new.items ≡ text.old.items ++ entry_text place number) }
+    ensures ok { OnOk result (text.new.items ≡ text.old.items ++ entry_text place number) }
+    ensures err { OnErr result (BeginsWith text.new.items text.old.items) }
 {
     if place == 0 {
         push_number(text, b"", number)
@@ -33,7 +36,8 @@ fn push_listed(text: &mut Vec<u8>, place: usize, number: u64) -> Result<(), Allo
 
 /// Adds the numbers of pages, with commas between them.
 pub(crate) fn push_pages(text: &mut Vec<u8>, pages: &Pages) -> Result<(), AllocError>
-    ensures { OnOk result (text.new.items ≡ text.old.items ++ with_commas pages.now) }
+    ensures ok { OnOk result (text.new.items ≡ text.old.items ++ with_commas pages.now) }
+    ensures err { OnErr result (BeginsWith text.new.items text.old.items) }
 {
     for place in 0..pages.len() {
         push_listed(text, place, u64::from(pages.at(place)))?;
@@ -43,7 +47,8 @@ pub(crate) fn push_pages(text: &mut Vec<u8>, pages: &Pages) -> Result<(), AllocE
 
 /// Adds the indices of intervals, with commas between them.
 pub(crate) fn push_indices(text: &mut Vec<u8>, indices: &Indices) -> Result<(), AllocError>
-    ensures { OnOk result (text.new.items ≡ text.old.items ++ with_commas indices.now) }
+    ensures ok { OnOk result (text.new.items ≡ text.old.items ++ with_commas indices.now) }
+    ensures err { OnErr result (BeginsWith text.new.items text.old.items) }
 {
     for place in 0..indices.len() {
         push_listed(text, place, u64::from(indices.at(place)))?;

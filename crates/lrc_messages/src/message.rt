@@ -1,6 +1,7 @@
 // Messages in words.
 
-ghost use Rattle.std.specs.Prelude.{◌≡◌, ◌++◌, OnOk};
+ghost use Rattle.std.specs.Prelude.{◌≡◌, ◌++◌, OnErr, OnOk};
+ghost use Rattle.lrc_text.specs.Front.{BeginsWith};
 ghost use Rattle.lrc_messages.specs.MessageText.{arrive_text, changes_reply_text, changes_request_text, depart_text, kind_name, named};
 ghost use Rattle.lrc_messages.specs.MessageText.{lock_forward_text, lock_grant_text, lock_request_text, message_text, page_reply_text};
 
@@ -37,21 +38,24 @@ pub fn kind_name(kind: Kind) -> &'static [u8]
 
 // Adds a kind, and a number behind a word.
 fn push_named(text: &mut Vec<u8>, kind: Kind, word: &[u8], number: u64) -> Result<(), AllocError>
-    ensures { OnOk result (text.new.items ≡ text.old.items ++ named kind word.now number) }
+    ensures ok { OnOk result (text.new.items ≡ text.old.items ++ named kind word.now number) }
+    ensures err { OnErr result (BeginsWith text.new.items text.old.items) }
 {
     text.extend_from_slice(kind_name(kind))?;
     push_number(text, word, number)
 }
 
 fn push_lock_request(text: &mut Vec<u8>, m: &LockRequest) -> Result<(), AllocError>
-    ensures { OnOk result (text.new.items ≡ text.old.items ++ lock_request_text m.now) }
+    ensures ok { OnOk result (text.new.items ≡ text.old.items ++ lock_request_text m.now) }
+    ensures err { OnErr result (BeginsWith text.new.items text.old.items) }
 {
     push_named(text, Kind::LockRequest, b" ", u64::from(m.lock))?;
     push_time(text, &m.time)
 }
 
 fn push_lock_forward(text: &mut Vec<u8>, m: &LockForward) -> Result<(), AllocError>
-    ensures { OnOk result (text.new.items ≡ text.old.items ++ lock_forward_text m.now) }
+    ensures ok { OnOk result (text.new.items ≡ text.old.items ++ lock_forward_text m.now) }
+    ensures err { OnErr result (BeginsWith text.new.items text.old.items) }
 {
     push_named(text, Kind::LockForward, b" ", u64::from(m.lock))?;
     push_number(text, b" for ", u64::from(m.asker))?;
@@ -59,14 +63,16 @@ fn push_lock_forward(text: &mut Vec<u8>, m: &LockForward) -> Result<(), AllocErr
 }
 
 fn push_lock_grant(text: &mut Vec<u8>, m: &LockGrant) -> Result<(), AllocError>
-    ensures { OnOk result (text.new.items ≡ text.old.items ++ lock_grant_text m.now) }
+    ensures ok { OnOk result (text.new.items ≡ text.old.items ++ lock_grant_text m.now) }
+    ensures err { OnErr result (BeginsWith text.new.items text.old.items) }
 {
     push_named(text, Kind::LockGrant, b" ", u64::from(m.lock))?;
     push_news(text, &m.news)
 }
 
 fn push_arrive(text: &mut Vec<u8>, m: &Arrive) -> Result<(), AllocError>
-    ensures { OnOk result (text.new.items ≡ text.old.items ++ arrive_text m.now) }
+    ensures ok { OnOk result (text.new.items ≡ text.old.items ++ arrive_text m.now) }
+    ensures err { OnErr result (BeginsWith text.new.items text.old.items) }
 {
     push_named(text, Kind::Arrive, b" ", u64::from(m.episode))?;
     push_news(text, &m.news)?;
@@ -74,7 +80,8 @@ fn push_arrive(text: &mut Vec<u8>, m: &Arrive) -> Result<(), AllocError>
 }
 
 fn push_depart(text: &mut Vec<u8>, m: &Depart) -> Result<(), AllocError>
-    ensures { OnOk result (text.new.items ≡ text.old.items ++ depart_text m.now) }
+    ensures ok { OnOk result (text.new.items ≡ text.old.items ++ depart_text m.now) }
+    ensures err { OnErr result (BeginsWith text.new.items text.old.items) }
 {
     push_named(text, Kind::Depart, b" ", u64::from(m.episode))?;
     push_news(text, &m.news)?;
@@ -82,7 +89,8 @@ fn push_depart(text: &mut Vec<u8>, m: &Depart) -> Result<(), AllocError>
 }
 
 fn push_changes_request(text: &mut Vec<u8>, m: &ChangesRequest) -> Result<(), AllocError>
-    ensures { OnOk result (text.new.items ≡ text.old.items ++ changes_request_text m.now) }
+    ensures ok { OnOk result (text.new.items ≡ text.old.items ++ changes_request_text m.now) }
+    ensures err { OnErr result (BeginsWith text.new.items text.old.items) }
 {
     push_named(text, Kind::ChangesRequest, b" page ", u64::from(m.page))?;
     text.extend_from_slice(b" intervals ")?;
@@ -90,7 +98,8 @@ fn push_changes_request(text: &mut Vec<u8>, m: &ChangesRequest) -> Result<(), Al
 }
 
 fn push_changes_reply(text: &mut Vec<u8>, m: &ChangesReply) -> Result<(), AllocError>
-    ensures { OnOk result (text.new.items ≡ text.old.items ++ changes_reply_text m.now) }
+    ensures ok { OnOk result (text.new.items ≡ text.old.items ++ changes_reply_text m.now) }
+    ensures err { OnErr result (BeginsWith text.new.items text.old.items) }
 {
     push_named(text, Kind::ChangesReply, b" page ", u64::from(m.page))?;
     text.extend_from_slice(b" changes ")?;
@@ -98,7 +107,8 @@ fn push_changes_reply(text: &mut Vec<u8>, m: &ChangesReply) -> Result<(), AllocE
 }
 
 fn push_page_reply(alloc: Global, text: &mut Vec<u8>, m: &PageReply) -> Result<(), AllocError>
-    ensures { OnOk result (text.new.items ≡ text.old.items ++ page_reply_text m.now) }
+    ensures ok { OnOk result (text.new.items ≡ text.old.items ++ page_reply_text m.now) }
+    ensures err { OnErr result (BeginsWith text.new.items text.old.items) }
 {
     push_named(text, Kind::PageReply, b" page ", u64::from(m.page))?;
     text.extend_from_slice(b" words ")?;
@@ -107,7 +117,8 @@ fn push_page_reply(alloc: Global, text: &mut Vec<u8>, m: &PageReply) -> Result<(
 
 /// Adds a message in words: its kind, and what it says.
 pub fn push_message(alloc: Global, text: &mut Vec<u8>, message: &Message) -> Result<(), AllocError>
-    ensures { OnOk result (text.new.items ≡ text.old.items ++ message_text message.now) }
+    ensures ok { OnOk result (text.new.items ≡ text.old.items ++ message_text message.now) }
+    ensures err { OnErr result (BeginsWith text.new.items text.old.items) }
 {
     match message {
         Message::LockRequest(m) => push_lock_request(text, m),

@@ -1,6 +1,7 @@
 // Times and intervals in words.
 
-ghost use Rattle.std.specs.Prelude.{◌≡◌, ◌++◌, OnOk, codes};
+ghost use Rattle.std.specs.Prelude.{◌≡◌, ◌++◌, OnErr, OnOk, codes};
+ghost use Rattle.lrc_text.specs.Front.{BeginsWith};
 ghost use Rattle.lrc_messages.specs.Lists.{before, joined, joined_or_dash};
 ghost use Rattle.lrc_messages.specs.MessageText.{collect_text, interval_text, news_text, time_text};
 
@@ -14,14 +15,16 @@ use std::alloc::AllocError;
 
 /// Adds the entries of a time.
 pub(crate) fn push_time(text: &mut Vec<u8>, time: &Time) -> Result<(), AllocError>
-    ensures { OnOk result (text.new.items ≡ text.old.items ++ time_text time.now) }
+    ensures ok { OnOk result (text.new.items ≡ text.old.items ++ time_text time.now) }
+    ensures err { OnErr result (BeginsWith text.new.items text.old.items) }
 {
     text.extend_from_slice(b" time ")?;
     push_entries(text, time)
 }
 
 fn push_interval(text: &mut Vec<u8>, place: usize, interval: &Interval) -> Result<(), AllocError>
-    ensures { OnOk result (text.new.items ≡ text.old.items ++ before place (codes " ") ++ interval_text interval.now) }
+    ensures ok { OnOk result (text.new.items ≡ text.old.items ++ before place (codes " ") ++ interval_text interval.now) }
+    ensures err { OnErr result (BeginsWith text.new.items text.old.items) }
 {
     push_before(text, place, b" ")?;
     push_number(text, b"", u64::from(interval.node))?;
@@ -32,7 +35,8 @@ fn push_interval(text: &mut Vec<u8>, place: usize, interval: &Interval) -> Resul
 }
 
 fn push_intervals(text: &mut Vec<u8>, intervals: &Intervals) -> Result<(), AllocError>
-    ensures { OnOk result (text.new.items ≡ text.old.items ++ joined (codes " ") interval_text intervals.now) }
+    ensures ok { OnOk result (text.new.items ≡ text.old.items ++ joined (codes " ") interval_text intervals.now) }
+    ensures err { OnErr result (BeginsWith text.new.items text.old.items) }
 {
     for place in 0..intervals.len() {
         push_interval(text, place, intervals.at(place))?;
@@ -41,7 +45,8 @@ fn push_intervals(text: &mut Vec<u8>, intervals: &Intervals) -> Result<(), Alloc
 }
 
 fn push_intervals_or_dash(text: &mut Vec<u8>, intervals: &Intervals) -> Result<(), AllocError>
-    ensures { OnOk result (text.new.items ≡ text.old.items ++ joined_or_dash (codes " ") interval_text intervals.now) }
+    ensures ok { OnOk result (text.new.items ≡ text.old.items ++ joined_or_dash (codes " ") interval_text intervals.now) }
+    ensures err { OnErr result (BeginsWith text.new.items text.old.items) }
 {
     if intervals.is_empty() {
         text.extend_from_slice(b"-")
@@ -52,7 +57,8 @@ fn push_intervals_or_dash(text: &mut Vec<u8>, intervals: &Intervals) -> Result<(
 
 /// Adds a time, and intervals.
 pub(crate) fn push_news(text: &mut Vec<u8>, news: &News) -> Result<(), AllocError>
-    ensures { OnOk result (text.new.items ≡ text.old.items ++ news_text news.now.time news.now.intervals) }
+    ensures ok { OnOk result (text.new.items ≡ text.old.items ++ news_text news.now.time news.now.intervals) }
+    ensures err { OnErr result (BeginsWith text.new.items text.old.items) }
 {
     push_time(text, &news.time)?;
     text.extend_from_slice(b" news ")?;
@@ -61,7 +67,8 @@ pub(crate) fn push_news(text: &mut Vec<u8>, news: &News) -> Result<(), AllocErro
 
 /// Adds that a collection is asked for, or that there is one.
 pub(crate) fn push_collect(text: &mut Vec<u8>, collects: bool) -> Result<(), AllocError>
-    ensures { OnOk result (text.new.items ≡ text.old.items ++ collect_text collects) }
+    ensures ok { OnOk result (text.new.items ≡ text.old.items ++ collect_text collects) }
+    ensures err { OnErr result (BeginsWith text.new.items text.old.items) }
 {
     if collects {
         text.extend_from_slice(b" collect")

@@ -1,6 +1,7 @@
 // Acts as JSON.
 
-ghost use Rattle.std.specs.Prelude.{◌≡◌, ◌++◌, IfOk, OnOk, length};
+ghost use Rattle.std.specs.Prelude.{◌≡◌, ◌++◌, IfOk, OnErr, OnOk, length};
+ghost use Rattle.lrc_text.specs.Front.{BeginsWith};
 ghost use Rattle.lrc_trace.specs.Interval.{closes};
 ghost use Rattle.lrc_show.specs.Json.{access_members, act_json, deed_json, deed_members, deed_name, entry_text};
 ghost use Rattle.lrc_show.specs.Json.{json_line, json_of_acts, place_json, time_json, with_commas};
@@ -136,7 +137,8 @@ fn push_time(text: &mut Vec<u8>, time: &Time) -> Result<(), AllocError>
 
 /// Adds the entries of a time, with commas between them.
 pub fn push_entries(text: &mut Vec<u8>, time: &Time) -> Result<(), AllocError>
-    ensures { OnOk result (text.new.items ≡ text.old.items ++ with_commas time.now) }
+    ensures ok { OnOk result (text.new.items ≡ text.old.items ++ with_commas time.now) }
+    ensures err { OnErr result (BeginsWith text.new.items text.old.items) }
 {
     for node in 0..time.nodes() {
         push_entry(text, node, time.at(node))?;
@@ -145,7 +147,8 @@ pub fn push_entries(text: &mut Vec<u8>, time: &Time) -> Result<(), AllocError>
 }
 
 fn push_entry(text: &mut Vec<u8>, place: u8, number: u32) -> Result<(), AllocError>
-    ensures { OnOk result (text.new.items ≡ text.old.items ++ entry_text place number) }
+    ensures ok { OnOk result (text.new.items ≡ text.old.items ++ entry_text place number) }
+    ensures err { OnErr result (BeginsWith text.new.items text.old.items) }
 {
     if place == 0 {
         push_number(text, b"", u64::from(number))

@@ -1,7 +1,8 @@
 // Circles of waiting.
 
-ghost use Rattle.std.specs.Prelude.{◌≡◌, ◌++◌, None, option_map, slice_index_or, IfOk, OnOk};
+ghost use Rattle.std.specs.Prelude.{◌≡◌, ◌++◌, None, option_map, slice_index_or, IfOk, OnErr, OnOk};
 ghost use Rattle.std.specs.List.{flat_map};
+ghost use Rattle.lrc_text.specs.Front.{BeginsWith};
 ghost use Rattle.lrc_stuck.specs.Circles.{circle_if, circle_of, circle_text, circles_text, deadlocks_text, first_text, waits_by, waits_next, waits_of, waits_text};
 
 use crate::missing::{first_of, missing_of};
@@ -94,13 +95,15 @@ fn circle_of(
 }
 
 fn push_wait(text: &mut Vec<u8>, node: usize) -> Result<(), AllocError>
-    ensures { OnOk result (text.new.items ≡ text.old.items ++ waits_text node) }
+    ensures ok { OnOk result (text.new.items ≡ text.old.items ++ waits_text node) }
+    ensures err { OnErr result (BeginsWith text.new.items text.old.items) }
 {
     push_number(text, b" waits for node ", node as u64)
 }
 
 fn push_way(text: &mut Vec<u8>, way: &[usize]) -> Result<(), AllocError>
-    ensures { OnOk result (text.new.items ≡ text.old.items ++ flat_map waits_text way.now) }
+    ensures ok { OnOk result (text.new.items ≡ text.old.items ++ flat_map waits_text way.now) }
+    ensures err { OnErr result (BeginsWith text.new.items text.old.items) }
 {
     for node in way {
         push_wait(text, *node)?;
@@ -109,14 +112,16 @@ fn push_way(text: &mut Vec<u8>, way: &[usize]) -> Result<(), AllocError>
 }
 
 fn push_first(text: &mut Vec<u8>, first: usize) -> Result<(), AllocError>
-    ensures { OnOk result (text.new.items ≡ text.old.items ++ first_text first) }
+    ensures ok { OnOk result (text.new.items ≡ text.old.items ++ first_text first) }
+    ensures err { OnErr result (BeginsWith text.new.items text.old.items) }
 {
     push_number(text, b"deadlock: node ", first as u64)
 }
 
 // Adds the line of a circle.
 fn push_circle(text: &mut Vec<u8>, first: usize, way: &[usize]) -> Result<(), AllocError>
-    ensures { OnOk result (text.new.items ≡ text.old.items ++ circle_text first way.now) }
+    ensures ok { OnOk result (text.new.items ≡ text.old.items ++ circle_text first way.now) }
+    ensures err { OnErr result (BeginsWith text.new.items text.old.items) }
 {
     push_first(text, first)?;
     push_way(text, way)?;
@@ -130,7 +135,8 @@ fn push_circle_if(
     first: usize,
     circle: &Option<Vec<usize>>,
 ) -> Result<(), AllocError>
-    ensures { OnOk result (text.new.items ≡ text.old.items ++ circle_if first (option_map (λ way. way.items) circle.now)) }
+    ensures ok { OnOk result (text.new.items ≡ text.old.items ++ circle_if first (option_map (λ way. way.items) circle.now)) }
+    ensures err { OnErr result (BeginsWith text.new.items text.old.items) }
 {
     match circle {
         Some(way) => push_circle(text, first, way),
@@ -144,7 +150,8 @@ fn push_circles(
     text: &mut Vec<u8>,
     waits: &[Option<usize>],
 ) -> Result<(), AllocError>
-    ensures { OnOk result (text.new.items ≡ text.old.items ++ circles_text waits.now) }
+    ensures ok { OnOk result (text.new.items ≡ text.old.items ++ circles_text waits.now) }
+    ensures err { OnErr result (BeginsWith text.new.items text.old.items) }
 {
     for first in 0..waits.len() {
         let circle = circle_of(alloc, waits, first)?;
@@ -155,7 +162,8 @@ fn push_circles(
 
 /// Adds a line for each circle of waiting, by the lowest of its nodes.
 pub fn push_deadlocks(alloc: Global, text: &mut Vec<u8>, stands: &[Stand]) -> Result<(), AllocError>
-    ensures { OnOk result (text.new.items ≡ text.old.items ++ deadlocks_text stands.now) }
+    ensures ok { OnOk result (text.new.items ≡ text.old.items ++ deadlocks_text stands.now) }
+    ensures err { OnErr result (BeginsWith text.new.items text.old.items) }
 {
     let waits = waits_of(alloc, stands)?;
     push_circles(alloc, text, &waits)

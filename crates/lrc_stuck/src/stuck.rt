@@ -1,6 +1,7 @@
 // How nodes ended and why, in words.
 
-ghost use Rattle.std.specs.Prelude.{◌≡◌, ◌++◌, IfOk, OnOk};
+ghost use Rattle.std.specs.Prelude.{◌≡◌, ◌++◌, IfOk, OnErr, OnOk};
+ghost use Rattle.lrc_text.specs.Front.{BeginsWith};
 ghost use Rattle.lrc_stuck.specs.Stand.{stands_of};
 ghost use Rattle.lrc_stuck.specs.Stuck.{end_text, fate_words, reason_text, stuck_line, stuck_lines, stuck_text};
 
@@ -15,7 +16,8 @@ use std::alloc::{AllocError, Global};
 
 // Adds how a node ended.
 fn push_fate(text: &mut Vec<u8>, fate: Fate) -> Result<(), AllocError>
-    ensures { OnOk result (text.new.items ≡ text.old.items ++ fate_words fate) }
+    ensures ok { OnOk result (text.new.items ≡ text.old.items ++ fate_words fate) }
+    ensures err { OnErr result (BeginsWith text.new.items text.old.items) }
 {
     match fate {
         Fate::Ended => text.extend_from_slice(b" ended\n"),
@@ -35,7 +37,8 @@ fn push_reason(
     me: usize,
     stand: Stand,
 ) -> Result<(), AllocError>
-    ensures { OnOk result (text.new.items ≡ text.old.items ++ reason_text stands.now me stand) }
+    ensures ok { OnOk result (text.new.items ≡ text.old.items ++ reason_text stands.now me stand) }
+    ensures err { OnErr result (BeginsWith text.new.items text.old.items) }
 {
     match stand.fate {
         Fate::Ended => Ok(()),
@@ -62,7 +65,8 @@ pub fn push_end(
     me: usize,
     stand: Stand,
 ) -> Result<(), AllocError>
-    ensures { OnOk result (text.new.items ≡ text.old.items ++ end_text stands.now me stand) }
+    ensures ok { OnOk result (text.new.items ≡ text.old.items ++ end_text stands.now me stand) }
+    ensures err { OnErr result (BeginsWith text.new.items text.old.items) }
 {
     push_number(text, b"node ", me as u64)?;
     push_fate(text, stand.fate)?;

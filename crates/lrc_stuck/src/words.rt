@@ -1,6 +1,7 @@
 // What comes next of a node, in words.
 
-ghost use Rattle.std.specs.Prelude.{◌≡◌, ◌∷◌, ◌++◌, OnOk, codes};
+ghost use Rattle.std.specs.Prelude.{◌≡◌, ◌∷◌, ◌++◌, OnErr, OnOk, codes};
+ghost use Rattle.lrc_text.specs.Front.{BeginsWith};
 ghost use Rattle.lrc_stuck.specs.Words.{acquire_words, barrier_words, by_words, cause_words, coming_words, fate_mark, held_words, holder_words, missing_words, others_words, since_words, trap_words};
 
 use crate::holder::Holder;
@@ -24,7 +25,8 @@ pub(crate) fn words_of(cause: Cause) -> &'static [u8]
 }
 
 fn push_trap(text: &mut Vec<u8>, cause: Cause) -> Result<(), AllocError>
-    ensures { OnOk result (text.new.items ≡ text.old.items ++ trap_words cause) }
+    ensures ok { OnOk result (text.new.items ≡ text.old.items ++ trap_words cause) }
+    ensures err { OnErr result (BeginsWith text.new.items text.old.items) }
 {
     push_number(text, b"trap ", u64::from(cause as u8))?;
     text.extend_from_slice(b", ")?;
@@ -32,32 +34,37 @@ fn push_trap(text: &mut Vec<u8>, cause: Cause) -> Result<(), AllocError>
 }
 
 fn push_by(text: &mut Vec<u8>, node: u64) -> Result<(), AllocError>
-    ensures { OnOk result (text.new.items ≡ text.old.items ++ by_words node) }
+    ensures ok { OnOk result (text.new.items ≡ text.old.items ++ by_words node) }
+    ensures err { OnErr result (BeginsWith text.new.items text.old.items) }
 {
     push_number(text, b", held by node ", node)
 }
 
 fn push_since(text: &mut Vec<u8>, line: u64) -> Result<(), AllocError>
-    ensures { OnOk result (text.new.items ≡ text.old.items ++ since_words line) }
+    ensures ok { OnOk result (text.new.items ≡ text.old.items ++ since_words line) }
+    ensures err { OnErr result (BeginsWith text.new.items text.old.items) }
 {
     push_number(text, b" since line ", line)
 }
 
 fn push_held(text: &mut Vec<u8>, holder: Holder) -> Result<(), AllocError>
-    ensures { OnOk result (text.new.items ≡ text.old.items ++ held_words holder) }
+    ensures ok { OnOk result (text.new.items ≡ text.old.items ++ held_words holder) }
+    ensures err { OnErr result (BeginsWith text.new.items text.old.items) }
 {
     push_by(text, u64::from(holder.node))?;
     push_since(text, u64::from(holder.line))
 }
 
 fn push_free(text: &mut Vec<u8>) -> Result<(), AllocError>
-    ensures { OnOk result (text.new.items ≡ text.old.items ++ codes ", held by nobody") }
+    ensures ok { OnOk result (text.new.items ≡ text.old.items ++ codes ", held by nobody") }
+    ensures err { OnErr result (BeginsWith text.new.items text.old.items) }
 {
     text.extend_from_slice(b", held by nobody")
 }
 
 fn push_holder(text: &mut Vec<u8>, holder: Option<Holder>) -> Result<(), AllocError>
-    ensures { OnOk result (text.new.items ≡ text.old.items ++ holder_words holder) }
+    ensures ok { OnOk result (text.new.items ≡ text.old.items ++ holder_words holder) }
+    ensures err { OnErr result (BeginsWith text.new.items text.old.items) }
 {
     match holder {
         Some(holder) => push_held(text, holder),
@@ -66,7 +73,8 @@ fn push_holder(text: &mut Vec<u8>, holder: Option<Holder>) -> Result<(), AllocEr
 }
 
 fn push_acquire(text: &mut Vec<u8>, lock: u8, holder: Option<Holder>) -> Result<(), AllocError>
-    ensures { OnOk result (text.new.items ≡ text.old.items ++ acquire_words lock holder) }
+    ensures ok { OnOk result (text.new.items ≡ text.old.items ++ acquire_words lock holder) }
+    ensures err { OnErr result (BeginsWith text.new.items text.old.items) }
 {
     push_number(text, b"acquire ", u64::from(lock))?;
     push_holder(text, holder)
@@ -83,14 +91,16 @@ fn mark_of(fate: Fate) -> &'static [u8]
 }
 
 fn push_missing(text: &mut Vec<u8>, missing: Missing) -> Result<(), AllocError>
-    ensures { OnOk result (text.new.items ≡ text.old.items ++ missing_words missing) }
+    ensures ok { OnOk result (text.new.items ≡ text.old.items ++ missing_words missing) }
+    ensures err { OnErr result (BeginsWith text.new.items text.old.items) }
 {
     push_number(text, b"node ", missing.node as u64)?;
     text.extend_from_slice(mark_of(missing.fate))
 }
 
 fn push_others(text: &mut Vec<u8>, others: &[Missing]) -> Result<(), AllocError>
-    ensures { OnOk result (text.new.items ≡ text.old.items ++ others_words others.now) }
+    ensures ok { OnOk result (text.new.items ≡ text.old.items ++ others_words others.now) }
+    ensures err { OnErr result (BeginsWith text.new.items text.old.items) }
 {
     for missing in others {
         text.extend_from_slice(b", ")?;
@@ -100,7 +110,8 @@ fn push_others(text: &mut Vec<u8>, others: &[Missing]) -> Result<(), AllocError>
 }
 
 fn push_without(text: &mut Vec<u8>, first: Missing, others: &[Missing]) -> Result<(), AllocError>
-    ensures { OnOk result (text.new.items ≡ text.old.items ++ barrier_words (first ∷ others.now)) }
+    ensures ok { OnOk result (text.new.items ≡ text.old.items ++ barrier_words (first ∷ others.now)) }
+    ensures err { OnErr result (BeginsWith text.new.items text.old.items) }
 {
     text.extend_from_slice(b", without ")?;
     push_missing(text, first)?;
@@ -108,7 +119,8 @@ fn push_without(text: &mut Vec<u8>, first: Missing, others: &[Missing]) -> Resul
 }
 
 fn push_barrier(text: &mut Vec<u8>, missing: &[Missing]) -> Result<(), AllocError>
-    ensures { OnOk result (text.new.items ≡ text.old.items ++ barrier_words missing.now) }
+    ensures ok { OnOk result (text.new.items ≡ text.old.items ++ barrier_words missing.now) }
+    ensures err { OnErr result (BeginsWith text.new.items text.old.items) }
 {
     match missing.split_first() {
         Some((first, others)) => push_without(text, *first, others),
@@ -124,7 +136,8 @@ pub(crate) fn push_coming(
     me: usize,
     coming: Coming,
 ) -> Result<(), AllocError>
-    ensures { OnOk result (text.new.items ≡ text.old.items ++ coming_words stands.now me coming) }
+    ensures ok { OnOk result (text.new.items ≡ text.old.items ++ coming_words stands.now me coming) }
+    ensures err { OnErr result (BeginsWith text.new.items text.old.items) }
 {
     match coming {
         Coming::StepsUsedUp => text.extend_from_slice(b"steps used up"),

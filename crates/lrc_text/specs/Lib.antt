@@ -1,3 +1,4 @@
 pub mod Parts
 pub mod ActText
+pub mod Front
 pub mod RaceText

@@ -1,7 +1,8 @@
 // Acts in words.
 
-ghost use Rattle.std.specs.Prelude.{◌≡◌, ◌++◌, OnOk, codes, decimal};
+ghost use Rattle.std.specs.Prelude.{◌≡◌, ◌++◌, OnErr, OnOk, codes, decimal};
 ghost use Rattle.lrc_text.specs.ActText.{act_line, act_text, deed_text};
+ghost use Rattle.lrc_text.specs.Front.{BeginsWith};
 
 use crate::number::push_number;
 use lrc_trace::act::{Act, Deed};
@@ -9,7 +10,8 @@ use std::alloc::AllocError;
 
 /// Adds the words of a deed, as `quiet` or `write 0 1`.
 pub fn push_deed(text: &mut Vec<u8>, deed: Deed) -> Result<(), AllocError>
-    ensures { OnOk result (text.new.items ≡ text.old.items ++ deed_text deed) }
+    ensures ok { OnOk result (text.new.items ≡ text.old.items ++ deed_text deed) }
+    ensures err { OnErr result (BeginsWith text.new.items text.old.items) }
 {
     match deed {
         Deed::Quiet => text.extend_from_slice(b"quiet"),
@@ -27,7 +29,8 @@ pub fn push_deed(text: &mut Vec<u8>, deed: Deed) -> Result<(), AllocError>
 
 // Adds a name, and behind it the word that is accessed and its value.
 fn push_access(text: &mut Vec<u8>, name: &[u8], word: u32, value: u64) -> Result<(), AllocError>
-    ensures { OnOk result (text.new.items ≡ text.old.items ++ name.now ++ decimal word ++ codes " " ++ decimal value) }
+    ensures ok { OnOk result (text.new.items ≡ text.old.items ++ name.now ++ decimal word ++ codes " " ++ decimal value) }
+    ensures err { OnErr result (BeginsWith text.new.items text.old.items) }
 {
     push_number(text, name, u64::from(word))?;
     push_number(text, b" ", value)
@@ -35,7 +38,8 @@ fn push_access(text: &mut Vec<u8>, name: &[u8], word: u32, value: u64) -> Result
 
 /// Adds an act: its node, and the words of its deed.
 pub fn push_act(text: &mut Vec<u8>, act: Act) -> Result<(), AllocError>
-    ensures { OnOk result (text.new.items ≡ text.old.items ++ act_text act) }
+    ensures ok { OnOk result (text.new.items ≡ text.old.items ++ act_text act) }
+    ensures err { OnErr result (BeginsWith text.new.items text.old.items) }
 {
     push_number(text, b"", u64::from(act.node))?;
     text.extend_from_slice(b" ")?;
@@ -44,7 +48,8 @@ pub fn push_act(text: &mut Vec<u8>, act: Act) -> Result<(), AllocError>
 
 /// Adds the line of an act that is of this line of the program's text.
 pub fn push_act_line(text: &mut Vec<u8>, act: Act, line: u32) -> Result<(), AllocError>
-    ensures { OnOk result (text.new.items ≡ text.old.items ++ act_line act line) }
+    ensures ok { OnOk result (text.new.items ≡ text.old.items ++ act_line act line) }
+    ensures err { OnErr result (BeginsWith text.new.items text.old.items) }
 {
     push_act(text, act)?;
     push_number(text, b" # line ", u64::from(line))?;

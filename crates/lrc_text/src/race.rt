@@ -1,6 +1,7 @@
 // Races in words.
 
-ghost use Rattle.std.specs.Prelude.{◌≡◌, ◌++◌, IfOk, OnOk};
+ghost use Rattle.std.specs.Prelude.{◌≡◌, ◌++◌, IfOk, OnErr, OnOk};
+ghost use Rattle.lrc_text.specs.Front.{BeginsWith};
 ghost use Rattle.lrc_text.specs.RaceText.{first_race_text, race_line, races_text};
 
 use crate::number::push_number;
@@ -20,7 +21,8 @@ pub fn races_part(alloc: Global, races: &[Race]) -> Result<Vec<u8>, AllocError>
 
 /// Adds the line of a race.
 pub fn push_race(text: &mut Vec<u8>, race: Race) -> Result<(), AllocError>
-    ensures { OnOk result (text.new.items ≡ text.old.items ++ race_line race) }
+    ensures ok { OnOk result (text.new.items ≡ text.old.items ++ race_line race) }
+    ensures err { OnErr result (BeginsWith text.new.items text.old.items) }
 {
     push_number(text, b"race word ", u64::from(race.word))?;
     push_number(text, b": node ", u64::from(race.node_a))?;

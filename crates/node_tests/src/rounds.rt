@@ -6,7 +6,7 @@ use lrc_node::Options;
 use lrc_page::Size;
 use lrc_protocol::Event;
 use lrc_world::report::SimFault;
-use lrc_world::simulate::drive;
+use lrc_world::simulate::{drive, simulate};
 use std::alloc::Global;
 
 const TOLD_AT_A_BARRIER: &[u8] =
@@ -77,5 +77,28 @@ fn each_refusal_has_its_cause(rt: HostRuntime) {
     ];
     for (nodes, options, cause) in cases {
         assert!(rt; fault(rt.alloc(), nodes, options) == Some(cause));
+    }
+}
+
+// The fault of a run of no events.
+fn fault_of_events(alloc: Global, nodes: u32, steps: u32) -> Option<SimFault> {
+    let program = parse(alloc, TOLD_AT_A_BARRIER).ok()?;
+    simulate(alloc, &program, nodes, &options(steps, 0, 0), &[]).err()
+}
+
+#[test]
+fn numbers_out_of_range_have_no_run(rt: HostRuntime) {
+    let nodes = Some(SimFault::BadNodes);
+    let steps = Some(SimFault::BadSteps);
+    let cases = [
+        (0, 1_000_000, nodes),
+        (17, 1_000_000, nodes),
+        (16, 0, steps),
+        (16, 1_000_001, steps),
+        (16, 1_000_000, None),
+        (1, 1, None),
+    ];
+    for (count, limit, wanted) in cases {
+        assert!(rt; fault_of_events(rt.alloc(), count, limit) == wanted);
     }
 }

@@ -6,4 +6,4 @@ use Rattle.lrc_explain.proofs.groups.push_count.Goals as goal
 
 pub returns : goal.returns
 unfolding count_words
-returns c = on_ok c.push_number.result (λ e. e ∙ append_assoc c.args.text.now.items (codes ": ") (decimal c.args.number)) c.push_number.ensures
+returns c = on_ok c.push_number.result (λ e. e ∙ append_assoc c.args.text.now.items (codes ": ") (decimal c.args.number)) c.push_number.ensures.ok

@@ -13,7 +13,7 @@ loop-node-preserved c =
     let node = c.loop-node.node in
     let here = get_or stands node no_stand in
     let of : ℕ → Stand → List ℕ = λ k stand. prints_text k acts ++ end_text stands k stand in
-    c.in_ok-push_end.ensures ∙ ap (λ l. l ++ end_text stands node here) c.in_ok-push_prints.ensures
+    c.in_ok-push_end.ensures.ok ∙ ap (λ l. l ++ end_text stands node here) c.in_ok-push_prints.ensures
     ∙ append_assoc c.loop-node.text.items (prints_text node acts) (end_text stands node here)
     ∙ ap (λ l. l ++ of node here) c.loop-node.invariant
     ∙ sym (each_more of stands node no_stand c.loop-node-test.true)

@@ -1,4 +1,7 @@
+use Rattle.std.proofs.Common.{rules}
 use Rattle.std.specs.Prelude.{codes}
+use Rattle.lrc_text.specs.Front.{BeginsWith}
+use Rattle.lrc_text.proofs.Fronts.{begins_still}
 use Rattle.lrc_messages.specs.MessageText.{change_text}
 use Rattle.lrc_messages.proofs.Joined.{joined_next}
 use Rattle.lrc_messages.proofs.changes.push_changes.Goals as goal
@@ -6,4 +9,10 @@ use Rattle.lrc_messages.proofs.changes.push_changes.Goals as goal
 pub loop-place-preserved : goal.loop-place-preserved
 loop-place-preserved c =
     joined_next (codes ",") change_text c.args.changes.now c.loop-place.place c.at.result c.args.text.now.items
-    c.loop-place.text.items c.push_change.new.text.items c.at.ensures c.loop-place.invariant c.in_ok-push_change.ensures
+    c.loop-place.text.items c.push_change.new.text.items c.at.ensures c.loop-place.invariant c.in_ok-push_change.ensures.ok
+
+pub returns-in_err-push_change-clause-err : goal.returns-in_err-push_change-clause-err
+returns-in_err-push_change-clause-err c =
+    let begins : BeginsWith c.push_change.new.text.items c.args.text.now.items =
+    begins_still c.args.text.now.items _ c.loop-place.text.items c.push_change.new.text.items c.loop-place.invariant c.in_err-push_change.ensures.err in
+    search rules

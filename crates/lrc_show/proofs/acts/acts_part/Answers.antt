@@ -12,5 +12,5 @@ no_act = record { node = 0; deed = Quiet }
 pub loop-position-preserved : goal.loop-position-preserved
 loop-position-preserved c =
     let of : ℕ → Act → List ℕ = λ position act. act_line act (slice_index c.args.lines.now position) in
-    c.in_ok-push_act_line.ensures ∙ ap (λ l. l ++ of c.loop-position.position (get_or c.args.acts.now c.loop-position.position no_act)) c.loop-position.invariant
+    c.in_ok-push_act_line.ensures.ok ∙ ap (λ l. l ++ of c.loop-position.position (get_or c.args.acts.now c.loop-position.position no_act)) c.loop-position.invariant
     ∙ sym (each_more of c.args.acts.now c.loop-position.position no_act c.loop-position-test.true)

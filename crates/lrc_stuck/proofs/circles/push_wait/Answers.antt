@@ -4,6 +4,6 @@ use Rattle.lrc_lines.proofs.Following.{on_ok}
 use Rattle.lrc_stuck.specs.Circles.{waits_text}
 use Rattle.lrc_stuck.proofs.circles.push_wait.Goals as goal
 
-pub returns : goal.returns
+pub returns-clause-ok : goal.returns-clause-ok
 unfolding waits_text
-returns c = on_ok c.push_number.result (λ e. e ∙ append_assoc c.args.text.now.items (codes " waits for node ") (decimal c.args.node)) c.push_number.ensures
+returns-clause-ok c = on_ok c.push_number.result (λ e. e ∙ append_assoc c.args.text.now.items (codes " waits for node ") (decimal c.args.node)) c.push_number.ensures.ok

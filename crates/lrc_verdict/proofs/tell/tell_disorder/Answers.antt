@@ -14,7 +14,7 @@ place_at-requires c = subst (λ n. c.args.first.position < n) c.requires.lines (
 pub returns : goal.returns
 returns c = record {
   added = unordered_line c.place_at.result c.in-Some.read.value c.args.first.last_written;
-  whole = c.in_ok-push_unordered.ensures;
+  whole = c.in_ok-push_unordered.ensures.ok;
   so = subst (λ (p : Place). TellsOrder c.args.acts.now c.args.lines.now (unordered_line p c.in-Some.read.value c.args.first.last_written))
       (sym c.place_at.ensures) (unordered c.requires.first c.in-Some.ensures);
 }

@@ -7,7 +7,7 @@ use Rattle.lrc_verdict.proofs.tell.tell_synchronization.Goals as goal
 pub returns-in_ok-push_unsynchronized-in-Some : goal.returns-in_ok-push_unsynchronized-in-Some
 returns-in_ok-push_unsynchronized-in-Some c = record {
   added = unsynchronized_line c.place_at.result;
-  whole = c.in_ok-push_unsynchronized-in-Some.ensures;
+  whole = c.in_ok-push_unsynchronized-in-Some.ensures.ok;
   so = subst (λ (p : Place). TellsSynchronization c.args.nodes c.args.acts.now c.args.lines.now false (unsynchronized_line p)) (sym c.place_at.ensures)
       (unsynchronized c.in-Some.ensures);
 }

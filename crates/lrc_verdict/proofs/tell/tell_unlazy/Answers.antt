@@ -18,7 +18,7 @@ place_at-requires c = subst (λ n. c.args.position < n) c.requires.lines (misrea
 pub returns : goal.returns
 returns c = record {
   added = unlazy_line c.place_at.result c.in-Some.read.value c.deref.result.now;
-  whole = c.in_ok-push_unlazy.ensures;
+  whole = c.in_ok-push_unlazy.ensures.ok;
   so = subst (λ (p : Place). TellsLazyReading c.args.acts.now c.args.lines.now false (unlazy_line p c.in-Some.read.value c.deref.result.now))
       (sym c.place_at.ensures) (unlazy c.requires.first c.in-Some.ensures
       (subst (AreAllowed c.args.acts.now c.args.position c.in-Some.read.word) (sym c.deref.ensures.value) c.in_ok-allowed.ensures));
