@@ -1,6 +1,6 @@
 -- What a reader sees in a tree of elements, read off it in order: words with the height of their foot, straight lines with the heights of
--- their ends, and hints.
-use Rattle.std.specs.Prelude.{ℕ, Bool, true, false, List, [], ◌∷◌, ◌++◌, cond}
+-- their ends, boxes, paths, hints, and which of these are one element.
+use Rattle.std.specs.Prelude.{ℕ, ◌==◌, ◌&&◌, ◌||◌, Bool, true, false, not, List, [], ◌∷◌, ◌++◌, cond}
 use Rattle.std.specs.List.{flat_map}
 use Rattle.lrc_svg.specs.declared.element.Attribute.{Attribute}
 use Rattle.lrc_svg.specs.declared.element.Content.{Content, Row_of-Content, end_of-Content, more_of-Content}
@@ -14,10 +14,53 @@ pub data Mark : Type 0 where
   word : (foot : List ℕ) → (words : List ℕ) → Mark
   stroke : (from to : List ℕ) → Mark
   hint : (words : List ℕ) → Mark
+  box : Mark
+  path : Mark
+  -- what stands between these two is one element
+  begins : Mark
+  ends : Mark
+  -- an element that names an attribute twice, which no reader takes
+  unreadable : Mark
+
+-- the number of a name
+abbrev pub key_number : Key → ℕ
+key_number keys.Space = 0
+key_number keys.View = 1
+key_number keys.Width = 2
+key_number keys.Height = 3
+key_number keys.X = 4
+key_number keys.Y = 5
+key_number keys.FromX = 6
+key_number keys.FromY = 7
+key_number keys.ToX = 8
+key_number keys.ToY = 9
+key_number keys.Points = 10
+key_number keys.Fill = 11
+key_number keys.Stroke = 12
+key_number keys.StrokeWidth = 13
+key_number keys.Dashes = 14
+key_number keys.Family = 15
+key_number keys.FontSize = 16
+key_number keys.Weight = 17
+key_number keys.Anchor = 18
+
+-- whether one of these attributes has the name of this number
+abbrev pub is_named : ℕ → List Attribute → Bool
+is_named number [] = false
+is_named number (first ∷ more) = (key_number first.key == number) || is_named number more
+
+-- whether each is named once
+abbrev pub named_once : List Attribute → Bool
+named_once [] = true
+named_once (first ∷ more) = not (is_named (key_number first.key) more) && named_once more
 
 abbrev is_foot : Key → Bool
 is_foot keys.Y = true
 is_foot other = false
+
+abbrev pub is_space : Key → Bool
+is_space keys.Space = true
+is_space other = false
 
 abbrev is_from : Key → Bool
 is_from keys.FromY = true
@@ -37,7 +80,20 @@ abbrev pub own : Tag → List Attribute → (words : List ℕ) → List Mark
 own tags.Label attributes words = word (value_of is_foot attributes) words ∷ []
 own tags.Line attributes words = stroke (value_of is_from attributes) (value_of is_to attributes) ∷ []
 own tags.Hint attributes words = hint words ∷ []
-own other attributes words = []
+own tags.Box attributes words = box ∷ []
+own tags.Path attributes words = path ∷ []
+own tags.Group attributes words = begins ∷ []
+own tags.Picture attributes words = []
+
+-- what it shows behind what stands in it
+abbrev pub behind : Tag → List Mark
+behind tags.Group = ends ∷ []
+behind other = []
+
+-- what it shows, with these words and marks in it
+abbrev pub shown : Tag → List Attribute → (words : List ℕ) → (inside : List Mark) → List Mark
+shown tag attributes words inside =
+    cond (named_once attributes) (own tag attributes words ++ inside ++ behind tag) (unreadable ∷ [])
 
 -- words that stand alone
 abbrev pub plain_words : Content → List ℕ
@@ -54,7 +110,7 @@ words_of contents = flat_map plain_words contents
 abbrev mutual
   pub marks : Content → List Mark
   marks (Text words) = []
-  marks (Element' tag attributes shape inside) = own tag attributes.items (row_words inside) ++ row_marks inside
+  marks (Element' tag attributes shape inside) = shown tag attributes.items (row_words inside) (row_marks inside)
 
   pub row_marks : {m : _} → Row_of-Content m → List Mark
   row_marks end_of-Content = []

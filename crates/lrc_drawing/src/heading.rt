@@ -2,8 +2,8 @@
 
 ghost use Rattle.std.specs.Prelude.{◌≡◌, ◌++◌, ◌∷◌, ◌<◌, ◌≤◌, ◌^◌, [], OnOk, decimal};
 ghost use Rattle.std.specs.List.{flat_map};
-ghost use Rattle.lrc_drawing.specs.Marks.{all_marks, word};
-ghost use Rattle.lrc_drawing.specs.Shown.{column_marks, legend_marks, signs_named, words_named};
+ghost use Rattle.lrc_drawing.specs.Marks.{all_marks, box, word};
+ghost use Rattle.lrc_drawing.specs.Shown.{column_marks, legend_marks, line, sample, signs_named, words_named};
 
 use crate::layout::{Lane, Layout};
 use crate::paint::{Area, Point, push_box, push_label, push_path};
@@ -30,7 +30,7 @@ pub(crate) fn push_title(
     size: Point,
     title: &[u8],
 ) -> Result<(), AllocError>
-    ensures { OnOk result (all_marks contents.new.items ≡ all_marks contents.old.items ++ word (decimal 24) title.now ∷ []) }
+    ensures { OnOk result (all_marks contents.new.items ≡ all_marks contents.old.items ++ box ∷ word (decimal 24) title.now ∷ []) }
 {
     let ground = Area {
         x: 0,
@@ -66,7 +66,7 @@ fn push_sample(
     style: Style,
     name: &[u8],
 ) -> Result<(), AllocError>
-    ensures { OnOk result (all_marks contents.new.items ≡ all_marks contents.old.items ++ word (decimal 48) name.now ∷ []) }
+    ensures { OnOk result (all_marks contents.new.items ≡ all_marks contents.old.items ++ sample name.now) }
 {
     let area = Area {
         x: u128::from(x),
@@ -87,7 +87,7 @@ fn push_stroke(
     style: Style,
     name: &[u8],
 ) -> Result<(), AllocError>
-    ensures { OnOk result (all_marks contents.new.items ≡ all_marks contents.old.items ++ word (decimal 48) name.now ∷ []) }
+    ensures { OnOk result (all_marks contents.new.items ≡ all_marks contents.old.items ++ line name.now) }
 {
     let at = Point {
         x: u128::from(x),

@@ -1,7 +1,7 @@
 // What is painted: elements, one behind another.
 
-ghost use Rattle.std.specs.Prelude.{◌≡◌, ◌++◌, ◌∷◌, [], IfOk, OnOk, decimal};
-ghost use Rattle.lrc_drawing.specs.Marks.{all_marks, hint, own, stroke, word, words_of};
+ghost use Rattle.std.specs.Prelude.{◌≡◌, ◌++◌, ◌∷◌, [], IfOk, OnOk, decimal, true};
+ghost use Rattle.lrc_drawing.specs.Marks.{all_marks, begins, behind, box, ends, hint, named_once, own, path, stroke, word, words_of};
 
 use crate::layout::width;
 use crate::style::{Anchor, GROUND, Hand, Style};
@@ -56,8 +56,9 @@ fn push_element(
     attributes: Vec<Attribute>,
     inside: Vec<Content>,
 ) -> Result<(), AllocError>
+    requires { named_once attributes.items ≡ true }
     ensures { OnOk result (all_marks contents.new.items
-        ≡ all_marks contents.old.items ++ own tag attributes.items (words_of inside.items) ++ all_marks inside.items) }
+        ≡ all_marks contents.old.items ++ own tag attributes.items (words_of inside.items) ++ all_marks inside.items ++ behind tag) }
 {
     contents.push(Content::Element(tag, attributes, inside))?;
     Ok(())
@@ -70,7 +71,7 @@ pub(crate) fn push_box(
     area: Area,
     style: Style,
 ) -> Result<(), AllocError>
-    ensures { OnOk result (all_marks contents.new.items ≡ all_marks contents.old.items) }
+    ensures { OnOk result (all_marks contents.new.items ≡ all_marks contents.old.items ++ box ∷ []) }
 {
     let attributes = vec![in alloc;
         Attribute {
@@ -117,7 +118,7 @@ pub(crate) fn push_path(
     strokes: &[u8],
     style: Style,
 ) -> Result<(), AllocError>
-    ensures { OnOk result (all_marks contents.new.items ≡ all_marks contents.old.items) }
+    ensures { OnOk result (all_marks contents.new.items ≡ all_marks contents.old.items ++ path ∷ []) }
 {
     let mut points = bytes(alloc, b"M")?;
     push_number(&mut points, start.x)?;
@@ -251,7 +252,7 @@ pub(crate) fn push_plated(
     hand: Hand,
     words: &[u8],
 ) -> Result<(), AllocError>
-    ensures { OnOk result (all_marks contents.new.items ≡ all_marks contents.old.items ++ word (decimal at.y) words.now ∷ []) }
+    ensures { OnOk result (all_marks contents.new.items ≡ all_marks contents.old.items ++ box ∷ word (decimal at.y) words.now ∷ []) }
 {
     let area = plate(at, hand.anchor, words.len());
     push_box(alloc, contents, area, Style::plain(GROUND))?;
@@ -276,7 +277,7 @@ pub(crate) fn push_group(
     contents: &mut Vec<Content>,
     inside: Vec<Content>,
 ) -> Result<(), AllocError>
-    ensures { OnOk result (all_marks contents.new.items ≡ all_marks contents.old.items ++ all_marks inside.items) }
+    ensures { OnOk result (all_marks contents.new.items ≡ all_marks contents.old.items ++ begins ∷ (all_marks inside.items ++ ends ∷ [])) }
 {
     push_element(contents, Tag::Group, Vec::new(alloc), inside)
 }

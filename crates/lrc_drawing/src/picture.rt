@@ -1,7 +1,7 @@
 // A picture as a document.
 
-ghost use Rattle.std.specs.Prelude.{◌≡◌, ◌++◌, IfOk, OnOk};
-ghost use Rattle.lrc_drawing.specs.Marks.{all_marks};
+ghost use Rattle.std.specs.Prelude.{◌≡◌, ◌++◌, IfOk, OnOk, codes, true};
+ghost use Rattle.lrc_drawing.specs.Marks.{all_marks, is_space, named_once, value_of};
 ghost use Rattle.lrc_drawing.specs.Shown.{ground_marks, kind_marks, picture_marks, run_marks};
 
 use crate::arrows::{push_all_lost, push_arrow_labels, push_arrows, push_lost_labels};
@@ -37,7 +37,10 @@ impl Size {
 }
 
 // The attributes of the whole.
-fn attributes_of(alloc: Global, size: Point) -> Result<Vec<Attribute>, AllocError> {
+fn attributes_of(alloc: Global, size: Point) -> Result<Vec<Attribute>, AllocError>
+    ensures once { IfOk result (λ attributes. named_once attributes.items ≡ true) }
+    ensures space { IfOk result (λ attributes. value_of is_space attributes.items ≡ codes "http://www.w3.org/2000/svg") }
+{
     let mut view = Vec::from_slice(alloc, b"0 0 ")?;
     push_number(&mut view, size.x)?;
     view.extend_from_slice(b" ")?;
@@ -147,9 +150,11 @@ fn push_picture(
     push_kinds(alloc, contents, layout, picture)
 }
 
-/// The picture as a document: what it shows, in order, is the definition's.
+/// The picture as a document: what it shows, in order, is the definition's. Its elements are those of scalable vector graphics.
 pub fn document_of(alloc: Global, picture: &Picture) -> Result<Document, AllocError>
-    ensures { IfOk result (λ document. all_marks document.inside.items ≡ picture_marks picture.now) }
+    ensures shown { IfOk result (λ document. all_marks document.inside.items ≡ picture_marks picture.now) }
+    ensures once { IfOk result (λ document. named_once document.attributes.items ≡ true) }
+    ensures space { IfOk result (λ document. value_of is_space document.attributes.items ≡ codes "http://www.w3.org/2000/svg") }
 {
     let layout = Layout::of(picture);
     let size = Size::of(layout, picture);

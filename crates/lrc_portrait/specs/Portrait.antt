@@ -20,6 +20,10 @@ column_name node = codes "node " ++ decimal node
 abbrev pub column_names : ℕ → List (List ℕ)
 column_names nodes = flat_map (λ node. column_name node ∷ []) (range_with_len 0 nodes)
 
+-- how many rows a picture has at most
+abbrev pub MOST_SHOWN : ℕ
+MOST_SHOWN = 2000
+
 -- the rows of a part of a run
 abbrev pub rows_shown : CourseRecord → Part → List Row
 rows_shown course part = rows_in part (rows_of course.turns)

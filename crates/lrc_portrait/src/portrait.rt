@@ -2,8 +2,7 @@
 
 ghost use Rattle.std.specs.Prelude.{◌≡◌, ◌<◌, ◌≤◌, ◌∷◌, ◌++◌, [], IfErr, IfOk, OnOk, length, map};
 ghost use Rattle.lrc_portrait.specs.declared.portrait.PortraitFault.TheVariants.{NoMemory, TooLong};
-ghost use Rattle.lrc_portrait.specs.declared.portrait.TheConstants.{MOST_ROWS};
-ghost use Rattle.lrc_portrait.specs.Portrait.{IsPortrait, column_name, column_names, rows_shown};
+ghost use Rattle.lrc_portrait.specs.Portrait.{IsPortrait, MOST_SHOWN, column_name, column_names, rows_shown};
 
 use crate::arrows::{arrows_of, lost_of};
 use crate::bands::bands_of;
@@ -95,8 +94,8 @@ pub fn portrait_of(
     part: Part,
 ) -> Result<Picture, PortraitFault>
     ensures ok { IfOk result (IsPortrait title.now nodes course.now (rows_shown course.now part)) }
-    ensures short { IfOk result (λ _. length (rows_shown course.now part) ≤ MOST_ROWS) }
-    ensures err { IfErr result (λ fault. fault ≡ TooLong → MOST_ROWS < length (rows_shown course.now part)) }
+    ensures short { IfOk result (λ _. length (rows_shown course.now part) ≤ MOST_SHOWN) }
+    ensures err { IfErr result (λ fault. fault ≡ TooLong → MOST_SHOWN < length (rows_shown course.now part)) }
 {
     let rows = lrc_chart::rows_of(alloc, course.turns)?;
     let places = rows_in(part, rows.as_slice());

@@ -1,6 +1,6 @@
 -- A reader of elements, byte by byte, that keeps which elements are open. What it reads to the end is well-formed (XML 1.0, W3C 2008):
 -- one root, each element closed by its own name, each value between quotation marks, and the signs of the form in texts and values by
--- their names alone.
+-- their names alone. It does not look whether an element names an attribute twice.
 use Rattle.std.specs.Prelude.{◌≡◌, ℕ, ◌==◌, ◌&&◌, ◌||◌, Bool, true, false, List, [], ◌∷◌, ◌++◌, codes, fold, nat_le, if◌then◌else◌}
 
 -- Where the reader is. The names of the elements that are open stand innermost first.

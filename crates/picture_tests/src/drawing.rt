@@ -77,12 +77,12 @@ const REST: &[u8] =
       lock-grant</text><text x=\"306\" y=\"224\" text-anchor=\"end\" fill=\"#1f5f9f\" \
       font-weight=\"normal\">arrive</text></svg>\n";
 
-fn bytes(alloc: Global, words: &[u8]) -> Result<Vec<u8>, AllocError> {
+pub(crate) fn bytes(alloc: Global, words: &[u8]) -> Result<Vec<u8>, AllocError> {
     Vec::from_slice(alloc, words)
 }
 
 // A row that has words and a hint alone.
-fn row(
+pub(crate) fn row(
     alloc: Global,
     column: u8,
     kind: Kind,
@@ -189,7 +189,7 @@ fn fill(alloc: Global, picture: &mut Picture) -> Result<(), AllocError> {
     push_race(alloc, &mut picture.races)
 }
 
-fn blank(alloc: Global) -> Picture {
+pub(crate) fn blank(alloc: Global) -> Picture {
     Picture {
         title: Vec::new(alloc),
         columns: Vec::new(alloc),

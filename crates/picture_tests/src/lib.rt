@@ -3,3 +3,7 @@
 
 #[cfg(test)]
 mod drawing;
+#[cfg(test)]
+mod legend;
+#[cfg(test)]
+mod sketching;

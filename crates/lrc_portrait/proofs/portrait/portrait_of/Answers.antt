@@ -3,9 +3,8 @@ use Rattle.lrc_turns.specs.Turns.{Made}
 use Rattle.lrc_chart.specs.Rows.{rows_of}
 use Rattle.lrc_chart.specs.declared.row.Row.{Row}
 use Rattle.lrc_portrait.specs.declared.part.Part.{Part}
-use Rattle.lrc_portrait.specs.declared.portrait.TheConstants.{MOST_ROWS}
 use Rattle.lrc_portrait.specs.Course.{CourseRecord, rows_in}
-use Rattle.lrc_portrait.specs.Portrait.{IsPortrait, rows_shown}
+use Rattle.lrc_portrait.specs.Portrait.{IsPortrait, MOST_SHOWN, rows_shown}
 use Rattle.lrc_portrait.proofs.portrait.portrait_of.Goals as goal
 
 abbrev turns_in : CourseRecord → List Made
@@ -19,7 +18,7 @@ shown_are course part turns rows slice places places_are slice_is rows_are turns
 
 pub returns-then-places-gt-MOST_ROWS-clause-err : goal.returns-then-places-gt-MOST_ROWS-clause-err
 returns-then-places-gt-MOST_ROWS-clause-err c = λ _.
-    subst (λ (l : List Row). MOST_ROWS < length l)
+    subst (λ (l : List Row). MOST_SHOWN < length l)
     (shown_are c.args.course.now c.args.part c.course.inside.turns.now c.in_ok-rows.rows.items c.as_slice.result.now c.rows_in-places.result.now
     c.rows_in-places.ensures c.as_slice.ensures.value c.in_ok-rows.ensures (ap turns_in c.course.view_is)) c.if-places-gt-MOST_ROWS.true
 
@@ -31,6 +30,6 @@ returns-clause-ok c =
 
 pub returns-clause-short : goal.returns-clause-short
 returns-clause-short c =
-    subst (λ (l : List Row). length l ≤ MOST_ROWS)
+    subst (λ (l : List Row). length l ≤ MOST_SHOWN)
     (shown_are c.args.course.now c.args.part c.course.inside.turns.now c.in_ok-rows.rows.items c.as_slice.result.now c.rows_in-places.result.now
     c.rows_in-places.ensures c.as_slice.ensures.value c.in_ok-rows.ensures (ap turns_in c.course.view_is)) c.if-places-gt-MOST_ROWS.false

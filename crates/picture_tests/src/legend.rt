@@ -1,0 +1,136 @@
+// The legend of a drawing: each of its signs looks as what it stands for, and no two kinds of rows look alike.
+
+use crate::drawing::{blank, bytes, row};
+use lrc_drawing::document_of;
+use lrc_picture::{Arrow, Kind, Lost, Picture, Race};
+use lrc_svg::{Attribute, Content, Document};
+use std::alloc::{AllocError, Global};
+
+// The kinds of rows in the order of the legend, and the messages and races in that of its lines.
+fn push_rows(alloc: Global, picture: &mut Picture) -> Result<(), AllocError> {
+    picture.rows.push(row(alloc, 0, Kind::Act, b"", b"")?)?;
+    picture.rows.push(row(alloc, 0, Kind::Wait, b"", b"")?)?;
+    picture.rows.push(row(alloc, 0, Kind::Message, b"", b"")?)?;
+    picture.rows.push(row(alloc, 0, Kind::Trap, b"", b"")?)?;
+    picture.rows.push(row(alloc, 0, Kind::Barrier, b"", b"")?)?;
+    Ok(())
+}
+
+fn arrow(alloc: Global, again: bool) -> Arrow {
+    Arrow {
+        from: 0,
+        sender: 0,
+        to: 1,
+        receiver: 0,
+        again,
+        label: Vec::new(alloc),
+        hint: Vec::new(alloc),
+    }
+}
+
+fn push_lines(alloc: Global, picture: &mut Picture) -> Result<(), AllocError> {
+    picture.arrows.push(arrow(alloc, false))?;
+    picture.arrows.push(arrow(alloc, true))?;
+    picture.lost.push(Lost {
+        from: 0,
+        sender: 0,
+        receiver: 0,
+        label: Vec::new(alloc),
+        hint: Vec::new(alloc),
+    })?;
+    picture.races.push(Race {
+        from: 0,
+        first: 0,
+        to: 1,
+        second: 0,
+        label: Vec::new(alloc),
+        hint: Vec::new(alloc),
+    })?;
+    Ok(())
+}
+
+fn drawn(alloc: Global) -> Result<Document, AllocError> {
+    let mut picture = blank(alloc);
+    picture.columns.push(bytes(alloc, b"node 0")?)?;
+    push_rows(alloc, &mut picture)?;
+    push_lines(alloc, &mut picture)?;
+    document_of(alloc, &picture)
+}
+
+// The legend's boxes and lines, each before its name, stand behind the ground and the title.
+const BOXES: usize = 2;
+
+const LINES: usize = 12;
+
+// Behind the legend's words and a column of three elements: two messages, one that was never taken, a race, and the rows.
+const GROUPS: usize = 30;
+
+const ROWS: usize = 34;
+
+fn attributes(content: &Content) -> &[Attribute] {
+    match content {
+        Content::Element(_, attributes, _) => attributes.as_slice(),
+        Content::Text(_) => &[],
+    }
+}
+
+// Behind the hint of a group.
+fn shape(content: &Content) -> &Content {
+    match content {
+        Content::Element(_, _, inside) => match inside.get(1) {
+            Some(shape) => shape,
+            None => content,
+        },
+        Content::Text(_) => content,
+    }
+}
+
+// Whether two elements have the same line: the last three attributes of both; and whether the same area too, if they are boxes.
+fn look_alike(a: &Content, b: &Content, count: usize) -> bool {
+    let first = attributes(a);
+    let second = attributes(b);
+    count <= first.len()
+        && count <= second.len()
+        && first.iter().rev().take(count).zip(second.iter().rev()).all(|(one, other)| one
+            .value
+            .as_slice()
+            == other.value.as_slice())
+}
+
+// Whether the sign at one place looks as the shape in the group at another.
+fn stands_for(document: &Document, sign: usize, group: usize, count: usize) -> bool {
+    match (document.inside.get(sign), document.inside.get(group)) {
+        (Some(sign), Some(group)) => look_alike(sign, shape(group), count),
+        _ => false,
+    }
+}
+
+#[test]
+fn boxes_of_the_legend_are_those_of_rows(rt: HostRuntime) -> Result<(), AllocError> {
+    let document = drawn(rt.alloc())?;
+    for kind in 0..5usize {
+        for other in 0..5usize {
+            let same = stands_for(&document, BOXES + 2 * kind, ROWS + other, 3);
+            assert!(rt; same == (kind == other), "kinds {kind} and {other}");
+        }
+        assert!(rt;
+            stands_for(&document, BOXES + 2 * kind, ROWS + kind, 4),
+            "kind {kind}"
+        );
+    }
+    Ok(())
+}
+
+// The first line of the legend is the rule of a row; then come a message, one taken again, one never taken, and a race.
+#[test]
+fn lines_of_the_legend_are_those_of_messages_and_races(rt: HostRuntime) -> Result<(), AllocError> {
+    let document = drawn(rt.alloc())?;
+    for line in 0..4usize {
+        let same = stands_for(&document, LINES + 2 + 2 * line, GROUPS + line, 3);
+        assert!(rt; same, "line {line}");
+    }
+    let again = stands_for(&document, LINES + 2, GROUPS + 1, 3);
+    let race = stands_for(&document, LINES + 2, GROUPS + 3, 3);
+    assert!(rt; !again && !race);
+    Ok(())
+}

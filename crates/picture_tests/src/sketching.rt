@@ -1,0 +1,122 @@
+// A picture as text. What is wanted was laid out by hand.
+
+use crate::drawing::{blank, bytes};
+use lrc_picture::{Arrow, Band, Kind, Lost, Picture, Race, Row};
+use lrc_sketch::sketch;
+use std::alloc::{AllocError, Global};
+
+const WANTED: &[u8] = b"sample
+
+*  act   .  begins to wait   o  messages alone   !  trap   =  at a barrier   -*-  an interval ends
+>N  message N is sent   <N  it is taken   +--->  from its sender to its taker   again  a repeat
+>x  a message that is never taken   race N  an act of that group of races; the groups stand below
+
+       node 0
+       |       node 1
+   0   |       .       waits             line 3  >1 lock-request to node 0
+   1   o<------+       <1 lock-request  >2 lock-grant again to node 1
+      ================ barrier 1 begins
+   2   +------>*-      acquire 0         line 3, interval 1  0,1  invalid 4  <2 lock-grant again
+       |       |       race 1
+   3   !       |       trap 4            line 5, interval 1  >x arrive to node 1, never taken
+       |       |       race 1
+      ================ barrier 1 ends
+
+race 1: row 2 and row 3  acquire 0  trap 4  race line 3 write, line 5 read  word 0, act 0, act 1
+";
+
+fn row(
+    alloc: Global,
+    column: u8,
+    kind: Kind,
+    words: &[u8],
+    place: &[u8],
+) -> Result<Row, AllocError> {
+    Ok(Row {
+        column,
+        kind,
+        words: bytes(alloc, words)?,
+        time: Vec::new(alloc),
+        invalid: Vec::new(alloc),
+        place: bytes(alloc, place)?,
+        hint: Vec::new(alloc),
+        closes: false,
+    })
+}
+
+fn push_rows(alloc: Global, rows: &mut Vec<Row>) -> Result<(), AllocError> {
+    rows.push(row(alloc, 1, Kind::Wait, b"waits", b"line 3")?)?;
+    rows.push(row(alloc, 0, Kind::Message, b"", b"")?)?;
+    let mut act = row(alloc, 1, Kind::Act, b"acquire 0", b"line 3, interval 1")?;
+    act.time.extend_from_slice(b"0,1")?;
+    act.invalid.extend_from_slice(b"invalid 4")?;
+    act.closes = true;
+    rows.push(act)?;
+    let trap = row(alloc, 0, Kind::Trap, b"trap 4", b"line 5, interval 1")?;
+    rows.push(trap)?;
+    Ok(())
+}
+
+fn push_arrows(alloc: Global, arrows: &mut Vec<Arrow>) -> Result<(), AllocError> {
+    arrows.push(Arrow {
+        from: 0,
+        sender: 1,
+        to: 1,
+        receiver: 0,
+        again: false,
+        label: bytes(alloc, b"lock-request")?,
+        hint: Vec::new(alloc),
+    })?;
+    arrows.push(Arrow {
+        from: 1,
+        sender: 0,
+        to: 2,
+        receiver: 1,
+        again: true,
+        label: bytes(alloc, b"lock-grant")?,
+        hint: Vec::new(alloc),
+    })?;
+    Ok(())
+}
+
+fn push_others(alloc: Global, picture: &mut Picture) -> Result<(), AllocError> {
+    picture.lost.push(Lost {
+        from: 3,
+        sender: 0,
+        receiver: 1,
+        label: bytes(alloc, b"arrive")?,
+        hint: Vec::new(alloc),
+    })?;
+    picture.bands.push(Band {
+        from: 2,
+        to: 3,
+        label: bytes(alloc, b"barrier 1")?,
+    })?;
+    picture.races.push(Race {
+        from: 2,
+        first: 1,
+        to: 3,
+        second: 0,
+        label: bytes(alloc, b"race line 3 write, line 5 read")?,
+        hint: bytes(alloc, b"word 0, act 0, act 1")?,
+    })?;
+    Ok(())
+}
+
+fn sketched(alloc: Global) -> Result<Vec<u8>, AllocError> {
+    let mut picture = blank(alloc);
+    picture.title.extend_from_slice(b"sample")?;
+    picture.columns.push(bytes(alloc, b"node 0")?)?;
+    picture.columns.push(bytes(alloc, b"node 1")?)?;
+    push_rows(alloc, &mut picture.rows)?;
+    push_arrows(alloc, &mut picture.arrows)?;
+    push_others(alloc, &mut picture)?;
+    sketch(alloc, &picture)
+}
+
+#[test]
+fn a_picture_is_laid_out_by_hand(rt: HostRuntime) -> Result<(), AllocError> {
+    let text = sketched(rt.alloc())?;
+    assert!(rt; text.as_slice() == WANTED);
+    Ok(())
+}
