@@ -5,12 +5,19 @@ use Rattle.lrc_lang.specs.Parser.SeenParser.{IsOutOfMemory}
 use Rattle.lrc_lang.specs.declared.fault.FaultKind.{FaultKind}
 use Rattle.lrc_lang.specs.declared.fault.FaultKind.TheVariants as faults
 use Rattle.lrc_lang.specs.declared.fault.ParseFault.{ParseFault}
-use Rattle.lrc_cli.specs.Answer.{Answers, IsFault, IsTextFault, Prints}
+use Rattle.lrc_lang.specs.declared.program.Program.{Program}
+use Rattle.lrc_protocol.specs.declared.event.Event.{Event}
+use Rattle.lrc_world.specs.declared.report.Report.{Report}
+use Rattle.lrc_cli.specs.Answer.{Answers, IsFault, IsTextFault, IsTextOf, Prints}
 use Rattle.lrc_cli.specs.FaultLine.{fault_of_kind, fault_of_text}
+use Rattle.lrc_cli.specs.Runs.{IsRunOf}
+use Rattle.lrc_cli.specs.Shown.{IsShowFault, IsShown, shown_status}
 use Rattle.lrc_text.specs.Parts.{whole_text}
 use Rattle.lrc_cli.specs.declared.answer.Printout.{Printout}
 use Rattle.lrc_words.specs.declared.choice.Choice.{Choice}
 use Rattle.lrc_words.specs.declared.choice.Choice.TheVariants.{Check, Plain, Show, Judge, Explore}
+use Rattle.lrc_words.specs.declared.choice.RunChoice.{RunChoice}
+use Rattle.lrc_words.specs.declared.choice.Shape.{Shape}
 use Rattle.lrc_cli.specs.declared.fault.Fault.{Fault}
 use Rattle.lrc_cli.specs.declared.fault.Fault.TheVariants.{NoMemory}
 
@@ -56,3 +63,21 @@ pub faulty_for : (r : Result Printout Fault) (choice other : Choice) (text : Lis
     → IfErr r (λ fault. IsFault other text events fault) → IfErr r (λ fault. IsFault choice text events fault)
 faulty_for r choice other text events same h =
     subst (λ (chosen : Choice). IfErr r (λ fault. IsFault chosen text events fault)) (sym same) h
+
+-- what is shown of a run of the program that the text is of is what is printed
+pub printed_of : (run : RunChoice) (shape : Shape) (text : List ℕ) (events_text : Option (List ℕ)) (program : Program) (events : List Event)
+    (report : Report) (r : Result Printout Fault) → IsTextOf text program → IsRunOf run.way program run.options events_text events report
+    → IfOk r (λ printout. IsShown shape run text program events report (whole_text printout.parts.items))
+    → IfOk r (λ printout. printout.status ≡ shown_status shape report)
+    → IfOk r (λ printout. Prints (Show run shape) text events_text (whole_text printout.parts.items) printout.status)
+printed_of run shape text events_text program events report (Ok printout) is ran shown ended =
+    (program, is, record { events = events; report = report; ran = ran; shown = shown; ended = ended })
+printed_of run shape text events_text program events report (Err fault) is ran shown ended = tt
+
+-- and why it is not shown is the fault
+pub unshown_of : (run : RunChoice) (shape : Shape) (text : List ℕ) (events_text : Option (List ℕ)) (program : Program) (events : List Event)
+    (report : Report) (r : Result Printout Fault) → IsTextOf text program → IsRunOf run.way program run.options events_text events report
+    → IfErr r (IsShowFault shape run text program events report) → IfErr r (IsFault (Show run shape) text events_text)
+unshown_of run shape text events_text program events report (Ok printout) is ran unshown = tt
+unshown_of run shape text events_text program events report (Err fault) is ran unshown =
+    inr (program, is, inr (record { events = events; report = report; ran = ran; unshown = unshown }))

@@ -1,3 +1,4 @@
 pub mod AnswerLemmas
+pub mod CourseLemmas
 pub mod LineLemmas
 pub mod RunLemmas

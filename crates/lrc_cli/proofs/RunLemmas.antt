@@ -1,5 +1,5 @@
 -- What is known of a run by its report.
-use Rattle.std.proofs.Common.{◌≡◌, ◌<◌, ◌≤◌, ℕ, List, All, arith, get_or, map, sym, subst}
+use Rattle.std.proofs.Common.{◌<◌, ◌≤◌, List, All, arith, get_or, sym, subst}
 use Rattle.lrc_lang.specs.declared.program.Program.{Program}
 use Rattle.lrc_trace.specs.declared.act.Act.{Act}
 use Rattle.lrc_protocol.specs.declared.event.Event.{Event}

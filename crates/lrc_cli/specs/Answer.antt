@@ -14,9 +14,9 @@ use Rattle.lrc_protocol.specs.declared.event.Event.{Event}
 use Rattle.lrc_verdict.specs.Judgement.{Judges}
 use Rattle.lrc_world.specs.Ends.{ends_of}
 use Rattle.lrc_world.specs.declared.report.Report.{Report}
-use Rattle.lrc_report.specs.ReportText.{report_text, run_status_of, status_of}
+use Rattle.lrc_report.specs.ReportText.{report_text, status_of}
 use Rattle.lrc_cli.specs.Runs.{IsRunFault, IsRunOf}
-use Rattle.lrc_cli.specs.Shown.{IsShown}
+use Rattle.lrc_cli.specs.Shown.{IsShowFault, IsShown, shown_status}
 use Rattle.lrc_cli.specs.declared.answer.Printout.{Printout}
 use Rattle.lrc_words.specs.declared.choice.Choice.{Choice}
 use Rattle.lrc_words.specs.declared.choice.Choice.TheVariants.{Check, Plain, Show, Judge, Explore}
@@ -45,14 +45,14 @@ abbrev pub IsPrintoutOfRounds : Program → ℕ → ℕ → List ℕ → ℕ →
 IsPrintoutOfRounds program nodes steps out status =
     (acts : List Act) × AreActsOfRounds program nodes steps acts × IsPrintoutOfActs nodes acts out status
 
--- the text is what is shown of a run of the program, and the status is that of the run
+-- the text is what is shown of a run of the program, and the status is the one behind it
 pub record IsShowing (run : RunChoice) (shape : Shape) (text : List ℕ) (events_text : Option (List ℕ)) (program : Program)
     (out : List ℕ) (status : ℕ) : Type 0 where
   pub events : List Event
   pub report : Report
   pub ran : IsRunOf run.way program run.options events_text events report
-  pub shown : IsShown shape text program run.options events report out
-  pub ended : status ≡ run_status_of report.first_race report.ends.items
+  pub shown : IsShown shape run text program events report out
+  pub ended : status ≡ shown_status shape report
 
 -- how many nodes the acts are of, where that is said
 abbrev pub nodes_of : Judging → Option ℕ
@@ -95,12 +95,21 @@ IsSearchFault exploring program (TooManyStates most) =
 IsSearchFault exploring program NoMemory = Unit {0}
 IsSearchFault exploring program _ = ⊥
 
--- The first fault: of the text, then of the events, then of the run or the search. Memory may run out at any time.
+-- a run of the program was made, and is not shown
+pub record IsUnshown (run : RunChoice) (shape : Shape) (text : List ℕ) (events_text : Option (List ℕ)) (program : Program)
+    (fault : Fault) : Type 0 where
+  pub events : List Event
+  pub report : Report
+  pub ran : IsRunOf run.way program run.options events_text events report
+  pub unshown : IsShowFault shape run text program events report fault
+
+-- The first fault: of the text, then of the events, then of the run or the search, then of what is shown of the run. Memory may run out at any time.
 abbrev pub IsFault : Choice → List ℕ → Option (List ℕ) → Fault → Type 0
 IsFault (Check file) text events_text fault = IsTextFault text fault
 IsFault (Plain run) text events_text fault = IsTextFault text fault
 IsFault (Show run shape) text events_text fault = IsTextFault text fault
-    ⊎ ((program : Program) × IsTextOf text program × IsRunFault run.way program run.options events_text fault)
+    ⊎ ((program : Program) × IsTextOf text program
+    × (IsRunFault run.way program run.options events_text fault ⊎ IsUnshown run shape text events_text program fault))
 IsFault (Judge judging) text events_text fault = IsActsFault (nodes_of judging) text fault
 IsFault (Explore exploring) text events_text fault = IsTextFault text fault
     ⊎ ((program : Program) × IsTextOf text program × IsSearchFault exploring program fault)

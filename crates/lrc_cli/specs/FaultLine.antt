@@ -10,6 +10,8 @@ use Rattle.lrc_world.specs.declared.report.SimFault.{SimFault}
 use Rattle.lrc_world.specs.declared.report.SimFault.TheVariants.{Worn}
 use Rattle.lrc_run.specs.declared.fault.RunFault.{RunFault}
 use Rattle.lrc_run.specs.declared.fault.RunFault.TheVariants as threads
+use Rattle.lrc_portrait.specs.declared.portrait.PortraitFault.{PortraitFault}
+use Rattle.lrc_portrait.specs.declared.portrait.PortraitFault.TheVariants as portraits
 use Rattle.lrc_events.specs.declared.events.EventsFault.{EventsFault}
 use Rattle.lrc_events.specs.declared.events.EventsFault.TheVariants.{BadEvent}
 use Rattle.lrc_events.specs.declared.events.EventsFault.TheVariants as events_faults
@@ -41,6 +43,11 @@ fault_of_threads threads.Worn = faults.Worn
 fault_of_threads threads.Mismatch = faults.Mismatch
 fault_of_threads _ = faults.NoMemory
 
+-- and that of a picture
+abbrev pub fault_of_portrait : PortraitFault → Fault
+fault_of_portrait portraits.TooLong = faults.TooLong
+fault_of_portrait portraits.NoMemory = faults.NoMemory
+
 abbrev pub kind_words : FaultKind → List ℕ
 kind_words TooLong = codes "text too long"
 kind_words BadByte = codes "bad byte"
@@ -57,6 +64,7 @@ fault_words (faults.Events line) = codes "events line " ++ decimal line ++ codes
 fault_words (faults.Acts line) = codes "acts line " ++ decimal line ++ codes ": bad act"
 fault_words (faults.TooManyStates most) = codes "more than " ++ decimal most ++ codes " states"
 fault_words faults.Worn = codes "message numbers used up"
+fault_words faults.TooLong = codes "too long for a chart"
 fault_words faults.Mismatch = codes "logs and wires differ"
 fault_words faults.NoMemory = codes "out of memory"
 

@@ -1,5 +1,5 @@
 -- The run that a choice asks for: the events that it is made of and its report, or why there is none.
-use Rattle.std.specs.Prelude.{◌≡◌, ◌<◌, ◌≤◌, ℕ, List, length, Option, None, Some, Ok, Err}
+use Rattle.std.specs.Prelude.{◌<◌, ◌≤◌, ℕ, List, length, Option, None, Some, Ok, Err}
 use Rattle.lrc_lang.specs.declared.program.Program.{Program}
 use Rattle.lrc_judge.specs.Races.{AreNamedRaces}
 use Rattle.lrc_envelope.specs.declared.picker.Picker.{Picker}

@@ -4,8 +4,6 @@ use Rattle.lrc_clock.specs.Keeping.{KeepsTime}
 use Rattle.lrc_lang.specs.Lines.{HasLines}
 use Rattle.lrc_lang.specs.Tree.{program_of}
 use Rattle.lrc_lang.specs.declared.program.Program.{Program}
-use Rattle.lrc_trace.specs.declared.act.Act.{Act}
-use Rattle.lrc_lines.specs.Walks.{lines_of}
 use Rattle.lrc_events.specs.Writing.{events_text}
 use Rattle.lrc_show.specs.ActsText.{acts_text}
 use Rattle.lrc_show.specs.Json.{json_of_acts}
@@ -16,21 +14,21 @@ use Rattle.lrc_run.specs.Run.{turns_of}
 use Rattle.lrc_explain.specs.Explain.{explain_text}
 use Rattle.lrc_judge.specs.FirstPairs.{AreFirstPairs}
 use Rattle.lrc_judge.specs.declared.lanes.Pair.{Pair}
-use Rattle.lrc_report.specs.ReportText.{run_text}
+use Rattle.lrc_report.specs.ReportText.{run_status_of, run_text}
 use Rattle.lrc_stats.specs.StatsText.{stats_text}
 use Rattle.lrc_turns.specs.TurnsText.{messages_text}
 use Rattle.lrc_words.specs.declared.choice.Form.{Form}
 use Rattle.lrc_words.specs.declared.choice.Form.TheVariants.{Acts, Events, Json, Messages, Rapid}
+use Rattle.lrc_words.specs.declared.choice.RunChoice.{RunChoice}
 use Rattle.lrc_words.specs.declared.choice.RunOptions.{RunOptions}
 use Rattle.lrc_words.specs.declared.choice.Shape.{Shape}
 use Rattle.lrc_words.specs.declared.choice.Shape.TheVariants as shapes
-use Rattle.lrc_words.specs.declared.choice.Shape.TheVariants.{Explain, Stats, Trace}
+use Rattle.lrc_words.specs.declared.choice.Shape.TheVariants.{Chart, Explain, Stats, Trace}
+use Rattle.lrc_cli.specs.Charted.{IsCharted, IsTooLong}
+use Rattle.lrc_cli.specs.Lines.{AreLinesIn}
 use Rattle.lrc_cli.specs.Runs.{turns_in}
-
--- of each act the line of the text on which the statement stands that it is of
-abbrev pub AreLinesIn : List ℕ → Program → ℕ → List Act → List ℕ → Type 0
-AreLinesIn text program nodes acts lines =
-    (places : List ℕ) × HasLines text (program_of program) places × (lines ≡ lines_of program nodes places acts)
+use Rattle.lrc_cli.specs.declared.fault.Fault.{Fault}
+use Rattle.lrc_cli.specs.declared.fault.Fault.TheVariants.{NoMemory, TooLong}
 
 -- A run in one of the forms, where the acts are of these lines: its acts, also with the messages among them, or as JSON with the time
 -- that its node has just after each, or as accesses and their order; or its events that are not skipped.
@@ -57,8 +55,20 @@ IsExplained text program options report out = (places : List ℕ) × HasLines te
     × (out ≡ explain_text program options.nodes.count places options.steps.count report.acts.items pairs report.first_race))
 
 -- what is shown of a run of that program
-abbrev pub IsShown : Shape → List ℕ → Program → RunOptions → List Event → Report → List ℕ → Type 0
-IsShown shapes.Report text program options events report out = out ≡ run_text report
-IsShown (Trace form) text program options events report out = IsTraced form text program options events report out
-IsShown Explain text program options events report out = IsExplained text program options report out
-IsShown Stats text program options events report out = out ≡ stats_text (length events) (turns_of report)
+abbrev pub IsShown : Shape → RunChoice → List ℕ → Program → List Event → Report → List ℕ → Type 0
+IsShown shapes.Report run text program events report out = out ≡ run_text report
+IsShown (Trace form) run text program events report out = IsTraced form text program run.options events report out
+IsShown Explain run text program events report out = IsExplained text program run.options report out
+IsShown Stats run text program events report out = out ≡ stats_text (length events) (turns_of report)
+IsShown (Chart charting) run text program events report out = IsCharted charting run text program events report out
+
+-- why a run that was made is not shown so: a chart of it would be too long
+abbrev pub IsShowFault : Shape → RunChoice → List ℕ → Program → List Event → Report → Fault → Type 0
+IsShowFault shape run text program events report NoMemory = Unit {0}
+IsShowFault (Chart charting) run text program events report TooLong = IsTooLong charting run.options text program events report
+IsShowFault shape run text program events report fault = ⊥
+
+-- The status behind what is shown: that of the run. A chart says nothing for or against a run, and its status is 0.
+abbrev pub shown_status : Shape → Report → ℕ
+shown_status (Chart charting) report = 0
+shown_status shape report = run_status_of report.first_race report.ends.items

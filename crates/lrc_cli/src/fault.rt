@@ -2,12 +2,13 @@
 
 ghost use Rattle.std.specs.Prelude.{◌≡◌, ◌≢◌, IfOk, Some};
 ghost use Rattle.std.specs.String.{string_bytes};
-ghost use Rattle.lrc_cli.specs.FaultLine.{fault_line, fault_of_acts, fault_of_events, fault_of_run, fault_of_text, fault_of_threads, fault_words, kind_words};
+ghost use Rattle.lrc_cli.specs.FaultLine.{fault_line, fault_of_acts, fault_of_events, fault_of_portrait, fault_of_run, fault_of_text, fault_of_threads, fault_words, kind_words};
 ghost use Rattle.lrc_cli.specs.declared.fault.Fault.TheVariants.{NoMemory};
 
 use lrc_acts::reading::ActsFault;
 use lrc_events::events::EventsFault;
 use lrc_lang::fault::{FaultKind, ParseFault};
+use lrc_portrait::PortraitFault;
 use lrc_run::RunFault;
 use lrc_world::report::SimFault;
 use std::alloc::{AllocError, AllocFailed, Global};
@@ -28,6 +29,8 @@ pub enum Fault {
     Worn,
     /// A search through every order met more states than this, which it might.
     TooManyStates(u32),
+    /// A chart of the run would have more rows than a chart may have.
+    TooLong,
     /// What the nodes of a run on threads say that they sent and took is not what went through the post.
     Mismatch,
     /// Memory ran out.
@@ -47,6 +50,7 @@ impl Display for Fault {
             Fault::Acts(line) => write!(f, "acts line {line}: bad act"),
             Fault::Worn => write!(f, "message numbers used up"),
             Fault::TooManyStates(most) => write!(f, "more than {most} states"),
+            Fault::TooLong => write!(f, "too long for a chart"),
             Fault::Mismatch => write!(f, "logs and wires differ"),
             Fault::NoMemory => write!(f, "out of memory"),
         }
@@ -84,6 +88,17 @@ impl From<ActsFault> for Fault {
         match fault {
             ActsFault::BadAct(line) => Fault::Acts(line),
             ActsFault::NoMemory => Fault::NoMemory,
+        }
+    }
+}
+
+impl From<PortraitFault> for Fault {
+    ghost from_gives = { λ fault made. made ≡ fault_of_portrait fault };
+
+    fn from(fault: PortraitFault) -> Fault {
+        match fault {
+            PortraitFault::TooLong => Fault::TooLong,
+            PortraitFault::NoMemory => Fault::NoMemory,
         }
     }
 }

@@ -2,6 +2,7 @@
 #![tactic(auto)]
 
 pub mod answer;
+mod charted;
 mod explored;
 pub mod fault;
 mod judged;

@@ -3,8 +3,7 @@
 ghost use Rattle.std.specs.Prelude.{◌≡◌, ◌<◌, All, IfErr, IfOk, false, is_some, length, option_map};
 ghost use Rattle.lrc_cli.specs.Answer.{IsFault, IsTextOf, Prints};
 ghost use Rattle.lrc_cli.specs.Runs.{IsReported};
-ghost use Rattle.lrc_cli.specs.Shown.{IsExplained, IsShown};
-ghost use Rattle.lrc_report.specs.ReportText.{run_status_of};
+ghost use Rattle.lrc_cli.specs.Shown.{IsExplained, IsShowFault, IsShown, shown_status};
 ghost use Rattle.lrc_run.specs.Run.{turns_of};
 ghost use Rattle.lrc_stats.specs.StatsText.{stats_text};
 ghost use Rattle.lrc_text.specs.Parts.{whole_text};
@@ -12,6 +11,7 @@ ghost use Rattle.lrc_words.specs.Files.{names_events, starts_threads};
 ghost use Rattle.lrc_words.specs.declared.choice.Choice.TheVariants.{Show};
 
 use crate::answer::{Printout, in_one};
+use crate::charted::charted;
 use crate::fault::Fault;
 use crate::runs::{Run, run_of};
 use crate::trace::trace_parts;
@@ -42,49 +42,62 @@ pub(crate) fn show(
 {
     let program = parse(alloc, text)?;
     let run = run_of(alloc, choice, &program, events)?;
-    Ok(shown(alloc, shape, text, &program, &choice.options, &run)?)
+    shown(alloc, shape, choice, text, &program, &run)
 }
 
 /// What is shown of a run of the program that this text is of.
 pub(crate) fn shown(
     alloc: Global,
     shape: Shape,
+    choice: &RunChoice<'_>,
     text: &[u8],
     program: &Program,
-    options: &RunOptions<'_>,
     run: &Run,
-) -> Result<Printout, AllocError>
+) -> Result<Printout, Fault>
     requires text { IsTextOf text.now program.now }
-    requires reported { IsReported program.now options.now run.now.events.items run.now.report }
-    ensures text { IfOk result (λ printout. IsShown shape text.now program.now options.now run.now.events.items run.now.report
+    requires reported { IsReported program.now choice.now.options run.now.events.items run.now.report }
+    ensures text { IfOk result (λ printout. IsShown shape choice.now text.now program.now run.now.events.items run.now.report
         (whole_text printout.parts.items)) }
-    ensures status { IfOk result (λ printout. printout.status
-        ≡ run_status_of run.now.report.first_race run.now.report.ends.items) }
+    ensures status { IfOk result (λ printout. printout.status ≡ shown_status shape run.now.report) }
+    ensures err { IfErr result (IsShowFault shape choice.now text.now program.now run.now.events.items run.now.report) }
 {
     Ok(Printout {
-        parts: parts_of(alloc, shape, text, program, options, run)?,
-        status: status_after_run(&run.report),
+        parts: parts_of(alloc, shape, choice, text, program, run)?,
+        status: status_of(shape, &run.report),
     })
+}
+
+// The status behind what is shown.
+fn status_of(shape: Shape, report: &Report) -> u8
+    ensures { result ≡ shown_status shape report.now }
+{
+    match shape {
+        Shape::Chart(_) => 0,
+        Shape::Report | Shape::Trace(_) | Shape::Explain | Shape::Stats => status_after_run(report),
+    }
 }
 
 fn parts_of(
     alloc: Global,
     shape: Shape,
+    choice: &RunChoice<'_>,
     text: &[u8],
     program: &Program,
-    options: &RunOptions<'_>,
     run: &Run,
-) -> Result<Vec<Vec<u8>>, AllocError>
+) -> Result<Vec<Vec<u8>>, Fault>
     requires text { IsTextOf text.now program.now }
-    requires reported { IsReported program.now options.now run.now.events.items run.now.report }
-    ensures { IfOk result (λ parts. IsShown shape text.now program.now options.now run.now.events.items run.now.report
+    requires reported { IsReported program.now choice.now.options run.now.events.items run.now.report }
+    ensures ok { IfOk result (λ parts. IsShown shape choice.now text.now program.now run.now.events.items run.now.report
         (whole_text parts.items)) }
+    ensures err { IfErr result (IsShowFault shape choice.now text.now program.now run.now.events.items run.now.report) }
 {
+    let options = &choice.options;
     match shape {
-        Shape::Report => run_parts(alloc, &run.report),
-        Shape::Trace(form) => trace_parts(alloc, form, text, program, options, run),
-        Shape::Explain => explained(alloc, text, program, options, &run.report),
-        Shape::Stats => counted(alloc, run),
+        Shape::Report => Ok(run_parts(alloc, &run.report)?),
+        Shape::Trace(form) => Ok(trace_parts(alloc, form, text, program, options, run)?),
+        Shape::Explain => Ok(explained(alloc, text, program, options, &run.report)?),
+        Shape::Stats => Ok(counted(alloc, run)?),
+        Shape::Chart(charting) => charted(alloc, charting, choice, text, program, run),
     }
 }
 

@@ -36,7 +36,7 @@ pub(crate) fn show_on_threads<R: Threads + Wait + Sync>(
 {
     let program = parse(alloc, text)?;
     let run = run_on_threads(rt, alloc, &choice.options, order, &program)?;
-    Ok(shown(alloc, shape, text, &program, &choice.options, &run)?)
+    shown(alloc, shape, choice, text, &program, &run)
 }
 
 // The run of a program whose nodes are on threads of their own.

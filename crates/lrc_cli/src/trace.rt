@@ -2,8 +2,9 @@
 
 ghost use Rattle.std.specs.Prelude.{◌≡◌, ◌≤◌, ◌<◌, ℕ, All, IfOk, List, length, map};
 ghost use Rattle.lrc_cli.specs.Answer.{IsTextOf};
+ghost use Rattle.lrc_cli.specs.Lines.{AreLinesIn};
 ghost use Rattle.lrc_cli.specs.Runs.{IsReported};
-ghost use Rattle.lrc_cli.specs.Shown.{AreLinesIn, IsTraced, IsWrittenAs};
+ghost use Rattle.lrc_cli.specs.Shown.{IsTraced, IsWrittenAs};
 ghost use Rattle.lrc_clock.specs.Keeping.{KeepsTime};
 ghost use Rattle.lrc_events.specs.Writing.{events_text};
 ghost use Rattle.lrc_show.specs.Json.{json_of_acts};
@@ -119,8 +120,8 @@ fn json_of(alloc: Global, acts: &[Act], lines: &[u32], nodes: u8) -> Result<Vec<
     json_part(alloc, acts, lines, &times)
 }
 
-// Of each act the line of the text on which the statement stands that it is of.
-fn lines_in(
+/// Of each act the line of the text on which the statement stands that it is of.
+pub(crate) fn lines_in(
     alloc: Global,
     text: &[u8],
     program: &Program,

@@ -1,2 +1,3 @@
+pub mod FoundLemmas
 pub mod RowLemmas
 pub mod TakenLemmas

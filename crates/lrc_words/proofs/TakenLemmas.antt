@@ -15,9 +15,9 @@ use Rattle.clap.specs.declared.builder.value_parser.ValueParser.TheVariants.{Uns
 use Rattle.clap.specs.declared.error.kind.ErrorKind.TheVariants.{InvalidValue, ValueValidation}
 use Rattle.clap.proofs.ValueTestLemmas.{accepts-Accepts}
 use Rattle.lrc_words.specs.CommandLine.{IsTaken}
-use Rattle.lrc_words.specs.Commands.{bare_number, check, collect, explain, explore, flag, form, judge, most, nodes, number, order, page}
+use Rattle.lrc_words.specs.Commands.{bare_number, chart, check, collect, explain, explore, flag, form, judge, nodes, number, order, page}
 use Rattle.lrc_words.specs.Commands.{plain, run, sim, stats, steps, trace, treadmarks, treadmarks_shape}
-use Rattle.lrc_words.specs.Options.{HasValue, IsBareNumber, IsExploreTaken, IsFlagOption, IsJudgeTaken, IsNumberOption, IsPlainTaken, IsRunTaken}
+use Rattle.lrc_words.specs.Options.{HasValue, IsBareNumber, IsChartTaken, IsExploreTaken, IsFlagOption, IsJudgeTaken, IsNumberOption, IsPlainTaken, IsRunTaken}
 use Rattle.lrc_words.specs.Options.{IsShowingTaken, IsSimTaken, IsTraceTaken}
 use Rattle.lrc_words.proofs.RowLemmas.{IsKeyed, IsLevel, first_passes, given_some, level_good, neither, required_given, same_bytes}
 
@@ -41,6 +41,9 @@ explain_built = built_leaf (inherited treadmarks_shape explain.top)
 
 abbrev stats_built : Shape
 stats_built = built_leaf (inherited treadmarks_shape stats.top)
+
+abbrev chart_built : Shape
+chart_built = built_leaf (inherited treadmarks_shape chart.top)
 
 abbrev judge_built : Shape
 judge_built = built_leaf (inherited treadmarks_shape judge.top)
@@ -231,6 +234,48 @@ stats_keyed = (
   ),
 )
 
+chart_keyed : AllByRecursion (IsKeyed chart_built.rules) chart_built.rules
+chart_keyed = (
+  record { own = refl; acts = inl (refl, lit< tt) },
+  (
+    record { own = refl; acts = inl (refl, lit< tt) },
+    (
+      record { own = refl; acts = inl (refl, lit< tt) },
+      (
+        record { own = refl; acts = inl (refl, lit< tt) },
+        (
+          record { own = refl; acts = inl (refl, lit< tt) },
+          (
+            record { own = refl; acts = inl (refl, lit< tt) },
+            (
+              record { own = refl; acts = inl (refl, lit< tt) },
+              (
+                record { own = refl; acts = inl (refl, lit< tt) },
+                (
+                  record { own = refl; acts = inr (inl (refl, lit< tt)) },
+                  (
+                    record { own = refl; acts = inr (inl (refl, lit< tt)) },
+                    (
+                      record { own = refl; acts = inl (refl, lit< tt) },
+                      (
+                        record { own = refl; acts = inl (refl, lit< tt) },
+                        (
+                          record { own = refl; acts = inr (inr refl) },
+                          tt,
+                        ),
+                      ),
+                    ),
+                  ),
+                ),
+              ),
+            ),
+          ),
+        ),
+      ),
+    ),
+  ),
+)
+
 judge_keyed : AllByRecursion (IsKeyed judge_built.rules) judge_built.rules
 judge_keyed = (
   record { own = refl; acts = inl (refl, lit< tt) },
@@ -385,8 +430,9 @@ trace_taken words none =
     let rows = rows_after trace_built.rules [] words in
     let level = level_good trace_built words trace_keyed none in
     let file = given_some trace_built.rules (codes "FILE") rows level.good ((required_given trace_built rows level.checked).0 refl) in
+    let run = all_run_taken trace_built rows level (all_plain_taken trace_built rows level file refl refl) refl refl refl in
     record {
-      showing = all_showing_taken trace_built rows level (all_sim_taken trace_built rows level (all_run_taken trace_built rows level (all_plain_taken trace_built rows level file refl refl) refl refl refl) refl) refl;
+      showing = all_showing_taken trace_built rows level (all_sim_taken trace_built rows level run refl) refl;
       form = level.there (filled form) refl (lit< tt);
       messages = flag_taken trace_built rows level (codes "messages") refl;
     }
@@ -396,14 +442,29 @@ explain_taken words none =
     let rows = rows_after explain_built.rules [] words in
     let level = level_good explain_built words explain_keyed none in
     let file = given_some explain_built.rules (codes "FILE") rows level.good ((required_given explain_built rows level.checked).0 refl) in
-    all_showing_taken explain_built rows level (all_sim_taken explain_built rows level (all_run_taken explain_built rows level (all_plain_taken explain_built rows level file refl refl) refl refl refl) refl) refl
+    let run = all_run_taken explain_built rows level (all_plain_taken explain_built rows level file refl refl) refl refl refl in
+    all_showing_taken explain_built rows level (all_sim_taken explain_built rows level run refl) refl
 
 stats_taken : (words : List Text) → level_fault stats_built [] nothing_held words false [] ≡ [] → IsShowingTaken (rows_after stats_built.rules [] words)
 stats_taken words none =
     let rows = rows_after stats_built.rules [] words in
     let level = level_good stats_built words stats_keyed none in
     let file = given_some stats_built.rules (codes "FILE") rows level.good ((required_given stats_built rows level.checked).0 refl) in
-    all_showing_taken stats_built rows level (all_sim_taken stats_built rows level (all_run_taken stats_built rows level (all_plain_taken stats_built rows level file refl refl) refl refl refl) refl) refl
+    let run = all_run_taken stats_built rows level (all_plain_taken stats_built rows level file refl refl) refl refl refl in
+    all_showing_taken stats_built rows level (all_sim_taken stats_built rows level run refl) refl
+
+chart_taken : (words : List Text) → level_fault chart_built [] nothing_held words false [] ≡ [] → IsChartTaken (rows_after chart_built.rules [] words)
+chart_taken words none =
+    let rows = rows_after chart_built.rules [] words in
+    let level = level_good chart_built words chart_keyed none in
+    let file = given_some chart_built.rules (codes "FILE") rows level.good ((required_given chart_built rows level.checked).0 refl) in
+    let run = all_run_taken chart_built rows level (all_plain_taken chart_built rows level file refl refl) refl refl refl in
+    record {
+      showing = all_showing_taken chart_built rows level (all_sim_taken chart_built rows level run refl) refl;
+      text = flag_taken chart_built rows level (codes "text") refl;
+      from = bare_taken chart_built rows level (codes "from") refl;
+      to = bare_taken chart_built rows level (codes "to") refl;
+    }
 
 judge_taken : (words : List Text) → level_fault judge_built [] nothing_held words false [] ≡ [] → IsJudgeTaken (rows_after judge_built.rules [] words)
 judge_taken words none =
@@ -432,7 +493,7 @@ explore_taken words none =
 abbrev top_built : App
 top_built = record {
   top = built_leaf (record treadmarks_shape { is_leaf = false });
-  subs = check_built ∷ plain_built ∷ sim_built ∷ run_built ∷ trace_built ∷ explain_built ∷ stats_built ∷ judge_built ∷ explore_built ∷ [];
+  subs = check_built ∷ plain_built ∷ sim_built ∷ run_built ∷ trace_built ∷ explain_built ∷ stats_built ∷ chart_built ∷ judge_built ∷ explore_built ∷ [];
 }
 
 one_named : (rows : List Row) (stop : Option (Text × List Text)) → entered_fault top_built stop ≡ []
@@ -440,24 +501,29 @@ one_named : (rows : List Row) (stop : Option (Text × List Text)) → entered_fa
     → IsTaken (entered top_built stop)
 one_named rows None none checked = absurd cc
 one_named rows (Some p) none checked =
-    go (answers_to p.0 (label_of check_built)) (answers_to p.0 (label_of plain_built)) (answers_to p.0 (label_of sim_built)) (answers_to p.0 (label_of run_built)) (answers_to p.0 (label_of trace_built)) (answers_to p.0 (label_of explain_built)) (answers_to p.0 (label_of stats_built)) (answers_to p.0 (label_of judge_built)) (answers_to p.0 (label_of explore_built)) none checked
+    go (answers_to p.0 (label_of check_built)) (answers_to p.0 (label_of plain_built)) (answers_to p.0 (label_of sim_built)) (answers_to p.0 (label_of run_built))
+    (answers_to p.0 (label_of trace_built)) (answers_to p.0 (label_of explain_built)) (answers_to p.0 (label_of stats_built)) (answers_to p.0 (label_of chart_built))
+    (answers_to p.0 (label_of judge_built)) (answers_to p.0 (label_of explore_built)) none checked
   where
-    shape : Bool → Bool → Bool → Bool → Bool → Bool → Bool → Bool → Bool → Option Shape
-    shape a b d f h i k l m = cond a (Some check_built) (cond b (Some plain_built) (cond d (Some sim_built) (cond f (Some run_built) (cond h (Some trace_built) (cond i (Some explain_built) (cond k (Some stats_built) (cond l (Some judge_built) (cond m (Some explore_built) (None)))))))))
+    shape : Bool → Bool → Bool → Bool → Bool → Bool → Bool → Bool → Bool → Bool → Option Shape
+    shape a b d f h i k l m n =
+        cond a (Some check_built) (cond b (Some plain_built) (cond d (Some sim_built) (cond f (Some run_built) (cond h (Some trace_built)
+        (cond i (Some explain_built) (cond k (Some stats_built) (cond l (Some chart_built) (cond m (Some judge_built) (cond n (Some explore_built) None)))))))))
 
-    go : (a b d f h i k l m : Bool) → option_map_or (λ s. level_fault s [] nothing_held p.1 false []) (shape a b d f h i k l m) [] ≡ []
-        → check_fault top_built.top rows (is_some (option_map (λ s. rows_at s p.1) (shape a b d f h i k l m))) ≡ []
-        → IsTaken (option_map (λ s. rows_at s p.1) (shape a b d f h i k l m))
-    go true b d f h i k l m e checked = inl (refl, check_taken p.1 e)
-    go false true d f h i k l m e checked = inr (inl (refl, plain_taken p.1 e))
-    go false false true f h i k l m e checked = inr (inr (inr (inr (inl (refl, sim_taken p.1 e)))))
-    go false false false true h i k l m e checked = inr (inr (inr (inr (inr (inl (refl, run_taken p.1 e))))))
-    go false false false false true i k l m e checked = inr (inr (inr (inr (inr (inr (inl (refl, trace_taken p.1 e)))))))
-    go false false false false false true k l m e checked = inr (inr (inr (inr (inr (inr (inr (inl (refl, explain_taken p.1 e))))))))
-    go false false false false false false true l m e checked = inr (inr (inr (inr (inr (inr (inr (inr (refl, stats_taken p.1 e))))))))
-    go false false false false false false false true m e checked = inr (inr (inl (refl, judge_taken p.1 e)))
-    go false false false false false false false false true e checked = inr (inr (inr (inl (refl, explore_taken p.1 e))))
-    go false false false false false false false false false e checked = absurd cc
+    go : (a b d f h i k l m n : Bool) → option_map_or (λ s. level_fault s [] nothing_held p.1 false []) (shape a b d f h i k l m n) [] ≡ []
+        → check_fault top_built.top rows (is_some (option_map (λ s. rows_at s p.1) (shape a b d f h i k l m n))) ≡ []
+        → IsTaken (option_map (λ s. rows_at s p.1) (shape a b d f h i k l m n))
+    go true b d f h i k l m n e checked = inl (refl, check_taken p.1 e)
+    go false true d f h i k l m n e checked = inr (inl (refl, plain_taken p.1 e))
+    go false false true f h i k l m n e checked = inr (inr (inr (inr (inl (refl, sim_taken p.1 e)))))
+    go false false false true h i k l m n e checked = inr (inr (inr (inr (inr (inl (refl, run_taken p.1 e))))))
+    go false false false false true i k l m n e checked = inr (inr (inr (inr (inr (inr (inl (refl, trace_taken p.1 e)))))))
+    go false false false false false true k l m n e checked = inr (inr (inr (inr (inr (inr (inr (inl (refl, explain_taken p.1 e))))))))
+    go false false false false false false true l m n e checked = inr (inr (inr (inr (inr (inr (inr (inr (inl (refl, stats_taken p.1 e)))))))))
+    go false false false false false false false true m n e checked = inr (inr (inr (inr (inr (inr (inr (inr (inr (refl, chart_taken p.1 e)))))))))
+    go false false false false false false false false true n e checked = inr (inr (inl (refl, judge_taken p.1 e)))
+    go false false false false false false false false false true e checked = inr (inr (inr (inl (refl, explore_taken p.1 e))))
+    go false false false false false false false false false false e checked = absurd cc
 
 pub taken : (words : List Text) → fault_of treadmarks words ≡ [] → IsTaken (subcommand_of treadmarks words)
 unfolding treadmarks

@@ -6,6 +6,7 @@ use Rattle.clap.specs.declared.error.Error.{Error}
 use Rattle.clap.specs.declared.error.kind.ErrorKind.{ErrorKind}
 use Rattle.clap.specs.declared.error.kind.ErrorKind.TheVariants.{ArgumentConflict, InvalidValue, OutOfMemory}
 use Rattle.lrc_envelope.specs.declared.picker.Picker.{Picker}
+use Rattle.lrc_words.specs.declared.choice.Charting.{Charting}
 use Rattle.lrc_words.specs.declared.choice.Choice.{Choice}
 use Rattle.lrc_words.specs.declared.choice.Choice.TheVariants.{Check, Plain, Show, Judge, Explore}
 use Rattle.lrc_words.specs.declared.choice.ChooseFault.{ChooseFault}
@@ -16,12 +17,12 @@ use Rattle.lrc_words.specs.declared.choice.Judging.{Judging}
 use Rattle.lrc_words.specs.declared.choice.PlainRun.{PlainRun}
 use Rattle.lrc_words.specs.declared.choice.RunChoice.{RunChoice}
 use Rattle.lrc_words.specs.declared.choice.Shape.{Shape}
-use Rattle.lrc_words.specs.declared.choice.Shape.TheVariants.{Report, Trace, Explain, Stats}
+use Rattle.lrc_words.specs.declared.choice.Shape.TheVariants.{Report, Trace, Explain, Stats, Chart}
 use Rattle.lrc_words.specs.declared.choice.Way.{Way}
 use Rattle.lrc_words.specs.declared.misfit.Misfit.{Misfit}
 use Rattle.lrc_words.specs.declared.misfit.Misfit.TheVariants.{Order, RunOrder, Page, Form as FormMisfit, Seed, Threads, Messages, Number}
 use Rattle.lrc_words.specs.Commands.{treadmarks}
-use Rattle.lrc_words.specs.Options.{AreOptions, AreRunOptions, HasBadCount, HasFormMisfitIn, HasOptionsMisfit, HasValue, HasWayMisfitIn}
+use Rattle.lrc_words.specs.Options.{AreOptions, AreRunOptions, HasBadCount, HasFormMisfitIn, HasOptionsMisfit, HasValue, HasWayMisfitIn, IsChartTaken}
 use Rattle.lrc_words.specs.Options.{IsExploreTaken, IsFlag, IsFormIn, IsJudgeTaken, IsPicker, IsPlainTaken, IsRunTaken, IsShowingTaken}
 use Rattle.lrc_words.specs.Options.{IsSimTaken, IsThreadsWayIn, IsTraceTaken, IsWayIn, most_in, nodes_in, some_number_in}
 
@@ -37,6 +38,7 @@ abbrev pub IsAskTaken : Text × List Row → Type 0
 IsAskTaken found = ((found.0 ≡ codes "trace") × IsTraceTaken found.1)
     ⊎ ((found.0 ≡ codes "explain") × IsShowingTaken found.1)
     ⊎ ((found.0 ≡ codes "stats") × IsShowingTaken found.1)
+    ⊎ ((found.0 ≡ codes "chart") × IsChartTaken found.1)
 
 -- the command that shows something of a run of the nodes
 abbrev pub IsShowTaken : Text × List Row → Type 0
@@ -75,6 +77,12 @@ pub record IsThreadsRun (rows : List Row) (run : RunChoice) : Type 0 where
   pub options : AreRunOptions run.options rows
   pub way : IsThreadsWayIn rows run.way
 
+-- which part of a run is charted, and how
+pub record IsCharting (rows : List Row) (charting : Charting) : Type 0 where
+  pub text : IsFlag (codes "text") charting.text rows
+  pub from : some_number_in (codes "from") rows ≡ charting.from
+  pub to : some_number_in (codes "to") rows ≡ charting.to
+
 -- what is to be judged
 pub record IsJudging (rows : List Row) (judging : Judging) : Type 0 where
   pub file : first_of (codes "FILE") rows ≡ Some judging.file.now
@@ -94,6 +102,7 @@ IsShown found run Report = ((found.0 ≡ codes "sim") × IsRun false found.1 run
 IsShown found run (Trace form) = (found.0 ≡ codes "trace") × IsFormIn found.1 form × IsShowingRun found.1 run
 IsShown found run Explain = (found.0 ≡ codes "explain") × IsShowingRun found.1 run
 IsShown found run Stats = (found.0 ≡ codes "stats") × IsShowingRun found.1 run
+IsShown found run (Chart charting) = (found.0 ≡ codes "chart") × IsCharting found.1 charting × IsShowingRun found.1 run
 
 -- the choice is the command that clap found, with its matches
 abbrev pub IsFound : Text × List Row → Choice → Type 0
@@ -139,6 +148,7 @@ HasShowMisfit found misfit = ((found.0 ≡ codes "sim") × HasMisfitOfRun false 
     ⊎ ((found.0 ≡ codes "trace") × HasTraceMisfit found.1 misfit)
     ⊎ ((found.0 ≡ codes "explain") × HasShowingMisfit found.1 misfit)
     ⊎ ((found.0 ≡ codes "stats") × HasShowingMisfit found.1 misfit)
+    ⊎ ((found.0 ≡ codes "chart") × HasShowingMisfit found.1 misfit)
 
 -- what does not fit in what clap found
 abbrev pub HasMisfit : Text × List Row → Misfit → Type 0

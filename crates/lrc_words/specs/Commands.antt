@@ -83,6 +83,11 @@ explain = with_showing_options (new_app (codes "explain"))
 abbrev pub stats : App
 stats = with_showing_options (new_app (codes "stats"))
 
+-- the first and the last act that are shown need not be given
+abbrev pub chart : App
+chart = with_rule (with_rule (with_rule (with_showing_options (new_app (codes "chart"))) (flag (codes "text")))
+    (bare_number (codes "from"))) (bare_number (codes "to"))
+
 -- the number of nodes need not be given
 abbrev pub judge : App
 judge = with_rule (with_rule (with_rule (new_app (codes "judge")) file) (bare_number (codes "nodes"))) (flag (codes "pairs"))
@@ -103,8 +108,8 @@ abbrev pub with_reports : App → App
 with_reports command = with_subcommand (with_subcommand (with_subcommand (with_subcommand command check.top) plain.top) sim.top) run.top
 
 abbrev pub with_questions : App → App
-with_questions command = with_subcommand (with_subcommand (with_subcommand
-    (with_subcommand (with_subcommand command trace.top) explain.top) stats.top) judge.top) explore.top
+with_questions command = with_subcommand (with_subcommand (with_subcommand (with_subcommand
+    (with_subcommand (with_subcommand command trace.top) explain.top) stats.top) chart.top) judge.top) explore.top
 
 unfoldable pub treadmarks : App
 treadmarks = with_questions (with_reports (record { top = treadmarks_shape; subs = [] }))

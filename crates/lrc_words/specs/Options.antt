@@ -95,6 +95,13 @@ pub record IsTraceTaken (rows : List Row) : Type 0 where
   pub form : HasValue (codes "as") rows
   pub messages : IsFlagOption (codes "messages") rows
 
+-- of `chart`
+pub record IsChartTaken (rows : List Row) : Type 0 where
+  pub showing : IsShowingTaken rows
+  pub text : IsFlagOption (codes "text") rows
+  pub from : IsBareNumber (codes "from") rows
+  pub to : IsBareNumber (codes "to") rows
+
 -- of `judge`
 pub record IsJudgeTaken (rows : List Row) : Type 0 where
   pub file : HasValue (codes "FILE") rows

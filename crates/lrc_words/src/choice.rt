@@ -93,6 +93,16 @@ pub enum Form {
     Rapid,
 }
 
+/// Which part of a run a chart shows, and how.
+#[derive(Clone, Copy)]
+pub struct Charting {
+    /// Whether it is written for a terminal, in place of an SVG document.
+    pub text: bool,
+    /// The positions of the first and of the last act that it shows, where they are given.
+    pub from: Option<u64>,
+    pub to: Option<u64>,
+}
+
 /// What is shown of a run.
 #[derive(Clone, Copy)]
 pub enum Shape {
@@ -104,6 +114,8 @@ pub enum Shape {
     Explain,
     /// How much of each thing happened.
     Stats,
+    /// A picture of it.
+    Chart(Charting),
 }
 
 /// The options of `judge`.

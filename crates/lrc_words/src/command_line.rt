@@ -17,7 +17,7 @@ use crate::misfit::{Misfit, fault_of_misfit};
 use crate::reading::{
     is_named, most_of, nodes_of, so_many_nodes, some_number_of, steps_of, text_of,
 };
-use crate::runs::{run_choice, showing_run, threads_run, traced_run};
+use crate::runs::{charted_run, run_choice, showing_run, threads_run, traced_run};
 use clap::ArgMatches;
 use clap::error::ErrorKind;
 use std::alloc::{AllocError, Global};
@@ -98,6 +98,10 @@ fn asked_from<'w>(matches: &ArgMatches<'w>) -> Result<Choice<'w>, Misfit>
     if let Some(options) = matches.subcommand_matches("trace") {
         let (run, form) = traced_run(options)?;
         return Ok(Choice::Show(run, Shape::Trace(form)));
+    }
+    if let Some(options) = matches.subcommand_matches("chart") {
+        let (run, charting) = charted_run(options)?;
+        return Ok(Choice::Show(run, Shape::Chart(charting)));
     }
     if let Some(options) = matches.subcommand_matches("explain") {
         return Ok(Choice::Show(showing_run(options)?, Shape::Explain));

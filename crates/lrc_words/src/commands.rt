@@ -3,7 +3,7 @@
 ghost use Rattle.std.specs.Prelude.{◌≡◌, [], IfOk, false};
 ghost use Rattle.clap.specs.Words.{app_of, rule_of};
 ghost use Rattle.clap.specs.declared.builder.command.Command.TheViews.{out-Command as fields_of};
-ghost use Rattle.lrc_words.specs.Commands.{bare_number, check, collect, explain, explore, file, flag, form, judge, most, nodes, number, option, order};
+ghost use Rattle.lrc_words.specs.Commands.{bare_number, chart, check, collect, explain, explore, file, flag, form, judge, most, nodes, number, option, order};
 ghost use Rattle.lrc_words.specs.Commands.{page, plain, run, sim, stats, steps, trace, treadmarks, treadmarks_shape};
 ghost use Rattle.lrc_words.specs.Commands.{with_questions, with_reports, with_run_options, with_showing_options, with_way_options};
 
@@ -42,6 +42,14 @@ const FORM_HELP: &str =
 
 const MESSAGES_HELP: &str = "With the acts: the messages that are taken and sent between them";
 
+const TEXT_HELP: &str = "Draws for a terminal of 100 columns, in place of an SVG document";
+
+const FROM_HELP: &str =
+    "The position of the first act that is shown, counted from 0. Left out, the run is shown from its beginning";
+
+const TO_HELP: &str =
+    "The position of the last act that is shown. Left out, the run is shown to its end";
+
 const ACTS_NODES_HELP: &str =
     "How many nodes there are: 1 to 16. Left out it is one more than the greatest that acts";
 
@@ -56,7 +64,8 @@ const VERSION: &str = "0.1.0";
 
 // What the help says of the exit status, and of the one line that cannot say which option it means.
 const STATUSES: &str = "Exit status:
-  0  all nodes ended, and no race was found (check: the text is a program; judge, explore: nothing was found)
+  0  all nodes ended, and no race was found (check: the text is a program; chart: the run was drawn; judge, explore:
+     nothing was found)
   1  a fault of the text, a file, the events, memory or the output
   2  a fault of the words, or a help text. `number out of range` says that a number is not in the range that the help of
      its command gives
@@ -105,6 +114,7 @@ fn taking_questions<'w>(alloc: Global, command: Command<'w>) -> Result<Command<'
         .subcommand(trace_command(alloc)?)?
         .subcommand(explain_command(alloc)?)?
         .subcommand(stats_command(alloc)?)?
+        .subcommand(chart_command(alloc)?)?
         .subcommand(judge_command(alloc)?)?
         .subcommand(explore_command(alloc)?)
 }
@@ -179,6 +189,17 @@ fn stats_command<'w>(alloc: Global) -> Result<Command<'w>, AllocError>
         "Counts the events, acts and messages of a run",
     );
     taking_showing_options(alloc, command)
+}
+
+fn chart_command<'w>(alloc: Global) -> Result<Command<'w>, AllocError>
+    ensures app { IfOk result (λ command. app_of command ≡ chart) }
+    ensures local { IfOk result (λ command. (fields_of command).has_globals ≡ false) }
+{
+    let command = Command::new(alloc, "chart").about("Draws a run as a picture, an SVG document");
+    taking_showing_options(alloc, command)?
+        .arg(flag(alloc, "text", TEXT_HELP))?
+        .arg(bare_number(alloc, "from", "P", FROM_HELP))?
+        .arg(bare_number(alloc, "to", "Q", TO_HELP))
 }
 
 fn judge_command<'w>(alloc: Global) -> Result<Command<'w>, AllocError>

@@ -4,14 +4,15 @@ ghost use Rattle.std.specs.Prelude.{◌≡◌, Bool, IfErr, IfOk, IfSome, None, 
 ghost use Rattle.clap.specs.Words.{first_of, found_of, rows_of};
 ghost use Rattle.lrc_envelope.specs.declared.picker.Picker.{Picker as AnyPicker};
 ghost use Rattle.lrc_words.specs.CommandLine.{HasMisfitOfRun, HasShowingMisfit, HasThreadsMisfit, HasTraceMisfit, IsRun, IsShowingRun, IsThreadsRun};
+ghost use Rattle.lrc_words.specs.CommandLine.{IsCharting};
 ghost use Rattle.lrc_words.specs.Options.{AreRunOptions, HasFormMisfitIn, HasOptionsMisfit, HasValue, HasWayMisfit, HasWayMisfitIn};
 ghost use Rattle.lrc_words.specs.Options.{HasWordMisfit, IsForm, IsFormIn, IsOrder, IsPicker, IsRunTaken, IsShowingTaken, IsSimTaken};
-ghost use Rattle.lrc_words.specs.Options.{IsTraceTaken, IsWay, IsWayIn};
+ghost use Rattle.lrc_words.specs.Options.{IsChartTaken, IsTraceTaken, IsWay, IsWayIn};
 ghost use Rattle.lrc_words.specs.declared.misfit.Misfit.TheVariants as unfit;
 ghost use Rattle.lrc_words.specs.declared.choice.Form.{Form as AnyForm};
 ghost use Rattle.lrc_words.specs.declared.runs.Order.{Order as AnyOrder};
 
-use crate::choice::{Form, RunChoice, RunOptions, Way};
+use crate::choice::{Charting, Form, RunChoice, RunOptions, Way};
 use crate::misfit::Misfit;
 use crate::reading::{collect_of, is_named, nodes_of, size_of, some_number_of, steps_of, text_of};
 use clap::ArgMatches;
@@ -58,6 +59,27 @@ pub(crate) fn traced_run<'w>(options: &ArgMatches<'w>) -> Result<(RunChoice<'w>,
 {
     let form = form_of(options)?;
     Ok((showing_run(options)?, form))
+}
+
+/// A run, and which part of it is charted.
+pub(crate) fn charted_run<'w>(options: &ArgMatches<'w>) -> Result<(RunChoice<'w>, Charting), Misfit>
+    requires { IsChartTaken (rows_of (found_of options.now)) }
+    ensures charting { IfOk result (λ charted. IsCharting (rows_of (found_of options.now)) charted.1) }
+    ensures run { IfOk result (λ charted. IsShowingRun (rows_of (found_of options.now)) charted.0) }
+    ensures err { IfErr result (HasShowingMisfit (rows_of (found_of options.now))) }
+{
+    Ok((showing_run(options)?, charting_of(options)))
+}
+
+fn charting_of(options: &ArgMatches<'_>) -> Charting
+    requires { IsChartTaken (rows_of (found_of options.now)) }
+    ensures { IsCharting (rows_of (found_of options.now)) result }
+{
+    Charting {
+        text: is_named(options, "text"),
+        from: some_number_of(options, "from"),
+        to: some_number_of(options, "to"),
+    }
 }
 
 /// A run of a command whose runs are all on threads.

@@ -42,11 +42,12 @@ fn each_fault_has_its_line(rt: HostRuntime) {
 
 #[test]
 fn each_fault_of_events_and_of_a_run_has_its_line(rt: HostRuntime) {
-    let cases: [(Fault, &[u8]); 6] = [
+    let cases: [(Fault, &[u8]); 7] = [
         (Fault::Acts(12), b"treadmarks: acts line 12: bad act\n"),
         (Fault::Events(7), b"treadmarks: events line 7: bad event\n"),
         (Fault::Worn, b"treadmarks: message numbers used up\n"),
         (Fault::TooManyStates(7), b"treadmarks: more than 7 states\n"),
+        (Fault::TooLong, b"treadmarks: too long for a chart\n"),
         (Fault::Mismatch, b"treadmarks: logs and wires differ\n"),
         (Fault::NoMemory, b"treadmarks: out of memory\n"),
     ];

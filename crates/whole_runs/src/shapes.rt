@@ -1,8 +1,8 @@
-// Traces of runs, played again.
+// Traces of runs, played again, and charts.
 
 use crate::shell::{ON_ONE_NODE, played, shown_of_played, shown_on_threads};
 use lrc_envelope::Picker;
-use lrc_words::choice::{Form, Nodes, RunOptions, Shape};
+use lrc_words::choice::{Charting, Form, Nodes, RunOptions, Shape};
 use std::sync::Wait;
 use std::thread::Threads;
 
@@ -52,4 +52,18 @@ fn events_of_threads_play_their_run(rt: HostRuntime) {
     for order in [Picker::Oldest, Picker::Newest, Picker::Twice] {
         assert!(rt; is_played_again(&rt, order));
     }
+}
+
+#[test]
+fn a_chart_of_a_run_with_a_race_is_a_document_with_status_0(rt: HostRuntime) {
+    let chart = Shape::Chart(Charting {
+        text: false,
+        from: None,
+        to: None,
+    });
+    let drawn = shown_of_played(rt.alloc(), Nodes { count: 2 }, chart, RACING, NONE_SKIPPED);
+    assert!(rt; drawn.out.starts_with(b"<svg "));
+    assert!(rt; drawn.out.ends_with(b"</svg>\n"));
+    assert!(rt; drawn.err.is_empty());
+    assert!(rt; drawn.status == 0);
 }

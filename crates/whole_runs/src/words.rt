@@ -87,6 +87,32 @@ fn ask_for_counts(alloc: Global, words: &[&str]) -> bool {
         if goes_on_threads(&run.way, Picker::Twice))
 }
 
+// Whether the words ask for a chart for a terminal or not, and of which part of a run.
+fn ask_for_chart(
+    alloc: Global,
+    words: &[&str],
+    text: bool,
+    from: Option<u64>,
+    to: Option<u64>,
+) -> bool {
+    matches!(choose(alloc, words), Ok(Choice::Show(_, Shape::Chart(charting)))
+        if charting.text == text && charting.from == from && charting.to == to)
+}
+
+// Whether the words ask for a chart of a run on three nodes at random from this seed, with these options.
+fn ask_for_random_chart(alloc: Global, words: &[&str], steps: u32, collect: u32, seed: u64) -> bool {
+    matches!(choose(alloc, words), Ok(Choice::Show(run, Shape::Chart(_)))
+        if are_options(&run.options, collect, Size::Words256)
+            && run.options.steps.count == steps
+            && matches!(run.way, Way::Random(number) if number == seed))
+}
+
+// Whether the words ask for a chart of a run on threads.
+fn ask_for_threads_chart(alloc: Global, words: &[&str], order: Picker) -> bool {
+    matches!(choose(alloc, words), Ok(Choice::Show(run, Shape::Chart(_)))
+        if goes_on_threads(&run.way, order))
+}
+
 fn ask_for_check(alloc: Global, words: &[&str]) -> bool {
     matches!(choose(alloc, words), Ok(Choice::Check("a.tm")))
 }
@@ -180,7 +206,42 @@ fn what_is_asked_of_a_run_or_a_program_is_read(rt: HostRuntime) {
     assert!(rt; ask_to_explore(alloc, &most, 3, 7, true));
 }
 
-const OUT_OF_RANGE: [[&str; 4]; 14] = [
+#[test]
+fn charts_are_read(rt: HostRuntime) {
+    let alloc = rt.alloc();
+    assert!(rt; ask_for_chart(alloc, &["chart", "a.tm"], false, None, None));
+    let part = ["chart", "a.tm", "--text", "--from", "0", "--to=5"];
+    assert!(rt; ask_for_chart(alloc, &part, true, Some(0), Some(5)));
+    let open = ["chart", "--from=18446744073709551615", "a.tm"];
+    assert!(rt; ask_for_chart(alloc, &open, false, Some(u64::MAX), None));
+    let ended = ["chart", "a.tm", "--to", "+18446744073709551615"];
+    assert!(rt; ask_for_chart(alloc, &ended, false, None, Some(u64::MAX)));
+    let backwards = ["chart", "a.tm", "--text", "--to=2", "--from=3"];
+    assert!(rt; ask_for_chart(alloc, &backwards, true, Some(3), Some(2)));
+}
+
+#[test]
+fn runs_of_charts_are_read(rt: HostRuntime) {
+    let alloc = rt.alloc();
+    let random = [
+        "chart",
+        "a.tm",
+        "--nodes=3",
+        "--steps=5",
+        "--collect=7",
+        "--order=random",
+        "--seed=9",
+        "--page=256",
+    ];
+    assert!(rt; ask_for_random_chart(alloc, &random, 5, 7, 9));
+    let threads = ["chart", "a.tm", "--threads", "--order=twice", "--text"];
+    assert!(rt; ask_for_threads_chart(alloc, &threads, Picker::Twice));
+    let played = ["chart", "a.tm", "--events", "e", "--to=3"];
+    assert!(rt; ask_for_run(alloc, &played, "a.tm", Some("e")));
+    assert!(rt; ask_for_chart(alloc, &played, false, None, Some(3)));
+}
+
+const OUT_OF_RANGE: [[&str; 4]; 17] = [
     ["plain", "a.tm", "--nodes", "17"],
     ["plain", "a.tm", "--nodes", "0"],
     ["plain", "a.tm", "--steps", "0"],
@@ -193,11 +254,14 @@ const OUT_OF_RANGE: [[&str; 4]; 14] = [
     ["judge", "a.acts", "--nodes", "0"],
     ["explain", "a.tm", "--steps", "0"],
     ["stats", "a.tm", "--collect", "1000001"],
+    ["chart", "a.tm", "--nodes", "17"],
+    ["chart", "a.tm", "--steps", "0"],
+    ["chart", "a.tm", "--collect", "1000001"],
     ["explore", "a.tm", "--most", "0"],
     ["explore", "a.tm", "--most", "100000001"],
 ];
 
-const MISUSED: [[&str; 4]; 22] = [
+const MISUSED: [[&str; 4]; 35] = [
     ["plain", "a.tm", "--nodes", "18446744073709551616"],
     ["plain", "a.tm", "--nodes", "x"],
     ["plain", "a.tm", "--events", "e"],
@@ -219,6 +283,19 @@ const MISUSED: [[&str; 4]; 22] = [
     ["trace", "a.tm", "--messages", "--as=json"],
     ["explain", "a.tm", "--as", "json"],
     ["stats", "a.tm", "--threads", "--seed=1"],
+    ["chart", "a.tm", "--order", "Newest"],
+    ["chart", "a.tm", "--page", "128"],
+    ["chart", "a.tm", "--threads", "--events=e"],
+    ["chart", "a.tm", "--threads", "--order=random"],
+    ["chart", "a.tm", "--order=newest", "--seed=1"],
+    ["chart", "a.tm", "--text", "--text"],
+    ["chart", "a.tm", "--text=yes", "--to=1"],
+    ["chart", "a.tm", "--from", "x"],
+    ["chart", "a.tm", "--text", "--from"],
+    ["chart", "a.tm", "--to", "18446744073709551616"],
+    ["chart", "a.tm", "--text", "--to"],
+    ["chart", "a.tm", "--as", "json"],
+    ["stats", "a.tm", "--from", "1"],
     ["explore", "a.tm", "--steps", "5"],
 ];
 

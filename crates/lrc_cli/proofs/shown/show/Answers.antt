@@ -1,5 +1,6 @@
-use Rattle.std.proofs.Common.{inl, inr}
-use Rattle.lrc_cli.proofs.AnswerLemmas.{fault_up, text_fault}
+use Rattle.std.proofs.Common.{ℕ, List, inl, inr, option_map}
+use Rattle.std.specs.Borrow.{Bor}
+use Rattle.lrc_cli.proofs.AnswerLemmas.{fault_up, printed_of, text_fault, unshown_of}
 use Rattle.lrc_cli.proofs.shown.show.Goals as goal
 
 pub returns-in_err-program-clause-err : goal.returns-in_err-program-clause-err
@@ -10,17 +11,16 @@ returns-in_err-program-clause-err c =
 pub returns-in_err-run-clause-err : goal.returns-in_err-run-clause-err
 returns-in_err-run-clause-err c =
     fault_up c.from_residual-in_err-run.result _ _ c.from_residual-in_err-run.ensures.1
-    (inr (c.in_ok-program.program, c.in_ok-program.ensures.program, c.in_err-run.ensures.err))
+    (inr (c.in_ok-program.program, c.in_ok-program.ensures.program, inl c.in_err-run.ensures.err))
 
 pub returns-clause-ok : goal.returns-clause-ok
-returns-clause-ok c = (
-  c.in_ok-program.program,
-  c.in_ok-program.ensures.program,
-  record {
-    events = c.in_ok-run.run'.events.items;
-    report = c.in_ok-run.run'.report;
-    ran = c.in_ok-run.ensures.ok;
-    shown = c.in_ok-shown.ensures.text;
-    ended = c.in_ok-shown.ensures.status;
-  },
-)
+returns-clause-ok c =
+    printed_of c.args.choice.now c.args.shape c.args.text.now (option_map (λ (e : Bor (List ℕ)). e.now) c.args.events) c.in_ok-program.program
+    c.in_ok-run.run'.events.items c.in_ok-run.run'.report c.shown.result c.in_ok-program.ensures.program c.in_ok-run.ensures.ok
+    c.shown.ensures.text c.shown.ensures.status
+
+pub returns-clause-err : goal.returns-clause-err
+returns-clause-err c =
+    unshown_of c.args.choice.now c.args.shape c.args.text.now (option_map (λ (e : Bor (List ℕ)). e.now) c.args.events) c.in_ok-program.program
+    c.in_ok-run.run'.events.items c.in_ok-run.run'.report c.shown.result c.in_ok-program.ensures.program c.in_ok-run.ensures.ok
+    c.shown.ensures.err

@@ -1,32 +1,10 @@
-use Rattle.std.proofs.Common.{◌≡◌, ◌∙◌, List, Option, None, Some, Result, Ok, Err, IfErr, IsErrAnd, IsSomeAnd, codes, false, inl, inr, option_map, refl, subst, sym}
-use Rattle.std.specs.Prelude.{Box}
-use Rattle.std.specs.Box.{box_value}
-use Rattle.clap.specs.Words.{Row, Text, found_of, rows_of, subcommand_rows_of}
-use Rattle.clap.specs.Simple.{subcommand_rows}
-use Rattle.clap.specs.declared.parser.matches.ArgMatches.TheViews.{out-ArgMatches, out-SubCommand}
-use Rattle.clap.specs.declared.parser.matches.SubCommand.{SubCommand}
+use Rattle.std.proofs.Common.{◌≡◌, ◌∙◌, List, Result, Ok, Err, IfErr, IsErrAnd, IsSomeAnd, codes, false, inl, inr, refl, subst, sym}
+use Rattle.clap.specs.Words.{Row, found_of, rows_of, subcommand_rows_of}
+use Rattle.clap.specs.declared.parser.matches.ArgMatches.TheViews.{out-ArgMatches}
 use Rattle.lrc_words.specs.CommandLine.{HasMisfitOfRun, HasShowMisfit, HasThreadsMisfit}
 use Rattle.lrc_words.specs.declared.misfit.Misfit.{Misfit}
+use Rattle.lrc_words.proofs.FoundLemmas.{found_by, name_before}
 use Rattle.lrc_words.proofs.command_line.shown_from.Goals as goal
-
-module _ {Z : Type 0} where
-  -- the name of a subcommand stands before its rows
-  name_before : (sub : Option (Box SubCommand Z))
-      → option_map (λ p. p.0) (subcommand_rows sub) ≡ option_map (λ b. (out-SubCommand (box_value b)).name.now) sub
-  name_before None = refl
-  name_before (Some b) = refl
-
--- what holds of a name and rows holds of what has both
-found_by : (found : Option (Text × List Row)) (name : Text) (rows : List Row) (P : Text × List Row → Type 0)
-    → option_map (λ p. p.0) found ≡ Some name → option_map (λ p. p.1) found ≡ Some rows
-    → ((f : Text × List Row) → f.0 ≡ name → f.1 ≡ rows → P f) → IsSomeAnd found P
-found_by None name rows P named held h = absurd (let bad : None ≡ Some name = named in cc)
-found_by (Some f) name rows P named held h =
-    let name_is : Some f.0 ≡ Some name = named in
-    let rows_is : Some f.1 ≡ Some rows = held in
-    let same_name : f.0 ≡ name = cc in
-    let same_rows : f.1 ≡ rows = cc in
-    h f same_name same_rows
 
 misfit_up : {T : Type 0} (r : Result T Misfit) (misfit : Misfit) (P : Misfit → Type 0) → IsErrAnd r (λ m. m ≡ misfit) → P misfit → IfErr r P
 misfit_up (Ok x) misfit P is h = tt
