@@ -100,7 +100,13 @@ fn ask_for_chart(
 }
 
 // Whether the words ask for a chart of a run on three nodes at random from this seed, with these options.
-fn ask_for_random_chart(alloc: Global, words: &[&str], steps: u32, collect: u32, seed: u64) -> bool {
+fn ask_for_random_chart(
+    alloc: Global,
+    words: &[&str],
+    steps: u32,
+    collect: u32,
+    seed: u64,
+) -> bool {
     matches!(choose(alloc, words), Ok(Choice::Show(run, Shape::Chart(_)))
         if are_options(&run.options, collect, Size::Words256)
             && run.options.steps.count == steps
