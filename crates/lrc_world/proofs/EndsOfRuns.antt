@@ -132,20 +132,24 @@ module _ (program : Program) (nodes : ℕ) (options : OptionsRecord) where
       program nodes options events run fresh_ends runs
 
   -- the ends that a report names are those of its acts
-  pub ends_as_acts : (events : List Event) (report : Report) → IsReportOf program nodes options events report
-      → report.ends.items ≡ ends_of nodes report.acts.items
-  ends_as_acts events report is =
-      let count : length is.0.nodes ≡ nodes = (run-whole program nodes options events is.0 is.1).count in
-      let left : length (map end_of_logged is.0.nodes) ≡ nodes = length-map is.0.nodes end_of_logged ∙ count in
-      let right : length (ends_of nodes is.0.acts) ≡ nodes =
-      length-map (range_with_len 0 nodes) (λ node. end_of node is.0.acts) ∙ length-range_with_len 0 nodes in
-      is.2.ends
-      ∙ same_lists (map end_of_logged is.0.nodes) (ends_of nodes is.0.acts) (left ∙ sym right) (λ k d lt.
+  pub ends_of_acts : (events : List Event) (acts : List Act) (told : List End) (run : Run) → run_of program nodes options events ≡ Some run
+      → acts ≡ run.acts → told ≡ map end_of_logged run.nodes → told ≡ ends_of nodes acts
+  ends_of_acts events acts told run runs same told_is =
+      let count : length run.nodes ≡ nodes = (run-whole program nodes options events run runs).count in
+      let left : length (map end_of_logged run.nodes) ≡ nodes = length-map run.nodes end_of_logged ∙ count in
+      let right : length (ends_of nodes run.acts) ≡ nodes =
+      length-map (range_with_len 0 nodes) (λ node. end_of node run.acts) ∙ length-range_with_len 0 nodes in
+      told_is
+      ∙ same_lists (map end_of_logged run.nodes) (ends_of nodes run.acts) (left ∙ sym right) (λ k d lt.
       let below : k < nodes = omega (arith, lt, left) in
       let l0 : Logged = record { node = fresh_node program nodes options k; log = [] } in
-      let there = slice_get-get_or is.0.nodes k l0 (omega (arith, below, count)) in
-      get_or-map end_of_logged is.0.nodes k l0 d (omega (arith, below, count))
-      ∙ (ends_at events is.0 is.1 k (get_or is.0.nodes k l0) there).agree
-      ∙ sym (get_or-map (λ node. end_of node is.0.acts) (range_with_len 0 nodes) k 0 d (omega (arith, length-range_with_len 0 nodes, below))
-      ∙ ap (λ node. end_of node is.0.acts) (get_or-range_with_len 0 nodes k 0 below ∙ zero-add k)))
-      ∙ ap (ends_of nodes) (sym is.2.acts)
+      let there = slice_get-get_or run.nodes k l0 (omega (arith, below, count)) in
+      get_or-map end_of_logged run.nodes k l0 d (omega (arith, below, count))
+      ∙ (ends_at events run runs k (get_or run.nodes k l0) there).agree
+      ∙ sym (get_or-map (λ node. end_of node run.acts) (range_with_len 0 nodes) k 0 d (omega (arith, length-range_with_len 0 nodes, below))
+      ∙ ap (λ node. end_of node run.acts) (get_or-range_with_len 0 nodes k 0 below ∙ zero-add k)))
+      ∙ ap (ends_of nodes) (sym same)
+
+  pub ends_as_acts : (events : List Event) (report : Report) → IsReportOf program nodes options events report
+      → report.ends.items ≡ ends_of nodes report.acts.items
+  ends_as_acts events report is = ends_of_acts events report.acts.items report.ends.items is.0 is.1 is.2.acts is.2.ends

@@ -5,19 +5,20 @@ use Rattle.std.specs.Prelude.{slice_get, slice_index_or}
 use Rattle.std.proofs.lemmas.List.Sums.{fold-append}
 use Rattle.lrc_lang.specs.declared.program.Program.{Program}
 use Rattle.lrc_protocol.specs.declared.event.Event.{Event}
-use Rattle.lrc_protocol.specs.Node.{OptionsRecord, fresh_node}
+use Rattle.lrc_protocol.specs.Node.{OptionsRecord}
 use Rattle.lrc_protocol.specs.World.{World as Run, fresh_world, event_on, step_of, run_of}
 use Rattle.lrc_theory.proofs.Ahead.{take_ahead}
 use Rattle.lrc_world.specs.declared.world.World.{World}
 use Rattle.lrc_world.specs.declared.report.SimFault.{SimFault}
 use Rattle.lrc_world.specs.declared.report.SimFault.TheVariants.{Worn}
-use Rattle.lrc_world.specs.World.{Starts, Shows, PlaysTo}
+use Rattle.lrc_world.specs.declared.keep.Keep.TheVariants.{All}
+use Rattle.lrc_world.specs.World.{Starts, Shows, PlaysTo, starts_of}
 use Rattle.lrc_world.specs.Report.{IsWornBy}
 
 -- the run of the events so far, which the world shows
 abbrev pub Runs : Program → ℕ → OptionsRecord → List Event → World → Type 0
 Runs program nodes options events world =
-    (run : Run) × (run_of program nodes options events ≡ Some run) × Shows (fresh_node program nodes options) world run
+    (run : Run) × (run_of program nodes options events ≡ Some run) × Shows (starts_of program nodes options All) world run
 
 module _ (program : Program) (nodes : ℕ) (options : OptionsRecord) (events : List Event) (k : ℕ) (event : Event) (at : slice_get events k ≡ Some event) where
   one_more : (run : Run) → run_of program nodes options (take k events) ≡ Some run
@@ -33,7 +34,7 @@ module _ (program : Program) (nodes : ℕ) (options : OptionsRecord) (events : L
       → ((starts : Starts) (run : Run) → Shows starts old run → PlaysTo starts new (event_on run event) result) → result ≡ Ok u
       → Runs program nodes options (take (k + 1) events) new
   goes_on old new result u runs plays ok =
-      let first = fresh_node program nodes options in
+      let first = starts_of program nodes options All in
       let p = subst (PlaysTo first new (event_on runs.0 event)) ok (plays first runs.0 runs.2) in
       (p.0, one_more runs.0 runs.1 ∙ p.1, p.2)
 
@@ -54,7 +55,7 @@ wears_out program nodes options events k event at old new result runs plays worn
   split = split_at events k event at;
   plays = runs.1;
   wears =
-      subst (PlaysTo (fresh_node program nodes options) new (event_on runs.0 event)) worn (plays (fresh_node program nodes options) runs.0 runs.2);
+      subst (PlaysTo (starts_of program nodes options All) new (event_on runs.0 event)) worn (plays (starts_of program nodes options All) runs.0 runs.2);
 }
 
 -- a fault that is handed on

@@ -1,3 +1,4 @@
+pub mod Cutting
 pub mod Kept
 pub mod Races
 pub mod Worlds
@@ -11,6 +12,7 @@ pub mod EndsOfRuns
 pub mod Driven
 pub mod Choosing
 pub mod Theorem
+pub mod Briefly
 pub mod Made
 pub mod Over
 pub mod Moments

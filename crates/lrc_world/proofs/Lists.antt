@@ -20,6 +20,11 @@ map-remove f [] (suc n) = refl
 map-remove f (x ∷ xs) zero = refl
 map-remove f (x ∷ xs) (suc n) = ap (λ more. f x ∷ more) (map-remove f xs n)
 
+pub set-set : {A : Type 0} (xs : List A) (n : ℕ) (a b : A) → slice_set (slice_set xs n a) n b ≡ slice_set xs n b
+set-set [] n a b = refl
+set-set (x ∷ xs) zero a b = refl
+set-set (x ∷ xs) (suc n) a b = ap (λ more. x ∷ more) (set-set xs n a b)
+
 pub set-length : {A : Type 0} (xs : List A) (n : ℕ) (y : A) → length (slice_set xs n y) ≡ length xs
 set-length [] n y = refl
 set-length (x ∷ xs) zero y = refl

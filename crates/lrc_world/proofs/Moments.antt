@@ -65,8 +65,12 @@ module _ (program : Program) (nodes : ℕ) (options : OptionsRecord) (events : L
         );
   }
 
+  pub covered_acts : (acts : List Act) (run : Run) → run_of program nodes options events ≡ Some run → acts ≡ run.acts
+      → (other : Run) → run_of program nodes options events ≡ Some other → AreCovered acts other.times
+  covered_acts acts run runs is other others =
+      let same : run ≡ other = same_Some run other (sym runs ∙ others) in
+      subst (λ acts. AreCovered acts other.times) (sym (is ∙ ap (λ (x : Run). x.acts) same)) (run_covered other others)
+
   pub covered : (report : Report) → IsReportOf program nodes options events report → (run : Run) → run_of program nodes options events ≡ Some run
       → AreCovered report.acts.items run.times
-  covered report is run runs =
-      let same : is.0 ≡ run = same_Some is.0 run (sym is.1 ∙ runs) in
-      subst (λ acts. AreCovered acts run.times) (sym (is.2.acts ∙ ap (λ (x : Run). x.acts) same)) (run_covered run runs)
+  covered report is = covered_acts report.acts.items is.0 is.1 is.2.acts

@@ -4,12 +4,15 @@ use Rattle.std.proofs.Common.{Some, None, Result, Ok, Err, refl, sym, ap, subst,
 use Rattle.std.specs.Prelude.{slice_get, slice_set, slice_index_or, option_map}
 use Rattle.std.proofs.lemmas.List.{set-get_or}
 use Rattle.std.proofs.lemmas.Option.{get_or_from_slice_get, same_Some, slice_get-get_or, slice_get_past}
-use Rattle.lrc_protocol.specs.Log.{Input, Logged, logs}
+use Rattle.lrc_protocol.specs.Log.{Input, EntryRecord, Logged, logs}
+use Rattle.lrc_protocol.specs.Node.{Node}
 use Rattle.lrc_node.specs.declared.fault.NodeFault.{NodeFault}
 use Rattle.lrc_node.specs.declared.fault.NodeFault.TheVariants.{Failed, NotReady, Unexpected, Worn, NoMemory}
 use Rattle.lrc_trace.specs.Trace.{TraceRecord}
-use Rattle.lrc_node.specs.Logged.{LoggedNode, TracedLog, sound, Logs, LogsTo, NotesIn}
-use Rattle.lrc_world.specs.World.{TurnsBy, TurnsTo, after_turn}
+use Rattle.lrc_node.specs.Logged.{LoggedNode, TracedLog, newest, sound, Logs, LogsTo, NotesIn}
+use Rattle.lrc_world.specs.declared.keep.Keep.{Keep}
+use Rattle.lrc_world.specs.declared.keep.Keep.TheVariants.{All, Newest}
+use Rattle.lrc_world.specs.World.{TurnsBy, TurnsTo, after_turn, trimmed}
 use Rattle.lrc_node.proofs.Leading.{entry_of}
 use Rattle.lrc_world.proofs.Lists.{map-get, same_length}
 
@@ -23,8 +26,13 @@ same_kept a b logged trace =
     ap (λ (l : LoggedNode). let t : TracedLog = record { logged = l; trace = a.trace } in t) logged
     ∙ ap (λ (x : TraceRecord). let t : TracedLog = record { logged = b.logged; trace = x } in t) trace
 
+same_logged : (a b : LoggedNode) → a.node ≡ b.node → a.log ≡ b.log → a ≡ b
+same_logged a b node log =
+    ap (λ (n : Option Node). let l : LoggedNode = record { node = n; log = a.log } in l) node
+    ∙ ap (λ (g : List EntryRecord). let l : LoggedNode = record { node = b.node; log = g } in l) log
+
 -- what is not changed
-unchanged : (items : List TracedLog) (n : ℕ) (x new : TracedLog) → slice_get items n ≡ Some x → new ≡ x → slice_set items n new ≡ items
+pub unchanged : (items : List TracedLog) (n : ℕ) (x new : TracedLog) → slice_get items n ≡ Some x → new ≡ x → slice_set items n new ≡ items
 unchanged items n x new there same =
     ap (slice_set items n) (same ∙ sym (get_or_from_slice_get items n x x there)) ∙ set-get_or items n x
 
@@ -41,7 +49,9 @@ turned_by items n x new input came l there is (Ok done) h notes =
       before = x;
       turn = h.2;
       stood = there;
-      nodes = ap (slice_set items n) (same_kept new (after_turn h.0 h.1 x) h.3 (notes h.1.node h.0 (ap (λ (m : LoggedNode). m.node) h.3) log));
+      nodes = ap (slice_set items n)
+          (same_kept new (after_turn h.0 h.1 x) (same_logged new.logged (after_turn h.0 h.1 x).logged (ap (λ (m : LoggedNode). m.node) h.3) log)
+          (notes h.1.node h.0 (ap (λ (m : LoggedNode). m.node) h.3) log));
     }
 turned_by items n x new input came l there is (Err NotReady) h notes = (h.0, unchanged items n x new there (same_kept new x (h.1 ∙ sym is) notes))
 turned_by items n x new input came l there is (Err Unexpected) h notes = (h.0, unchanged items n x new there (same_kept new x (h.1 ∙ sym is) notes))
@@ -80,3 +90,24 @@ pub unturned : (items : List TracedLog) (n : ℕ) (input : Input) (came : ℕ) �
 unturned items n input came past nodes e =
     let few : length nodes ≤ n = omega (arith, same_length (λ (t : TracedLog). t.logged) sound items nodes e) in
     subst (λ o. TurnsBy items items n input came o (Err NotReady)) (sym (slice_get_past nodes n few)) refl
+
+-- ---- what is forgotten
+
+-- all is kept
+pub keeps_all : (items : List TracedLog) (n : ℕ) (keep : Keep) → keep ≡ All → (l : TracedLog) → slice_get items n ≡ Some l
+    → items ≡ slice_set items n (trimmed keep l)
+keeps_all items n keep is l there = sym (unchanged items n l (trimmed keep l) there (ap (λ k. trimmed k l) is))
+
+-- the newest turn is
+pub keeps_newest : (items : List TracedLog) (n : ℕ) (x new : TracedLog) (keep : Keep) → keep ≡ Newest → n < length items → x ≡ slice_index_or items n x
+    → new.logged ≡ record { node = x.logged.node; log = newest x.logged.log } → new.trace ≡ x.trace
+    → (l : TracedLog) → slice_get items n ≡ Some l → slice_set items n new ≡ slice_set items n (trimmed keep l)
+keeps_newest items n x new keep is within at logged trace l there =
+    let stands : slice_get items n ≡ Some x = slice_get-get_or items n x within ∙ ap Some (sym at) in
+    let same : x ≡ l = same_Some x l (sym stands ∙ there) in
+    ap (slice_set items n) (same_kept new (trimmed Newest x) logged trace ∙ ap (trimmed Newest) same ∙ ap (λ k. trimmed k l) (sym is))
+
+-- where there is no node, there is nothing to forget
+pub keeps_none : (items : List TracedLog) (n : ℕ) (keep : Keep) → length items ≤ n → (l : TracedLog) → slice_get items n ≡ Some l
+    → items ≡ slice_set items n (trimmed keep l)
+keeps_none items n keep past l there = let none : None ≡ Some l = sym (slice_get_past items n past) ∙ there in cc

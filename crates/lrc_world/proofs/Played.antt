@@ -9,28 +9,29 @@ use Rattle.lrc_wire.specs.Reading.{envelope_of}
 use Rattle.lrc_protocol.specs.Log.{Input, taken, EntryRecord, Logged, Logging, logged, refused, too_large, logs}
 use Rattle.lrc_protocol.specs.World.{World as Run, Flying as Sent, inputs, delivers, input_to, after_input, with_turn, sent_by}
 use Rattle.lrc_protocol.proofs.Worlds.{IsEntry, get_set_same}
-use Rattle.lrc_node.specs.Logged.{TracedLog, sound}
+use Rattle.lrc_node.specs.Logged.{TracedLog}
 use Rattle.lrc_node.specs.declared.fault.NodeFault.{NodeFault}
 use Rattle.lrc_node.specs.declared.fault.NodeFault.TheVariants as NodeFaults
 use Rattle.lrc_node.specs.declared.fault.NodeFault.TheVariants.{Failed, NotReady, Unexpected}
 use Rattle.lrc_world.specs.declared.flying.Flying.{Flying}
 use Rattle.lrc_node.proofs.Leading.{entry_of}
-use Rattle.lrc_world.proofs.Kept.{all_logged, kept_get, kept_after, kept_set, replayed_after}
+use Rattle.lrc_world.proofs.Cutting.{uncut_at}
+use Rattle.lrc_world.proofs.Kept.{all_logged, kept_after, kept_set, replayed_after}
 use Rattle.lrc_world.proofs.NodeTurns.{not_none}
 use Rattle.std.proofs.lemmas.Option.{get_or_from_slice_get, same_Some, slice_get_within}
 use Rattle.lrc_world.specs.declared.world.World.{World}
 use Rattle.lrc_world.specs.declared.report.SimFault.{SimFault}
 use Rattle.lrc_world.specs.declared.report.SimFault.TheVariants.{BadNodes, BadSteps, Worn, NoMemory}
-use Rattle.lrc_world.specs.World.{Starts, kept_of, after_turn, Shows, PlaysTo, Adds, AddsTo, LogsLast, IsTurn, TurnsBy, TurnsTo, IsTaken}
+use Rattle.lrc_world.specs.World.{Starts, cut, kept_of, trimmed, after_turn, Shows, PlaysTo, Adds, AddsTo, LogsLast, IsTurn, TurnsBy, TurnsTo, IsTaken}
 use Rattle.lrc_world.specs.World.{ReceivesTo, made_of, Seen, seen, shown, shown_new, entry_is_long, log_is_long, sends_long}
-use Rattle.lrc_world.proofs.Lists.{map-map, map-both, map-get, none_of, none-set, some-set, none-end, some-end, same_length}
+use Rattle.lrc_world.proofs.Lists.{map-map, map-both, map-get, none_of, none-set, some-set, none-end, set-set, some-end, same_length}
 
 -- a turn that is added to a world
 module _ (starts : Starts) (old mid new : World) (run : Run) (flight : List Sent) (n : ℕ) (input : Input) (came : ℕ) (l : Logged) (entry : EntryRecord)
     (after : Logged) (before : TracedLog) (shows : Shows starts old run) (there : slice_get run.nodes n ≡ Some l)
     (turn : logs l input came ≡ logged entry after) (stood : slice_get old.nodes.items n ≡ Some before)
     (nodes : mid.nodes.items ≡ slice_set old.nodes.items n (after_turn entry after before)) (flown : map seen mid.flight.items ≡ map shown flight)
-    (acts : mid.acts.items ≡ old.acts.items) where
+    (acts : mid.acts.items ≡ old.acts.items) (kept : mid.keep ≡ old.keep) where
   entered : IsEntry l input entry after
   entered = entry_of l input came entry after turn
 
@@ -40,23 +41,23 @@ module _ (starts : Starts) (old mid new : World) (run : Run) (flight : List Sent
   stands : slice_get (map (kept_of starts) (enumerate_from 0 run.nodes)) n ≡ Some before
   stands = ap (λ xs. slice_get xs n) (sym shows.nodes) ∙ stood
 
-  logs_so : before.logged ≡ sound l
-  logs_so = ap (λ (t : TracedLog). t.logged) (same_Some before (kept_of starts (n, l)) (sym stands ∙ kept_get starts run.nodes n l there))
+  there_now : slice_get mid.nodes.items n ≡ Some (after_turn entry after before)
+  there_now = ap (λ xs. slice_get xs n) nodes ∙ get_set_same old.nodes.items n before (after_turn entry after before) stood
 
   last : LogsLast mid n entry
-  last = (
-    after_turn entry after before,
-    ap (λ xs. slice_get xs n) nodes ∙ get_set_same old.nodes.items n before (after_turn entry after before) stood,
-    l.log,
-    entered.log_is,
-  )
+  last = (after_turn entry after before, there_now, before.logged.log, refl)
 
   short_before : log_is_long l ≡ false
   short_before = none_of log_is_long run.nodes n l shows.short there
 
-  adds : Adds mid new entry → Shows starts new (with_turn run flight n entry after)
+  adds : Adds mid new n entry → Shows starts new (with_turn run flight n entry after)
   adds a = record {
-    nodes = ap (λ v. v.items) a.nodes ∙ nodes ∙ ap (λ xs. slice_set xs n (after_turn entry after before)) shows.nodes
+    keep = a.keep ∙ kept ∙ shows.keep;
+    nodes = a.nodes (after_turn entry after before) there_now
+        ∙ ap (λ keep. slice_set mid.nodes.items n (trimmed keep (after_turn entry after before))) (kept ∙ shows.keep)
+        ∙ ap (λ xs. slice_set xs n (trimmed starts.keep (after_turn entry after before))) nodes
+        ∙ set-set old.nodes.items n (after_turn entry after before) (trimmed starts.keep (after_turn entry after before))
+        ∙ ap (λ xs. slice_set xs n (trimmed starts.keep (after_turn entry after before))) shows.nodes
         ∙ ap (slice_set (map (kept_of starts) (enumerate_from 0 run.nodes)) n)
         (kept_after starts run.nodes n l after input entry there entered shows.replayed before stands)
         ∙ kept_set starts run.nodes n l after input entry there entered shows.replayed;
@@ -73,7 +74,7 @@ module _ (starts : Starts) (old mid new : World) (run : Run) (flight : List Sent
   long : entry_is_long entry ≡ true → sends_long (with_turn run flight n entry after) ≡ true
   long holds = some-set log_is_long run.nodes n l after there (ap (list_any entry_is_long) entered.log_is ∙ some-end entry_is_long l.log entry holds)
 
-  pub comes : (result : Result (Unit {0}) SimFault) → ((e : EntryRecord) → LogsLast mid n e → AddsTo mid new e result)
+  pub comes : (result : Result (Unit {0}) SimFault) → ((e : EntryRecord) → LogsLast mid n e → AddsTo mid new n e result)
       → PlaysTo starts new (inputs run flight n input came) result
   comes (Ok u) follows = (with_turn run flight n entry after, outcome_is, adds (follows entry last))
   comes (Err Worn) follows = inr (with_turn run flight n entry after, outcome_is, long (follows entry last))
@@ -85,8 +86,9 @@ module _ (starts : Starts) (old mid new : World) (run : Run) (flight : List Sent
 
 -- a world in which nothing changed
 unmoved : (starts : Starts) (old mid : World) (run : Run) → Shows starts old run → mid.flight ≡ old.flight → mid.acts ≡ old.acts
-    → mid.nodes.items ≡ old.nodes.items → Shows starts mid run
-unmoved starts old mid run shows flight acts nodes = record {
+    → mid.keep ≡ old.keep → mid.nodes.items ≡ old.nodes.items → Shows starts mid run
+unmoved starts old mid run shows flight acts kept nodes = record {
+  keep = kept ∙ shows.keep;
   nodes = nodes ∙ shows.nodes;
   replayed = shows.replayed;
   flight = ap (λ q. map seen q.items) flight ∙ shows.flight;
@@ -108,22 +110,30 @@ turn_of_ok : (olds news : List TracedLog) (n : ℕ) (input : Input) (came : ℕ)
 turn_of_ok olds news n input came None u t = absurd t
 turn_of_ok olds news n input came (Some l) u t = (l, refl, t)
 
+-- a turn is one of the node with its whole log
+whole : (starts : Starts) (old mid : World) (run : Run) (n : ℕ) (input : Input) (came : ℕ) (outcome : Result (Unit {0}) NodeFault)
+    → Shows starts old run → TurnsTo old.nodes.items mid.nodes.items n input came outcome
+    → TurnsBy old.nodes.items mid.nodes.items n input came (slice_get run.nodes n) outcome
+whole starts old mid run n input came outcome shows turns =
+    uncut_at starts.keep old.nodes.items mid.nodes.items n input came run.nodes outcome
+    (turns (map (cut starts.keep) run.nodes) (all_logged starts old.nodes.items run.nodes shows.nodes))
+
 -- a node that is named goes on
 pub goes : (starts : Starts) (old mid new : World) (run : Run) (n : ℕ) (input : Input) (came : ℕ) (outcome : Result (Unit {0}) NodeFault)
     (result : Result (Unit {0}) SimFault) → Shows starts old run → TurnsTo old.nodes.items mid.nodes.items n input came outcome
-    → made_of outcome ≡ Ok true → mid.flight ≡ old.flight → mid.acts ≡ old.acts → ((e : EntryRecord) → LogsLast mid n e → AddsTo mid new e result)
+    → made_of outcome ≡ Ok true → mid.flight ≡ old.flight → mid.acts ≡ old.acts → mid.keep ≡ old.keep → ((e : EntryRecord) → LogsLast mid n e → AddsTo mid new n e result)
     → PlaysTo starts new (inputs run run.flight n input came) result
-goes starts old mid new run n input came outcome result shows turns made flight acts follows =
+goes starts old mid new run n input came outcome result shows turns made flight acts kept follows =
     let ok = made_turn outcome made in
     let by = subst (TurnsBy old.nodes.items mid.nodes.items n input came (slice_get run.nodes n)) ok.1
-    (turns run.nodes (all_logged starts old.nodes.items run.nodes shows.nodes)) in
+    (whole starts old mid run n input came outcome shows turns) in
     let t = turn_of_ok old.nodes.items mid.nodes.items n input came (slice_get run.nodes n) ok.0 by in
     comes starts old mid new run run.flight n input came t.0 t.2.entry t.2.after t.2.before shows t.1 t.2.turn t.2.stood t.2.nodes
-    (ap (λ q. map seen q.items) flight ∙ shows.flight) (ap (λ v. v.items) acts) result follows
+    (ap (λ q. map seen q.items) flight ∙ shows.flight) (ap (λ v. v.items) acts) kept result follows
 
 -- one that made none
 module _ (starts : Starts) (old mid : World) (run : Run) (n : ℕ) (input : Input) (came : ℕ) (shows : Shows starts old run)
-    (flight : mid.flight ≡ old.flight) (acts : mid.acts ≡ old.acts) where
+    (flight : mid.flight ≡ old.flight) (acts : mid.acts ≡ old.acts) (kept : mid.keep ≡ old.keep) where
   abbrev After : Option Run
   After = inputs run run.flight n input came
 
@@ -136,14 +146,14 @@ module _ (starts : Starts) (old mid : World) (run : Run) (n : ℕ) (input : Inpu
   rests_by : (o : Option Logged) → slice_get run.nodes n ≡ o → (outcome : Result (Unit {0}) NodeFault)
       → TurnsBy old.nodes.items mid.nodes.items n input came o outcome → made_of outcome ≡ Ok false → (After ≡ Some run) × Shows starts mid run
   rests_by None at (Ok u) t e = cc
-  rests_by None at (Err NotReady) t e = (after_none at, unmoved starts old mid run shows flight acts t)
+  rests_by None at (Err NotReady) t e = (after_none at, unmoved starts old mid run shows flight acts kept t)
   rests_by None at (Err Unexpected) t e = absurd t
   rests_by None at (Err NodeFaults.Worn) t e = cc
   rests_by None at (Err NodeFaults.NoMemory) t e = cc
   rests_by None at (Err Failed) t e = cc
   rests_by (Some l) at (Ok u) t e = cc
-  rests_by (Some l) at (Err NotReady) t e = (after_some l refused at t.0, unmoved starts old mid run shows flight acts t.1)
-  rests_by (Some l) at (Err Unexpected) t e = (after_some l refused at t.0, unmoved starts old mid run shows flight acts t.1)
+  rests_by (Some l) at (Err NotReady) t e = (after_some l refused at t.0, unmoved starts old mid run shows flight acts kept t.1)
+  rests_by (Some l) at (Err Unexpected) t e = (after_some l refused at t.0, unmoved starts old mid run shows flight acts kept t.1)
   rests_by (Some l) at (Err NodeFaults.Worn) t e = cc
   rests_by (Some l) at (Err NodeFaults.NoMemory) t e = cc
   rests_by (Some l) at (Err Failed) t e = cc
@@ -169,7 +179,7 @@ module _ (starts : Starts) (old mid : World) (run : Run) (n : ℕ) (input : Inpu
   pub rests : (outcome : Result (Unit {0}) NodeFault) → TurnsTo old.nodes.items mid.nodes.items n input came outcome → made_of outcome ≡ Ok false
       → PlaysTo starts mid After (Ok tt)
   rests outcome turns made =
-      let r = rests_by (slice_get run.nodes n) refl outcome (turns run.nodes (all_logged starts old.nodes.items run.nodes shows.nodes)) made in
+      let r = rests_by (slice_get run.nodes n) refl outcome (whole starts old mid run n input came outcome shows turns) made in
       (run, r.0, r.1)
 
   pub fails : (outcome : Result (Unit {0}) NodeFault) → TurnsTo old.nodes.items mid.nodes.items n input came outcome → (fault : SimFault)
@@ -177,7 +187,7 @@ module _ (starts : Starts) (old mid : World) (run : Run) (n : ℕ) (input : Inpu
   fails outcome turns fault made (Ok u) is = absurd is
   fails outcome turns fault made (Err f) is =
       subst (λ x. PlaysTo starts mid After (Err x)) (sym is)
-      (fails_by (slice_get run.nodes n) refl outcome (turns run.nodes (all_logged starts old.nodes.items run.nodes shows.nodes)) fault made)
+      (fails_by (slice_get run.nodes n) refl outcome (whole starts old mid run n input came outcome shows turns) fault made)
 
 -- ---- a message
 
@@ -206,9 +216,9 @@ received to (Err fault) = Err fault
 
 module _ (starts : Starts) (old mid : World) (run : Run) (place : ℕ) (sent : Sent) (shows : Shows starts old run)
     (there : slice_get run.flight place ≡ Some sent)
-    (flight : mid.flight ≡ old.flight) (acts : mid.acts ≡ old.acts) where
+    (flight : mid.flight ≡ old.flight) (acts : mid.acts ≡ old.acts) (kept : mid.keep ≡ old.keep) where
   unchanged : mid.nodes.items ≡ old.nodes.items → Shows starts mid run
-  unchanged = unmoved starts old mid run shows flight acts
+  unchanged = unmoved starts old mid run shows flight acts kept
 
   by_node : (others : List Sent) (o : Option Logged) → slice_get run.nodes sent.envelope.to ≡ o
       → delivers run others (slice_get run.flight place) ≡ input_to run others sent.envelope.to (taken sent.envelope) sent.stamp o
@@ -235,6 +245,7 @@ module _ (starts : Starts) (old mid : World) (run : Run) (place : ℕ) (sent : S
     stands = at;
     turn = t.turn;
     stood = t.stood;
+    keep = kept;
     nodes = t.nodes;
     flight = flight;
     acts = acts;
@@ -250,24 +261,24 @@ module _ (starts : Starts) (old mid : World) (run : Run) (place : ℕ) (sent : S
 
 -- a message that was taken is out of flight, or marked, and its node's turn is added
 pub delivered : (starts : Starts) (old taking mid new : World) (run : Run) (place to : ℕ) (others : List Sent) (result : Result (Unit {0}) SimFault)
-    → Shows starts old run → (t : IsTaken old taking run place to) → mid.nodes ≡ taking.nodes → mid.acts ≡ taking.acts
+    → Shows starts old run → (t : IsTaken old taking run place to) → mid.nodes ≡ taking.nodes → mid.acts ≡ taking.acts → mid.keep ≡ taking.keep
     → map seen mid.flight.items ≡ map shown others
-    → ((e : EntryRecord) → LogsLast mid to e → AddsTo mid new e result) → PlaysTo starts new (delivers run others (slice_get run.flight place)) result
-delivered starts old taking mid new run place to others result shows t nodes acts flown follows =
+    → ((e : EntryRecord) → LogsLast mid to e → AddsTo mid new to e result) → PlaysTo starts new (delivers run others (slice_get run.flight place)) result
+delivered starts old taking mid new run place to others result shows t nodes acts kept flown follows =
     let whole = comes starts old mid new run others t.sent.envelope.to (taken t.sent.envelope) t.sent.stamp t.node t.entry t.after t.before shows
     (ap (slice_get run.nodes) t.receiver ∙ t.stands) t.turn (ap (slice_get old.nodes.items) t.receiver ∙ t.stood)
     (ap (λ v. v.items) nodes ∙ t.nodes ∙ ap (λ n. slice_set old.nodes.items n (after_turn t.entry t.after t.before)) (sym t.receiver)) flown
-    (ap (λ v. v.items) (acts ∙ t.acts)) result
-    (λ e last. follows e (subst (λ n. LogsLast mid n e) t.receiver last)) in
+    (ap (λ v. v.items) (acts ∙ t.acts)) (kept ∙ t.keep) result
+    (λ e last. subst (λ n. AddsTo mid new n e result) (sym t.receiver) (follows e (subst (λ n. LogsLast mid n e) t.receiver last))) in
     subst (λ o. PlaysTo starts new o result) (sym (ap (delivers run others) t.there)) whole
 
 -- the message that its bytes spell is taken by its receiver
 pub taken_at : (starts : Starts) (old mid : World) (run : Run) (place : ℕ) (f : Flying) (envelope : EnvelopeRecord) (to : ℕ)
     (outcome : Result (Unit {0}) NodeFault) → Shows starts old run
     → place < length old.flight.items → f ≡ slice_index_or old.flight.items place f → envelope_of f.bytes ≡ Ok envelope
-    → to ≡ envelope.to → TurnsTo old.nodes.items mid.nodes.items to (taken envelope) f.stamp outcome → mid.flight ≡ old.flight → mid.acts ≡ old.acts
+    → to ≡ envelope.to → TurnsTo old.nodes.items mid.nodes.items to (taken envelope) f.stamp outcome → mid.flight ≡ old.flight → mid.acts ≡ old.acts → mid.keep ≡ old.keep
     → ReceivesTo starts old mid run place (received to (made_of outcome))
-taken_at starts old mid run place f envelope to outcome shows within is spelled here turns flight acts =
+taken_at starts old mid run place f envelope to outcome shows within is spelled here turns flight acts kept =
     let s = sent_at old.flight.items run.flight place f shows.flight within is in
     let two : Ok envelope ≡ Ok s.0.envelope = sym spelled ∙ ap (λ (x : Seen). x.0) s.2 in
     let envelope_is : envelope ≡ s.0.envelope = cc in
@@ -277,8 +288,8 @@ taken_at starts old mid run place f envelope to outcome shows within is spelled 
     (subst (λ t. TurnsTo old.nodes.items mid.nodes.items envelope.to (taken envelope) t outcome) stamp_is
     (subst (λ n. TurnsTo old.nodes.items mid.nodes.items n (taken envelope) f.stamp outcome) here turns)) in
     subst (λ n. ReceivesTo starts old mid run place (received n (made_of outcome))) (sym (here ∙ ap (λ (e : EnvelopeRecord). e.to) envelope_is))
-    (receives starts old mid run place s.0 shows s.1 flight acts (slice_get run.nodes s.0.envelope.to) refl outcome
-    (by run.nodes (all_logged starts old.nodes.items run.nodes shows.nodes)))
+    (receives starts old mid run place s.0 shows s.1 flight acts kept (slice_get run.nodes s.0.envelope.to) refl outcome
+    (whole starts old mid run s.0.envelope.to (taken s.0.envelope) s.0.stamp outcome shows by))
 
 -- it was in flight
 pub taken_within : (starts : Starts) (old taking : World) (run : Run) (place to : ℕ) → Shows starts old run → (t : IsTaken old taking run place to)

@@ -1,31 +1,56 @@
 -- The races of the traces that the nodes of a run keep.
-use Rattle.std.proofs.Common.{◌≡◌, ◌∙◌, ℕ, List, Some, sym, ap, subst, map}
+use Rattle.std.proofs.Common.{◌≡◌, ◌∙◌, ℕ, List, [], Some, inl, inr, refl, sym, ap, subst, map, arith}
+use Rattle.std.proofs.lemmas.Bool.{cases_order}
 use Rattle.std.specs.List.{enumerate_from}
 use Rattle.lrc_lang.specs.declared.program.Program.{Program}
 use Rattle.lrc_trace.specs.declared.act.Act.{Act}
 use Rattle.lrc_trace.specs.declared.race.Race.{Race}
+use Rattle.lrc_trace.specs.Conflict.{IsRaceFree}
+use Rattle.lrc_trace.specs.Interval.{interval_at, IsNamedRace}
 use Rattle.lrc_trace.specs.Trace.{TraceRecord}
+use Rattle.lrc_trace.proofs.Conflicts.{ConflictAt-symmetric}
 use Rattle.lrc_judge.specs.Races.{AreNamedRaces}
 use Rattle.lrc_race.specs.Races.{AreTracesOf, AreRacesOf, IsRaceOf}
 use Rattle.lrc_protocol.specs.declared.event.Event.{Event}
-use Rattle.lrc_protocol.specs.Node.{OptionsRecord, fresh_node}
+use Rattle.lrc_protocol.specs.Node.{OptionsRecord}
 use Rattle.lrc_protocol.specs.Traced.{traces_of}
 use Rattle.lrc_protocol.specs.World.{World as Run, run_of}
 use Rattle.lrc_coherence.proofs.TraceLaws.{are_traces, races_named}
 use Rattle.lrc_node.specs.Logged.{TracedLog}
 use Rattle.lrc_world.specs.declared.world.World.{World}
-use Rattle.lrc_world.specs.World.{Shows, kept_of}
+use Rattle.lrc_world.specs.declared.keep.Keep.{Keep}
+use Rattle.lrc_world.specs.World.{Shows, kept_of, starts_of}
 use Rattle.lrc_world.proofs.Lists.{map-map}
 
+module _ (acts : List Act) (none : AreNamedRaces acts []) where
+  unnamed : (race : Race) → IsNamedRace acts race → ⊥
+  unnamed race named = let (at, below, there) = (none.exact race).1 named in absurd (omega (arith, below))
+
+  -- a race is named by the word, the nodes and the intervals, the lower node first
+  free_where : IsRaceFree acts
+  free_where i j races =
+      let (p, q, word, c) = races.conflict in
+      elim (cases_order p q) [
+        | inl same ↦ absurd (c.apart same)
+        | inr (inl lower) ↦
+            let race : Race = record { word = word; node_a = p; node_b = q; interval_a = interval_at acts p i; interval_b = interval_at acts q j } in
+            unnamed race
+            (i, j, record { ascending = lower; conflict = c; races = inl races; interval_a = refl; interval_b = refl })
+        | inr (inr upper) ↦
+            let race : Race = record { word = word; node_a = q; node_b = p; interval_a = interval_at acts q j; interval_b = interval_at acts p i } in
+            unnamed race
+            (j, i, record { ascending = upper; conflict = ConflictAt-symmetric c; races = inr races; interval_a = refl; interval_b = refl })
+      ]
+
 module _ (program : Program) (nodes : ℕ) (options : OptionsRecord) (events : List Event) (run : Run)
-    (runs : run_of program nodes options events ≡ Some run) (world : World) (shows : Shows (fresh_node program nodes options) world run) where
+    (runs : run_of program nodes options events ≡ Some run) (world : World) (keep : Keep) (shows : Shows (starts_of program nodes options keep) world run) where
   abbrev kept : List TraceRecord
   kept = map (λ (t : TracedLog). t.trace) world.nodes.items
 
   same : kept ≡ traces_of program nodes options run
   same =
       ap (map (λ (t : TracedLog). t.trace)) shows.nodes
-      ∙ map-map (λ (t : TracedLog). t.trace) (kept_of (fresh_node program nodes options)) (enumerate_from 0 run.nodes)
+      ∙ map-map (λ (t : TracedLog). t.trace) (kept_of (starts_of program nodes options keep)) (enumerate_from 0 run.nodes)
 
   pub kept_traces : (n : ℕ) × AreTracesOf n kept
   kept_traces = (nodes, subst (AreTracesOf nodes) (sym same) (are_traces program nodes options events run runs))
@@ -41,3 +66,7 @@ module _ (program : Program) (nodes : ℕ) (options : OptionsRecord) (events : L
           λ h. (r.exact race).1 (subst (λ ts. IsRaceOf ts race) (sym same) ((races_named program nodes options events run runs race).1 h)),
         );
       })
+
+  -- where they have none, the acts have none
+  pub kept_raceless : (acts : List Act) → acts ≡ run.acts → AreRacesOf kept [] → IsRaceFree acts
+  kept_raceless acts is r = free_where acts (kept_races acts [] is r)

@@ -9,9 +9,10 @@ use Rattle.lrc_trace.specs.declared.act.Act.{Act}
 use Rattle.lrc_protocol.specs.declared.event.Event.{Event}
 use Rattle.lrc_protocol.specs.World.{World as Run, fresh_world, run_of}
 use Rattle.lrc_protocol.proofs.Worlds.{run-whole}
-use Rattle.lrc_node.specs.Logged.{TracedLog}
+use Rattle.lrc_protocol.specs.Traced.{trace_of}
+use Rattle.lrc_node.specs.Logged.{TracedLog, sound}
 use Rattle.lrc_world.specs.declared.world.World.{World}
-use Rattle.lrc_world.specs.World.{Starts, kept_of, Shows, log_is_long, sends_long}
+use Rattle.lrc_world.specs.World.{Starts, Shows, log_is_long, sends_long}
 
 all_quiet : (f : ℕ → Node) (xs : List ℕ) → list_any log_is_long (map unlogged (map f xs)) ≡ false
 all_quiet f [] = refl
@@ -22,7 +23,10 @@ fresh_short program nodes options = all_quiet (fresh_node program nodes options)
 
 -- one node at the beginning of a program, with no turns
 abbrev pub fresh_one : Program → ℕ → OptionsRecord → ℕ → TracedLog
-fresh_one program nodes options me = kept_of (fresh_node program nodes options) (me, unlogged (fresh_node program nodes options me))
+fresh_one program nodes options me = record {
+  logged = sound (unlogged (fresh_node program nodes options me));
+  trace = trace_of (fresh_node program nodes options me) [];
+}
 
 -- one node more
 pub fresh_next : (program : Program) (nodes : ℕ) (options : OptionsRecord) (made : List TracedLog) (next : TracedLog) (me : ℕ)

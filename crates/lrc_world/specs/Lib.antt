@@ -7,6 +7,7 @@ pub mod Rounds
 pub mod Random
 pub mod Driven
 pub mod Moments
+pub mod Promises
 pub mod Epochs
 pub mod Turned
 pub mod Walk

@@ -10,8 +10,10 @@ use Rattle.lrc_protocol.specs.World.{World as Run, event_on, fresh_world, played
 use Rattle.lrc_protocol.specs.Log.{Logged}
 use Rattle.lrc_node.specs.declared.end.End.{End}
 use Rattle.lrc_node.specs.Text.{end_of}
+use Rattle.lrc_world.specs.declared.keep.Keep.{Keep}
+use Rattle.lrc_world.specs.declared.report.Brief.{Brief}
 use Rattle.lrc_world.specs.declared.report.Report.{Report}
-use Rattle.lrc_world.specs.World.{sends_long}
+use Rattle.lrc_world.specs.World.{kept_log, sends_long}
 
 -- how a node ended
 abbrev pub end_of_logged : Logged → End
@@ -22,6 +24,19 @@ pub record IsReport (report : Report) (run : Run) : Type 0 where
   pub acts : report.acts.items ≡ run.acts
   pub ends : report.ends.items ≡ map end_of_logged run.nodes
   pub logs : map (λ log. log.items) report.logs.items ≡ map (λ l. l.log) run.nodes
+  pub first : MatchOption report.first_race (IsRaceFree run.acts) (IsFirstRace run.acts)
+
+-- the same of the run alone: its acts, how each node ended, and the first act that races with an earlier one
+pub record IsBrief (brief : Brief) (run : Run) : Type 0 where
+  pub acts : brief.acts.items ≡ run.acts
+  pub ends : brief.ends.items ≡ map end_of_logged run.nodes
+  pub first : MatchOption brief.first_race (IsRaceFree run.acts) (IsFirstRace run.acts)
+
+-- a report in which the logs are what is kept of them
+pub record IsKeptReport (keep : Keep) (report : Report) (run : Run) : Type 0 where
+  pub acts : report.acts.items ≡ run.acts
+  pub ends : report.ends.items ≡ map end_of_logged run.nodes
+  pub logs : map (λ log. log.items) report.logs.items ≡ map (λ l. kept_log keep l.log) run.nodes
   pub first : MatchOption report.first_race (IsRaceFree run.acts) (IsFirstRace run.acts)
 
 -- At some event from a world on, a number, an interval's index or a stamp would be too large, or a message is longer than may
@@ -42,6 +57,13 @@ IsWornBy program nodes options events = IsWornFrom (fresh_world program nodes op
 -- the report is that of the program's run of these events
 abbrev pub IsReportOf : Program → ℕ → OptionsRecord → List Event → Report → Type 0
 IsReportOf program nodes options events report = (run : Run) × (run_of program nodes options events ≡ Some run) × IsReport report run
+
+abbrev pub IsBriefOf : Program → ℕ → OptionsRecord → List Event → Brief → Type 0
+IsBriefOf program nodes options events brief = (run : Run) × (run_of program nodes options events ≡ Some run) × IsBrief brief run
+
+abbrev pub IsKeptReportOf : Keep → Program → ℕ → OptionsRecord → List Event → Report → Type 0
+IsKeptReportOf keep program nodes options events report =
+    (run : Run) × (run_of program nodes options events ≡ Some run) × IsKeptReport keep report run
 
 -- no node is ready, and no message is in flight
 pub record IsOver (run : Run) : Type 0 where

@@ -12,14 +12,17 @@ use Rattle.lrc_wire.specs.declared.limits.TheConstants.{MOST_BODY_BYTES}
 use Rattle.lrc_wire.specs.declared.version.Version.TheVariants.{Two}
 use Rattle.lrc_protocol.specs.Log.{EntryRecord, Logged, Input, taken, logged, refused, too_large, logs}
 use Rattle.lrc_protocol.specs.Follows.{inputs_of}
-use Rattle.lrc_protocol.specs.Node.{Node}
+use Rattle.lrc_lang.specs.declared.program.Program.{Program}
+use Rattle.lrc_protocol.specs.Node.{Node, OptionsRecord, fresh_node}
 use Rattle.lrc_protocol.specs.Traced.{traced, trace_of, with_act}
 use Rattle.lrc_protocol.specs.World.{World as Run, Flying as Sent, delivers}
 use Rattle.lrc_node.specs.declared.fault.NodeFault.{NodeFault}
 use Rattle.lrc_node.specs.declared.fault.NodeFault.TheVariants as NodeFaults
 use Rattle.lrc_node.specs.declared.fault.NodeFault.TheVariants.{Failed, NotReady, Unexpected}
-use Rattle.lrc_node.specs.Logged.{TracedLog, sound}
+use Rattle.lrc_node.specs.Logged.{TracedLog, newest, sound}
 use Rattle.lrc_world.specs.declared.flying.Flying.{Flying}
+use Rattle.lrc_world.specs.declared.keep.Keep.{Keep}
+use Rattle.lrc_world.specs.declared.keep.Keep.TheVariants.{All, Newest}
 use Rattle.lrc_world.specs.declared.report.SimFault.{SimFault}
 use Rattle.lrc_world.specs.declared.report.SimFault.TheVariants.{Worn, NoMemory}
 use Rattle.lrc_world.specs.declared.world.World.{World}
@@ -63,19 +66,37 @@ IsSendFault out _ = ⊥
 
 -- ---- worlds
 
--- how each node starts
-abbrev pub Starts : Type 0
-Starts = ℕ → Node
+-- what is kept of a log: all of it, or the newest turn
+abbrev pub kept_log : Keep → List EntryRecord → List EntryRecord
+kept_log All log = log
+kept_log Newest log = newest log
 
--- a node of a run, with its log and its trace
+-- a node with that alone of its log
+abbrev pub cut : Keep → Logged → Logged
+cut keep l = record { node = l.node; log = kept_log keep l.log }
+
+abbrev pub trimmed : Keep → TracedLog → TracedLog
+trimmed keep l = record { logged = record { node = l.logged.node; log = kept_log keep l.logged.log }; trace = l.trace }
+
+-- how each node starts, and what is kept of its log
+pub record Starts : Type 0 where
+  pub start : ℕ → Node
+  pub keep : Keep
+
+-- at the beginning of a program
+abbrev pub starts_of : Program → ℕ → OptionsRecord → Keep → Starts
+starts_of program nodes options keep = record { start = fresh_node program nodes options; keep = keep }
+
+-- a node of a run, with what is kept of its log, and its trace
 abbrev pub kept_of : Starts → ℕ × Logged → TracedLog
-kept_of starts at = record { logged = sound at.1; trace = trace_of (starts at.0) at.1.log }
+kept_of starts at = record { logged = sound (cut starts.keep at.1); trace = trace_of (starts.start at.0) at.1.log }
 
--- the nodes with their logs and traces, the messages in flight and the acts are those of the run, in which each node's log leads
+-- the nodes with what is kept of their logs, and their traces, the messages in flight and the acts are those of the run, in which each node's log leads
 -- to it from how it starts, and no message was too long
 pub record Shows (starts : Starts) (world : World) (run : Run) : Type 0 where
+  pub keep : world.keep ≡ starts.keep
   pub nodes : world.nodes.items ≡ map (kept_of starts) (enumerate_from 0 run.nodes)
-  pub replayed : (n : ℕ) (l : Logged) → slice_get run.nodes n ≡ Some l → (traced (starts n) (inputs_of l.log)).node ≡ l.node
+  pub replayed : (n : ℕ) (l : Logged) → slice_get run.nodes n ≡ Some l → (traced (starts.start n) (inputs_of l.log)).node ≡ l.node
   pub flight : map seen world.flight.items ≡ map shown run.flight
   pub acts : world.acts.items ≡ run.acts
   pub short : sends_long run ≡ false
@@ -93,16 +114,17 @@ abbrev pub LogsLast : World → ℕ → EntryRecord → Type 0
 LogsLast world n entry =
     (l : TracedLog) × (slice_get world.nodes.items n ≡ Some l) × (before : List EntryRecord) × (l.logged.log ≡ before ++ entry ∷ [])
 
--- What a turn did was added: its act, and its messages in flight.
-pub record Adds (old new : World) (entry : EntryRecord) : Type 0 where
-  pub nodes : new.nodes ≡ old.nodes
+-- What a turn of a node did was added: its act, and its messages in flight. The node keeps of its log what is to be kept.
+pub record Adds (old new : World) (n : ℕ) (entry : EntryRecord) : Type 0 where
+  pub keep : new.keep ≡ old.keep
+  pub nodes : (l : TracedLog) → slice_get old.nodes.items n ≡ Some l → new.nodes.items ≡ slice_set old.nodes.items n (trimmed old.keep l)
   pub flight : map seen new.flight.items ≡ map seen old.flight.items ++ map (shown_new entry.stamp) entry.turn.out
   pub acts : new.acts.items ≡ old.acts.items ++ option_to_list entry.turn.act
   pub short : entry_is_long entry ≡ false
 
-abbrev pub AddsTo : World → World → EntryRecord → Result (Unit {0}) SimFault → Type 0
-AddsTo old new entry (Ok done) = Adds old new entry
-AddsTo old new entry (Err fault) = IsSendFault entry.turn.out fault
+abbrev pub AddsTo : World → World → ℕ → EntryRecord → Result (Unit {0}) SimFault → Type 0
+AddsTo old new n entry (Ok done) = Adds old new n entry
+AddsTo old new n entry (Err fault) = IsSendFault entry.turn.out fault
 
 -- ---- turns
 
@@ -117,7 +139,10 @@ made_of (Err Failed) = Err NoMemory
 
 -- a node with its log after a turn, whose access is noted
 abbrev pub after_turn : EntryRecord → Logged → TracedLog → TracedLog
-after_turn entry after before = record { logged = sound after; trace = with_act after.node entry.turn.act before.trace }
+after_turn entry after before = record {
+  logged = record { node = Some after.node; log = before.logged.log ++ entry ∷ [] };
+  trace = with_act after.node entry.turn.act before.trace;
+}
 
 -- What comes of an input to the node at a place: it makes a turn; it is not there, not ready, or does not expect the message, and
 -- nothing changes; a number is too large; or no memory is left.
@@ -155,6 +180,7 @@ pub record IsTaken (old new : World) (run : Run) (place to : ℕ) : Type 0 where
   pub stands : slice_get run.nodes to ≡ Some node
   pub turn : logs node (taken sent.envelope) sent.stamp ≡ logged entry after
   pub stood : slice_get old.nodes.items to ≡ Some before
+  pub keep : new.keep ≡ old.keep
   pub nodes : new.nodes.items ≡ slice_set old.nodes.items to (after_turn entry after before)
   pub flight : new.flight ≡ old.flight
   pub acts : new.acts ≡ old.acts

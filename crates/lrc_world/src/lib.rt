@@ -4,6 +4,7 @@
 
 pub mod ends;
 mod flying;
+mod keep;
 pub mod laws;
 mod random;
 pub mod report;

@@ -4,7 +4,8 @@ ghost use Rattle.std.specs.Prelude.{◌≡◌, ◌⊎◌, ℕ, ◌+◌, ◌<◌,
 ghost use Rattle.lrc_race.specs.Races.{AreRacesOf, AreTracesOf};
 ghost use Rattle.lrc_judge.specs.declared.TheConstants.{NODES};
 ghost use Rattle.lrc_protocol.specs.World.{World as Run};
-ghost use Rattle.lrc_world.specs.Report.{IsReport};
+ghost use Rattle.lrc_world.specs.Report.{IsKeptReport};
+ghost use Rattle.lrc_trace.specs.Conflict.{IsRaceFree};
 ghost use Rattle.lrc_world.specs.Driven.{GoesTo, IsAsleep, IsDrivenBy, IsFull, IsIdle, IsStill, NoneReady, PlaysOne, schedule_of};
 ghost use Rattle.lrc_world.specs.Random.{wandering};
 ghost use Rattle.lrc_world.specs.Rounds.{at_node, delivering, rounds};
@@ -62,8 +63,9 @@ impl<'c> Driver<'c> {
     pub(crate) fn report(self) -> Result<(Vec<Event>, Report), AllocError>
         requires acts { All (λ act. act.node < NODES) self.world.acts.items }
         requires traces { (nodes : ℕ) × AreTracesOf nodes (map (λ node. node.trace) self.world.nodes.items) }
+        requires raceless { AreRacesOf (map (λ node. node.trace) self.world.nodes.items) [] → IsRaceFree self.world.acts.items }
         ensures events { IfOk result (λ done. done.0 ≡ self.entry.events) }
-        ensures report { IfOk result (λ done. (starts : Starts) (run : Run) → Shows starts self.entry.world run → IsReport done.1 run) }
+        ensures report { IfOk result (λ done. (starts : Starts) (run : Run) → Shows starts self.entry.world run → IsKeptReport starts.keep done.1 run) }
         ensures races { IfOk result (λ done. AreRacesOf (map (λ node. node.trace) self.entry.world.nodes.items) done.1.races.items) }
     {
         let Driver { world, events } = self;

@@ -16,11 +16,13 @@ ghost use Rattle.lrc_world.specs.Led.{AreLed, WearsOut};
 ghost use Rattle.lrc_world.specs.Moments.{AreCovered, HasEachToken, RefusesNone, Throughout};
 ghost use Rattle.lrc_world.specs.Random.{IsWandering, WanderingWearsOut};
 ghost use Rattle.lrc_world.specs.Range.{AreNodes, AreSteps};
-ghost use Rattle.lrc_world.specs.Report.{AreAll, IsReportOf, IsWornBy};
+ghost use Rattle.lrc_world.specs.Promises.{AreKept};
+ghost use Rattle.lrc_world.specs.Report.{AreAll, IsBriefOf, IsKeptReportOf, IsReportOf, IsWornBy};
 ghost use Rattle.lrc_world.specs.Rounds.{AreRounds, RoundsWearOut};
 ghost use Rattle.lrc_world.specs.Turned.{AreAllTurned};
 
-use crate::report::{MOST_STEPS, Report, SimFault};
+use crate::keep::Keep;
+use crate::report::{Brief, MOST_STEPS, Report, SimFault, brief_of};
 use crate::rounds::{Driver, Order};
 use crate::world::World;
 use lrc_envelope::Picker;
@@ -105,7 +107,7 @@ pub fn replay(
 {
     let count = check(nodes, options)?;
     let code = Code::new(alloc, program)?;
-    let mut world = World::new(alloc, &code, count, options)?;
+    let mut world = World::new(alloc, &code, count, options, Keep::All)?;
     for event in events {
         world.play(*event)?;
     }
@@ -150,7 +152,38 @@ pub fn drive(
     ensures bad_nodes { (result ≡ Err SimFault.BadNodes) ↔ (¬ AreNodes nodes) }
     ensures bad_steps { (result ≡ Err SimFault.BadSteps) ↔ (AreNodes nodes × ¬ AreSteps options.now.steps) }
 {
-    lead(alloc, program, nodes, options, Order::Rounds(picker))
+    let order = Order::Rounds(picker);
+    lead(alloc, program, nodes, options, order, Keep::All)
+}
+
+/// The run that [`drive`] makes, with the same events, acts, ends and races, but without the turns of the nodes, which are not kept
+/// while it goes on.
+pub fn drive_briefly(
+    alloc: Global,
+    program: &Program,
+    nodes: u32,
+    options: &Options,
+    picker: Picker,
+) -> Result<(Vec<Event>, Brief), SimFault>
+    ensures report { IfOk result (λ done. IsBriefOf program.now nodes options.now done.0.items done.1) }
+    ensures rounds { IfOk result (λ done. AreRounds program.now nodes options.now picker done.0.items) }
+    ensures unskipped { IfOk result (λ done. AreAllTurned program.now nodes options.now done.0.items) }
+    ensures races { IfOk result (λ done. AreNamedRaces done.1.acts.items done.1.races.items) }
+    ensures kept { IfOk result (λ done. AreKept program.now nodes options.now done.0.items done.1.acts.items done.1.ends.items) }
+
+    // Unless there are 100,000,000 events, no node is ready and no message is in flight after them.
+    ensures few { IfOk result (λ done. length done.0.items ≤ 100000000) }
+    ensures over { IfOk result (λ done. length done.0.items < 100000000 → AreAll program.now nodes options.now done.0.items) }
+    ensures worn { result ≡ Err SimFault.Worn → (events : List AnyEvent) × IsWornBy program.now nodes options.now events }
+    ensures worn_rounds { result ≡ Err SimFault.Worn → RoundsWearOut program.now nodes options.now picker }
+    ensures bad_nodes { (result ≡ Err SimFault.BadNodes) ↔ (¬ AreNodes nodes) }
+    ensures bad_steps { (result ≡ Err SimFault.BadSteps) ↔ (AreNodes nodes × ¬ AreSteps options.now.steps) }
+{
+    let order = Order::Rounds(picker);
+    match lead(alloc, program, nodes, options, order, Keep::Newest) {
+        Ok((events, report)) => Ok((events, brief_of(report))),
+        Err(fault) => Err(fault),
+    }
 }
 
 /// A run in a random order: as long as a node is ready or a message in flight, and there are fewer than 100,000,000 events, the
@@ -190,18 +223,51 @@ pub fn wander(
     ensures bad_nodes { (result ≡ Err SimFault.BadNodes) ↔ (¬ AreNodes nodes) }
     ensures bad_steps { (result ≡ Err SimFault.BadSteps) ↔ (AreNodes nodes × ¬ AreSteps options.now.steps) }
 {
-    lead(alloc, program, nodes, options, Order::Random(seed))
+    let order = Order::Random(seed);
+    lead(alloc, program, nodes, options, order, Keep::All)
 }
 
-// The run that goes on in an order, its events, and what all its other promises follow from.
+/// The run that [`wander`] makes, with the same events, acts, ends and races, but without the turns of the nodes, which are not kept
+/// while it goes on.
+pub fn wander_briefly(
+    alloc: Global,
+    program: &Program,
+    nodes: u32,
+    options: &Options,
+    seed: u64,
+) -> Result<(Vec<Event>, Brief), SimFault>
+    ensures report { IfOk result (λ done. IsBriefOf program.now nodes options.now done.0.items done.1) }
+    ensures wandering { IfOk result (λ done. IsWandering program.now nodes options.now seed done.0.items) }
+    ensures unskipped { IfOk result (λ done. AreAllTurned program.now nodes options.now done.0.items) }
+    ensures races { IfOk result (λ done. AreNamedRaces done.1.acts.items done.1.races.items) }
+    ensures kept { IfOk result (λ done. AreKept program.now nodes options.now done.0.items done.1.acts.items done.1.ends.items) }
+
+    // Unless there are 100,000,000 events, no node is ready and no message is in flight after them.
+    ensures few { IfOk result (λ done. length done.0.items ≤ 100000000) }
+    ensures over { IfOk result (λ done. length done.0.items < 100000000 → AreAll program.now nodes options.now done.0.items) }
+    ensures worn { result ≡ Err SimFault.Worn → (events : List AnyEvent) × IsWornBy program.now nodes options.now events }
+    ensures worn_wandering { result ≡ Err SimFault.Worn → WanderingWearsOut program.now nodes options.now seed }
+    ensures bad_nodes { (result ≡ Err SimFault.BadNodes) ↔ (¬ AreNodes nodes) }
+    ensures bad_steps { (result ≡ Err SimFault.BadSteps) ↔ (AreNodes nodes × ¬ AreSteps options.now.steps) }
+{
+    let order = Order::Random(seed);
+    match lead(alloc, program, nodes, options, order, Keep::Newest) {
+        Ok((events, report)) => Ok((events, brief_of(report))),
+        Err(fault) => Err(fault),
+    }
+}
+
+// The run that goes on in an order, its events, with what is kept of the logs, and what all its promises follow from.
 fn lead(
     alloc: Global,
     program: &Program,
     nodes: u32,
     options: &Options,
     order: Order,
+    keep: Keep,
 ) -> Result<(Vec<Event>, Report), SimFault>
-    ensures report { IfOk result (λ done. IsReportOf program.now nodes options.now done.0.items done.1) }
+    ensures report { IfOk result (λ done. IsKeptReportOf keep program.now nodes options.now done.0.items done.1) }
+    ensures kept { IfOk result (λ done. AreKept program.now nodes options.now done.0.items done.1.acts.items done.1.ends.items) }
     ensures led { IfOk result (λ done. AreLed (schedule_of nodes order) program.now nodes options.now done.0.items) }
     ensures races { IfOk result (λ done. AreNamedRaces done.1.acts.items done.1.races.items) }
     ensures nodes { IfOk result (λ done. AreNodes nodes) }
@@ -213,7 +279,7 @@ fn lead(
 {
     let count = check(nodes, options)?;
     let code = Code::new(alloc, program)?;
-    let world = World::new(alloc, &code, count, options)?;
+    let world = World::new(alloc, &code, count, options, keep)?;
     let mut driver = Driver::new(alloc, world);
     driver.lead(count, order)?;
     Ok(driver.report()?)

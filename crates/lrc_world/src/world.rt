@@ -2,24 +2,26 @@
 
 ghost use Rattle.lrc_race.specs.Races.{AreRacesOf, AreTracesOf};
 ghost use Rattle.std.specs.Prelude.{◌≡◌, ℕ, ◌≤◌, ◌<◌, ◌^◌, ◌++◌, [], ◌∷◌, ◌↔◌, All, IfOk, IfErr, OnOk, IsOk, Ok, true, false};
-ghost use Rattle.std.specs.Prelude.{List, filter, length, map, remove, slice_get};
+ghost use Rattle.std.specs.Prelude.{List, MatchOption, Some, filter, length, map, remove, slice_get, slice_set};
 ghost use Rattle.std.specs.List.{list_any, range_with_len};
 ghost use Rattle.std.specs.Option.{option_to_list};
 ghost use Rattle.lrc_judge.specs.declared.TheConstants.{NODES};
 ghost use Rattle.lrc_wire.specs.Reading.{envelope_of};
-ghost use Rattle.lrc_protocol.specs.Node.{fresh_node};
 ghost use Rattle.lrc_protocol.specs.World.{World as Run, Flying as Sent, fresh_world, event_on, with_mark};
 ghost use Rattle.lrc_protocol.specs.declared.event.Event.TheVariants as events;
 ghost use Rattle.lrc_protocol.specs.Log.{EntryRecord};
 ghost use Rattle.lrc_protocol.specs.Log as log;
 ghost use Rattle.lrc_protocol.specs.Turn.{is_ready};
-ghost use Rattle.lrc_node.specs.Logged.{sound};
-ghost use Rattle.lrc_world.specs.Report.{IsOver, IsReport, end_of_logged};
+ghost use Rattle.lrc_world.specs.Report.{IsKeptReport, IsOver, end_of_logged};
 ghost use Rattle.lrc_world.specs.Random.{chosen, picked};
 ghost use Rattle.lrc_world.specs.Rounds.{delivery_of, is_delivered, newest_place, ready_at};
-ghost use Rattle.lrc_world.specs.World.{Starts, Shows, PlaysTo, AddsTo, LogsLast, ReceivesTo, TurnsTo, made_of, IsSendFault, seen, shown, shown_new, is_long};
+ghost use Rattle.lrc_world.specs.World.{Starts, starts_of, Shows, PlaysTo, AddsTo, LogsLast, ReceivesTo, TurnsTo, made_of, IsSendFault, trimmed};
+ghost use Rattle.lrc_world.specs.World.{seen, shown, shown_new, is_long};
+ghost use Rattle.lrc_node.specs.Logged.{TracedLog, sound};
+ghost use Rattle.lrc_trace.specs.Conflict.{IsFirstRace, IsRaceFree};
 
 use crate::flying::Flying;
+use crate::keep::Keep;
 use crate::report::{Report, SimFault};
 use bytes::Bytes;
 use lrc_envelope::{Envelope, Picker};
@@ -28,15 +30,17 @@ use lrc_node::{End, Entry, Logged, Node, NodeFault, Options};
 use lrc_protocol::Event;
 use lrc_race::{first_race, races};
 use lrc_trace::act::Act;
+use lrc_trace::race::Race;
 use lrc_trace::trace::Trace;
 use lrc_wire::{EncodeFault, WireFault, decode, encode};
 use std::alloc::{AllocError, Global};
 use std::collections::VecDeque;
 
-/// All nodes with their logs, the messages in flight, oldest first, and the acts so far.
+/// All nodes with what is kept of their logs, the messages in flight, oldest first, and the acts so far.
 #[derive(Drop)]
 pub(crate) struct World<'c> {
     alloc: Global,
+    keep: Keep,
     nodes: Vec<Logged<'c>>,
     flight: VecDeque<Flying>,
     acts: Vec<Act>,
@@ -49,9 +53,10 @@ impl<'c> World<'c> {
         code: &'c Code<'_>,
         nodes: u8,
         options: &Options,
+        keep: Keep,
     ) -> Result<World<'c>, AllocError>
         requires few { nodes ≤ 16 }
-        ensures { IfOk result (λ world. Shows (fresh_node code.now nodes options.now) world (fresh_world code.now nodes options.now)) }
+        ensures { IfOk result (λ world. Shows (starts_of code.now nodes options.now keep) world (fresh_world code.now nodes options.now)) }
     {
         let mut made = Vec::with_capacity(alloc, nodes as usize)?;
         for me in 0..nodes {
@@ -60,6 +65,7 @@ impl<'c> World<'c> {
         }
         Ok(World {
             alloc,
+            keep,
             nodes: made,
             flight: VecDeque::new(alloc),
             acts: Vec::new(alloc),
@@ -207,16 +213,18 @@ impl<'c> World<'c> {
         }
     }
 
-    /// What is reported of the run. The races are those of the traces that the nodes keep.
+    /// What is reported of the run, with what is kept of the logs. The races are those of the traces that the nodes keep, and the first
+    /// one is looked for only where there are any.
     pub(crate) fn report(self) -> Result<Report, AllocError>
         requires acts { All (λ act. act.node < NODES) self.acts.items }
         requires traces { (nodes : ℕ) × AreTracesOf nodes (map (λ node. node.trace) self.nodes.items) }
-        ensures report { (starts : Starts) (run : Run) → Shows starts self.entry run → IfOk result (λ report. IsReport report run) }
+        requires raceless { AreRacesOf (map (λ node. node.trace) self.nodes.items) [] → IsRaceFree self.acts.items }
+        ensures report { (starts : Starts) (run : Run) → Shows starts self.entry run → IfOk result (λ report. IsKeptReport starts.keep report run) }
         ensures races { IfOk result (λ report. AreRacesOf (map (λ node. node.trace) self.entry.nodes.items) report.races.items) }
     {
-        let first_race = first_race(self.alloc, &self.acts)?;
         let World {
             alloc,
+            keep: _,
             nodes,
             flight: _,
             acts,
@@ -224,6 +232,7 @@ impl<'c> World<'c> {
         let ends = ends_of(alloc, &nodes)?;
         let (logs, traces) = parts_of(alloc, nodes)?;
         let races = races(alloc, &traces)?;
+        let first_race = first_of(alloc, &races, &acts)?;
         Ok(Report {
             acts,
             ends,
@@ -233,9 +242,9 @@ impl<'c> World<'c> {
         })
     }
 
-    // Adds what the node's newest turn did: its act, and its messages in flight.
+    // Adds what the node's newest turn did: its act, and its messages in flight. Of the node's log is left what is to be kept.
     fn follow(&mut self, node: usize) -> Result<(), SimFault>
-        ensures { (entry : EntryRecord) → LogsLast self.old node entry → AddsTo self.old self.new entry result }
+        ensures { (entry : EntryRecord) → LogsLast self.old node entry → AddsTo self.old self.new node entry result }
     {
         let Some(logged) = self.nodes.get(node) else {
             return Ok(());
@@ -245,6 +254,7 @@ impl<'c> World<'c> {
         };
         send(self.alloc, &entry.turn.out, entry.stamp, &mut self.flight)?;
         note(&mut self.acts, entry.turn.act)?;
+        trim(self.keep, &mut self.nodes, node);
         Ok(())
     }
 }
@@ -371,6 +381,20 @@ fn take_at(
     }
 }
 
+// The node at the place forgets what is not kept of its log, if it is there.
+fn trim(keep: Keep, nodes: &mut Vec<Logged<'_>>, node: usize)
+    ensures { (l : TracedLog) → slice_get nodes.old.items node ≡ Some l → nodes.new.items ≡ slice_set nodes.old.items node (trimmed keep l) }
+{
+    match keep {
+        Keep::All => {}
+        Keep::Newest => {
+            if node < nodes.len() {
+                nodes[node].forget();
+            }
+        }
+    }
+}
+
 // Marks the message at the place as delivered, if it is there.
 fn mark(flight: &mut VecDeque<Flying>, place: usize)
     ensures { (sent : List Sent) → map seen flight.old.items ≡ map shown sent → map seen flight.new.items ≡ map shown (with_mark sent place) }
@@ -408,6 +432,18 @@ fn ends_of(alloc: Global, nodes: &[Logged<'_>]) -> Result<Vec<End>, AllocError>
         ends.push(node.end())?;
     }
     Ok(ends)
+}
+
+// The least position of an act that races with an earlier one, of acts with these races.
+fn first_of(alloc: Global, races: &[Race], acts: &[Act]) -> Result<Option<usize>, AllocError>
+    requires acts { All (λ act. act.node < NODES) acts.now }
+    requires raceless { races.now ≡ [] → IsRaceFree acts.now }
+    ensures { IfOk result (λ first. MatchOption first (IsRaceFree acts.now) (IsFirstRace acts.now)) }
+{
+    if races.is_empty() {
+        return Ok(None);
+    }
+    first_race(alloc, acts)
 }
 
 // The turns of each node, and its trace.

@@ -6,7 +6,7 @@ use lrc_node::Options;
 use lrc_page::Size;
 use lrc_protocol::Event;
 use lrc_world::report::SimFault;
-use lrc_world::simulate::{drive, simulate};
+use lrc_world::simulate::{drive, drive_briefly, simulate, wander, wander_briefly};
 use std::alloc::Global;
 
 const TOLD_AT_A_BARRIER: &[u8] =
@@ -14,6 +14,8 @@ const TOLD_AT_A_BARRIER: &[u8] =
 
 const WRITTEN_BY_ONE: &[u8] =
     b"words 1; locks 0; if me == 1 { [0] = 5; } barrier; x = [0]; print x;";
+
+const READ_WITHOUT_ORDER: &[u8] = b"words 1; locks 0; if me == 0 { [0] = 7; } x = [0]; print x;";
 
 fn options(steps: u32, collect: u32, first: u32) -> Options {
     Options {
@@ -44,6 +46,31 @@ fn delivered(
         }
     }
     Ok((deliveries, repeats))
+}
+
+// Whether a run in rounds and one in a random order say the same where the turns of the nodes are not kept. How many races both have.
+fn races_in_brief(alloc: Global, text: &[u8]) -> Result<Option<(usize, usize)>, SimFault> {
+    let program = parse(alloc, text).map_err(|_fault| SimFault::NoMemory)?;
+    let options = options(1_000_000, 1, 0);
+    let (events, report) = drive(alloc, &program, 3, &options, Picker::Newest)?;
+    let (brief_events, brief) = drive_briefly(alloc, &program, 3, &options, Picker::Newest)?;
+    let is_driven_so = brief_events == events
+        && brief.acts == report.acts
+        && brief.ends == report.ends
+        && brief.races == report.races
+        && brief.first_race == report.first_race;
+    let (events, report) = wander(alloc, &program, 3, &options, 5)?;
+    let (brief_events, wandered) = wander_briefly(alloc, &program, 3, &options, 5)?;
+    let is_wandered_so = brief_events == events
+        && wandered.acts == report.acts
+        && wandered.ends == report.ends
+        && wandered.races == report.races
+        && wandered.first_race == report.first_race;
+    if is_driven_so && is_wandered_so {
+        Ok(Some((brief.races.len(), wandered.races.len())))
+    } else {
+        Ok(None)
+    }
 }
 
 // The fault of a run.
@@ -101,4 +128,10 @@ fn numbers_out_of_range_have_no_run(rt: HostRuntime) {
     for (count, limit, wanted) in cases {
         assert!(rt; fault_of_events(rt.alloc(), count, limit) == wanted);
     }
+}
+
+#[test]
+fn brief_runs_say_the_same(rt: HostRuntime) {
+    assert!(rt; races_in_brief(rt.alloc(), WRITTEN_BY_ONE) == Ok(Some((0, 0))));
+    assert!(rt; races_in_brief(rt.alloc(), READ_WITHOUT_ORDER) == Ok(Some((2, 2))));
 }

@@ -1,6 +1,6 @@
 use Rattle.std.proofs.Common.{◌≡◌, ◌∙◌, ◌<◌, ℕ, [], length, Ok, Err, ap, subst, sym, arith}
 use Rattle.lrc_lang.specs.declared.program.Program.{Program}
-use Rattle.lrc_protocol.specs.Node.{OptionsRecord, fresh_node}
+use Rattle.lrc_protocol.specs.Node.{OptionsRecord}
 use Rattle.lrc_protocol.specs.World.{fresh_world, played}
 use Rattle.lrc_protocol.proofs.Worlds.{run-whole}
 use Rattle.lrc_world.specs.declared.report.SimFault.TheVariants.{BadNodes, BadSteps, Worn}
@@ -8,41 +8,43 @@ use Rattle.lrc_world.specs.declared.rounds.Driver.{Driver}
 use Rattle.lrc_world.specs.declared.world.World.{World}
 use Rattle.lrc_world.specs.Driven.{StandsAt, IsDrivenBy, schedule_of}
 use Rattle.lrc_world.specs.Led.{Schedule, Led}
-use Rattle.lrc_world.specs.World.{Shows}
+use Rattle.lrc_world.specs.declared.keep.Keep.{Keep}
+use Rattle.lrc_world.specs.World.{Shows, starts_of}
 use Rattle.lrc_world.proofs.Events.{handed_on}
 use Rattle.lrc_world.proofs.Driven.{at_start, in_range, led_played}
-use Rattle.lrc_world.proofs.Races.{kept_traces, kept_races}
+use Rattle.lrc_world.proofs.Races.{kept_raceless, kept_traces, kept_races}
+use Rattle.lrc_world.proofs.Theorem.{all_kept}
 use Rattle.lrc_world.proofs.Worlds.{acts_of_nodes}
 use Rattle.lrc_world.proofs.simulate.lead.Goals as goal
 
 -- the driver before any event
-first : (s : Schedule) (program code : Program) (nodes count : ℕ) (options : OptionsRecord) (d : Driver) (world : World) → code ≡ program → count ≡ nodes
-    → Shows (fresh_node code count options) world (fresh_world code count options) → d.world ≡ world → d.events.items ≡ []
-    → StandsAt s (fresh_node program nodes options) (fresh_world program nodes options) s.first d
-first s program code nodes count options d world coded counted shows is none =
-    at_start s (fresh_node program nodes options) (fresh_world program nodes options) d world
-    (subst (λ p. Shows (fresh_node p nodes options) world (fresh_world p nodes options)) coded
-    (subst (λ n. Shows (fresh_node code n options) world (fresh_world code n options)) counted shows)) is none
+first : (s : Schedule) (program code : Program) (nodes count : ℕ) (options : OptionsRecord) (keep : Keep) (d : Driver) (world : World) → code ≡ program
+    → count ≡ nodes → Shows (starts_of code count options keep) world (fresh_world code count options) → d.world ≡ world → d.events.items ≡ []
+    → StandsAt s (starts_of program nodes options keep) (fresh_world program nodes options) s.first d
+first s program code nodes count options keep d world coded counted shows is none =
+    at_start s (starts_of program nodes options keep) (fresh_world program nodes options) d world
+    (subst (λ p. Shows (starts_of p nodes options keep) world (fresh_world p nodes options)) coded
+    (subst (λ n. Shows (starts_of code n options keep) world (fresh_world code n options)) counted shows)) is none
 
 pub returns-in_err-lead-clause-worn : goal.returns-in_err-lead-clause-worn
 returns-in_err-lead-clause-worn c = λ e.
     let s = schedule_of c.args.nodes c.args.order in
-    let d = first s c.args.program.now c.in_ok-code.code c.args.nodes c.in_ok-count.count c.args.options.now c.new-driver.result c.in_ok-world.world
+    let d = first s c.args.program.now c.in_ok-code.code c.args.nodes c.in_ok-count.count c.args.options.now c.args.keep c.new-driver.result c.in_ok-world.world
     c.in_ok-code.ensures c.in_ok-count.ensures.0 c.in_ok-world.ensures c.new-driver.ensures.world c.new-driver.ensures.events in
     let same = handed_on c.from_residual-in_err-lead.result c.in_err-lead.field-0.0 Worn c.from_residual-in_err-lead.ensures.1 e in
     let goes : IsDrivenBy s c.new-driver.result c.lead.new.self (Err Worn) =
     subst (λ f. IsDrivenBy s c.new-driver.result c.lead.new.self (Err f)) same
     (subst (λ n. IsDrivenBy (schedule_of n c.args.order) c.new-driver.result c.lead.new.self (Err c.in_err-lead.field-0.0)) c.in_ok-count.ensures.0
     c.in_err-lead.ensures.goes) in
-    goes.1 (fresh_node c.args.program.now c.args.nodes c.args.options.now) (fresh_world c.args.program.now c.args.nodes c.args.options.now) d
+    goes.1 (starts_of c.args.program.now c.args.nodes c.args.options.now c.args.keep) (fresh_world c.args.program.now c.args.nodes c.args.options.now) d
 
 pub returns-in_err-lead-clause-bad_nodes : goal.returns-in_err-lead-clause-bad_nodes
 returns-in_err-lead-clause-bad_nodes c =
     let met = c.from_residual-in_err-lead in
     let s = schedule_of c.in_ok-count.count c.args.order in
-    let d = first s c.args.program.now c.in_ok-code.code c.args.nodes c.in_ok-count.count c.args.options.now c.new-driver.result c.in_ok-world.world
+    let d = first s c.args.program.now c.in_ok-code.code c.args.nodes c.in_ok-count.count c.args.options.now c.args.keep c.new-driver.result c.in_ok-world.world
     c.in_ok-code.ensures c.in_ok-count.ensures.0 c.in_ok-world.ensures c.new-driver.ensures.world c.new-driver.ensures.events in
-    let ranged = in_range s s.first c.in_err-lead.ensures.goes.0 c.new-driver.result c.lead.new.self (fresh_node c.args.program.now c.args.nodes c.args.options.now)
+    let ranged = in_range s s.first c.in_err-lead.ensures.goes.0 c.new-driver.result c.lead.new.self (starts_of c.args.program.now c.args.nodes c.args.options.now c.args.keep)
     (fresh_world c.args.program.now c.args.nodes c.args.options.now) c.in_err-lead.field-0.0 d
     c.in_err-lead.ensures.goes.1 in (
       λ e good.
@@ -54,9 +56,9 @@ pub returns-in_err-lead-clause-bad_steps : goal.returns-in_err-lead-clause-bad_s
 returns-in_err-lead-clause-bad_steps c =
     let met = c.from_residual-in_err-lead in
     let s = schedule_of c.in_ok-count.count c.args.order in
-    let d = first s c.args.program.now c.in_ok-code.code c.args.nodes c.in_ok-count.count c.args.options.now c.new-driver.result c.in_ok-world.world
+    let d = first s c.args.program.now c.in_ok-code.code c.args.nodes c.in_ok-count.count c.args.options.now c.args.keep c.new-driver.result c.in_ok-world.world
     c.in_ok-code.ensures c.in_ok-count.ensures.0 c.in_ok-world.ensures c.new-driver.ensures.world c.new-driver.ensures.events in
-    let ranged = in_range s s.first c.in_err-lead.ensures.goes.0 c.new-driver.result c.lead.new.self (fresh_node c.args.program.now c.args.nodes c.args.options.now)
+    let ranged = in_range s s.first c.in_err-lead.ensures.goes.0 c.new-driver.result c.lead.new.self (starts_of c.args.program.now c.args.nodes c.args.options.now c.args.keep)
     (fresh_world c.args.program.now c.args.nodes c.args.options.now) c.in_err-lead.field-0.0 d
     c.in_err-lead.ensures.goes.1 in (
       λ e.
@@ -69,25 +71,25 @@ pub returns-clause-report : goal.returns-clause-report
 returns-clause-report c =
     let s = schedule_of c.in_ok-count.count c.args.order in
     let start = fresh_world c.args.program.now c.args.nodes c.args.options.now in
-    let d = first s c.args.program.now c.in_ok-code.code c.args.nodes c.in_ok-count.count c.args.options.now c.new-driver.result c.in_ok-world.world
+    let d = first s c.args.program.now c.in_ok-code.code c.args.nodes c.in_ok-count.count c.args.options.now c.args.keep c.new-driver.result c.in_ok-world.world
     c.in_ok-code.ensures c.in_ok-count.ensures.0 c.in_ok-world.ensures c.new-driver.ensures.world c.new-driver.ensures.events in
-    let r = c.in_ok-lead.ensures.goes.1.drives (fresh_node c.args.program.now c.args.nodes c.args.options.now) start d in (
+    let r = c.in_ok-lead.ensures.goes.1.drives (starts_of c.args.program.now c.args.nodes c.args.options.now c.args.keep) start d in (
       r.run,
       ap (λ v. played start v.items) c.in_ok-report.ensures.events
           ∙ led_played s start c.lead.new.self.events.items r.run r.standing r.led,
-      c.in_ok-report.ensures.report (fresh_node c.args.program.now c.args.nodes c.args.options.now) r.run r.shows,
+      c.in_ok-report.ensures.report (starts_of c.args.program.now c.args.nodes c.args.options.now c.args.keep) r.run r.shows,
     )
 
 pub returns-clause-led : goal.returns-clause-led
 returns-clause-led c =
     let s = schedule_of c.args.nodes c.args.order in
     let start = fresh_world c.args.program.now c.args.nodes c.args.options.now in
-    let d = first s c.args.program.now c.in_ok-code.code c.args.nodes c.in_ok-count.count c.args.options.now c.new-driver.result c.in_ok-world.world
+    let d = first s c.args.program.now c.in_ok-code.code c.args.nodes c.in_ok-count.count c.args.options.now c.args.keep c.new-driver.result c.in_ok-world.world
     c.in_ok-code.ensures c.in_ok-count.ensures.0 c.in_ok-world.ensures c.new-driver.ensures.world c.new-driver.ensures.events in
     let goes : IsDrivenBy s c.new-driver.result c.lead.new.self (Ok tt) =
     subst (λ n. IsDrivenBy (schedule_of n c.args.order) c.new-driver.result c.lead.new.self (Ok tt)) c.in_ok-count.ensures.0
     c.in_ok-lead.ensures.goes in
-    let r = goes.1.drives (fresh_node c.args.program.now c.args.nodes c.args.options.now) start d in
+    let r = goes.1.drives (starts_of c.args.program.now c.args.nodes c.args.options.now c.args.keep) start d in
     (r.run, r.standing, subst (λ v. Led s start v.items r.run r.standing) (sym c.in_ok-report.ensures.events) r.led)
 
 pub returns-clause-few : goal.returns-clause-few
@@ -101,14 +103,14 @@ pub returns-clause-over : goal.returns-clause-over
 returns-clause-over c = λ few.
     let s = schedule_of c.in_ok-count.count c.args.order in
     let start = fresh_world c.args.program.now c.args.nodes c.args.options.now in
-    let d = first s c.args.program.now c.in_ok-code.code c.args.nodes c.in_ok-count.count c.args.options.now c.new-driver.result c.in_ok-world.world
+    let d = first s c.args.program.now c.in_ok-code.code c.args.nodes c.in_ok-count.count c.args.options.now c.args.keep c.new-driver.result c.in_ok-world.world
     c.in_ok-code.ensures c.in_ok-count.ensures.0 c.in_ok-world.ensures c.new-driver.ensures.world c.new-driver.ensures.events in
-    let r = c.in_ok-lead.ensures.goes.1.drives (fresh_node c.args.program.now c.args.nodes c.args.options.now) start d in
+    let r = c.in_ok-lead.ensures.goes.1.drives (starts_of c.args.program.now c.args.nodes c.args.options.now c.args.keep) start d in
     let runs = led_played s start c.lead.new.self.events.items r.run r.standing r.led in
     let still = c.in_ok-lead.ensures.over (subst (λ v. length v.items < 100000000) c.in_ok-report.ensures.events few) in (
       r.run,
       ap (λ v. played start v.items) c.in_ok-report.ensures.events ∙ runs,
-      still (fresh_node c.args.program.now c.args.nodes c.args.options.now) r.run r.shows
+      still (starts_of c.args.program.now c.args.nodes c.args.options.now c.args.keep) r.run r.shows
           ((run-whole c.args.program.now c.args.nodes c.args.options.now c.lead.new.self.events.items r.run runs).count ∙ sym c.in_ok-count.ensures.0),
     )
 
@@ -116,31 +118,54 @@ pub returns-clause-races : goal.returns-clause-races
 returns-clause-races c =
     let s = schedule_of c.in_ok-count.count c.args.order in
     let start = fresh_world c.args.program.now c.args.nodes c.args.options.now in
-    let d = first s c.args.program.now c.in_ok-code.code c.args.nodes c.in_ok-count.count c.args.options.now c.new-driver.result c.in_ok-world.world
+    let d = first s c.args.program.now c.in_ok-code.code c.args.nodes c.in_ok-count.count c.args.options.now c.args.keep c.new-driver.result c.in_ok-world.world
     c.in_ok-code.ensures c.in_ok-count.ensures.0 c.in_ok-world.ensures c.new-driver.ensures.world c.new-driver.ensures.events in
-    let r = c.in_ok-lead.ensures.goes.1.drives (fresh_node c.args.program.now c.args.nodes c.args.options.now) start d in
-    let told = c.in_ok-report.ensures.report (fresh_node c.args.program.now c.args.nodes c.args.options.now) r.run r.shows in
+    let r = c.in_ok-lead.ensures.goes.1.drives (starts_of c.args.program.now c.args.nodes c.args.options.now c.args.keep) start d in
+    let told = c.in_ok-report.ensures.report (starts_of c.args.program.now c.args.nodes c.args.options.now c.args.keep) r.run r.shows in
     kept_races c.args.program.now c.args.nodes c.args.options.now c.lead.new.self.events.items r.run
-    (led_played s start c.lead.new.self.events.items r.run r.standing r.led) c.lead.new.self.world r.shows
+    (led_played s start c.lead.new.self.events.items r.run r.standing r.led) c.lead.new.self.world c.args.keep r.shows
     c.in_ok-report.field-0.1.acts.items c.in_ok-report.field-0.1.races.items told.acts c.in_ok-report.ensures.races
 
 pub report-requires-clause-acts : goal.report-requires-clause-acts
 report-requires-clause-acts c =
     let s = schedule_of c.in_ok-count.count c.args.order in
     let start = fresh_world c.args.program.now c.args.nodes c.args.options.now in
-    let d = first s c.args.program.now c.in_ok-code.code c.args.nodes c.in_ok-count.count c.args.options.now c.new-driver.result c.in_ok-world.world
+    let d = first s c.args.program.now c.in_ok-code.code c.args.nodes c.in_ok-count.count c.args.options.now c.args.keep c.new-driver.result c.in_ok-world.world
     c.in_ok-code.ensures c.in_ok-count.ensures.0 c.in_ok-world.ensures c.new-driver.ensures.world c.new-driver.ensures.events in
-    let r = c.in_ok-lead.ensures.goes.1.drives (fresh_node c.args.program.now c.args.nodes c.args.options.now) start d in
+    let r = c.in_ok-lead.ensures.goes.1.drives (starts_of c.args.program.now c.args.nodes c.args.options.now c.args.keep) start d in
     acts_of_nodes c.args.program.now c.args.nodes c.args.options.now c.lead.new.self.events.items
-    (fresh_node c.args.program.now c.args.nodes c.args.options.now) r.run c.lead.new.self.world
+    (starts_of c.args.program.now c.args.nodes c.args.options.now c.args.keep) r.run c.lead.new.self.world
     (led_played s start c.lead.new.self.events.items r.run r.standing r.led) r.shows c.in_ok-count.ensures.1.1
 
 pub report-requires-clause-traces : goal.report-requires-clause-traces
 report-requires-clause-traces c =
     let s = schedule_of c.in_ok-count.count c.args.order in
     let start = fresh_world c.args.program.now c.args.nodes c.args.options.now in
-    let d = first s c.args.program.now c.in_ok-code.code c.args.nodes c.in_ok-count.count c.args.options.now c.new-driver.result c.in_ok-world.world
+    let d = first s c.args.program.now c.in_ok-code.code c.args.nodes c.in_ok-count.count c.args.options.now c.args.keep c.new-driver.result c.in_ok-world.world
     c.in_ok-code.ensures c.in_ok-count.ensures.0 c.in_ok-world.ensures c.new-driver.ensures.world c.new-driver.ensures.events in
-    let r = c.in_ok-lead.ensures.goes.1.drives (fresh_node c.args.program.now c.args.nodes c.args.options.now) start d in
+    let r = c.in_ok-lead.ensures.goes.1.drives (starts_of c.args.program.now c.args.nodes c.args.options.now c.args.keep) start d in
     kept_traces c.args.program.now c.args.nodes c.args.options.now c.lead.new.self.events.items r.run
-    (led_played s start c.lead.new.self.events.items r.run r.standing r.led) c.lead.new.self.world r.shows
+    (led_played s start c.lead.new.self.events.items r.run r.standing r.led) c.lead.new.self.world c.args.keep r.shows
+
+pub report-requires-clause-raceless : goal.report-requires-clause-raceless
+report-requires-clause-raceless c =
+    let s = schedule_of c.in_ok-count.count c.args.order in
+    let start = fresh_world c.args.program.now c.args.nodes c.args.options.now in
+    let d = first s c.args.program.now c.in_ok-code.code c.args.nodes c.in_ok-count.count c.args.options.now c.args.keep c.new-driver.result c.in_ok-world.world
+    c.in_ok-code.ensures c.in_ok-count.ensures.0 c.in_ok-world.ensures c.new-driver.ensures.world c.new-driver.ensures.events in
+    let r = c.in_ok-lead.ensures.goes.1.drives (starts_of c.args.program.now c.args.nodes c.args.options.now c.args.keep) start d in
+    kept_raceless c.args.program.now c.args.nodes c.args.options.now c.lead.new.self.events.items r.run
+    (led_played s start c.lead.new.self.events.items r.run r.standing r.led) c.lead.new.self.world c.args.keep r.shows
+    c.lead.new.self.world.acts.items r.shows.acts
+
+pub returns-clause-kept : goal.returns-clause-kept
+returns-clause-kept c =
+    let s = schedule_of c.in_ok-count.count c.args.order in
+    let start = fresh_world c.args.program.now c.args.nodes c.args.options.now in
+    let d = first s c.args.program.now c.in_ok-code.code c.args.nodes c.in_ok-count.count c.args.options.now c.args.keep c.new-driver.result c.in_ok-world.world
+    c.in_ok-code.ensures c.in_ok-count.ensures.0 c.in_ok-world.ensures c.new-driver.ensures.world c.new-driver.ensures.events in
+    let r = c.in_ok-lead.ensures.goes.1.drives (starts_of c.args.program.now c.args.nodes c.args.options.now c.args.keep) start d in
+    let told = c.in_ok-report.ensures.report (starts_of c.args.program.now c.args.nodes c.args.options.now c.args.keep) r.run r.shows in
+    let runs = ap (λ v. played start v.items) c.in_ok-report.ensures.events ∙ led_played s start c.lead.new.self.events.items r.run r.standing r.led in
+    all_kept c.args.program.now c.args.nodes c.args.options.now c.in_ok-report.field-0.0.items c.in_ok-report.field-0.1.acts.items r.run runs told.acts
+    (omega (arith, c.in_ok-count.ensures.1.0)) c.in_ok-report.field-0.1.ends.items told.ends

@@ -1,12 +1,13 @@
 use Rattle.std.proofs.Common.{◌≡◌, ◌∙◌, sym, ap, rules, arith, take}
-use Rattle.lrc_protocol.specs.Node.{fresh_node}
+use Rattle.lrc_world.specs.declared.keep.Keep.TheVariants.{All}
+use Rattle.lrc_world.specs.World.{starts_of}
 use Rattle.lrc_protocol.specs.World.{run_of}
 use Rattle.lrc_world.specs.declared.report.SimFault.TheVariants.{Worn}
 use Rattle.lrc_world.proofs.Events.{goes_on, wears_out, handed_on, take_whole, get_at}
 use Rattle.lrc_world.proofs.EndsOfRuns.{ends_as_acts}
 use Rattle.lrc_world.proofs.Moments.{refuses_none, each_token, covered}
 use Rattle.lrc_world.proofs.Theorem.{in_order, reads_lazily, consistent, to_first_race, race_free}
-use Rattle.lrc_world.proofs.Races.{kept_traces, kept_races}
+use Rattle.lrc_world.proofs.Races.{kept_raceless, kept_traces, kept_races}
 use Rattle.lrc_world.proofs.Worlds.{acts_of_nodes}
 use Rattle.lrc_world.proofs.simulate.replay.Goals as goal
 
@@ -26,12 +27,13 @@ returns-in_err-play-clause-worn c = λ e.
 pub returns-clause-report : goal.returns-clause-report
 returns-clause-report c =
     let runs = c.loop-event.invariant in
+    let told = c.in_ok-report.ensures.report (starts_of c.args.program.now c.args.nodes c.args.options.now All) runs.0 runs.2 in
     let all : take c.loop-event.event-index c.args.events.now ≡ c.args.events.now =
     take_whole c.args.events.now c.loop-event.event-index (omega (arith, c.loop-event-test.false)) in (
       runs.0,
       ap (run_of c.args.program.now c.args.nodes c.args.options.now) (sym all)
           ∙ runs.1,
-      c.in_ok-report.ensures.report (fresh_node c.args.program.now c.args.nodes c.args.options.now) runs.0 runs.2,
+      record { acts = told.acts; ends = told.ends; logs = told.logs; first = told.first },
     )
 
 pub returns-clause-ends : goal.returns-clause-ends
@@ -40,20 +42,20 @@ returns-clause-ends c = ends_as_acts c.args.program.now c.args.nodes c.args.opti
 pub returns-clause-races : goal.returns-clause-races
 returns-clause-races c =
     let runs = c.loop-event.invariant in
-    let told = c.in_ok-report.ensures.report (fresh_node c.args.program.now c.args.nodes c.args.options.now) runs.0 runs.2 in
-    kept_races c.args.program.now c.args.nodes c.args.options.now (take c.loop-event.event-index c.args.events.now) runs.0 runs.1 c.loop-event.world runs.2
+    let told = c.in_ok-report.ensures.report (starts_of c.args.program.now c.args.nodes c.args.options.now All) runs.0 runs.2 in
+    kept_races c.args.program.now c.args.nodes c.args.options.now (take c.loop-event.event-index c.args.events.now) runs.0 runs.1 c.loop-event.world All runs.2
     c.in_ok-report.field-0.acts.items c.in_ok-report.field-0.races.items told.acts c.in_ok-report.ensures.races
 
 pub report-requires-clause-acts : goal.report-requires-clause-acts
 report-requires-clause-acts c =
     let runs = c.loop-event.invariant in
     acts_of_nodes c.args.program.now c.args.nodes c.args.options.now (take c.loop-event.event-index c.args.events.now)
-    (fresh_node c.args.program.now c.args.nodes c.args.options.now) runs.0 c.loop-event.world runs.1 runs.2 c.in_ok-count.ensures.1.1
+    (starts_of c.args.program.now c.args.nodes c.args.options.now All) runs.0 c.loop-event.world runs.1 runs.2 c.in_ok-count.ensures.1.1
 
 pub report-requires-clause-traces : goal.report-requires-clause-traces
 report-requires-clause-traces c =
     let runs = c.loop-event.invariant in
-    kept_traces c.args.program.now c.args.nodes c.args.options.now (take c.loop-event.event-index c.args.events.now) runs.0 runs.1 c.loop-event.world runs.2
+    kept_traces c.args.program.now c.args.nodes c.args.options.now (take c.loop-event.event-index c.args.events.now) runs.0 runs.1 c.loop-event.world All runs.2
 
 pub returns-clause-synchronized : goal.returns-clause-synchronized
 returns-clause-synchronized c =
@@ -83,3 +85,9 @@ returns-clause-tokens c = each_token c.args.program.now c.args.nodes c.args.opti
 
 pub returns-clause-covered : goal.returns-clause-covered
 returns-clause-covered c = covered c.args.program.now c.args.nodes c.args.options.now c.args.events.now c.in_ok-report.field-0 (returns-clause-report c)
+
+pub report-requires-clause-raceless : goal.report-requires-clause-raceless
+report-requires-clause-raceless c =
+    let runs = c.loop-event.invariant in
+    kept_raceless c.args.program.now c.args.nodes c.args.options.now (take c.loop-event.event-index c.args.events.now) runs.0 runs.1 c.loop-event.world All runs.2
+    c.loop-event.world.acts.items runs.2.acts

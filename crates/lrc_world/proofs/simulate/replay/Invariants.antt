@@ -1,11 +1,11 @@
 use Rattle.std.proofs.Common.{◌≡◌, Some, take}
-use Rattle.lrc_protocol.specs.Node.{fresh_node}
+use Rattle.lrc_world.specs.declared.keep.Keep.TheVariants.{All}
 use Rattle.lrc_protocol.specs.World.{World as Run, run_of}
-use Rattle.lrc_world.specs.World.{Shows}
+use Rattle.lrc_world.specs.World.{Shows, starts_of}
 use Rattle.lrc_world.proofs.simulate.replay.Given as goal
 
 -- the world shows the run of the events so far
 abbrev pub invariant-loop-event : goal.invariant-loop-event
 invariant-loop-event l =
     (run : Run) × (run_of l.program l.nodes l.options (take l.event-index l.events) ≡ Some run)
-    × Shows (fresh_node l.program l.nodes l.options) l.world run
+    × Shows (starts_of l.program l.nodes l.options All) l.world run

@@ -15,7 +15,7 @@ returns-in-Some c = λ starts run shows.
     taken_within starts c.args.self.now c.receive.new.self run c.args.place c.in-Some.to shows t in
     delivered starts c.args.self.now c.receive.new.self _ c.follow.new.self run c.args.place c.in-Some.to
     (remove run.flight c.args.place) c.follow.result shows t
-    refl refl
+    refl refl refl
     (ap (map seen) (c.forget.ensures within) ∙ map-remove seen c.receive.new.self.flight.items c.args.place
     ∙ ap (λ xs. remove xs c.args.place) flown ∙ sym (map-remove shown run.flight c.args.place))
     c.follow.ensures

@@ -1,9 +1,8 @@
-use Rattle.std.proofs.Common.{◌≡◌, ◌∙◌, ap, map, arith, [], ◌∷◌, ◌++◌, rules}
+use Rattle.std.proofs.Common.{◌≡◌, ◌∙◌, refl, ap, map, arith, [], ◌∷◌, ◌++◌, rules}
 use Rattle.std.specs.List.{range_with_len}
-use Rattle.lrc_protocol.specs.Node.{fresh_node}
 use Rattle.lrc_node.specs.Node.{TracedNode}
 use Rattle.lrc_node.specs.Logged.{TracedLog}
-use Rattle.lrc_world.specs.World.{Starts, seen}
+use Rattle.lrc_world.specs.World.{Starts, starts_of, seen}
 use Rattle.lrc_world.proofs.Kept.{all_fresh, fresh_replayed}
 use Rattle.lrc_world.proofs.Worlds.{fresh_one, fresh_short, fresh_next}
 use Rattle.lrc_world.proofs.world.World.new.Goals as goal
@@ -11,8 +10,9 @@ use Rattle.lrc_world.proofs.world.World.new.Goals as goal
 pub returns : goal.returns
 returns c =
     let all : c.loop-me.me ≡ c.args.nodes = omega arith in
-    let starts : Starts = fresh_node c.args.code.now c.args.nodes c.args.options.now in
+    let starts : Starts = starts_of c.args.code.now c.args.nodes c.args.options.now c.args.keep in
     record {
+      keep = refl;
       nodes = c.loop-me.invariant
           ∙ ap (λ n. map (fresh_one c.args.code.now c.args.nodes c.args.options.now) (range_with_len 0 n)) all
           ∙ all_fresh starts c.args.nodes;

@@ -16,6 +16,7 @@ returns-in_err-is_made c = λ starts run shows.
     let made : made_of c.take_at-outcome.result ≡ Err c.in_err-is_made.field-0.0 = search rules in
     let mid : World = record {
       alloc = c.args.self.now.alloc;
+      keep = c.args.self.now.keep;
       nodes = c.take_at-outcome.new.nodes;
       flight =
           c.args.self.now.flight;
@@ -25,13 +26,14 @@ returns-in_err-is_made c = λ starts run shows.
     c.from_residual-in_err-is_made.ensures.1
     (subst (λ m. ReceivesTo starts c.args.self.now mid run c.args.place (received c.envelope.inside.to m)) made
     (taken_at starts c.args.self.now mid run c.args.place c.in-Some.flying.now c.in_ok-envelope.envelope c.envelope.inside.to c.take_at-outcome.result shows
-    (search rules) (search rules) (search rules) (search rules) c.take_at-outcome.ensures refl refl))
+    (search rules) (search rules) (search rules) (search rules) c.take_at-outcome.ensures refl refl refl))
 
 pub returns-then-branch : goal.returns-then-branch
 returns-then-branch c = λ starts run shows.
     let made : made_of c.take_at-outcome.result ≡ Ok true = search rules in
     let mid : World = record {
       alloc = c.args.self.now.alloc;
+      keep = c.args.self.now.keep;
       nodes = c.take_at-outcome.new.nodes;
       flight =
           c.args.self.now.flight;
@@ -39,13 +41,14 @@ returns-then-branch c = λ starts run shows.
     } in
     subst (λ m. ReceivesTo starts c.args.self.now mid run c.args.place (received c.envelope.inside.to m)) made
     (taken_at starts c.args.self.now mid run c.args.place c.in-Some.flying.now c.in_ok-envelope.envelope c.envelope.inside.to c.take_at-outcome.result shows
-    (search rules) (search rules) (search rules) (search rules) c.take_at-outcome.ensures refl refl)
+    (search rules) (search rules) (search rules) (search rules) c.take_at-outcome.ensures refl refl refl)
 
 pub returns-else-branch : goal.returns-else-branch
 returns-else-branch c = λ starts run shows.
     let made : made_of c.take_at-outcome.result ≡ Ok false = search rules in
     let mid : World = record {
       alloc = c.args.self.now.alloc;
+      keep = c.args.self.now.keep;
       nodes = c.take_at-outcome.new.nodes;
       flight =
           c.args.self.now.flight;
@@ -53,4 +56,4 @@ returns-else-branch c = λ starts run shows.
     } in
     subst (λ m. ReceivesTo starts c.args.self.now mid run c.args.place (received c.envelope.inside.to m)) made
     (taken_at starts c.args.self.now mid run c.args.place c.in-Some.flying.now c.in_ok-envelope.envelope c.envelope.inside.to c.take_at-outcome.result shows
-    (search rules) (search rules) (search rules) (search rules) c.take_at-outcome.ensures refl refl)
+    (search rules) (search rules) (search rules) (search rules) c.take_at-outcome.ensures refl refl refl)

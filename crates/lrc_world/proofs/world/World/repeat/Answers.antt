@@ -12,4 +12,4 @@ returns-in-Some c = λ starts run shows.
     let flown = ap (λ q. map seen q.items) t.flight ∙ shows.flight in
     delivered starts c.args.self.now c.receive.new.self _ c.follow.new.self run c.args.place c.in-Some.to
     (with_mark run.flight c.args.place) c.follow.result shows t
-    refl refl (c.mark.ensures run.flight flown) c.follow.ensures
+    refl refl refl (c.mark.ensures run.flight flown) c.follow.ensures

@@ -1,0 +1,31 @@
+-- What every run promises.
+use Rattle.std.specs.Prelude.{◌≡◌, ℕ, Some, List}
+use Rattle.lrc_lang.specs.declared.program.Program.{Program}
+use Rattle.lrc_trace.specs.declared.act.Act.{Act}
+use Rattle.lrc_trace.specs.Conflict.{IsRaceFree, IsFirstRace}
+use Rattle.lrc_trace.specs.Reading.{ReadsLazily}
+use Rattle.lrc_trace.specs.Synchronization.{IsWellSynchronized}
+use Rattle.lrc_exec.specs.Plain.{plain}
+use Rattle.lrc_theory.specs.Follows.{nodes_of}
+use Rattle.lrc_theory.specs.Racing.{HasNoRace, PlainToRace}
+use Rattle.lrc_node.specs.declared.end.End.{End}
+use Rattle.lrc_protocol.specs.declared.event.Event.{Event}
+use Rattle.lrc_protocol.specs.Node.{OptionsRecord}
+use Rattle.lrc_protocol.specs.World.{World as Run, run_of}
+use Rattle.lrc_world.specs.Ends.{ends_of}
+use Rattle.lrc_world.specs.Moments.{AreCovered, HasEachToken, RefusesNone, Throughout}
+
+-- A program's run of some events makes these acts, and so its nodes end. At each moment each message in flight is from one of the nodes
+-- and for one of them, which does not refuse it, and each lock's token is in one place; and at each access the node's time knows just
+-- what happens before it. The acts are well synchronized and read lazily. Where no two conflicting ones are unordered, the plain machine
+-- makes them too; each run is plain up to its first race; and where no order gives the plain machine a race, the run has none.
+pub record AreKept (program : Program) (nodes : ℕ) (options : OptionsRecord) (events : List Event) (acts : List Act) (ends : List End) : Type 0 where
+  pub ended : ends ≡ ends_of nodes acts
+  pub accepted : Throughout program nodes options events RefusesNone
+  pub tokens : Throughout program nodes options events (HasEachToken program.locks)
+  pub covered : (run : Run) → run_of program nodes options events ≡ Some run → AreCovered acts run.times
+  pub synchronized : IsWellSynchronized nodes acts
+  pub lazy : ReadsLazily acts
+  pub consistent : IsRaceFree acts → plain program nodes (nodes_of acts) ≡ Some acts
+  pub first : (position : ℕ) → IsFirstRace acts position → PlainToRace program nodes acts position
+  pub unraced : HasNoRace program nodes → IsRaceFree acts

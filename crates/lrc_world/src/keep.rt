@@ -1,0 +1,10 @@
+// What the nodes of a run keep of their logs.
+
+/// What each node keeps of its log.
+#[derive(Clone, Copy)]
+pub(crate) enum Keep {
+    /// All turns.
+    All,
+    /// The newest turn.
+    Newest,
+}
