@@ -15,7 +15,7 @@ use lrc_store::{Interval, Intervals};
 use lrc_time::Time;
 use std::alloc::{AllocError, Global};
 
-/// The arrival kept in a place, or the last one.
+// The arrival kept in a place, or the last one.
 fn arrival_in<'a>(place: &'a Option<Arrival>, last: &'a Arrival) -> &'a Arrival
     ensures { result.now ≡ unwrap_or place.now last.now }
 {
@@ -37,7 +37,7 @@ pub(crate) fn collects(kept: &[Option<Arrival>], last: &Arrival) -> bool
     false
 }
 
-/// The time of all.
+// The time of all.
 fn time_of_all(kept: &[Option<Arrival>], last: &Arrival) -> Time
     requires arrivals { AreArrivals (length kept.now) (all_with last.now kept.now) }
     requires some { 1 ≤ length kept.now }
@@ -52,7 +52,7 @@ fn time_of_all(kept: &[Option<Arrival>], last: &Arrival) -> Time
     time
 }
 
-/// Whether a time doesn't know an interval.
+// Whether a time doesn't know an interval.
 fn is_news(since: &Time, interval: &Interval) -> bool
     requires { interval.now.node < length since.now }
     ensures { result ≡ is_news since.now interval.now }
@@ -60,8 +60,8 @@ fn is_news(since: &Time, interval: &Interval) -> bool
     since.at(interval.node) < interval.index()
 }
 
-/// Where, in ascending intervals of one node, those begin that a time doesn't know. Only these and one more are looked
-/// at.
+// Where, in ascending intervals of one node, those begin that a time doesn't know. Only these and one more are looked
+// at.
 fn first_news(node: u8, intervals: &[Interval], since: &Time) -> usize
     requires node { node < length since.now }
     requires own { All (λ interval. interval.node ≡ node) intervals.now }
@@ -76,7 +76,7 @@ fn first_news(node: u8, intervals: &[Interval], since: &Time) -> usize
     start
 }
 
-/// Adds those of an arrival's intervals that a time doesn't know.
+// Adds those of an arrival's intervals that a time doesn't know.
 fn add_news(
     news: &mut Vec<Interval>,
     node: u8,
@@ -96,7 +96,7 @@ fn add_news(
     Ok(())
 }
 
-/// The intervals of all that a time doesn't know.
+// The intervals of all that a time doesn't know.
 fn news_of_all(
     alloc: Global,
     kept: &[Option<Arrival>],

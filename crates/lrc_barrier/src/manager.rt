@@ -151,7 +151,7 @@ impl Manager {
 }
 
 impl Manager {
-    /// Whether the node may arrive at this episode now.
+    // Whether the node may arrive at this episode now.
     fn expect(&self, from: u8, episode: u32) -> Result<(), BarrierFault>
         requires { from < length self.now.last }
         ensures { result ≡ (if is_next self.now episode
@@ -167,7 +167,7 @@ impl Manager {
         Ok(())
     }
 
-    /// Whether all other nodes have arrived.
+    // Whether all other nodes have arrived.
     fn is_last(&self, from: u8) -> bool
         requires { from < length self.now.last }
         ensures { (arrival : Arrival) → result ≡ list_all is_some (slice_set self.now.arrivals from (Some arrival)) }
@@ -180,7 +180,7 @@ impl Manager {
         true
     }
 
-    /// Keeps an arrival. An error leaves the manager as it was.
+    // Keeps an arrival. An error leaves the manager as it was.
     fn keep(&mut self, from: u8, arrival: &Arrival) -> Result<(), AllocError>
         requires from { from < length self.old.last }
         requires own { IsArrival (length self.old.last) from arrival.now }
@@ -194,7 +194,7 @@ impl Manager {
         Ok(())
     }
 
-    /// All depart, the last of them with this own entry in its time.
+    // All depart, the last of them with this own entry in its time.
     fn depart(&mut self, from: u8, entry: u32, collect: bool)
         requires from { from < length self.old.last }
         requires room { self.old.done + 1 < 2 ^ 32 }
@@ -218,7 +218,7 @@ impl Manager {
     }
 }
 
-/// No node has closed an interval.
+// No node has closed an interval.
 fn nothing_known(nodes: u8) -> ArrayVec<u32, MOST_NODES>
     requires few { nodes ≤ 16 }
     ensures { result.items ≡ replicate nodes 0 }
@@ -230,7 +230,7 @@ fn nothing_known(nodes: u8) -> ArrayVec<u32, MOST_NODES>
     last
 }
 
-/// Nobody has arrived.
+// Nobody has arrived.
 fn nobody(nodes: u8) -> ArrayVec<Option<Arrival>, MOST_NODES>
     requires few { nodes ≤ 16 }
     ensures { result.items ≡ replicate nodes None }
@@ -242,7 +242,7 @@ fn nobody(nodes: u8) -> ArrayVec<Option<Arrival>, MOST_NODES>
     arrivals
 }
 
-/// Nobody has sent a Clean.
+// Nobody has sent a Clean.
 fn no_cleans(nodes: u8) -> ArrayVec<bool, MOST_NODES>
     requires few { nodes ≤ 16 }
     ensures { result.items ≡ replicate nodes Bool.false }
@@ -254,7 +254,7 @@ fn no_cleans(nodes: u8) -> ArrayVec<bool, MOST_NODES>
     cleans
 }
 
-/// Notes a node's Clean, and answers whether all have sent one now.
+// Notes a node's Clean, and answers whether all have sent one now.
 fn note_clean(cleans: &mut ArrayVec<bool, MOST_NODES>, from: u8) -> bool
     requires { from < length cleans.old.items }
     ensures noted { cleans.new.items ≡ slice_set cleans.old.items from Bool.true }
@@ -264,7 +264,7 @@ fn note_clean(cleans: &mut ArrayVec<bool, MOST_NODES>, from: u8) -> bool
     all_clean(cleans.as_slice())
 }
 
-/// Whether all have sent a Clean.
+// Whether all have sent a Clean.
 fn all_clean(cleans: &[bool]) -> bool
     ensures { result ≡ list_all (λ clean. clean) cleans.now }
 {

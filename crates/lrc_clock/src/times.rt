@@ -10,7 +10,7 @@ use lrc_time::{MOST_NODES, Time};
 use lrc_trace::act::{Act, Deed};
 use std::alloc::{AllocError, Global};
 
-/// The time at this position, or zeros where there is none.
+// The time at this position, or zeros where there is none.
 fn time_at_last(times: &[Time], last: Option<usize>, nodes: u8) -> Time
     requires some { 1 ≤ nodes }
     requires few { nodes ≤ 16 }
@@ -23,7 +23,7 @@ fn time_at_last(times: &[Time], last: Option<usize>, nodes: u8) -> Time
     }
 }
 
-/// The time of a node after these acts.
+// The time of a node after these acts.
 fn time_of_node(acts: &[Act], times: &[Time], node: u8, nodes: u8) -> Time
     requires some { 1 ≤ nodes }
     requires few { nodes ≤ 16 }
@@ -39,7 +39,7 @@ fn time_of_node(acts: &[Act], times: &[Time], node: u8, nodes: u8) -> Time
     time_at_last(times, last, nodes)
 }
 
-/// The time at the last release of a lock among these acts.
+// The time at the last release of a lock among these acts.
 fn time_of_release(acts: &[Act], times: &[Time], lock: u8, nodes: u8) -> Time
     requires some { 1 ≤ nodes }
     requires few { nodes ≤ 16 }
@@ -55,7 +55,7 @@ fn time_of_release(acts: &[Act], times: &[Time], lock: u8, nodes: u8) -> Time
     time_at_last(times, last, nodes)
 }
 
-/// The join of the times at the arrives with this number among these acts.
+// The join of the times at the arrives with this number among these acts.
 fn time_of_barrier(acts: &[Act], times: &[Time], number: usize, nodes: u8) -> Time
     requires some { 1 ≤ nodes }
     requires few { nodes ≤ 16 }
@@ -79,7 +79,7 @@ fn time_of_barrier(acts: &[Act], times: &[Time], number: usize, nodes: u8) -> Ti
     time
 }
 
-/// How often a node departs among these acts.
+// How often a node departs among these acts.
 fn departs_of(acts: &[Act], node: u8) -> usize
     ensures { result ≡ departs_before acts.now node (length acts.now) }
 {
@@ -88,7 +88,7 @@ fn departs_of(acts: &[Act], node: u8) -> usize
         .count()
 }
 
-/// The time just after an act that follows these.
+// The time just after an act that follows these.
 fn time_after(acts: &[Act], times: &[Time], act: Act, nodes: u8) -> Time
     requires some { 1 ≤ nodes }
     requires few { nodes ≤ 16 }

@@ -27,7 +27,7 @@ pub fn is_some_unreached(latest: &[usize], node: usize, reach: &Reach) -> bool
     false
 }
 
-/// What is kept of a word.
+// What is kept of a word.
 fn touched_at(words: &BTreeMap<u32, Touched>, word: u32) -> Touched
     ensures { (run : List Act) (n : ℕ) → AreTouched run n words.now → IsTouched run n word result }
 {

@@ -18,7 +18,7 @@ pub struct OutOfOrder {
     pub last_written: u64,
 }
 
-/// What was last written to the word.
+// What was last written to the word.
 fn last_written(memory: &BTreeMap<u32, u64>, word: u32) -> u64
     ensures { result ≡ option_map_or (λ value. value) (get nat_cmp memory.now word) 0 }
 {

@@ -46,7 +46,7 @@ impl Past {
         })
     }
 
-    /// What the acts that come right before this position are reached by.
+    // What the acts that come right before this position are reached by.
     fn handed_to(&self, acts: &[Act], position: usize) -> Reach
         requires past { IsPast acts.now position self.now }
         requires nodes { All (λ act. act.node < NODES) acts.now }

@@ -25,7 +25,7 @@ struct StoredValue {
     value: u64,
 }
 
-/// The write to the word at this position, if there is one.
+// The write to the word at this position, if there is one.
 fn stored_at(acts: &[Act], position: usize, word: u32) -> Option<StoredValue>
     requires { position < length acts.now }
     ensures { MatchOption result ((value : ℕ) → ¬ IsDone acts.now position (Write word value))

@@ -25,7 +25,7 @@ struct Standing {
 impl Standing {
     ghost use Rattle.lrc_judge.specs.Standing.{IsStanding};
 
-    /// Before any act.
+    // Before any act.
     fn new() -> Standing
         ensures { (run : List Act) → IsStanding run 0 result }
     {
@@ -36,7 +36,7 @@ impl Standing {
         }
     }
 
-    /// Whether a well-synchronized run of so many nodes may go on with the act at this position.
+    // Whether a well-synchronized run of so many nodes may go on with the act at this position.
     fn allows(&self, acts: &[Act], position: usize, nodes: u8) -> bool
         requires standing { IsStanding acts.now position self.now }
         requires nodes { nodes ≤ NODES }
@@ -55,7 +55,7 @@ impl Standing {
         }
     }
 
-    /// Takes the act at this position in.
+    // Takes the act at this position in.
     fn note(&mut self, acts: &[Act], position: usize, nodes: u8)
         requires standing { IsStanding acts.now position self.old }
         requires allowed { ¬ Breaks nodes acts.now position }
@@ -74,7 +74,7 @@ impl Standing {
     }
 }
 
-/// Whether each count is above the bound.
+// Whether each count is above the bound.
 fn are_above(counts: &[usize], bound: usize) -> bool
     ensures { IsTrue result ↔ All (λ count. bound < count) counts.now }
 {

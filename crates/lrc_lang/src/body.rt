@@ -101,7 +101,7 @@ fn expect(symbol: Symbol, wanted: Sign) -> Result<(), FaultKind>
 }
 
 impl Purpose {
-    /// Whether a symbol ends an expression that stands for this.
+    // Whether a symbol ends an expression that stands for this.
     fn is_ended_by(&self, symbol: Symbol) -> bool
         ensures { result ≡ is_ending (ending_of (purpose_seen self.now)) (symbol_seen symbol) }
     {
@@ -178,7 +178,7 @@ impl Body {
         self.before
     }
 
-    /// The last symbol has led here.
+    // The last symbol has led here.
     fn go_to(&mut self, place: Place)
         ensures outer { self.new.outer ≡ self.old.outer }
         ensures before { self.new.before ≡ self.old.before }
@@ -188,7 +188,7 @@ impl Body {
         self.place = place;
     }
 
-    /// Where a statement may begin and a block may end.
+    // Where a statement may begin and a block may end.
     fn begin(&mut self, symbol: Symbol) -> Result<(), FaultKind>
         ensures { Steps result self.old self.new
             (λ outer before. begin outer before (symbol_seen symbol)) }
@@ -208,7 +208,7 @@ impl Body {
         Ok(())
     }
 
-    /// An expression begins.
+    // An expression begins.
     fn express(&mut self, purpose: Purpose)
         ensures outer { self.new.outer ≡ self.old.outer }
         ensures before { self.new.before ≡ self.old.before }
@@ -218,7 +218,7 @@ impl Body {
         self.go_to(Place::InExpression(purpose));
     }
 
-    /// Behind the name at the beginning of a statement.
+    // Behind the name at the beginning of a statement.
     fn behind_name(&mut self, name: u8, symbol: Symbol) -> Result<(), FaultKind>
         ensures { Steps result self.old self.new
             (λ outer before. behind_name outer before name (symbol_seen symbol)) }
@@ -228,7 +228,7 @@ impl Body {
         Ok(())
     }
 
-    /// Behind the `[word]` at the beginning of a statement.
+    // Behind the `[word]` at the beginning of a statement.
     fn behind_word(&mut self, word: Expression, symbol: Symbol) -> Result<(), FaultKind>
         ensures { Steps result self.old self.new
             (λ outer before. behind_word outer before (expression_of word) (symbol_seen symbol)) }
@@ -238,7 +238,7 @@ impl Body {
         Ok(())
     }
 
-    /// In front of the `;` that ends a statement.
+    // In front of the `;` that ends a statement.
     fn at_end(&mut self, statement: Statement, symbol: Symbol) -> Result<(), FaultKind>
         ensures { Steps result self.old self.new
             (λ outer before. at_end outer before (statement_of statement) (symbol_seen symbol)) }
@@ -247,7 +247,7 @@ impl Body {
         self.done(statement)
     }
 
-    /// Behind `else`.
+    // Behind `else`.
     fn behind_else(
         &mut self,
         condition: Expression,
@@ -262,7 +262,7 @@ impl Body {
         self.open(Owner::Else(condition, first))
     }
 
-    /// Behind a name and `=`.
+    // Behind a name and `=`.
     fn behind_equals(&mut self, name: u8, symbol: Symbol) -> Result<(), FaultKind>
         ensures { Steps result self.old self.new
             (λ outer before. behind_equals outer before name (symbol_seen symbol)) }
@@ -277,7 +277,7 @@ impl Body {
         }
     }
 
-    /// In an expression.
+    // In an expression.
     fn go_on(&mut self, purpose: Purpose, symbol: Symbol) -> Result<(), FaultKind>
         ensures { Steps result self.old self.new
             (λ outer before. go_on outer before (purpose_seen purpose)
@@ -292,7 +292,7 @@ impl Body {
         Ok(())
     }
 
-    /// Behind the end of an expression.
+    // Behind the end of an expression.
     fn end(&mut self, purpose: Purpose, value: Expression) -> Result<(), FaultKind>
         ensures { Steps result self.old self.new
             (λ outer before. ended outer before (purpose_seen purpose) (expression_of value)) }
@@ -316,7 +316,7 @@ impl Body {
         }
     }
 
-    /// A statement is complete.
+    // A statement is complete.
     fn done(&mut self, statement: Statement) -> Result<(), FaultKind>
         ensures step { Steps result self.old self.new
             (λ outer before. done outer before (statement_of statement)) }
@@ -327,7 +327,7 @@ impl Body {
         Ok(())
     }
 
-    /// A block begins.
+    // A block begins.
     fn open(&mut self, owner: Owner) -> Result<(), FaultKind>
         ensures { Steps result self.old self.new
             (λ outer before. opened outer before (owner_seen owner)) }
@@ -338,7 +338,7 @@ impl Body {
         Ok(())
     }
 
-    /// The innermost block ends.
+    // The innermost block ends.
     fn close(&mut self) -> Result<(), FaultKind>
         ensures { Steps result self.old self.new close }
     {
@@ -349,7 +349,7 @@ impl Body {
         self.leave(owner, inside)
     }
 
-    /// Behind the end of a block.
+    // Behind the end of a block.
     fn leave(&mut self, owner: Owner, inside: Vec<Statement>) -> Result<(), FaultKind>
         ensures { Steps result self.old self.new
             (λ outer before. close_for outer before (owner_seen owner) (block_of inside.items)) }
@@ -364,7 +364,7 @@ impl Body {
         }
     }
 
-    /// Behind the first block of an `if`.
+    // Behind the first block of an `if`.
     fn behind_then(
         &mut self,
         condition: Expression,
@@ -387,7 +387,7 @@ impl Body {
         }
     }
 
-    /// An `if` without `else` is complete.
+    // An `if` without `else` is complete.
     fn done_if(&mut self, condition: Expression, first: Vec<Statement>) -> Result<(), FaultKind>
         ensures step { Steps result self.old self.new
             (λ outer before. done outer before

@@ -71,7 +71,7 @@ impl<'t> Lexer<'t> {
         Placed { line, lexeme }
     }
 
-    /// Passes over blanks, line feeds and comments.
+    // Passes over blanks, line feeds and comments.
     fn skip(&mut self)
         ensures passed { Passes self.old.line self.old.rest.now self.new.line self.new.rest.now }
         ensures ready { IsReady self.new.rest.now }
@@ -91,7 +91,7 @@ impl<'t> Lexer<'t> {
     }
 }
 
-/// What stands at the front of a text, and the rest behind it.
+// What stands at the front of a text, and the rest behind it.
 fn lexeme_at(text: &[u8]) -> (Lexeme<'_>, &[u8])
     requires { IsReady text.now }
     ensures taken { Takes text.now (lexeme_of result.0) result.1.now }
@@ -105,7 +105,7 @@ fn lexeme_at(text: &[u8]) -> (Lexeme<'_>, &[u8])
     }
 }
 
-/// The number at the front of a text, or the fault where its digits are none, and the rest behind the digits.
+// The number at the front of a text, or the fault where its digits are none, and the rest behind the digits.
 fn number_at(text: &[u8]) -> (Lexeme<'_>, &[u8])
     requires { BeginsWith IsDigit text.now }
     ensures taken { Takes text.now (lexeme_of result.0) result.1.now }
@@ -121,7 +121,7 @@ fn number_at(text: &[u8]) -> (Lexeme<'_>, &[u8])
     }
 }
 
-/// The keyword or the name at the front of a text, and the rest behind it.
+// The keyword or the name at the front of a text, and the rest behind it.
 fn word_at(text: &[u8]) -> (Lexeme<'_>, &[u8])
     requires { BeginsWith IsLetter text.now }
     ensures taken { Takes text.now (lexeme_of result.0) result.1.now }
@@ -134,7 +134,7 @@ fn word_at(text: &[u8]) -> (Lexeme<'_>, &[u8])
     }
 }
 
-/// The sign at the front of a text of a first byte and the bytes behind it, or the fault where that byte begins none.
+// The sign at the front of a text of a first byte and the bytes behind it, or the fault where that byte begins none.
 fn sign_at(first: u8, behind: &[u8]) -> (Lexeme<'_>, &[u8])
     requires ready { IsReady (first ∷ behind.now) }
     requires no_digit { ¬ IsDigit first }
@@ -151,7 +151,7 @@ fn sign_at(first: u8, behind: &[u8]) -> (Lexeme<'_>, &[u8])
     }
 }
 
-/// The sign of two bytes, this one and a `=` behind it, and the rest behind that.
+// The sign of two bytes, this one and a `=` behind it, and the rest behind that.
 fn long_sign_at(first: u8, behind: &[u8]) -> Option<(Sign, &[u8])>
     ensures { MatchOption result
         (BeginsWith (λ byte. byte ≡ 61) behind.now → (sign : Sign) → sign_text sign ≢ first ∷ 61 ∷ [])
@@ -163,7 +163,7 @@ fn long_sign_at(first: u8, behind: &[u8]) -> Option<(Sign, &[u8])>
     }
 }
 
-/// The sign of this byte and `=`.
+// The sign of this byte and `=`.
 fn long_sign(first: u8) -> Option<Sign>
     ensures { MatchOption result ((sign : Sign) → sign_text sign ≢ first ∷ 61 ∷ []) (λ sign. sign_text sign ≡ first ∷ 61 ∷ []) }
 {
@@ -176,7 +176,7 @@ fn long_sign(first: u8) -> Option<Sign>
     }
 }
 
-/// The sign of this byte alone.
+// The sign of this byte alone.
 fn short_sign(first: u8) -> Option<Sign>
     ensures { MatchOption result ((sign : Sign) → sign_text sign ≢ first ∷ []) (λ sign. sign_text sign ≡ first ∷ []) }
 {
@@ -200,7 +200,7 @@ fn short_sign(first: u8) -> Option<Sign>
     }
 }
 
-/// The keyword that is spelled so.
+// The keyword that is spelled so.
 fn keyword_of(word: &[u8]) -> Option<Keyword>
     ensures { MatchOption result (¬ IsKeyword word.now) (λ keyword. word.now ≡ keyword_text keyword) }
 {
@@ -210,7 +210,7 @@ fn keyword_of(word: &[u8]) -> Option<Keyword>
         .copied()
 }
 
-/// How a keyword is spelled.
+// How a keyword is spelled.
 fn spelling_of(keyword: Keyword) -> &'static [u8]
     ensures { result.now ≡ keyword_text keyword }
 {
@@ -229,7 +229,7 @@ fn spelling_of(keyword: Keyword) -> &'static [u8]
     }
 }
 
-/// The number that decimal digits write, unless it is over 2^64 - 1.
+// The number that decimal digits write, unless it is over 2^64 - 1.
 fn number_of(digits: &[u8]) -> Option<u64>
     requires { All IsDigit digits.now }
     ensures { SomeIff result (value_of digits.now < 2 ^ 64) (value_of digits.now) }
@@ -243,7 +243,7 @@ fn number_of(digits: &[u8]) -> Option<u64>
     Some(value)
 }
 
-/// The bytes of a class at the front of a text, as many as stand there, and the rest behind them.
+// The bytes of a class at the front of a text, as many as stand there, and the rest behind them.
 fn split_front(class: Class, text: &[u8]) -> (&[u8], &[u8])
     ensures { IsSpan (Has class) text.now result.0.now result.1.now }
 {

@@ -33,7 +33,7 @@ pub struct Limits<'t> {
     ghost few_names: { vec_len names ≤ 32 },
 }
 
-/// The number of a name: how many others came before it.
+// The number of a name: how many others came before it.
 fn number_of(names: &[&[u8]], name: &[u8]) -> usize
     ensures value { result ≡ number_of (map (λ other. other.now) names.now) name.now }
     ensures bound { result ≤ length names.now }
@@ -44,7 +44,7 @@ fn number_of(names: &[&[u8]], name: &[u8]) -> usize
         .unwrap_or(names.len())
 }
 
-/// Whether a name is among these.
+// Whether a name is among these.
 fn is_among(names: &[&[u8]], name: &[u8]) -> bool
     ensures { result ≡ is_among (map (λ other. other.now) names.now) name.now }
 {
@@ -141,7 +141,7 @@ impl<'t> Limits<'t> {
         Ok(())
     }
 
-    /// One more is open.
+    // One more is open.
     fn nest(&mut self) -> Result<(), FaultKind>
         ensures nested { OnOk result ((self.old.nested < 32) × (self.new.nested ≡ self.old.nested + 1)) }
         ensures full { IfErr result (λ kind. (kind ≡ TooDeep) × (32 ≤ self.old.nested)) }
@@ -154,7 +154,7 @@ impl<'t> Limits<'t> {
         Ok(())
     }
 
-    /// The expression has one more operator.
+    // The expression has one more operator.
     fn join(&mut self) -> Result<(), FaultKind>
         ensures operators { OnOk result
             ((self.old.operators < 256) × (self.new.operators ≡ self.old.operators + 1)) }

@@ -48,7 +48,7 @@ pub fn parse(alloc: Global, text: &[u8]) -> Result<Program, ParseFault>
     read(alloc, text)
 }
 
-/// Parses a text that is not too long.
+// Parses a text that is not too long.
 #[tactic(auto, using(crate::proofs::Sizes::text_names, crate::proofs::Sizes::text_depth, crate::proofs::Sizes::text_operators))]
 fn read(alloc: Global, text: &[u8]) -> Result<Program, ParseFault>
     requires { length text.now ≤ 65536 }
@@ -60,7 +60,7 @@ fn read(alloc: Global, text: &[u8]) -> Result<Program, ParseFault>
     Ok(state.into_program())
 }
 
-/// Takes all that stands in a text that is not too long.
+// Takes all that stands in a text that is not too long.
 fn read_into(state: &mut ParserState, alloc: Global, text: &[u8]) -> Result<(), ParseFault>
     requires start { state_seen state.old ≡ start }
     requires short { length text.now ≤ 65536 }
@@ -80,7 +80,7 @@ fn read_into(state: &mut ParserState, alloc: Global, text: &[u8]) -> Result<(), 
     }
 }
 
-/// Takes what stands next.
+// Takes what stands next.
 fn take<'t>(
     state: &mut ParserState,
     limits: &mut Limits<'t>,
@@ -98,14 +98,14 @@ fn take<'t>(
     }
 }
 
-/// Whether this is the end of the text.
+// Whether this is the end of the text.
 fn is_end(lexeme: Lexeme<'_>) -> bool
     ensures { IsTrue result ↔ (lexeme_of lexeme.entry ≡ token finish) }
 {
     matches!(lexeme, Lexeme::Token(Token::End))
 }
 
-/// The fault of this kind of a token on this line. Where memory ran out it is on no line.
+// The fault of this kind of a token on this line. Where memory ran out it is on no line.
 fn fault(line: u32, kind: FaultKind) -> ParseFault
     ensures kind { result.kind ≡ kind }
     ensures line { kind ≢ NoMemory → result.line ≡ line }

@@ -69,7 +69,7 @@ fn joined_by(operator: Operator) -> Joins
     }
 }
 
-/// An operand, behind what waits for it.
+// An operand, behind what waits for it.
 fn joined(
     alloc: Global,
     pending: Option<Pending>,
@@ -99,7 +99,7 @@ impl Level {
         }
     }
 
-    /// The expression that an operand ends.
+    // The expression that an operand ends.
     fn whole(self, alloc: Global, operand: Expression) -> Result<Expression, AllocError>
         ensures { IfOk result (λ e. expression_of e
             ≡ whole_of (level_seen self) (expression_of operand)) }
@@ -114,7 +114,7 @@ impl Level {
         joined(alloc, compared, sum)
     }
 
-    /// Takes an operand and the operator behind it.
+    // Takes an operand and the operator behind it.
     fn take(
         &mut self,
         alloc: Global,
@@ -143,7 +143,7 @@ impl Level {
     }
 }
 
-/// What waits for a right side.
+// What waits for a right side.
 fn waiting(left: Expression, operator: Operator) -> Option<Pending>
     ensures { option_map pending_seen result ≡ waiting (expression_of left) operator }
 {
@@ -180,7 +180,7 @@ impl Partial {
         }
     }
 
-    /// Where an operand has to begin.
+    // Where an operand has to begin.
     fn begin(&mut self, symbol: Symbol) -> Result<(), FaultKind>
         requires { self.old.operand ≡ None }
         ensures { GivesNew result (partial_seen self.new)
@@ -200,7 +200,7 @@ impl Partial {
         Ok(())
     }
 
-    /// Behind an operand.
+    // Behind an operand.
     fn go_on(&mut self, alloc: Global, operand: Expression, symbol: Symbol) -> Result<(), FaultKind>
         requires { self.old.operand ≡ None }
         ensures { GivesNew result (partial_seen self.new)
@@ -214,7 +214,7 @@ impl Partial {
         }
     }
 
-    /// A parenthesis ends.
+    // A parenthesis ends.
     fn close(&mut self, alloc: Global, operand: Expression) -> Result<(), FaultKind>
         requires { self.old.operand ≡ None }
         ensures { GivesNew result (partial_seen self.new)

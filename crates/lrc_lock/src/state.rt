@@ -44,7 +44,7 @@ pub enum LockState {
 }
 
 impl Waiter {
-    /// The grant of this lock to the waiter.
+    // The grant of this lock to the waiter.
     fn pass(self, lock: u8, upto: Time) -> Pass
         ensures { result ≡ pass_to lock self upto }
     {

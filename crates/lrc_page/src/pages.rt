@@ -127,8 +127,8 @@ impl Pages {
     }
 }
 
-/// How many numbers of a rising list stand before the place of a page that is not among them. It looks from the end,
-/// since pages are mostly added in their order.
+// How many numbers of a rising list stand before the place of a page that is not among them. It looks from the end,
+// since pages are mostly added in their order.
 fn place_of(list: &[u16], page: u16) -> usize
     requires rising { IsRising list.now }
     requires other { ¬ Contains list.now page }

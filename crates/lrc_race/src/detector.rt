@@ -23,7 +23,7 @@ struct Lane {
     reads: Vec<TouchedPlace>,
 }
 
-/// The words of a trace.
+// The words of a trace.
 fn lane_of(alloc: Global, trace: &Trace) -> Result<Lane, AllocError>
     ensures { IfOk result (λ lane. IsLane trace.now lane) }
 {
@@ -33,7 +33,7 @@ fn lane_of(alloc: Global, trace: &Trace) -> Result<Lane, AllocError>
     Ok(Lane { writes, reads })
 }
 
-/// The words of each trace.
+// The words of each trace.
 fn lanes_of(alloc: Global, traces: &[Trace]) -> Result<Vec<Lane>, AllocError>
     ensures { IfOk result (λ lanes. AreLanes traces.now lanes.items) }
 {
@@ -53,7 +53,7 @@ pub fn knows(segment: &Segment, node: u8, other: &Segment) -> bool
     other.interval <= segment.time.at(node)
 }
 
-/// The race of two segments of different nodes on a word, as a report names it.
+// The race of two segments of different nodes on a word, as a report names it.
 fn named(word: u32, a: &Trace, s: &Segment, b: &Trace, t: &Segment) -> Race
     ensures { result ≡ name_of word a.now s.now b.now t.now }
 {
@@ -75,7 +75,7 @@ fn named(word: u32, a: &Trace, s: &Segment, b: &Trace, t: &Segment) -> Race
     }
 }
 
-/// Whether the second place comes before the first, by words, and where times rise by what the first one knows.
+// Whether the second place comes before the first, by words, and where times rise by what the first one knows.
 fn is_behind(rise: bool, a: &Trace, x: TouchedPlace, b: &Trace, y: TouchedPlace) -> bool
     requires first { x.segment < length a.now.segments }
     requires second { y.segment < length b.now.segments }
@@ -88,7 +88,7 @@ fn is_behind(rise: bool, a: &Trace, x: TouchedPlace, b: &Trace, y: TouchedPlace)
     knows(&a.segments()[x.segment], b.node(), &b.segments()[y.segment])
 }
 
-/// The first of the places from this one on that is not behind.
+// The first of the places from this one on that is not behind.
 fn skip(
     rise: bool,
     a: &Trace,
@@ -111,7 +111,7 @@ fn skip(
     start
 }
 
-/// The race of two places.
+// The race of two places.
 fn race_of(a: &Trace, x: TouchedPlace, b: &Trace, y: TouchedPlace) -> Option<Race>
     requires first { x.segment < length a.now.segments }
     requires second { y.segment < length b.now.segments }
@@ -126,7 +126,7 @@ fn race_of(a: &Trace, x: TouchedPlace, b: &Trace, y: TouchedPlace) -> Option<Rac
     Some(named(x.word, a, s, b, t))
 }
 
-/// Adds the races of a place of one trace with the places of another from one on, as far as they are not ahead.
+// Adds the races of a place of one trace with the places of another from one on, as far as they are not ahead.
 fn add_stretch(
     races: &mut Vec<Race>,
     rise: bool,
@@ -155,8 +155,8 @@ fn add_stretch(
     Ok(())
 }
 
-/// Adds the races of places of one trace with places of another. Where times rise along both, the places that are not
-/// ordered with one are a stretch of the other's, which moves on with it.
+// Adds the races of places of one trace with places of another. Where times rise along both, the places that are not
+// ordered with one are a stretch of the other's, which moves on with it.
 fn add_races(
     races: &mut Vec<Race>,
     rise: bool,
@@ -181,7 +181,7 @@ fn add_races(
     Ok(())
 }
 
-/// Adds the races of two traces: of what both write, and of what the one writes and the other reads alone.
+// Adds the races of two traces: of what both write, and of what the one writes and the other reads alone.
 fn add_pair(
     races: &mut Vec<Race>,
     rise: bool,
@@ -202,7 +202,7 @@ fn add_pair(
     Ok(())
 }
 
-/// Adds the races of one trace with the later ones.
+// Adds the races of one trace with the later ones.
 fn add_races_with(
     races: &mut Vec<Race>,
     rise: bool,

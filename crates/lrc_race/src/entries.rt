@@ -5,7 +5,7 @@ ghost use Rattle.lrc_race.specs.Races.{IsTraceOf, AreTracesOf};
 
 use lrc_trace::trace::Trace;
 
-/// Whether the trace is of a node below this number, and each of its times has as many entries.
+// Whether the trace is of a node below this number, and each of its times has as many entries.
 fn is_trace_of(nodes: u8, trace: &Trace) -> bool
     ensures { IsTrue result ↔ IsTraceOf nodes trace.now }
 {

@@ -10,7 +10,7 @@ use crate::detector::knows;
 use crate::rising::times_rise;
 use lrc_trace::trace::{Segment, Trace};
 
-/// Whether no epoch of the trace is lower than the one before.
+// Whether no epoch of the trace is lower than the one before.
 fn epochs_rise(trace: &Trace) -> bool
     ensures { IsTrue result ↔ EpochsRise trace.now }
 {
@@ -23,7 +23,7 @@ fn epochs_rise(trace: &Trace) -> bool
     true
 }
 
-/// The first of the trace's segments from this one on that a segment of another does not know.
+// The first of the trace's segments from this one on that a segment of another does not know.
 fn skip_known(a: &Trace, t: &Segment, from: usize) -> usize
     requires entry { a.now.node < length t.now.time }
     requires within { from ≤ length a.now.segments }
@@ -39,7 +39,7 @@ fn skip_known(a: &Trace, t: &Segment, from: usize) -> usize
     start
 }
 
-/// Whether a segment knows those of earlier epochs among the segments of another trace from one on.
+// Whether a segment knows those of earlier epochs among the segments of another trace from one on.
 fn agrees_from(rise: bool, a: &Trace, t: &Segment, from: usize) -> bool
     requires entry { a.now.node < length t.now.time }
     requires rising { IsTrue rise → EpochsRise a.now }
@@ -58,7 +58,7 @@ fn agrees_from(rise: bool, a: &Trace, t: &Segment, from: usize) -> bool
     true
 }
 
-/// Whether the epochs of the first trace rise, and the times of the second.
+// Whether the epochs of the first trace rise, and the times of the second.
 fn rise_along(a: &Trace, b: &Trace) -> bool
     requires { (nodes : ℕ) × ((t : Segment) → Contains b.now.segments t → length t.time ≡ nodes) }
     ensures { IsTrue result → EpochsRise a.now × RisesAlong b.now }
@@ -66,8 +66,8 @@ fn rise_along(a: &Trace, b: &Trace) -> bool
     epochs_rise(a) && times_rise(b)
 }
 
-/// Whether each segment of the second trace knows those of earlier epochs of the first. Where epochs and times rise, what
-/// one knows is known further on.
+// Whether each segment of the second trace knows those of earlier epochs of the first. Where epochs and times rise, what
+// one knows is known further on.
 fn agrees_between(a: &Trace, b: &Trace) -> bool
     requires { (nodes : ℕ) × (a.now.node < nodes) × ((t : Segment) → Contains b.now.segments t → length t.time ≡ nodes) }
     ensures { IsTrue result ↔ AgreesBetween a.now b.now }
@@ -85,7 +85,7 @@ fn agrees_between(a: &Trace, b: &Trace) -> bool
     true
 }
 
-/// Whether each segment of this trace knows those of earlier epochs of the other nodes.
+// Whether each segment of this trace knows those of earlier epochs of the other nodes.
 fn agrees_with_all(traces: &[Trace], b: &Trace) -> bool
     requires traces { (nodes : ℕ) × AreTracesOf nodes traces.now }
     requires there { Contains traces.now b.now }

@@ -72,7 +72,7 @@ impl Touched {
     }
 }
 
-/// How many of the pages come before this one.
+// How many of the pages come before this one.
 fn place_of(pages: &[TouchedPage], page: u16) -> usize
     requires { IsRising (numbers_of pages.now) }
     ensures within { result ≤ length pages.now }

@@ -26,7 +26,7 @@ pub struct Segment {
 }
 
 impl Segment {
-    /// An interval without accesses.
+    // An interval without accesses.
     fn opened(alloc: Global, epoch: u32, interval: u32, time: Time) -> Self
         ensures { result ≡ opened epoch interval time }
     {
@@ -39,7 +39,7 @@ impl Segment {
         }
     }
 
-    /// Whether the interval is after this one, or is this one, with its epoch and its time.
+    // Whether the interval is after this one, or is this one, with its epoch and its time.
     fn goes_on(&self, epoch: u32, interval: u32, time: &Time) -> bool
         ensures { IsTrue result ↔ MayFollow self.now epoch interval time.now }
     {
@@ -49,7 +49,7 @@ impl Segment {
         self.epoch == epoch && self.time == *time
     }
 
-    /// Adds an access. An error leaves the segment as it was.
+    // Adds an access. An error leaves the segment as it was.
     fn add(&mut self, page: u16, offset: u8, is_write: bool) -> Result<(), AllocError>
         ensures ok { OnOk result (self.new ≡ with_access page offset is_write self.old) }
         ensures err { OnErr result (self.new ≡ self.old) }

@@ -26,8 +26,8 @@ mod pages;
 mod parts;
 mod times;
 
-/// How many elements to make room for: as many as are counted, but no more than the bytes can hold, where each takes
-/// at least so many.
+// How many elements to make room for: as many as are counted, but no more than the bytes can hold, where each takes
+// at least so many.
 fn room(count: u32, bytes: &[u8], each: usize) -> usize
     requires { 1 ≤ each }
     ensures counted { result ≤ count }
@@ -36,7 +36,7 @@ fn room(count: u32, bytes: &[u8], each: usize) -> usize
     (count as usize).min(bytes.len() / each)
 }
 
-/// A body of so many bytes, and no byte after it.
+// A body of so many bytes, and no byte after it.
 #[tactic(auto, unfolding(crate::specs::Reading::whole_body_of))]
 fn whole_body(
     alloc: Global,
@@ -61,7 +61,7 @@ fn whole_body(
     Ok(message)
 }
 
-/// The envelope that all of the bytes spell.
+// The envelope that all of the bytes spell.
 #[tactic(auto, unfolding(crate::specs::Reading::envelope_of))]
 fn read_envelope(alloc: Global, mut bytes: &[u8]) -> Result<Envelope, WireFault>
     ensures { Gives (λ envelope. envelope) result (envelope_of bytes.entry.now) }

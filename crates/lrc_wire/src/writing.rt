@@ -21,7 +21,7 @@ mod intervals;
 mod runs;
 mod sizes;
 
-/// The number of each kind.
+// The number of each kind.
 fn kind(message: &Message) -> u8
     ensures { result ≡ Rattle.lrc_wire.specs.Spelling.kind message.now }
 {
@@ -40,7 +40,7 @@ fn kind(message: &Message) -> u8
     }
 }
 
-/// Version, kind, sender, receiver, number, and how many bytes the body has.
+// Version, kind, sender, receiver, number, and how many bytes the body has.
 #[tactic(auto, unfolding(crate::specs::Spelling::header, crate::specs::Spelling::byte, crate::specs::Spelling::number))]
 fn put_header(out: &mut Vec<u8>, envelope: &Envelope, body_len: usize) -> Result<(), AllocError>
     requires exact { body_len ≡ length (body Two runs_of envelope.now.message) }
@@ -56,7 +56,7 @@ fn put_header(out: &mut Vec<u8>, envelope: &Envelope, body_len: usize) -> Result
     out.put_u32(body_len as u32)
 }
 
-/// Header and body.
+// Header and body.
 fn put_envelope(out: &mut Vec<u8>, envelope: &Envelope, body_len: usize) -> Result<(), AllocError>
     requires exact { body_len ≡ length (body Two runs_of envelope.now.message) }
     requires short { body_len ≤ MOST_BODY_BYTES }

@@ -38,7 +38,7 @@ impl<'w> Choice<'w> {
 }
 
 impl<'w> Way<'w> {
-    /// The file of the events by which a run goes on, if it is one of events.
+    // The file of the events by which a run goes on, if it is one of events.
     fn events(&self) -> Option<&'w str>
         ensures { option_map (λ path. path.now) result ≡ events_along self.now }
     {

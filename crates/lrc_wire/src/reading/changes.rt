@@ -13,7 +13,7 @@ use crate::version::Version;
 use lrc_page::{Change, Changes};
 use std::alloc::Global;
 
-/// An offset after another.
+// An offset after another.
 #[tactic(auto, unfolding(crate::specs::Reading::next_offset_at, crate::specs::Reading::tested, crate::specs::Reading::is_after))]
 fn read_next_offset(before: Option<u8>, bytes: &mut &[u8]) -> Result<u8, WireFault>
     ensures exact { Gives (λ n. (n, bytes.new.now)) result (next_offset_at before bytes.old.now) }
@@ -29,7 +29,7 @@ fn read_next_offset(before: Option<u8>, bytes: &mut &[u8]) -> Result<u8, WireFau
     Ok(offset)
 }
 
-/// A change after another.
+// A change after another.
 #[tactic(auto, unfolding(crate::specs::Reading::next_change_at))]
 fn read_next_change(before: Option<u8>, bytes: &mut &[u8]) -> Result<Change, WireFault>
     ensures exact { Gives (λ change. (change, bytes.new.now)) result (next_change_at before bytes.old.now) }
@@ -53,7 +53,7 @@ fn read_changes_of(alloc: Global, count: u8, bytes: &mut &[u8]) -> Result<Change
     Ok(changes)
 }
 
-/// Changes one by one.
+// Changes one by one.
 #[tactic(auto, unfolding(crate::specs::Reading::singly_at, crate::specs::Reading::tested))]
 fn read_singly(alloc: Global, bytes: &mut &[u8]) -> Result<Changes, WireFault>
     ensures { Gives (λ changes. (changes, bytes.new.now)) result (singly_at bytes.old.now) }
@@ -65,7 +65,7 @@ fn read_singly(alloc: Global, bytes: &mut &[u8]) -> Result<Changes, WireFault>
     read_changes_of(alloc, count, bytes)
 }
 
-/// The values of a run, as changes behind the others.
+// The values of a run, as changes behind the others.
 fn read_run_values(
     changes: &mut Changes,
     first: u8,
@@ -85,7 +85,7 @@ fn read_run_values(
     Ok(())
 }
 
-/// Whether a run may begin at an offset behind a run that ends at the offset `before`.
+// Whether a run may begin at an offset behind a run that ends at the offset `before`.
 #[tactic(auto, unfolding(crate::specs::Reading::is_after))]
 fn may_begin(before: Option<u8>, first: u8) -> bool
     ensures { result ≡ is_after is_apart before first }
@@ -96,7 +96,7 @@ fn may_begin(before: Option<u8>, first: u8) -> bool
     }
 }
 
-/// A run after another, which ends at the offset `before`, as changes behind the others: its last offset.
+// A run after another, which ends at the offset `before`, as changes behind the others: its last offset.
 #[tactic(auto, unfolding(crate::specs::Reading::next_run_at, crate::specs::Reading::tested, crate::specs::Reading::is_after))]
 fn read_run(before: Option<u8>, changes: &mut Changes, bytes: &mut &[u8]) -> Result<u8, WireFault>
     requires { ForSome (last_change changes.old) (λ c. IsSomeAnd before (λ last. c.offset ≤ last)) }
@@ -127,7 +127,7 @@ fn read_runs_of(alloc: Global, count: u16, bytes: &mut &[u8]) -> Result<Changes,
     Ok(changes)
 }
 
-/// Changes in runs.
+// Changes in runs.
 #[tactic(auto, unfolding(crate::specs::Reading::runs_at, crate::specs::Reading::tested))]
 fn read_runs(alloc: Global, bytes: &mut &[u8]) -> Result<Changes, WireFault>
     ensures { Gives (λ changes. (changes, bytes.new.now)) result (whole_runs (runs_at bytes.old.now)) }

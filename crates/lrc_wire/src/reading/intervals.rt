@@ -16,7 +16,7 @@ use lrc_page::Pages;
 use lrc_store::{Interval, Intervals};
 use std::alloc::Global;
 
-/// A page after another.
+// A page after another.
 #[tactic(auto, unfolding(crate::specs::Reading::next_page_at, crate::specs::Reading::tested, crate::specs::Reading::is_after))]
 fn read_next_page(
     version: Version,
@@ -60,7 +60,7 @@ fn read_pages(alloc: Global, version: Version, bytes: &mut &[u8]) -> Result<Page
     read_pages_of(alloc, version, count, bytes)
 }
 
-/// An interval after another, which is known by its node and index.
+// An interval after another, which is known by its node and index.
 #[tactic(auto, unfolding(crate::specs::Reading::next_interval_at, crate::specs::Reading::tested, crate::specs::Reading::is_after))]
 fn read_next_interval(
     alloc: Global,
@@ -86,7 +86,7 @@ fn read_next_interval(
     Ok(Interval::new(node, stamp, pages))
 }
 
-/// What an interval is known by: its node and its index.
+// What an interval is known by: its node and its index.
 fn known_by(interval: &Interval) -> (u8, u32)
     ensures { result ≡ known_by interval.now }
 {
@@ -115,7 +115,7 @@ fn read_intervals_of(
     Ok(intervals)
 }
 
-/// Intervals beside a time of so many nodes.
+// Intervals beside a time of so many nodes.
 #[tactic(auto, unfolding(crate::specs::Reading::intervals_at))]
 fn read_intervals(
     alloc: Global,

@@ -10,7 +10,7 @@ use crate::version::Version;
 use lrc_page::{Page, Size};
 use std::alloc::Global;
 
-/// How many words a page has.
+// How many words a page has.
 #[tactic(auto, unfolding(crate::specs::Reading::size_at, crate::specs::Reading::tested))]
 fn read_size(version: Version, bytes: &mut &[u8]) -> Result<Size, WireFault>
     ensures { Gives (λ size. (words_of size, bytes.new.now)) result (size_at version bytes.old.now) }
@@ -25,7 +25,7 @@ fn read_size(version: Version, bytes: &mut &[u8]) -> Result<Size, WireFault>
     }
 }
 
-/// A value for each word of a page of this size, into a page of zeros.
+// A value for each word of a page of this size, into a page of zeros.
 fn read_values(page: &mut Page, bytes: &mut &[u8]) -> Result<(), WireFault>
     ensures { Gives (λ _. (page.new, bytes.new.now)) result (values_at (length page.old) bytes.old.now) }
 {

@@ -12,7 +12,7 @@ use crate::version::Version;
 use lrc_envelope::{IndexedChanges, Parts};
 use std::alloc::Global;
 
-/// What an interval changed, after another of a lower index.
+// What an interval changed, after another of a lower index.
 #[tactic(auto, unfolding(crate::specs::Reading::next_part_at))]
 fn read_next_part(
     alloc: Global,

@@ -9,7 +9,7 @@ use crate::fault::WireFault;
 use lrc_envelope::MOST_NODES;
 use lrc_time::Time;
 
-/// A node's entry. The entry of the node whose stamp it is, `own`, is at least 1.
+// A node's entry. The entry of the node whose stamp it is, `own`, is at least 1.
 #[tactic(auto, unfolding(crate::specs::Reading::entry_at, crate::specs::Reading::tested))]
 fn read_entry(own: Option<u8>, node: u8, bytes: &mut &[u8]) -> Result<u32, WireFault>
     ensures { Gives (λ n. (n, bytes.new.now)) result (entry_at own node bytes.old.now) }
@@ -21,7 +21,7 @@ fn read_entry(own: Option<u8>, node: u8, bytes: &mut &[u8]) -> Result<u32, WireF
     Ok(entry)
 }
 
-/// Gives an entry that is still 0 its value.
+// Gives an entry that is still 0 its value.
 fn fill(time: &mut Time, node: u8, index: u32)
     requires within { node < length time.old }
     requires empty { entry time.old node ≡ 0 }
@@ -32,7 +32,7 @@ fn fill(time: &mut Time, node: u8, index: u32)
     }
 }
 
-/// The entries of so many nodes.
+// The entries of so many nodes.
 fn read_entries(own: Option<u8>, nodes: u8, bytes: &mut &[u8]) -> Result<Time, WireFault>
     requires some { 1 ≤ nodes }
     requires few { nodes ≤ MOST_NODES }

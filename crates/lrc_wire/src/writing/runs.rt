@@ -11,14 +11,14 @@ use bytes::BufMut;
 use lrc_page::{Change, Changes};
 use std::alloc::AllocError;
 
-/// Whether the second offset is the one after the first.
+// Whether the second offset is the one after the first.
 fn is_next(first: Change, second: Change) -> bool
     ensures { result ≡ (second.offset == first.offset + 1) }
 {
     u16::from(second.offset) == u16::from(first.offset) + 1
 }
 
-/// The place behind the run that begins at `start`.
+// The place behind the run that begins at `start`.
 fn run_end(changes: &Changes, start: usize) -> usize
     requires { start < length changes.now }
     ensures exact { result ≡ start + lead (drop start changes.now) }
@@ -50,7 +50,7 @@ pub(super) fn count_runs(changes: &Changes) -> usize
     count
 }
 
-/// The values of the changes from `start` on, up to `end`.
+// The values of the changes from `start` on, up to `end`.
 #[tactic(auto, unfolding(crate::specs::Spelling::numbers, crate::specs::Spelling::number))]
 fn put_run_values(
     out: &mut Vec<u8>,
@@ -70,7 +70,7 @@ fn put_run_values(
     Ok(())
 }
 
-/// The run from `start` on, up to `end`.
+// The run from `start` on, up to `end`.
 #[tactic(auto, unfolding(crate::specs::Spelling::run, crate::specs::Spelling::byte))]
 fn put_run(out: &mut Vec<u8>, changes: &Changes, start: usize, end: usize) -> Result<(), AllocError>
     requires exact { end ≡ start + lead (drop start changes.now) }

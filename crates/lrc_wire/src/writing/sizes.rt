@@ -27,8 +27,8 @@ fn interval_len(item: &Interval) -> usize
     3 + time_len(&item.stamp) + 2 * item.pages.len()
 }
 
-/// How many bytes there are up to the end of the news, with so many before it. None where it is more than a body may
-/// have.
+// How many bytes there are up to the end of the news, with so many before it. None where it is more than a body may
+// have.
 fn news_len(before: usize, told: &News) -> Option<usize>
     requires { before ≤ 5 }
     ensures within { IfSome result (λ n. n ≡ before + length (news told.now.time told.now.intervals)) }
@@ -45,7 +45,7 @@ fn news_len(before: usize, told: &News) -> Option<usize>
     Some(len)
 }
 
-/// The same of indices after two bytes.
+// The same of indices after two bytes.
 fn indices_len(list: &Indices) -> Option<usize>
     ensures within { IfSome result (λ n. n ≡ 2 + length (indices list.now)) }
     ensures small { IfSome result (λ n. n ≤ MOST_BODY_BYTES) }
@@ -64,7 +64,7 @@ fn part_len(item: &IndexedChanges) -> usize
     6 + 2 * count_runs(&item.changes) + 8 * item.changes.len()
 }
 
-/// The same of parts after two bytes.
+// The same of parts after two bytes.
 fn parts_len(list: &Parts) -> Option<usize>
     ensures within { IfSome result (λ n. n ≡ 2 + length (parts Two runs_of list.now)) }
     ensures small { IfSome result (λ n. n ≤ MOST_BODY_BYTES) }
