@@ -23,7 +23,7 @@ use Rattle.lrc_protocol.proofs.Worlds.{IsEntry}
 use Rattle.lrc_protocol.proofs.Induction.{Comes}
 use Rattle.lrc_invariants.proofs.Reached.{IsReached}
 use Rattle.lrc_coherence.specs.Written.{made_stamps, changes_on, page_history, open_record}
-use Rattle.lrc_coherence.proofs.History.{History, closed_by}
+use Rattle.lrc_coherence.proofs.Closed.History.{History, closed_by}
 -- ---- stamps and changes
 
 pub use Rattle.lrc_coherence.specs.Known.{AreKnown}

@@ -3,12 +3,12 @@ use Rattle.std.proofs.Common.{ℕ}
 use Rattle.lrc_lang.specs.declared.program.Program.{Program}
 use Rattle.lrc_protocol.specs.Node.{OptionsRecord}
 use Rattle.lrc_coherence.proofs.Laws.{StampsLaw, BasesLaw, CopiesLaw, ReadsLaw}
-use Rattle.lrc_coherence.proofs.StampLaw.{stamps_law}
-use Rattle.lrc_coherence.proofs.WriteLaws.{writes_law, turns_law}
-use Rattle.lrc_coherence.proofs.RequestLaws.{requests_law}
-use Rattle.lrc_coherence.proofs.CollectLaw.{bases_law}
-use Rattle.lrc_coherence.proofs.FitLaw.{copies_law}
-use Rattle.lrc_coherence.proofs.LazyReads.{reads_law}
+use Rattle.lrc_coherence.proofs.Stamped.Law.{stamps_law}
+use Rattle.lrc_coherence.proofs.Written.Laws.{writes_law, turns_law}
+use Rattle.lrc_coherence.proofs.Asked.Laws.{requests_law}
+use Rattle.lrc_coherence.proofs.Collected.Law.{bases_law}
+use Rattle.lrc_coherence.proofs.Fitting.Law.{copies_law}
+use Rattle.lrc_coherence.proofs.Lazy.Reads.{reads_law}
 
 module _ (program : Program) (nodes : ℕ) (options : OptionsRecord) where
   stamps : StampsLaw program nodes options

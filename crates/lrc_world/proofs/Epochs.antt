@@ -16,9 +16,9 @@ use Rattle.lrc_protocol.specs.Log.{Logged}
 use Rattle.lrc_protocol.specs.Traced.{trace_of}
 use Rattle.lrc_protocol.specs.World.{World as Run, run_of}
 use Rattle.lrc_invariants.proofs.Reached.{IsReached}
-use Rattle.lrc_coherence.proofs.TraceNotes.{HasSome}
-use Rattle.lrc_coherence.proofs.TraceRuns.{IsTraceIn, IsAccessAt}
-use Rattle.lrc_coherence.proofs.TraceWorlds.{all_traced}
+use Rattle.lrc_coherence.proofs.Traced.Notes.{HasSome}
+use Rattle.lrc_coherence.proofs.Traced.Runs.{IsTraceIn, IsAccessAt}
+use Rattle.lrc_coherence.proofs.Traced.Worlds.{all_traced}
 use Rattle.lrc_world.specs.Epochs.{IsOfAccess}
 
 by_kind : (run : Run) (position node word : ℕ) (is_write : Bool) → AccessesBy is_write run.acts position node word → Accesses run.acts position node word

@@ -19,8 +19,8 @@ use Rattle.lrc_invariants.proofs.Timed.{keeps, synchronized}
 use Rattle.lrc_invariants.proofs.Timely.{get_within}
 use Rattle.lrc_invariants.proofs.TokenCounts.{one_place}
 use Rattle.lrc_invariants.proofs.TokenWorlds.{all_tokens}
-use Rattle.lrc_coherence.proofs.AllExpected.{accepted}
-use Rattle.lrc_coherence.proofs.ReceiverWorlds.{in_flight, all_to}
+use Rattle.lrc_coherence.proofs.Received.AllExpected.{accepted}
+use Rattle.lrc_coherence.proofs.Received.ReceiverWorlds.{in_flight, all_to}
 use Rattle.lrc_world.specs.declared.report.Report.{Report}
 use Rattle.lrc_world.specs.Moments.{Throughout, RefusesNone, HasEachToken, AreCovered}
 use Rattle.lrc_world.specs.Report.{IsReportOf}

@@ -14,7 +14,7 @@ use Rattle.lrc_protocol.specs.Node.{OptionsRecord}
 use Rattle.lrc_invariants.proofs.Timed.{synchronized}
 use Rattle.lrc_invariants.proofs.Reached.{IsReached}
 use Rattle.lrc_coherence.proofs.Whole.{reads}
-use Rattle.lrc_coherence.proofs.LazyTheorem.{is_plain, is_plain_to_race, is_race_free}
+use Rattle.lrc_coherence.proofs.Lazy.Theorem.{is_plain, is_plain_to_race, is_race_free}
 use Rattle.lrc_protocol.specs.World.{World as Run, run_of}
 use Rattle.lrc_node.specs.declared.end.End.{End}
 use Rattle.lrc_world.specs.declared.report.Report.{Report}

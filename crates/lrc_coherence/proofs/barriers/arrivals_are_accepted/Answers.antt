@@ -1,4 +1,4 @@
-use Rattle.lrc_coherence.proofs.ArriveLaw.{arrival_expected}
+use Rattle.lrc_coherence.proofs.Arriving.ArriveLaw.{arrival_expected}
 use Rattle.lrc_coherence.proofs.barriers.arrivals_are_accepted.Goals as goal
 
 pub returns : goal.returns

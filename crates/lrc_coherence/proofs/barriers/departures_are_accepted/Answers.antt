@@ -1,4 +1,4 @@
-use Rattle.lrc_coherence.proofs.DepartNews.{depart_expected}
+use Rattle.lrc_coherence.proofs.Arriving.DepartNews.{depart_expected}
 use Rattle.lrc_coherence.proofs.barriers.departures_are_accepted.Goals as goal
 
 pub returns : goal.returns

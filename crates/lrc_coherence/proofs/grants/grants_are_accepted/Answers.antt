@@ -1,4 +1,4 @@
-use Rattle.lrc_coherence.proofs.StampGrants.{grant_expected}
+use Rattle.lrc_coherence.proofs.Stamped.Grants.{grant_expected}
 use Rattle.lrc_coherence.proofs.grants.grants_are_accepted.Goals as goal
 
 pub returns : goal.returns

@@ -1,5 +1,5 @@
-use Rattle.lrc_coherence.proofs.History.{history_of}
-use Rattle.lrc_coherence.proofs.StampLaw.{stamps_law}
+use Rattle.lrc_coherence.proofs.Closed.History.{history_of}
+use Rattle.lrc_coherence.proofs.Stamped.Law.{stamps_law}
 use Rattle.lrc_coherence.proofs.made.what_is_known_was_made.Goals as goal
 
 pub returns : goal.returns

@@ -1,4 +1,4 @@
-use Rattle.lrc_coherence.proofs.Stored.{stores_just}
+use Rattle.lrc_coherence.proofs.Closed.Stored.{stores_just}
 use Rattle.lrc_coherence.proofs.made.what_is_stored_is_what_is_not_collected.Goals as goal
 
 pub returns : goal.returns

@@ -1,4 +1,4 @@
-use Rattle.lrc_coherence.proofs.MadeWorlds.{knows}
+use Rattle.lrc_coherence.proofs.Closed.MadeWorlds.{knows}
 use Rattle.lrc_coherence.proofs.made.what_is_told_was_made.Goals as goal
 
 pub returns : goal.returns

@@ -1,4 +1,4 @@
-use Rattle.lrc_coherence.proofs.ReceiverWorlds.{in_flight, all_to}
+use Rattle.lrc_coherence.proofs.Received.ReceiverWorlds.{in_flight, all_to}
 use Rattle.lrc_coherence.proofs.messages.messages_go_from_node_to_node.Goals as goal
 
 pub returns : goal.returns

@@ -1,4 +1,4 @@
-use Rattle.lrc_coherence.proofs.AllExpected.{expected, accepted}
+use Rattle.lrc_coherence.proofs.Received.AllExpected.{expected, accepted}
 use Rattle.lrc_coherence.proofs.messages.no_taken_message_is_unexpected.Goals as goal
 
 pub returns-clause-pending : goal.returns-clause-pending

@@ -1,8 +1,8 @@
 use Rattle.lrc_invariants.proofs.Reached.{IsReached}
-use Rattle.lrc_coherence.proofs.CollectLaw.{asked_have_bases}
-use Rattle.lrc_coherence.proofs.RequestBases.{page_request-accepted}
-use Rattle.lrc_coherence.proofs.RequestAccepted.{changes_reply-accepted, page_reply-accepted}
-use Rattle.lrc_coherence.proofs.RequestExpected.{changes_request-accepted}
+use Rattle.lrc_coherence.proofs.Collected.Law.{asked_have_bases}
+use Rattle.lrc_coherence.proofs.Asked.Bases.{page_request-accepted}
+use Rattle.lrc_coherence.proofs.Asked.Accepted.{changes_reply-accepted, page_reply-accepted}
+use Rattle.lrc_coherence.proofs.Asked.Expected.{changes_request-accepted}
 use Rattle.lrc_coherence.proofs.requests.messages_for_pages_are_accepted.Goals as goal
 
 pub returns-clause-changes_request : goal.returns-clause-changes_request

@@ -1,5 +1,5 @@
 use Rattle.lrc_coherence.proofs.Laws.{AwaitsBase}
-use Rattle.lrc_coherence.proofs.RequestLaws.{are_awaited, changes_request-awaited, changes_reply-awaited}
+use Rattle.lrc_coherence.proofs.Asked.Laws.{are_awaited, changes_request-awaited, changes_reply-awaited}
 use Rattle.lrc_coherence.proofs.requests.requests_and_replies_are_awaited.Goals as goal
 
 pub returns-clause-page_request : goal.returns-clause-page_request

@@ -1,4 +1,4 @@
-use Rattle.lrc_coherence.proofs.RequestOnce.{on_its_way_once}
+use Rattle.lrc_coherence.proofs.Asked.Once.{on_its_way_once}
 use Rattle.lrc_coherence.proofs.requests.what_is_awaited_is_on_its_way_once.Goals as goal
 
 pub returns : goal.returns

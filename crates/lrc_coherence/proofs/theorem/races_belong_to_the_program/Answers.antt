@@ -1,5 +1,5 @@
 use Rattle.lrc_coherence.proofs.Whole.{reads}
-use Rattle.lrc_coherence.proofs.LazyTheorem.{is_race_free}
+use Rattle.lrc_coherence.proofs.Lazy.Theorem.{is_race_free}
 use Rattle.lrc_coherence.proofs.theorem.races_belong_to_the_program.Goals as goal
 
 pub returns : goal.returns

@@ -1,5 +1,5 @@
 use Rattle.lrc_coherence.proofs.Whole.{reads}
-use Rattle.lrc_coherence.proofs.LazyTheorem.{is_plain_to_race}
+use Rattle.lrc_coherence.proofs.Lazy.Theorem.{is_plain_to_race}
 use Rattle.lrc_coherence.proofs.theorem.runs_are_plain_up_to_their_first_race.Goals as goal
 
 pub returns : goal.returns

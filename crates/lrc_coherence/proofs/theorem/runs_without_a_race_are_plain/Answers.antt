@@ -1,5 +1,5 @@
 use Rattle.lrc_coherence.proofs.Whole.{reads}
-use Rattle.lrc_coherence.proofs.LazyTheorem.{is_plain}
+use Rattle.lrc_coherence.proofs.Lazy.Theorem.{is_plain}
 use Rattle.lrc_coherence.proofs.theorem.runs_without_a_race_are_plain.Goals as goal
 
 pub returns : goal.returns

@@ -1,4 +1,4 @@
-use Rattle.lrc_coherence.proofs.TraceLaws.{races_named}
+use Rattle.lrc_coherence.proofs.Traced.Laws.{races_named}
 use Rattle.lrc_coherence.proofs.traces.races_of_the_traces_are_those_of_the_run.Goals as goal
 
 pub returns : goal.returns

@@ -1,4 +1,4 @@
-use Rattle.lrc_coherence.proofs.TraceLaws.{are_of_run, are_traces, epochs_agree, all_rise}
+use Rattle.lrc_coherence.proofs.Traced.Laws.{are_of_run, are_traces, epochs_agree, all_rise}
 use Rattle.lrc_coherence.proofs.traces.traces_are_those_of_the_run.Goals as goal
 
 pub returns-clause-of_run : goal.returns-clause-of_run

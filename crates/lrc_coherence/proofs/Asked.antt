@@ -1,0 +1,19 @@
+-- Of requests for pages and changes, and what is awaited.
+pub mod Wishes
+pub mod Needs
+pub mod Turns
+pub mod Worlds
+pub mod Upkeep
+pub mod Laws
+pub mod Replies
+pub mod Sound
+pub mod Accepted
+pub mod Stored
+pub mod Expected
+pub mod Once
+pub mod Bases
+pub mod Departs
+pub mod Lines
+pub mod Former
+pub mod Notes
+pub mod Told
