@@ -30,7 +30,7 @@ impl Model for Asked {
 }
 
 impl Asked {
-    /// Whether these are the changes that are asked of this maker.
+    // Whether these are the changes that are asked of this maker.
     fn is_of(&self, maker: u8, parts: &[IndexedChanges]) -> bool
         ensures { result ≡ asks maker (map (λ part. part.index) parts.now) self.now }
     {
@@ -46,7 +46,7 @@ impl Asked {
     }
 }
 
-/// Whether these are the indices of these parts.
+// Whether these are the indices of these parts.
 fn are_of(indices: &[u32], parts: &[IndexedChanges]) -> bool
     ensures { result ≡ pointwise ◌==◌ indices.now (map (λ part. part.index) parts.now) }
 {
@@ -89,7 +89,7 @@ pub(crate) fn ask(alloc: Global, nodes: u8, keys: &[Key]) -> Result<Vec<Asked>, 
     Ok(all)
 }
 
-/// Adds what is asked of a maker, where it is anything.
+// Adds what is asked of a maker, where it is anything.
 fn put_some(all: &mut Vec<Asked>, maker: u8, indices: Indices) -> Result<(), AllocError>
     ensures { OnOk result (all.new.items ≡ all.old.items ++ option_to_list (some_asked maker indices)) }
 {
@@ -99,7 +99,7 @@ fn put_some(all: &mut Vec<Asked>, maker: u8, indices: Indices) -> Result<(), All
     Ok(())
 }
 
-/// The indices of a maker's intervals among these keys, ascending.
+// The indices of a maker's intervals among these keys, ascending.
 fn ask_maker(alloc: Global, keys: &[Key], maker: u8) -> Result<Indices, AllocError>
     requires { AreAskable keys.now }
     ensures { IfOk result (λ indices. indices ≡ indices_of keys.now maker) }
@@ -109,7 +109,7 @@ fn ask_maker(alloc: Global, keys: &[Key], maker: u8) -> Result<Indices, AllocErr
     Ok(Indices::from_ascending(list))
 }
 
-/// The indices of a maker's intervals among these keys, in their order.
+// The indices of a maker's intervals among these keys, in their order.
 fn indices_by(alloc: Global, keys: &[Key], maker: u8) -> Result<Vec<u32>, AllocError>
     ensures { IfOk result (λ list. list.items ≡ map (λ key. key.index) (filter (λ key. key.node == maker) keys.now)) }
 {

@@ -117,7 +117,7 @@ impl Mail {
     }
 }
 
-/// For each of so many nodes, that no message was sent to it.
+// For each of so many nodes, that no message was sent to it.
 fn none_sent(alloc: Global, nodes: u8) -> Result<Vec<u64>, AllocError>
     ensures { IfOk result (λ sent. sent.items ≡ replicate nodes 0) }
 {
@@ -128,7 +128,7 @@ fn none_sent(alloc: Global, nodes: u8) -> Result<Vec<u64>, AllocError>
     Ok(sent)
 }
 
-/// For each of so many nodes, that no message from it was taken.
+// For each of so many nodes, that no message from it was taken.
 fn none_taken(alloc: Global, nodes: u8) -> Result<Vec<Numbers>, AllocError>
     ensures { IfOk result (λ taken. taken.items ≡ replicate nodes []) }
 {
@@ -139,7 +139,7 @@ fn none_taken(alloc: Global, nodes: u8) -> Result<Vec<Numbers>, AllocError>
     Ok(taken)
 }
 
-/// The number of the next message to a node, which counts as sent, unless the number would be too large.
+// The number of the next message to a node, which counts as sent, unless the number would be too large.
 fn next_number(sent: &mut [u64], to: u8, first: u32) -> Option<u32>
     requires counts { AreCounts sent.old }
     requires to { to < length sent.old }
@@ -154,7 +154,7 @@ fn next_number(sent: &mut [u64], to: u8, first: u32) -> Option<u32>
     Some(number)
 }
 
-/// The letters with their numbers, each of which counts as sent.
+// The letters with their numbers, each of which counts as sent.
 fn number_all(
     sent: &mut [u64],
     me: u8,

@@ -66,7 +66,7 @@ impl Numbers {
     }
 }
 
-/// Puts a number among spans at a place: those before it end below the number, the others begin above it.
+// Puts a number among spans at a place: those before it end below the number, the others begin above it.
 fn put(spans: &mut Vec<Span>, place: usize, number: u32) -> Result<(), AllocError>
     requires are { AreSpans spans.old.items }
     requires bound { place ≤ length spans.old.items }
@@ -96,7 +96,7 @@ fn put(spans: &mut Vec<Span>, place: usize, number: u32) -> Result<(), AllocErro
     Ok(())
 }
 
-/// Whether the span at a place begins just above a number. It doesn't begin below.
+// Whether the span at a place begins just above a number. It doesn't begin below.
 fn begins_next(spans: &[Span], place: usize, number: u32) -> bool
     requires { (d : Span) → place < length spans.now → number < (slice_index_or spans.now place d).first }
     ensures yes { result ≡ true → (place < length spans.now) × ((d : Span) → (slice_index_or spans.now place d).first ≡ number + 1) }
@@ -105,7 +105,7 @@ fn begins_next(spans: &[Span], place: usize, number: u32) -> bool
     place < spans.len() && spans[place].first - number == 1
 }
 
-/// Whether the span before a place ends just below a number. It doesn't end above.
+// Whether the span before a place ends just below a number. It doesn't end above.
 fn ended_before(spans: &[Span], place: usize, number: u32) -> bool
     requires are { AreSpans spans.now }
     requires bound { place ≤ length spans.now }
@@ -116,8 +116,8 @@ fn ended_before(spans: &[Span], place: usize, number: u32) -> bool
     place > 0 && number - spans[place - 1].last == 1
 }
 
-/// Lets the span at a place, which ends just below a number, end with that number, or, where the next span begins just
-/// above it, with that span.
+// Lets the span at a place, which ends just below a number, end with that number, or, where the next span begins just
+// above it, with that span.
 fn lengthen(spans: &mut Vec<Span>, place: usize, number: u32, joins: bool)
     requires are { AreSpans spans.old.items }
     requires before { AllWithin (λ span. span.last < number) spans.old.items 0 place }
@@ -142,7 +142,7 @@ fn lengthen(spans: &mut Vec<Span>, place: usize, number: u32, joins: bool)
     }
 }
 
-/// The place of the first span that does not end below this number.
+// The place of the first span that does not end below this number.
 fn place_of(spans: &[Span], number: u32) -> usize
     requires { AreSpans spans.now }
     ensures bound { result ≤ length spans.now }

@@ -33,7 +33,7 @@ pub(crate) fn page_request(keeper: u8, page: u16) -> Letter
     }
 }
 
-/// The request of changes of a page from their maker.
+// The request of changes of a page from their maker.
 fn changes_request(alloc: Global, page: u16, asked: &Asked) -> Result<Letter, AllocError>
     requires page { page < MOST_PAGES }
     requires some { 1 ≤ length asked.now.indices }

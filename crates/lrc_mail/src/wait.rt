@@ -135,7 +135,7 @@ impl Wait {
     }
 }
 
-/// The changes of this page that were asked of this maker have come.
+// The changes of this page that were asked of this maker have come.
 fn take_changes_of_all(needs: &mut [Need], page: u16, maker: u8)
     ensures { needs.new ≡ map (with_changes page maker) needs.old }
 {
@@ -144,7 +144,7 @@ fn take_changes_of_all(needs: &mut [Need], page: u16, maker: u8)
     }
 }
 
-/// This page's base copy has come. No two needs are of one page.
+// This page's base copy has come. No two needs are of one page.
 fn take_page_of_all(needs: &mut [Need], page: u16, copy: Box<Page>)
     requires { AllPairs (λ a b. a.page ≢ b.page) needs.old }
     ensures { needs.new ≡ map (with_page page copy.value) needs.old }

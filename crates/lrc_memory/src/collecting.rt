@@ -1,6 +1,6 @@
 // Base copies, their keepers, and collections.
 
-ghost use Rattle.std.specs.Prelude.{◌≡◌, ◌<◌, ◌≤◌, ◌==◌, ◌&&◌, filter, slice_index, IfOk, OnOk, MatchOption, Some, None, length, true};
+ghost use Rattle.std.specs.Prelude.{◌≡◌, ◌<◌, ◌≤◌, ◌==◌, ◌&&◌, filter, slice_index, IfOk, OnErr, OnOk, MatchOption, Some, None, length, true};
 ghost use Rattle.std.specs.Prelude.{map, min, option_map, unwrap_or};
 ghost use Rattle.lrc_time.specs.Time.{entry};
 ghost use Rattle.lrc_protocol.specs.Copy.{is_readable, changes_of};
@@ -33,6 +33,7 @@ impl Memory {
         ensures taken { self.new ≡ with_memory self.old (with_keepers self.old.memory) }
         ensures same { SameMemory self.old self.new }
     {
+        // For the proof: there are at most `MOST_PAGES` pages.
         let _few = self.table.size();
         take_keepers(&self.store, &mut self.keepers);
     }
@@ -41,16 +42,18 @@ impl Memory {
     pub fn kept_pages(&self) -> Result<Pages, AllocError>
         ensures pages { IfOk result (λ pages. pages ≡ kept_pages self.now.me self.now.memory) }
     {
+        // For the proof: there are at most `MOST_PAGES` pages.
         let _few = self.table.size();
         kept_pages(*self.named.allocator(), &self.store, self.me, &self.keepers)
     }
 
-    /// Keeps the values of a valid copy as the base copy of its page.
+    /// Keeps the values of a valid copy as the base copy of its page. An error changes nothing.
     pub fn keep_base(&mut self, page: u16) -> Result<(), AllocError>
         requires in_range { page < length self.old.memory.copies }
         requires readable { is_readable (copy_at self.old.memory page) ≡ true }
         requires closed { changes_of (copy_at self.old.memory page) ≡ None }
         ensures ok { OnOk result (self.new ≡ with_memory self.old (with_base self.old.memory page)) }
+        ensures err { OnErr result (self.new ≡ self.old) }
         ensures same { SameMemory self.old self.new }
     {
         self.table.keep_base(page)
@@ -75,11 +78,12 @@ impl Memory {
     }
 }
 
-/// Drops the base copies of the pages that other nodes keep.
+// Drops the base copies of the pages that other nodes keep.
 fn drop_bases(table: &mut PageTable, me: u8, keepers: &[u8])
     requires { length keepers.now ≡ length table.old.copies }
     ensures { table.new ≡ without_bases me keepers.now table.old }
 {
+    // For the proof: there are at most `MOST_PAGES` pages.
     let _few = table.size();
     for (page, keeper) in keepers.iter().enumerate() {
         if *keeper != me {
@@ -88,7 +92,7 @@ fn drop_bases(table: &mut PageTable, me: u8, keepers: &[u8])
     }
 }
 
-/// Each page that an interval names gets the lowest node of those that name it as its keeper.
+// Each page that an interval names gets the lowest node of those that name it as its keeper.
 fn take_keepers(store: &Store, keepers: &mut Vec<u8>)
     requires { length keepers.old.items ≤ MOST_PAGES }
     ensures { keepers.new.items
@@ -101,7 +105,7 @@ fn take_keepers(store: &Store, keepers: &mut Vec<u8>)
     }
 }
 
-/// The lowest node that named the page, found along the page's list.
+// The lowest node that named the page, found along the page's list.
 fn lowest_namer(store: &Store, page: u16) -> Option<u8>
     ensures { result ≡ least (namers_of store.now page) }
 {
@@ -116,7 +120,7 @@ fn lowest_namer(store: &Store, page: u16) -> Option<u8>
     lowest
 }
 
-/// The lower of two nodes, where the first may be missing.
+// The lower of two nodes, where the first may be missing.
 fn lower(first: Option<u8>, second: u8) -> u8
     ensures { result ≡ unwrap_or (option_map (min second) first) second }
 {
@@ -126,7 +130,7 @@ fn lower(first: Option<u8>, second: u8) -> u8
     }
 }
 
-/// The pages that this node keeps and that an interval names, ascending.
+// The pages that this node keeps and that an interval names, ascending.
 fn kept_pages(alloc: Global, store: &Store, me: u8, keepers: &[u8]) -> Result<Pages, AllocError>
     requires { length keepers.now ≤ MOST_PAGES }
     ensures { IfOk result (λ pages. pages ≡ filter (λ page. is_named (intervals_of store.now) page && (slice_index keepers.now page == me))
@@ -141,7 +145,7 @@ fn kept_pages(alloc: Global, store: &Store, me: u8, keepers: &[u8]) -> Result<Pa
     Ok(pages)
 }
 
-/// Whether this node keeps the page and an interval names it.
+// Whether this node keeps the page and an interval names it.
 fn is_kept(store: &Store, me: u8, keepers: &[u8], page: u16) -> bool
     requires { page < length keepers.now }
     ensures { result ≡ (is_named (intervals_of store.now) page && (slice_index keepers.now page == me)) }

@@ -55,7 +55,7 @@ impl Memory {
         Ok(())
     }
 
-    /// Keeps the changes of a stored notice of which none are known.
+    // Keeps the changes of a stored notice of which none are known.
     fn keep(&mut self, key: Key, changes: Changes)
         requires awaited { notice_at self.old.memory.store key ≡ Some (unread key.page) }
         requires sized { All (λ c. c.offset < words_of self.old.size) changes }
@@ -75,13 +75,14 @@ impl Memory {
         let alloc = *self.named.allocator();
         let missing = self.lacking(page)?;
         let unknown = unknown_of(alloc, &self.store, &missing)?;
+        // For the proof: there are at most `MOST_PAGES` pages.
         let _few = self.table.size();
         let keeper = self.keepers[usize::from(page)];
         let base = base_due(self.table.state(page), keeper);
         Need::new(alloc, self.collected.nodes(), page, base, missing, &unknown)
     }
 
-    /// The notices of a page that its copy lacks, in the order in which their changes are applied.
+    // The notices of a page that its copy lacks, in the order in which their changes are applied.
     fn lacking(&self, page: u16) -> Result<Vec<Key>, AllocError>
         requires { page < length self.now.memory.copies }
         ensures keys { IfOk result (λ keys. keys.items ≡ lacking self.now.memory page) }
@@ -107,6 +108,7 @@ impl Memory {
         ensures same { SameMemory self.old self.new }
     {
         let page = need.page();
+        // For the proof: every copy is whole.
         let _whole = self.table.size();
         install_base(&mut self.table, page, need.base());
         patch_all(&mut self.table, &self.store, page, need.missing());
@@ -114,8 +116,8 @@ impl Memory {
     }
 }
 
-/// The notices of a page that a time does not know, in the order in which their changes are applied. With `in_step` the time
-/// once was the store's, and the page's list is followed no further than to the newest notice that it knows.
+// The notices of a page that a time does not know, in the order in which their changes are applied. With `in_step` the time
+// once was the store's, and the page's list is followed no further than to the newest notice that it knows.
 fn missing(store: &Store, page: u16, since: &Time, in_step: bool) -> Result<Vec<Key>, AllocError>
     requires since { length since.now ≡ length store.now.last }
     requires in_step { IsTrue in_step → KnowsTheFirst store.now page since.now }
@@ -129,7 +131,7 @@ fn missing(store: &Store, page: u16, since: &Time, in_step: bool) -> Result<Vec<
     }
 }
 
-/// Puts the base copy that has come in the place of an absent copy, which is invalid then. An invalid copy stays.
+// Puts the base copy that has come in the place of an absent copy, which is invalid then. An invalid copy stays.
 fn install_base(table: &mut PageTable, page: u16, base: &Base)
     requires in_range { page < length table.old.copies }
     requires fit { is_mendable table.old.size (seen_in (tables.copy_at table.old page).state [] (tables.copy_at table.old page)) (seen_base base.now) ≡ true }
@@ -141,7 +143,7 @@ fn install_base(table: &mut PageTable, page: u16, base: &Base)
     }
 }
 
-/// Writes the changes of these keys, where they are known, into an invalid copy of a page.
+// Writes the changes of these keys, where they are known, into an invalid copy of a page.
 fn patch_all(table: &mut PageTable, store: &Store, page: u16, keys: &[Key])
     requires in_range { page < length table.old.copies }
     requires invalid { (tables.copy_at table.old page).state ≡ State.Invalid }
@@ -155,7 +157,7 @@ fn patch_all(table: &mut PageTable, store: &Store, page: u16, keys: &[Key])
     }
 }
 
-/// The changes of a key, and none where they are not known.
+// The changes of a key, and none where they are not known.
 fn changes_or_none(alloc: Global, store: &Store, key: Key) -> Result<Changes, AllocError>
     ensures { IfOk result (λ changes. changes ≡ changes_or_none store.now key) }
 {
@@ -165,7 +167,7 @@ fn changes_or_none(alloc: Global, store: &Store, key: Key) -> Result<Changes, Al
     }
 }
 
-/// The keys of which no changes are known.
+// The keys of which no changes are known.
 fn unknown_of(alloc: Global, store: &Store, keys: &[Key]) -> Result<Vec<Key>, AllocError>
     ensures { IfOk result (λ unknown. unknown.items ≡ unknown_of store.now keys.now) }
 {
@@ -178,7 +180,7 @@ fn unknown_of(alloc: Global, store: &Store, keys: &[Key]) -> Result<Vec<Key>, Al
     Ok(unknown)
 }
 
-/// A base copy is due from the keeper where the copy is absent.
+// A base copy is due from the keeper where the copy is absent.
 fn base_due(state: State, keeper: u8) -> Base
     ensures { seen_base result ≡ base_in state keeper }
 {

@@ -32,8 +32,8 @@ impl Memory {
         Ok(())
     }
 
-    /// Learns one interval, which follows the last one added of its node. With `in_step` the time before was what the store had
-    /// of each node when the learning began.
+    // Learns one interval, which follows the last one added of its node. With `in_step` the time before was what the store had
+    // of each node when the learning began.
     fn learn_one(
         &mut self,
         before: &Time,
@@ -54,7 +54,7 @@ impl Memory {
         Ok(())
     }
 
-    /// Makes a valid copy of a page invalid, at a time before the write of another node is known. Another copy stays.
+    // Makes a valid copy of a page invalid, at a time before the write of another node is known. Another copy stays.
     fn invalidate(&mut self, before: &Time, in_step: bool, page: u16) -> Result<(), AllocError>
         requires before { length before.now ≡ length self.old.memory.store.last }
         requires in_step { IsTrue in_step → WasLast self.old.memory.store before.now }

@@ -133,6 +133,7 @@ impl Memory {
         ensures ok { OnOk result (self.new ≡ with_memory self.old (with_interval self.old.me stamp.now self.old.memory)) }
         ensures same { SameMemory self.old self.new }
     {
+        // For the proof: every copy is whole.
         let _whole = self.table.size();
         let pages = self.table.close()?;
         let interval = Interval::new(self.me, stamp.copy(), pages);
@@ -145,7 +146,7 @@ impl Memory {
     }
 }
 
-/// Sets the index for each of these pages.
+// Sets the index for each of these pages.
 fn name_pages(named: &mut Vec<u32>, pages: &[u16], index: u32)
     requires { All (λ page. page < length named.old.items) pages.now }
     ensures { named.new.items ≡ fold (λ named page. slice_set named page index) named.old.items pages.now }
@@ -155,7 +156,7 @@ fn name_pages(named: &mut Vec<u32>, pages: &[u16], index: u32)
     }
 }
 
-/// This many equal times.
+// This many equal times.
 fn copies_of(alloc: Global, time: &Time, count: usize) -> Result<Vec<Time>, AllocError>
     ensures { IfOk result (λ times. times.items ≡ replicate count time.now) }
 {

@@ -34,6 +34,7 @@ pub(crate) fn settle_page(
     ensures sized { ForSome (pending_changes (copy_at table.old page))
         (λ changes. All (λ c. c.offset < words_of table.old.size) changes) }
 {
+    // For the proof: every copy is whole.
     let _whole = table.size();
     if let Some(changes) = table.settle(page)? {
         let index = named[usize::from(page)];

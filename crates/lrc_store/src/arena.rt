@@ -35,7 +35,7 @@ impl Model for Noted {
 }
 
 impl Noted {
-    /// Keeps the changes.
+    // Keeps the changes.
     fn keep(&mut self, changes: Changes)
         ensures { self.new ≡ record self.old { changes = Some changes } }
     {
@@ -172,7 +172,7 @@ impl Arena {
     }
 }
 
-/// Adds the interval's notices, for which there is room, without changes.
+// Adds the interval's notices, for which there is room, without changes.
 fn add_notices(notices: &mut Vec<Noted>, interval: &Interval)
     requires room { vec_len notices.old + length interval.now.pages ≤ vec_capacity notices.old }
     ensures { notices.new.items ≡ notices.old.items ++ map (fresh_in interval.now) interval.now.pages }
@@ -196,7 +196,7 @@ fn add_notices(notices: &mut Vec<Noted>, interval: &Interval)
     }
 }
 
-/// Where this page stands among pages that ascend.
+// Where this page stands among pages that ascend.
 fn place_of(pages: &[u16], page: u16) -> Option<usize>
     requires { IsRising pages.now }
     ensures { result ≡ position (λ named. named == page) pages.now }

@@ -65,6 +65,7 @@ impl Interval {
         requires begun { 1 ≤ entry stamp node }
         ensures { result ≡ record { node = node; stamp = stamp; pages = pages } }
     {
+        // For the proof: the pages ascend, below `MOST_PAGES`.
         let _few = pages.len();
         Interval { node, stamp, pages }
     }

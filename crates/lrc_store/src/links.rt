@@ -64,6 +64,7 @@ pub(crate) fn link_nodes(by_node: &mut Nodes, arena: &Arena)
     ensures starts { AreStarts by_node.new.starts (map interval_of arena.now.entries) }
     ensures lists { by_node.new.lists ≡ by_node.old.lists }
 {
+    // For the proof: there are no more links than their room, and at most `MOST_ENTRIES`.
     let _room = by_node.len();
     by_node.clear();
     let mut start = 0;
@@ -82,6 +83,7 @@ pub(crate) fn link_pages(by_page: &mut Chains, arena: &Arena)
     ensures lists { by_page.new.lists ≡ by_page.old.lists }
     ensures few { length arena.now.notices ≤ MOST_ENTRIES }
 {
+    // For the proof: there are no more links than their room, and at most `MOST_ENTRIES`.
     let _room = by_page.len();
     by_page.clear();
     for at in 0..arena.noted() {

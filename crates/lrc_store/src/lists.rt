@@ -52,6 +52,7 @@ impl Store {
         ensures next { result ≡ next_in_interval_of self.now at }
         ensures in_use { ForSome result (λ notice. notice < length (notices_of self.now)) }
     {
+        // For the proof: there are at most `MOST_ENTRIES` notices.
         let _few = self.by_page.len();
         let here = self.key(at)?;
         let after = NoticeAt {

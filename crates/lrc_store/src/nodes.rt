@@ -60,6 +60,7 @@ impl Nodes {
         ensures room { length self.now.keys ≤ self.now.room }
         ensures few { length self.now.keys ≤ MOST_ENTRIES }
     {
+        // For the proof: there are no more starts than their room.
         let _starts = self.starts.len();
         self.chains.len()
     }
@@ -144,7 +145,7 @@ impl Nodes {
     }
 }
 
-/// A row for each node, without places.
+// A row for each node, without places.
 fn empty_rows(alloc: Global, nodes: usize) -> Result<Vec<Row>, AllocError>
     ensures count { IfOk result (λ rows. length rows.items ≡ nodes) }
     ensures none { IfOk result (λ rows. All (λ row. row.places ≡ []) rows.items) }
@@ -156,7 +157,7 @@ fn empty_rows(alloc: Global, nodes: usize) -> Result<Vec<Row>, AllocError>
     Ok(rows)
 }
 
-/// Takes all places out of the rows.
+// Takes all places out of the rows.
 fn clear_rows(rows: &mut [Row])
     ensures count { length rows.new ≡ length rows.old }
     ensures none { All (λ row. row.places ≡ []) rows.new }

@@ -55,6 +55,7 @@ impl Row {
         ensures room { self.old.room ≤ self.new.room }
         ensures fits { length self.old.places ≤ self.new.room }
     {
+        // For the proof: there are no more places than their room.
         let _count = self.places.len();
         self.places.clear();
     }

@@ -200,7 +200,7 @@ impl Store {
     }
 }
 
-/// The keys of what is missing, of whatever page and store, in the order in which changes are applied.
+// The keys of what is missing, of whatever page and store, in the order in which changes are applied.
 fn keys_in_order(alloc: Global, mut found: Vec<(u64, Key)>) -> Result<Vec<Key>, AllocError>
     ensures { IfOk result (λ keys. (store : StoreRecord) (page : ℕ) (since : List ℕ) → IsStore store
         → found.items ≡ map (ranked page) (filter (is_missing page since) (intervals_of store))
@@ -210,7 +210,7 @@ fn keys_in_order(alloc: Global, mut found: Vec<(u64, Key)>) -> Result<Vec<Key>, 
     keys_of(alloc, &found)
 }
 
-/// The key of each pair.
+// The key of each pair.
 fn keys_of(alloc: Global, found: &[(u64, Key)]) -> Result<Vec<Key>, AllocError>
     ensures { IfOk result (λ keys. keys.items ≡ map (λ pair. pair.1) found.now) }
 {

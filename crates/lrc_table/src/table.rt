@@ -98,7 +98,7 @@ impl PageTable {
         Ok(true)
     }
 
-    /// Keeps the values of a valid copy as its twin, and lists its page as written. An error leaves the table as it was.
+    // Keeps the values of a valid copy as its twin, and lists its page as written. An error leaves the table as it was.
     fn open(&mut self, page: u16) -> Result<(), AllocError>
         requires in_range { page < length self.old.copies }
         requires valid { (copy_at self.old page).state ≡ State.Valid }

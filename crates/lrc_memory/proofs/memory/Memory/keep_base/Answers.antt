@@ -1,6 +1,10 @@
+use Rattle.std.proofs.Common.{◌≡◌, ◌∙◌, ap}
+use Rattle.std.specs.Prelude.{Result, Ok, Err, OnErr}
+use Rattle.lrc_table.specs.Table.{Table}
+use Rattle.lrc_memory.specs.View.{Kept, NodeMemory, node_seen}
 use Rattle.lrc_memory.proofs.Inside.{kept}
 use Rattle.lrc_memory.proofs.Copies.{within-seen}
-use Rattle.lrc_memory.proofs.Quiet.{valid-seen, kept-based, seen-based}
+use Rattle.lrc_memory.proofs.Quiet.{with_table, valid-seen, kept-based, seen-based}
 use Rattle.lrc_memory.proofs.memory.Memory.keep_base.Goals as goal
 
 pub keep_base-requires-clause-in_range : goal.keep_base-requires-clause-in_range
@@ -21,3 +25,12 @@ returns-clause-ok c =
     c.keep_base.result c.keep_base.new.self _ c.self.view_is
     (valid-seen (kept c.self.inside) _ _ c.self.view_is c.requires.in_range c.requires.readable c.requires.closed)
     c.keep_base.ensures.ok
+
+seen-refused : {X E : Type 0} (kept : Kept) (r : Result X E) (table : Table) (n : NodeMemory) → node_seen kept ≡ n
+    → OnErr r (table ≡ kept.table) → OnErr r (node_seen (with_table kept table) ≡ n)
+seen-refused kept (Ok x) table n is err = tt
+seen-refused kept (Err e) table n is err = ap (λ t. node_seen (with_table kept t)) err ∙ is
+
+pub returns-clause-err : goal.returns-clause-err
+returns-clause-err c =
+    seen-refused (kept c.self.inside) c.keep_base.result c.keep_base.new.self _ c.self.view_is c.keep_base.ensures.err
