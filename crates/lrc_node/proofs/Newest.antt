@@ -39,9 +39,9 @@ first-is x log [] some at = absurd (omega (arith, some))
 first-is x log (y ∷ items) some at = ap (λ z. z ∷ []) (at y) ∙ sym (ap option_to_list (last-at None x log y))
 
 -- the first of some turns, where that is the last of the log
-pub newest-first : (log items : List EntryRecord) → 1 < length log → length items ≡ length log
+pub newest-first : (log items : List EntryRecord) → 1 < length log → 1 ≤ length items
     → ((d : EntryRecord) → slice_index_or items 0 d ≡ slice_index_or log (length log - 1) d) → take 1 items ≡ newest log
-newest-first [] items more same at = absurd (omega (arith, more))
-newest-first (x ∷ log) items more same at =
+newest-first [] items more some at = absurd (omega (arith, more))
+newest-first (x ∷ log) items more some at =
     let one_less : length (x ∷ log) - 1 ≡ length log = omega arith in
-    first-is x log items (omega (arith, more, same)) (λ d. at d ∙ ap (λ n. slice_index_or (x ∷ log) n d) one_less)
+    first-is x log items some (λ d. at d ∙ ap (λ n. slice_index_or (x ∷ log) n d) one_less)

@@ -2,7 +2,7 @@
 
 ghost use Rattle.std.specs.Prelude.{◌≡◌, ◌<◌, IfOk, OnOk};
 ghost use Rattle.lrc_protocol.specs.Node.{acts, with_memory};
-ghost use Rattle.lrc_node.specs.Effects.{CanAccess, memory_asked, value_asked};
+ghost use Rattle.lrc_node.specs.Effects.{CanAccess, acted, deed_next, memory_asked, value_asked};
 ghost use Rattle.lrc_node.specs.State.{seen_effect, AreFor};
 ghost use Rattle.lrc_node.specs.Text.{asked_in};
 
@@ -10,6 +10,7 @@ use crate::state::NodeState;
 use crate::turn::Effect;
 use lrc_exec::machine::Ask;
 use lrc_mail::Letter;
+use lrc_trace::act::Deed;
 use std::alloc::AllocError;
 
 impl NodeState<'_> {
@@ -30,16 +31,27 @@ impl NodeState<'_> {
         }
     }
 
+    // Makes the deed that the text is at, if it has not stopped.
+    fn make_deed(&mut self) -> Result<Option<Deed>, AllocError>
+        requires access { CanAccess self.old (asked_in self.old.course) }
+        ensures deed { IfOk result (λ deed. deed ≡ deed_next self.old) }
+        ensures node { OnOk result (self.new ≡ acted self.old) }
+        ensures setting { self.new.setting ≡ self.old.setting }
+    {
+        let asked = self.text.asked();
+        let value = self.access(asked)?;
+        Ok(self.text.go_on(asked, value))
+    }
+
     /// Sends these letters, and makes the act that the text is at.
+    #[inline(always)]
     pub(crate) fn act(&mut self, letters: Vec<Letter>) -> Result<Effect, AllocError>
         requires access { CanAccess self.old (asked_in self.old.course) }
         ensures effect { IfOk result (λ effect. acts letters.items self.old ≡ seen_effect effect self.new) }
         ensures letters { IfOk result (λ effect. effect.letters ≡ letters) }
         ensures setting { self.new.setting ≡ self.old.setting }
     {
-        let asked = self.text.asked();
-        let value = self.access(asked)?;
-        let deed = self.text.go_on(asked, value);
+        let deed = self.make_deed()?;
         Ok(Effect { deed, letters })
     }
 }

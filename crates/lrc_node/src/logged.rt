@@ -128,6 +128,7 @@ impl<'c> Logged<'c> {
     }
 
     /// Adds a turn that was made; a refusal adds nothing.
+    #[inline(always)]
     fn settle(
         &mut self,
         input: Input,
@@ -146,6 +147,7 @@ impl<'c> Logged<'c> {
     }
 
     /// Adds a turn with its stamp. Where the stamp would be too large the node fails.
+    #[inline(always)]
     fn enter(&mut self, input: Input, came: u64, turn: Turn) -> Result<(), NodeFault>
         ensures enters { Enters self.old.logged (seen_input input) came turn self.new.logged result }
         ensures trace { self.new.trace ≡ self.old.trace }
@@ -203,7 +205,7 @@ impl<'c> Logged<'c> {
     {
         let count = self.log.len();
         if count > 1 {
-            self.log.swap(0, count - 1);
+            self.log.swap_remove(0);
             self.log.truncate(1);
         }
     }

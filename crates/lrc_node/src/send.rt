@@ -1,18 +1,21 @@
 // How the messages of a turn get their numbers.
 
-ghost use Rattle.std.specs.Prelude.{◌≡◌, ◌⊎◌, IfErr, IfOk};
-ghost use Rattle.lrc_protocol.specs.Turn.{done, turn_of, worn};
+ghost use Rattle.std.specs.Prelude.{◌≡◌, ◌⊎◌, IfErr, IfOk, None, OnOk, Some};
+ghost use Rattle.lrc_protocol.specs.Mail.{numbered};
+ghost use Rattle.lrc_protocol.specs.Turn.{done, turn_of, with_sent, worn};
 ghost use Rattle.lrc_node.specs.State.{seen_effect, AreFor};
 ghost use Rattle.lrc_node.specs.declared.fault.NodeFault.TheVariants.{NoMemory, Worn};
 
 use crate::fault::NodeFault;
 use crate::state::NodeState;
 use crate::turn::{Effect, Turn};
-use lrc_mail::MailFault;
+use lrc_envelope::Envelope;
+use lrc_mail::{Letter, MailFault};
 use lrc_trace::act::Act;
 
 impl NodeState<'_> {
     /// The turn of an effect, whose messages have numbers. `Worn` where a number would be too large.
+    #[inline(always)]
     pub(crate) fn send(&mut self, effect: Effect) -> Result<Turn, NodeFault>
         requires { AreFor self.old.setting.nodes effect.letters.items }
         ensures sent { IfOk result (λ turn. turn_of (seen_effect effect self.old) ≡ done turn self.new) }
@@ -20,11 +23,27 @@ impl NodeState<'_> {
     {
         let node = self.me;
         let act = effect.deed.map(|deed| Act { node, deed });
-        match self
-            .mail
-            .number(self.me, self.options.first, effect.letters)
-        {
-            Ok(out) => Ok(Turn { act, out }),
+        // Most turns send nothing.
+        if effect.letters.is_empty() {
+            let out = Vec::new(self.alloc);
+            return Ok(Turn { act, out });
+        }
+        let out = self.number(effect.letters)?;
+        Ok(Turn { act, out })
+    }
+
+    // Numbers the letters, and counts them as sent. `Worn` where a number would be too large.
+    #[inline(never)]
+    fn number(&mut self, letters: Vec<Letter>) -> Result<Vec<Envelope>, NodeFault>
+        requires { AreFor self.old.setting.nodes letters.items }
+        ensures numbers { IfOk result (λ out.
+            numbered self.old.setting.me self.old.options.first self.old.mail.sent letters.items ≡ Some (out.items, self.new.mail.sent)) }
+        ensures node { OnOk result (self.new ≡ with_sent self.old self.new.mail.sent) }
+        ensures refused { IfErr result (λ fault.
+            ((fault ≡ Worn) × (numbered self.old.setting.me self.old.options.first self.old.mail.sent letters.items ≡ None)) ⊎ (fault ≡ NoMemory)) }
+    {
+        match self.mail.number(self.me, self.options.first, letters) {
+            Ok(out) => Ok(out),
             Err(MailFault::Worn) => Err(NodeFault::Worn),
             Err(MailFault::NoMemory) => Err(NodeFault::NoMemory),
         }

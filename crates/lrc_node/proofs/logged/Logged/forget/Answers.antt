@@ -1,5 +1,5 @@
-use Rattle.std.proofs.Common.{◌≡◌, ◌∙◌, ◌-◌, List, arith, ap, length, sym}
-use Rattle.std.specs.Prelude.{slice_index_or}
+use Rattle.std.proofs.Common.{◌≡◌, ◌∙◌, ◌-◌, ◌<◌, List, arith, ap, length, sym}
+use Rattle.std.specs.Prelude.{slice_index_or, vec_len}
 use Rattle.lrc_protocol.specs.Log.{EntryRecord}
 use Rattle.lrc_node.specs.Logged.{LoggedNode, TracedLog, newest}
 use Rattle.lrc_node.proofs.Newest.{newest-few, newest-first, newest-stamp}
@@ -8,11 +8,12 @@ use Rattle.lrc_node.proofs.logged.Logged.forget.Goals as goal
 pub returns-then-count-gt1-clause-log : goal.returns-then-count-gt1-clause-log
 returns-then-count-gt1-clause-log c =
     let log = c.self.inside.log.items in
-    let count : c.len-count.result ≡ length log = omega (arith, c.len-count.ensures) in
+    let more : 1 < vec_len c.self.inside.log = omega (arith, c.if-count-gt1.true, c.len-count.ensures) in
+    let count : vec_len c.self.inside.log ≡ length log = omega arith in
     let left : c.truncate.new.self.items ≡ newest log =
     c.truncate.ensures.items
-    ∙ newest-first log c.swap.new.self.items (omega (arith, c.if-count-gt1.true, c.len-count.ensures)) (omega (arith, c.swap.ensures.len))
-    (λ d. c.swap.ensures.by_index.0 d ∙ ap (λ n. slice_index_or log (n - 1) d) count) in
+    ∙ newest-first log c.swap_remove.new.self.items (omega (arith, more)) (omega (arith, more, c.swap_remove.ensures.len))
+    (λ d. c.swap_remove.ensures.by_index.0 d more ∙ ap (λ n. slice_index_or log (n - 1) d) count) in
     ap (λ (g : List EntryRecord). let l : LoggedNode = record { node = c.self.inside.node.node; log = g } in l) left
     ∙ ap (λ (t : TracedLog). let l : LoggedNode = record { node = t.logged.node; log = newest t.logged.log } in l) c.self.view_is
 
