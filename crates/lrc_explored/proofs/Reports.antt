@@ -12,7 +12,7 @@ use Rattle.lrc_protocol.specs.declared.event.Event.{Event}
 use Rattle.lrc_protocol.specs.Node.{OptionsRecord}
 use Rattle.lrc_world.specs.Report.{IsReportOf}
 use Rattle.lrc_world.specs.declared.report.Report.{Report}
-use Rattle.lrc_world.proofs.Theorem.{race_free, consistent}
+use Rattle.lrc_world.proofs.Theorem.{reports_consistently}
 use Rattle.lrc_explore.specs.Verdict.{FindsNoRace, IsVerdict}
 use Rattle.lrc_explore.specs.declared.search.Verdict.{Verdict}
 use Rattle.lrc_explore.proofs.Exploring.{has_no_race}
@@ -30,10 +30,10 @@ none_named acts (race ∷ more) free are =
 module _ (program : Program) (nodes : ℕ) (verdict : Verdict) (options : OptionsRecord) (events : List Event) (report : Report)
     (is : IsVerdict program nodes verdict) (finds : FindsNoRace verdict) (reported : IsReportOf program nodes options events report) where
   free : IsRaceFree report.acts.items
-  free = race_free program nodes options events report reported (has_no_race program nodes verdict is finds)
+  free = (reports_consistently program nodes options events report reported).unraced (has_no_race program nodes verdict is finds)
 
   pub free_and_plain : IsRaceFree report.acts.items × (plain program nodes (nodes_of report.acts.items) ≡ Some report.acts.items)
-  free_and_plain = (free, consistent program nodes options events report reported free)
+  free_and_plain = (free, (reports_consistently program nodes options events report reported).consistent free)
 
   pub unraced : AreNamedRaces report.acts.items report.races.items → (report.first_race ≡ None) × (report.races.items ≡ [])
   unraced are = (

@@ -1,17 +1,12 @@
 // Runs of a program whose nodes are on threads.
 
-ghost use Rattle.std.specs.Prelude.{◌≡◌, ℕ, ◌≤◌, ◌↔◌, ◌⊎◌, List, Some, Err, IfOk, IfErr, MatchResult, length, map};
-ghost use Rattle.lrc_trace.specs.Conflict.{IsRaceFree, IsFirstRace};
-ghost use Rattle.lrc_trace.specs.Reading.{ReadsLazily};
-ghost use Rattle.lrc_trace.specs.Synchronization.{IsWellSynchronized};
+ghost use Rattle.std.specs.Prelude.{◌≡◌, ◌≤◌, ◌↔◌, ◌⊎◌, List, Err, IfOk, IfErr, MatchResult, length, map};
 ghost use Rattle.lrc_judge.specs.Races.{AreNamedRaces};
-ghost use Rattle.lrc_exec.specs.Plain.{plain};
-ghost use Rattle.lrc_theory.specs.Follows.{nodes_of};
-ghost use Rattle.lrc_theory.specs.Racing.{HasNoRace, PlainToRace};
 ghost use Rattle.lrc_protocol.specs.declared.event.Event.{Event as AnyEvent};
 ghost use Rattle.lrc_post.specs.Post.{AreOf};
 ghost use Rattle.lrc_weave.specs.Logs.{AreLogs};
 ghost use Rattle.lrc_weave.specs.Matched.{AreMatched};
+ghost use Rattle.lrc_world.specs.Promises.{IsConsistent};
 ghost use Rattle.lrc_world.specs.Range.{AreNodes, AreSteps};
 ghost use Rattle.lrc_world.specs.Report.{IsWornBy};
 ghost use Rattle.lrc_run.specs.Run.{AreWiresOf, IsLate, IsWovenReport, WearsOutSoon, turns_of};
@@ -20,14 +15,15 @@ use crate::failure::{Remains, count_of, fault_of};
 use crate::fault::RunFault;
 use crate::gate::Gate;
 use crate::nodes::logs_of;
-use lrc_envelope::{MOST_NODES, Picker};
+use lrc_envelope::Picker;
 use lrc_exec::code::Code;
 use lrc_lang::program::Program;
 use lrc_node::{Entry, Options};
 use lrc_post::{Mailbox, Post, Wires};
 use lrc_protocol::Event;
 use lrc_weave::weave;
-use lrc_world::report::{MOST_STEPS, Report, SimFault};
+use lrc_world::range::node_count;
+use lrc_world::report::{Report, SimFault};
 use lrc_world::simulate::replay;
 use std::alloc::Global;
 use std::sync::Wait;
@@ -62,14 +58,7 @@ pub fn run<R: Threads + Wait + Sync>(
     ensures woven { IfOk result (λ done. (events : List AnyEvent) × IsWovenReport program.now nodes options.now events done.0) }
     ensures wires { IfOk result (λ done. AreWiresOf nodes picker done.0 done.1) }
     ensures races { IfOk result (λ done. AreNamedRaces done.0.acts.items done.0.races.items) }
-
-    ensures synchronized { IfOk result (λ done. IsWellSynchronized nodes done.0.acts.items) }
-    ensures lazy { IfOk result (λ done. ReadsLazily done.0.acts.items) }
-    ensures consistent { IfOk result (λ done. IsRaceFree done.0.acts.items
-        → plain program.now nodes (nodes_of done.0.acts.items) ≡ Some done.0.acts.items) }
-    ensures first { IfOk result (λ done. (position : ℕ) → IsFirstRace done.0.acts.items position
-        → PlainToRace program.now nodes done.0.acts.items position) }
-    ensures unraced { IfOk result (λ done. HasNoRace program.now nodes → IsRaceFree done.0.acts.items) }
+    ensures theorem { IfOk result (λ done. IsConsistent program.now nodes done.0.acts.items) }
 
     ensures worn { result ≡ Err RunFault.Worn → (events : List AnyEvent) × IsWornBy program.now nodes options.now events }
     ensures soon { result ≡ Err RunFault.Worn → WearsOutSoon program.now nodes options.now }
@@ -92,14 +81,7 @@ pub fn run_gated<G: Gate + Sync, R: Threads + Wait + Sync>(
     ensures woven { IfOk result (λ done. (events : List AnyEvent) × IsWovenReport program.now nodes options.now events done.0) }
     ensures wires { IfOk result (λ done. AreWiresOf nodes picker done.0 done.1) }
     ensures races { IfOk result (λ done. AreNamedRaces done.0.acts.items done.0.races.items) }
-
-    ensures synchronized { IfOk result (λ done. IsWellSynchronized nodes done.0.acts.items) }
-    ensures lazy { IfOk result (λ done. ReadsLazily done.0.acts.items) }
-    ensures consistent { IfOk result (λ done. IsRaceFree done.0.acts.items
-        → plain program.now nodes (nodes_of done.0.acts.items) ≡ Some done.0.acts.items) }
-    ensures first { IfOk result (λ done. (position : ℕ) → IsFirstRace done.0.acts.items position
-        → PlainToRace program.now nodes done.0.acts.items position) }
-    ensures unraced { IfOk result (λ done. HasNoRace program.now nodes → IsRaceFree done.0.acts.items) }
+    ensures theorem { IfOk result (λ done. IsConsistent program.now nodes done.0.acts.items) }
 
     ensures worn { result ≡ Err RunFault.Worn → (events : List AnyEvent) × IsWornBy program.now nodes options.now events }
     ensures soon { result ≡ Err RunFault.Worn → WearsOutSoon program.now nodes options.now }
@@ -131,14 +113,7 @@ pub fn run_with_events<R: Threads + Wait + Sync>(
     ensures woven { IfOk result (λ done. IsWovenReport program.now nodes options.now done.2.items done.0) }
     ensures wires { IfOk result (λ done. AreWiresOf nodes picker done.0 done.1) }
     ensures races { IfOk result (λ done. AreNamedRaces done.0.acts.items done.0.races.items) }
-
-    ensures synchronized { IfOk result (λ done. IsWellSynchronized nodes done.0.acts.items) }
-    ensures lazy { IfOk result (λ done. ReadsLazily done.0.acts.items) }
-    ensures consistent { IfOk result (λ done. IsRaceFree done.0.acts.items
-        → plain program.now nodes (nodes_of done.0.acts.items) ≡ Some done.0.acts.items) }
-    ensures first { IfOk result (λ done. (position : ℕ) → IsFirstRace done.0.acts.items position
-        → PlainToRace program.now nodes done.0.acts.items position) }
-    ensures unraced { IfOk result (λ done. HasNoRace program.now nodes → IsRaceFree done.0.acts.items) }
+    ensures theorem { IfOk result (λ done. IsConsistent program.now nodes done.0.acts.items) }
 
     ensures worn { result ≡ Err RunFault.Worn → (events : List AnyEvent) × IsWornBy program.now nodes options.now events }
     ensures soon { result ≡ Err RunFault.Worn → WearsOutSoon program.now nodes options.now }
@@ -211,14 +186,7 @@ fn told(
     ensures woven { IfOk result (λ told. IsWovenReport program.now nodes options.now told.1.items told.0) }
     ensures matched { IfOk result (λ told. AreMatched (turns_of told.0) wires.now) }
     ensures races { IfOk result (λ told. AreNamedRaces told.0.acts.items told.0.races.items) }
-
-    ensures synchronized { IfOk result (λ told. IsWellSynchronized nodes told.0.acts.items) }
-    ensures lazy { IfOk result (λ told. ReadsLazily told.0.acts.items) }
-    ensures consistent { IfOk result (λ told. IsRaceFree told.0.acts.items
-        → plain program.now nodes (nodes_of told.0.acts.items) ≡ Some told.0.acts.items) }
-    ensures first { IfOk result (λ told. (position : ℕ) → IsFirstRace told.0.acts.items position
-        → PlainToRace program.now nodes told.0.acts.items position) }
-    ensures unraced { IfOk result (λ told. HasNoRace program.now nodes → IsRaceFree told.0.acts.items) }
+    ensures theorem { IfOk result (λ told. IsConsistent program.now nodes told.0.acts.items) }
 
     ensures worn { result ≡ Err RunFault.Worn → (events : List AnyEvent) × IsWornBy program.now nodes options.now events }
     ensures soon { result ≡ Err RunFault.Worn → WearsOutSoon program.now nodes options.now }
@@ -244,11 +212,10 @@ fn check(nodes: u32, options: &Options) -> Result<u8, RunFault>
         (λ fault. ((fault ≡ RunFault.BadNodes) × ¬ AreNodes nodes)
         ⊎ ((fault ≡ RunFault.BadSteps) × AreNodes nodes × ¬ AreSteps options.now.steps)) }
 {
-    if nodes < 1 || nodes > u32::from(MOST_NODES) {
-        return Err(RunFault::BadNodes);
+    match node_count(nodes, options) {
+        Ok(count) => Ok(count),
+        Err(SimFault::BadNodes) => Err(RunFault::BadNodes),
+        // Nothing else is looked at.
+        Err(_) => Err(RunFault::BadSteps),
     }
-    if options.steps < 1 || options.steps > MOST_STEPS {
-        return Err(RunFault::BadSteps);
-    }
-    Ok(nodes as u8)
 }

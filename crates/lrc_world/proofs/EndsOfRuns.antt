@@ -24,9 +24,8 @@ use Rattle.lrc_protocol.proofs.Worlds.{IsEntry, fresh_at, get_set_same, get_set_
 use Rattle.lrc_invariants.proofs.Shift.{Moved, Shifted, ShiftedIf, course_in, deed_back, deed_in, deed_made, shifts}
 use Rattle.lrc_node.specs.declared.end.End.{End}
 use Rattle.lrc_node.specs.Text.{end_of as end_of_text}
-use Rattle.lrc_world.specs.declared.report.Report.{Report}
 use Rattle.lrc_world.specs.Ends.{end_after, end_of, ends_of}
-use Rattle.lrc_world.specs.Report.{IsReportOf, end_of_logged}
+use Rattle.lrc_world.specs.Report.{end_of_logged}
 use Rattle.lrc_world.proofs.EndsLemmas.{end_of-own, end_of-other}
 
 -- a text that made a deed ended as the deed says
@@ -149,7 +148,3 @@ module _ (program : Program) (nodes : ℕ) (options : OptionsRecord) where
       ∙ sym (get_or-map (λ node. end_of node run.acts) (range_with_len 0 nodes) k 0 d (omega (arith, length-range_with_len 0 nodes, below))
       ∙ ap (λ node. end_of node run.acts) (get_or-range_with_len 0 nodes k 0 below ∙ zero-add k)))
       ∙ ap (ends_of nodes) (sym same)
-
-  pub ends_as_acts : (events : List Event) (report : Report) → IsReportOf program nodes options events report
-      → report.ends.items ≡ ends_of nodes report.acts.items
-  ends_as_acts events report is = ends_of_acts events report.acts.items report.ends.items is.0 is.1 is.2.acts is.2.ends

@@ -21,9 +21,7 @@ use Rattle.lrc_invariants.proofs.TokenCounts.{one_place}
 use Rattle.lrc_invariants.proofs.TokenWorlds.{all_tokens}
 use Rattle.lrc_coherence.proofs.Received.AllExpected.{accepted}
 use Rattle.lrc_coherence.proofs.Received.ReceiverWorlds.{in_flight, all_to}
-use Rattle.lrc_world.specs.declared.report.Report.{Report}
 use Rattle.lrc_world.specs.Moments.{Throughout, RefusesNone, HasEachToken, AreCovered}
-use Rattle.lrc_world.specs.Report.{IsReportOf}
 
 -- an access is some deed
 does_some : (acts : List Act) (j node word : ℕ) → Accesses acts j node word → (deed : Deed) × Does acts j node deed
@@ -70,7 +68,3 @@ module _ (program : Program) (nodes : ℕ) (options : OptionsRecord) (events : L
   covered_acts acts run runs is other others =
       let same : run ≡ other = same_Some run other (sym runs ∙ others) in
       subst (λ acts. AreCovered acts other.times) (sym (is ∙ ap (λ (x : Run). x.acts) same)) (run_covered other others)
-
-  pub covered : (report : Report) → IsReportOf program nodes options events report → (run : Run) → run_of program nodes options events ≡ Some run
-      → AreCovered report.acts.items run.times
-  covered report is = covered_acts report.acts.items is.0 is.1 is.2.acts

@@ -15,17 +15,22 @@ use Rattle.lrc_protocol.specs.World.{World as Run, run_of}
 use Rattle.lrc_world.specs.Ends.{ends_of}
 use Rattle.lrc_world.specs.Moments.{AreCovered, HasEachToken, RefusesNone, Throughout}
 
--- A program's run of some events makes these acts, and so its nodes end. At each moment each message in flight is from one of the nodes
--- and for one of them, which does not refuse it, and each lock's token is in one place; and at each access the node's time knows just
--- what happens before it. The acts are well synchronized and read lazily. Where no two conflicting ones are unordered, the plain machine
--- makes them too; each run is plain up to its first race; and where no order gives the plain machine a race, the run has none.
-pub record AreKept (program : Program) (nodes : ℕ) (options : OptionsRecord) (events : List Event) (acts : List Act) (ends : List End) : Type 0 where
-  pub ended : ends ≡ ends_of nodes acts
-  pub accepted : Throughout program nodes options events RefusesNone
-  pub tokens : Throughout program nodes options events (HasEachToken program.locks)
-  pub covered : (run : Run) → run_of program nodes options events ≡ Some run → AreCovered acts run.times
+-- The sequential-consistency theorem, of a run's acts in their order. They are well synchronized, and each node reads what was written
+-- last by what happens before. Where no two conflicting accesses are unordered, the plain machine makes the same acts; every run is plain
+-- up to its first race; and where no order gives the plain machine a race, the run has none.
+pub record IsConsistent (program : Program) (nodes : ℕ) (acts : List Act) : Type 0 where
   pub synchronized : IsWellSynchronized nodes acts
   pub lazy : ReadsLazily acts
   pub consistent : IsRaceFree acts → plain program nodes (nodes_of acts) ≡ Some acts
   pub first : (position : ℕ) → IsFirstRace acts position → PlainToRace program nodes acts position
   pub unraced : HasNoRace program nodes → IsRaceFree acts
+
+-- A program's run of some events makes these acts, and so its nodes end. At each moment each message in flight is from one of the nodes
+-- and for one of them, which does not refuse it, and each lock's token is in one place; and at each access the node's time knows just
+-- what happens before it. The theorem holds of the acts.
+pub record AreKept (program : Program) (nodes : ℕ) (options : OptionsRecord) (events : List Event) (acts : List Act) (ends : List End) : Type 0 where
+  pub ended : ends ≡ ends_of nodes acts
+  pub accepted : Throughout program nodes options events RefusesNone
+  pub tokens : Throughout program nodes options events (HasEachToken program.locks)
+  pub covered : (run : Run) → run_of program nodes options events ≡ Some run → AreCovered acts run.times
+  pub theorem : IsConsistent program nodes acts

@@ -7,6 +7,7 @@ mod flying;
 mod keep;
 pub mod laws;
 mod random;
+pub mod range;
 pub mod report;
 mod rounds;
 pub mod simulate;

@@ -1,19 +1,11 @@
 // Runs of a program, by a list of events, in rounds or in a random order.
 
-ghost use Rattle.std.specs.Prelude.{◌≡◌, ℕ, ◌<◌, ◌≤◌, ◌↔◌, ◌⊎◌, List, Some, length, IfOk, MatchResult, Err, true};
-ghost use Rattle.lrc_trace.specs.Conflict.{IsRaceFree, IsFirstRace};
-ghost use Rattle.lrc_trace.specs.Reading.{ReadsLazily};
-ghost use Rattle.lrc_trace.specs.Synchronization.{IsWellSynchronized};
+ghost use Rattle.std.specs.Prelude.{◌≡◌, ◌<◌, ◌≤◌, ◌↔◌, List, length, IfOk, Err, true};
 ghost use Rattle.lrc_judge.specs.Races.{AreNamedRaces};
-ghost use Rattle.lrc_exec.specs.Plain.{plain};
-ghost use Rattle.lrc_theory.specs.Follows.{nodes_of};
-ghost use Rattle.lrc_theory.specs.Racing.{HasNoRace, PlainToRace};
 ghost use Rattle.lrc_protocol.specs.declared.event.Event.{Event as AnyEvent};
-ghost use Rattle.lrc_protocol.specs.World.{World as Run, fresh_world, run_of};
+ghost use Rattle.lrc_protocol.specs.World.{fresh_world};
 ghost use Rattle.lrc_world.specs.Driven.{schedule_of};
-ghost use Rattle.lrc_world.specs.Ends.{ends_of};
 ghost use Rattle.lrc_world.specs.Led.{AreLed, WearsOut};
-ghost use Rattle.lrc_world.specs.Moments.{AreCovered, HasEachToken, RefusesNone, Throughout};
 ghost use Rattle.lrc_world.specs.Random.{IsWandering, WanderingWearsOut};
 ghost use Rattle.lrc_world.specs.Range.{AreNodes, AreSteps};
 ghost use Rattle.lrc_world.specs.Promises.{AreKept};
@@ -22,7 +14,8 @@ ghost use Rattle.lrc_world.specs.Rounds.{AreRounds, RoundsWearOut};
 ghost use Rattle.lrc_world.specs.Turned.{AreAllTurned};
 
 use crate::keep::Keep;
-use crate::report::{Brief, MOST_STEPS, Report, SimFault, brief_of};
+use crate::range::node_count;
+use crate::report::{Brief, Report, SimFault, brief_of};
 use crate::rounds::{Driver, Order};
 use crate::world::World;
 use lrc_envelope::Picker;
@@ -50,20 +43,8 @@ pub fn simulate(
     events: &[Event],
 ) -> Result<Report, SimFault>
     ensures report { IfOk result (IsReportOf program.now nodes options.now events.now) }
-    ensures ends { IfOk result (λ report. report.ends.items ≡ ends_of nodes report.acts.items) }
     ensures races { IfOk result (λ report. AreNamedRaces report.acts.items report.races.items) }
-
-    ensures accepted { IfOk result (λ report. Throughout program.now nodes options.now events.now RefusesNone) }
-    ensures tokens { IfOk result (λ report. Throughout program.now nodes options.now events.now (HasEachToken program.now.locks)) }
-    ensures covered { IfOk result (λ report. (run : Run) → run_of program.now nodes options.now events.now ≡ Some run
-        → AreCovered report.acts.items run.times) }
-    ensures synchronized { IfOk result (λ report. IsWellSynchronized nodes report.acts.items) }
-    ensures lazy { IfOk result (λ report. ReadsLazily report.acts.items) }
-    ensures consistent { IfOk result (λ report. IsRaceFree report.acts.items
-        → plain program.now nodes (nodes_of report.acts.items) ≡ Some report.acts.items) }
-    ensures first { IfOk result (λ report. (position : ℕ) → IsFirstRace report.acts.items position
-        → PlainToRace program.now nodes report.acts.items position) }
-    ensures unraced { IfOk result (λ report. HasNoRace program.now nodes → IsRaceFree report.acts.items) }
+    ensures kept { IfOk result (λ report. AreKept program.now nodes options.now events.now report.acts.items report.ends.items) }
 
     ensures worn { result ≡ Err SimFault.Worn → IsWornBy program.now nodes options.now events.now }
     ensures bad_nodes { (result ≡ Err SimFault.BadNodes) ↔ (¬ AreNodes nodes) }
@@ -85,27 +66,15 @@ pub fn replay(
     events: &[Event],
 ) -> Result<(Report, bool), SimFault>
     ensures report { IfOk result (λ done. IsReportOf program.now nodes options.now events.now done.0) }
-    ensures ends { IfOk result (λ done. done.0.ends.items ≡ ends_of nodes done.0.acts.items) }
     ensures races { IfOk result (λ done. AreNamedRaces done.0.acts.items done.0.races.items) }
-
-    ensures accepted { IfOk result (λ done. Throughout program.now nodes options.now events.now RefusesNone) }
-    ensures tokens { IfOk result (λ done. Throughout program.now nodes options.now events.now (HasEachToken program.now.locks)) }
-    ensures covered { IfOk result (λ done. (run : Run) → run_of program.now nodes options.now events.now ≡ Some run
-        → AreCovered done.0.acts.items run.times) }
-    ensures synchronized { IfOk result (λ done. IsWellSynchronized nodes done.0.acts.items) }
-    ensures lazy { IfOk result (λ done. ReadsLazily done.0.acts.items) }
-    ensures consistent { IfOk result (λ done. IsRaceFree done.0.acts.items
-        → plain program.now nodes (nodes_of done.0.acts.items) ≡ Some done.0.acts.items) }
-    ensures first { IfOk result (λ done. (position : ℕ) → IsFirstRace done.0.acts.items position
-        → PlainToRace program.now nodes done.0.acts.items position) }
-    ensures unraced { IfOk result (λ done. HasNoRace program.now nodes → IsRaceFree done.0.acts.items) }
+    ensures kept { IfOk result (λ done. AreKept program.now nodes options.now events.now done.0.acts.items done.0.ends.items) }
 
     ensures over { IfOk result (λ done. (done.1 ≡ true) ↔ AreAll program.now nodes options.now events.now) }
     ensures worn { result ≡ Err SimFault.Worn → IsWornBy program.now nodes options.now events.now }
     ensures bad_nodes { (result ≡ Err SimFault.BadNodes) ↔ (¬ AreNodes nodes) }
     ensures bad_steps { (result ≡ Err SimFault.BadSteps) ↔ (AreNodes nodes × ¬ AreSteps options.now.steps) }
 {
-    let count = check(nodes, options)?;
+    let count = node_count(nodes, options)?;
     let code = Code::new(alloc, program)?;
     let mut world = World::new(alloc, &code, count, options, Keep::All)?;
     for event in events {
@@ -129,20 +98,8 @@ pub fn drive(
     ensures report { IfOk result (λ done. IsReportOf program.now nodes options.now done.0.items done.1) }
     ensures rounds { IfOk result (λ done. AreRounds program.now nodes options.now picker done.0.items) }
     ensures unskipped { IfOk result (λ done. AreAllTurned program.now nodes options.now done.0.items) }
-    ensures ends { IfOk result (λ done. done.1.ends.items ≡ ends_of nodes done.1.acts.items) }
     ensures races { IfOk result (λ done. AreNamedRaces done.1.acts.items done.1.races.items) }
-
-    ensures accepted { IfOk result (λ done. Throughout program.now nodes options.now done.0.items RefusesNone) }
-    ensures tokens { IfOk result (λ done. Throughout program.now nodes options.now done.0.items (HasEachToken program.now.locks)) }
-    ensures covered { IfOk result (λ done. (run : Run) → run_of program.now nodes options.now done.0.items ≡ Some run
-        → AreCovered done.1.acts.items run.times) }
-    ensures synchronized { IfOk result (λ done. IsWellSynchronized nodes done.1.acts.items) }
-    ensures lazy { IfOk result (λ done. ReadsLazily done.1.acts.items) }
-    ensures consistent { IfOk result (λ done. IsRaceFree done.1.acts.items
-        → plain program.now nodes (nodes_of done.1.acts.items) ≡ Some done.1.acts.items) }
-    ensures first { IfOk result (λ done. (position : ℕ) → IsFirstRace done.1.acts.items position
-        → PlainToRace program.now nodes done.1.acts.items position) }
-    ensures unraced { IfOk result (λ done. HasNoRace program.now nodes → IsRaceFree done.1.acts.items) }
+    ensures kept { IfOk result (λ done. AreKept program.now nodes options.now done.0.items done.1.acts.items done.1.ends.items) }
 
     // Unless there are 100,000,000 events, no node is ready and no message is in flight after them.
     ensures few { IfOk result (λ done. length done.0.items ≤ 100000000) }
@@ -200,20 +157,8 @@ pub fn wander(
     ensures report { IfOk result (λ done. IsReportOf program.now nodes options.now done.0.items done.1) }
     ensures wandering { IfOk result (λ done. IsWandering program.now nodes options.now seed done.0.items) }
     ensures unskipped { IfOk result (λ done. AreAllTurned program.now nodes options.now done.0.items) }
-    ensures ends { IfOk result (λ done. done.1.ends.items ≡ ends_of nodes done.1.acts.items) }
     ensures races { IfOk result (λ done. AreNamedRaces done.1.acts.items done.1.races.items) }
-
-    ensures accepted { IfOk result (λ done. Throughout program.now nodes options.now done.0.items RefusesNone) }
-    ensures tokens { IfOk result (λ done. Throughout program.now nodes options.now done.0.items (HasEachToken program.now.locks)) }
-    ensures covered { IfOk result (λ done. (run : Run) → run_of program.now nodes options.now done.0.items ≡ Some run
-        → AreCovered done.1.acts.items run.times) }
-    ensures synchronized { IfOk result (λ done. IsWellSynchronized nodes done.1.acts.items) }
-    ensures lazy { IfOk result (λ done. ReadsLazily done.1.acts.items) }
-    ensures consistent { IfOk result (λ done. IsRaceFree done.1.acts.items
-        → plain program.now nodes (nodes_of done.1.acts.items) ≡ Some done.1.acts.items) }
-    ensures first { IfOk result (λ done. (position : ℕ) → IsFirstRace done.1.acts.items position
-        → PlainToRace program.now nodes done.1.acts.items position) }
-    ensures unraced { IfOk result (λ done. HasNoRace program.now nodes → IsRaceFree done.1.acts.items) }
+    ensures kept { IfOk result (λ done. AreKept program.now nodes options.now done.0.items done.1.acts.items done.1.ends.items) }
 
     // Unless there are 100,000,000 events, no node is ready and no message is in flight after them.
     ensures few { IfOk result (λ done. length done.0.items ≤ 100000000) }
@@ -277,26 +222,10 @@ fn lead(
     ensures bad_nodes { (result ≡ Err SimFault.BadNodes) ↔ (¬ AreNodes nodes) }
     ensures bad_steps { (result ≡ Err SimFault.BadSteps) ↔ (AreNodes nodes × ¬ AreSteps options.now.steps) }
 {
-    let count = check(nodes, options)?;
+    let count = node_count(nodes, options)?;
     let code = Code::new(alloc, program)?;
     let world = World::new(alloc, &code, count, options, keep)?;
     let mut driver = Driver::new(alloc, world);
     driver.lead(count, order)?;
     Ok(driver.report()?)
-}
-
-// How many nodes there are, where all is in range.
-fn check(nodes: u32, options: &Options) -> Result<u8, SimFault>
-    ensures { MatchResult result
-        (λ count. (count ≡ nodes) × AreNodes nodes × AreSteps options.now.steps)
-        (λ fault. ((fault ≡ SimFault.BadNodes) × ¬ AreNodes nodes)
-        ⊎ ((fault ≡ SimFault.BadSteps) × AreNodes nodes × ¬ AreSteps options.now.steps)) }
-{
-    if nodes < 1 || nodes > 16 {
-        return Err(SimFault::BadNodes);
-    }
-    if options.steps < 1 || options.steps > MOST_STEPS {
-        return Err(SimFault::BadSteps);
-    }
-    Ok(nodes as u8)
 }

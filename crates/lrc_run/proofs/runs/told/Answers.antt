@@ -21,3 +21,6 @@ returns-in-Ok-default-true-clause-matched c =
     (subst (λ events. (flight : List Flying) × AreWoven (map (λ log. log.items) c.args.logs.now) events flight) (sym same)
     (c.in_ok-events.ensures.woven c.args.program.now c.args.nodes c.args.options.now c.requires.logs))
     c.in-Ok-default-true.report c.in-Ok-default-true.ensures.report c.args.wires.now c.in_ok-events.ensures.matched
+
+pub returns-in-Ok-default-true-clause-theorem : goal.returns-in-Ok-default-true-clause-theorem
+returns-in-Ok-default-true-clause-theorem c = c.in-Ok-default-true.ensures.kept.theorem

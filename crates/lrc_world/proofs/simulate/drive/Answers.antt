@@ -11,33 +11,6 @@ returns-clause-report c =
     (λ done is. (is.0, is.1, record { acts = is.2.acts; ends = is.2.ends; logs = is.2.logs; first = is.2.first }))
     c.lead.ensures.report
 
-pub returns-clause-ends : goal.returns-clause-ends
-returns-clause-ends c = IfOk-weaker c.lead.result _ _ (λ done is. is.ended) c.lead.ensures.kept
-
-pub returns-clause-accepted : goal.returns-clause-accepted
-returns-clause-accepted c = IfOk-weaker c.lead.result _ _ (λ done is. is.accepted) c.lead.ensures.kept
-
-pub returns-clause-tokens : goal.returns-clause-tokens
-returns-clause-tokens c = IfOk-weaker c.lead.result _ _ (λ done is. is.tokens) c.lead.ensures.kept
-
-pub returns-clause-covered : goal.returns-clause-covered
-returns-clause-covered c = IfOk-weaker c.lead.result _ _ (λ done is. is.covered) c.lead.ensures.kept
-
-pub returns-clause-synchronized : goal.returns-clause-synchronized
-returns-clause-synchronized c = IfOk-weaker c.lead.result _ _ (λ done is. is.synchronized) c.lead.ensures.kept
-
-pub returns-clause-lazy : goal.returns-clause-lazy
-returns-clause-lazy c = IfOk-weaker c.lead.result _ _ (λ done is. is.lazy) c.lead.ensures.kept
-
-pub returns-clause-consistent : goal.returns-clause-consistent
-returns-clause-consistent c = IfOk-weaker c.lead.result _ _ (λ done is. is.consistent) c.lead.ensures.kept
-
-pub returns-clause-first : goal.returns-clause-first
-returns-clause-first c = IfOk-weaker c.lead.result _ _ (λ done is. is.first) c.lead.ensures.kept
-
-pub returns-clause-unraced : goal.returns-clause-unraced
-returns-clause-unraced c = IfOk-weaker c.lead.result _ _ (λ done is. is.unraced) c.lead.ensures.kept
-
 pub returns-clause-worn : goal.returns-clause-worn
 returns-clause-worn c = λ e.
     worn_by (rounds c.args.picker c.args.nodes) (fresh_world c.args.program.now c.args.nodes c.args.options.now)

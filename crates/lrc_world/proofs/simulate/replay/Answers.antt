@@ -4,9 +4,7 @@ use Rattle.lrc_world.specs.World.{starts_of}
 use Rattle.lrc_protocol.specs.World.{run_of}
 use Rattle.lrc_world.specs.declared.report.SimFault.TheVariants.{Worn}
 use Rattle.lrc_world.proofs.Events.{goes_on, wears_out, handed_on, take_whole, get_at}
-use Rattle.lrc_world.proofs.EndsOfRuns.{ends_as_acts}
-use Rattle.lrc_world.proofs.Moments.{refuses_none, each_token, covered}
-use Rattle.lrc_world.proofs.Theorem.{in_order, reads_lazily, consistent, to_first_race, race_free}
+use Rattle.lrc_world.proofs.Theorem.{report_kept}
 use Rattle.lrc_world.proofs.Races.{kept_raceless, kept_traces, kept_races}
 use Rattle.lrc_world.proofs.Worlds.{acts_of_nodes}
 use Rattle.lrc_world.proofs.simulate.replay.Goals as goal
@@ -36,8 +34,10 @@ returns-clause-report c =
       record { acts = told.acts; ends = told.ends; logs = told.logs; first = told.first },
     )
 
-pub returns-clause-ends : goal.returns-clause-ends
-returns-clause-ends c = ends_as_acts c.args.program.now c.args.nodes c.args.options.now c.args.events.now c.in_ok-report.field-0 (returns-clause-report c)
+pub returns-clause-kept : goal.returns-clause-kept
+returns-clause-kept c =
+    report_kept c.args.program.now c.args.nodes c.args.options.now c.args.events.now c.in_ok-report.field-0 (returns-clause-report c)
+    (omega (arith, c.in_ok-count.ensures.1.0))
 
 pub returns-clause-races : goal.returns-clause-races
 returns-clause-races c =
@@ -56,35 +56,6 @@ pub report-requires-clause-traces : goal.report-requires-clause-traces
 report-requires-clause-traces c =
     let runs = c.loop-event.invariant in
     kept_traces c.args.program.now c.args.nodes c.args.options.now (take c.loop-event.event-index c.args.events.now) runs.0 runs.1 c.loop-event.world All runs.2
-
-pub returns-clause-synchronized : goal.returns-clause-synchronized
-returns-clause-synchronized c =
-    in_order c.args.program.now c.args.nodes c.args.options.now c.args.events.now c.in_ok-report.field-0 (returns-clause-report c)
-
-pub returns-clause-lazy : goal.returns-clause-lazy
-returns-clause-lazy c =
-    reads_lazily c.args.program.now c.args.nodes c.args.options.now c.args.events.now c.in_ok-report.field-0 (returns-clause-report c)
-
-pub returns-clause-consistent : goal.returns-clause-consistent
-returns-clause-consistent c =
-    consistent c.args.program.now c.args.nodes c.args.options.now c.args.events.now c.in_ok-report.field-0 (returns-clause-report c)
-
-pub returns-clause-first : goal.returns-clause-first
-returns-clause-first c =
-    to_first_race c.args.program.now c.args.nodes c.args.options.now c.args.events.now c.in_ok-report.field-0 (returns-clause-report c)
-
-pub returns-clause-unraced : goal.returns-clause-unraced
-returns-clause-unraced c =
-    race_free c.args.program.now c.args.nodes c.args.options.now c.args.events.now c.in_ok-report.field-0 (returns-clause-report c)
-
-pub returns-clause-accepted : goal.returns-clause-accepted
-returns-clause-accepted c = refuses_none c.args.program.now c.args.nodes c.args.options.now c.args.events.now
-
-pub returns-clause-tokens : goal.returns-clause-tokens
-returns-clause-tokens c = each_token c.args.program.now c.args.nodes c.args.options.now c.args.events.now (omega (arith, c.in_ok-count.ensures.1.0))
-
-pub returns-clause-covered : goal.returns-clause-covered
-returns-clause-covered c = covered c.args.program.now c.args.nodes c.args.options.now c.args.events.now c.in_ok-report.field-0 (returns-clause-report c)
 
 pub report-requires-clause-raceless : goal.report-requires-clause-raceless
 report-requires-clause-raceless c =
