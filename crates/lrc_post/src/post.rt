@@ -174,6 +174,7 @@ impl Post {
 fn own_or_empty(mailbox: Mailbox, owner: u8, picker: Picker, alloc: Global) -> Mailbox
     ensures owner { result.owner ≡ owner }
     ensures picker { result.picker ≡ picker }
+    ensures own { mailbox.owner ≡ owner → mailbox.picker ≡ picker → result ≡ mailbox }
 {
     if mailbox.owner() == owner && mailbox.picker() == picker {
         mailbox

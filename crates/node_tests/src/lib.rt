@@ -12,4 +12,6 @@ mod rounds;
 #[cfg(test)]
 mod simulations;
 #[cfg(test)]
+mod told;
+#[cfg(test)]
 mod traces;

@@ -23,3 +23,5 @@ mod stores;
 mod tables;
 #[cfg(test)]
 mod times;
+#[cfg(test)]
+mod weights;

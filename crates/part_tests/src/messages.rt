@@ -1,9 +1,10 @@
 // Messages as bytes: the worked messages in both versions, each kind whole, cut and with a byte more, and first faults.
 
-ghost use Rattle.std.specs.Prelude.{◌≤◌};
+ghost use Rattle.std.specs.Prelude.{◌≡◌, ◌≤◌, IfOk, length};
+ghost use Rattle.lrc_envelope.specs.Records.{GoWith};
 
 use bytes::Bytes;
-use lrc_envelope::{ChangesRequest, Envelope, Indices, Message};
+use lrc_envelope::{Arrive, ChangesRequest, Envelope, Indices, Message, News};
 use lrc_page::Pages;
 use lrc_store::{Interval, Intervals};
 use lrc_time::Time;
@@ -376,6 +377,7 @@ fn names_the_first_fault_of_an_arrival_or_changes(rt: HostRuntime) -> Result<(),
 /// Node 0's interval of this index, the only node's, which wrote nothing.
 fn interval(alloc: Global, index: u32) -> Interval
     requires { 1 ≤ index }
+    ensures { length result.stamp ≡ 1 }
 {
     let mut stamp = Time::new(1);
     stamp.raise(0, index);
@@ -383,7 +385,11 @@ fn interval(alloc: Global, index: u32) -> Interval
 }
 
 /// Adds the interval where it comes after the last.
-fn add(intervals: &mut Intervals, next: Interval) -> Result<bool, AllocError> {
+fn add(intervals: &mut Intervals, next: Interval) -> Result<bool, AllocError>
+    requires together { GoWith 1 intervals.old }
+    requires next { length next.stamp ≡ 1 }
+    ensures { GoWith 1 intervals.new }
+{
     let count = intervals.len();
     if count > 0 {
         let last = intervals.at(count - 1);
@@ -396,7 +402,9 @@ fn add(intervals: &mut Intervals, next: Interval) -> Result<bool, AllocError> {
 }
 
 /// So many intervals of node 0, the only node, none of which wrote.
-fn intervals_without_pages(alloc: Global, count: u32) -> Result<Intervals, AllocError> {
+fn intervals_without_pages(alloc: Global, count: u32) -> Result<Intervals, AllocError>
+    ensures { IfOk result (GoWith 1) }
+{
     let mut intervals = Intervals::empty(alloc);
     for before in 0..count {
         if !add(&mut intervals, interval(alloc, before + 1))? {
@@ -424,6 +432,37 @@ fn the_longest_body_is_read_and_written(rt: HostRuntime) -> Result<(), Fail> {
     assert!(rt; bytes.len() == 12 + 16_777_214);
     let same = rewritten(alloc, &bytes)?.as_slice() == bytes.as_slice();
     assert!(rt; same);
+    Ok(())
+}
+
+/// Node 0's arrival, alone, with so many intervals that wrote nothing.
+fn arrival_of(alloc: Global, count: u32) -> Result<Envelope, AllocError> {
+    let mut time = Time::new(1);
+    if count > 0 {
+        time.raise(0, count);
+    }
+    let message = Message::Arrive(Arrive {
+        episode: 1,
+        ask: false,
+        news: News {
+            time,
+            intervals: intervals_without_pages(alloc, count)?,
+        },
+    });
+    Ok(Envelope {
+        from: 0,
+        to: 0,
+        number: 0,
+        message,
+    })
+}
+
+// One interval more than the longest has: a body of 16,777,222 bytes, which is too many.
+#[test]
+fn an_arrival_over_the_limit_is_not_written(rt: HostRuntime) -> Result<(), Fail> {
+    let envelope = arrival_of(rt.alloc(), 2_097_151)?;
+    let over = encode(rt.alloc(), &envelope).err();
+    assert!(rt; over == Some(EncodeFault::TooLong));
     Ok(())
 }
 

@@ -286,6 +286,69 @@ fn lighter_intervals_come_first(rt: HostRuntime) -> Result<(), Fail> {
     Ok(())
 }
 
+/// The weight of the stamp of a key's interval, and 0 where the interval is not among these.
+fn weight_of(intervals: &Intervals, key: Key) -> u64 {
+    let mut weight = 0;
+    for interval in intervals.as_slice() {
+        if interval.node == key.node && interval.index() == key.index {
+            weight = interval.stamp.weight();
+        }
+    }
+    weight
+}
+
+/// What nobody knows of a page, in the order in which it is applied: the node, the index and the weight of its stamp.
+pub fn weighed(
+    alloc: Global,
+    store: &Store,
+    page: u16,
+    upto: &Time,
+) -> Result<Vec<(u8, u32, u64)>, AllocError>
+    requires { length upto.now ≡ length store.now.last }
+{
+    let zeros = Time::new(upto.nodes());
+    let intervals = store.newer_than(&zeros, upto)?;
+    let mut found = Vec::new(alloc);
+    for key in &store.missing(page, &zeros)? {
+        found.push((key.node, key.index, weight_of(&intervals, *key)))?;
+    }
+    Ok(found)
+}
+
+#[test]
+fn weights_order_the_worked_store(rt: HostRuntime) -> Result<(), Fail> {
+    let store = worked(&rt, rt.alloc())?;
+    let upto = time_of(&rt, [2, 1, 0]);
+    let found = weighed(rt.alloc(), &store, 1, &upto)?;
+    assert!(rt; found.as_slice() == [(1, 1, 1), (0, 2, 3)].as_slice());
+    Ok(())
+}
+
+/// Node 0 writes page 0 under a lock, and behind a barrier node 1 does so: the intervals of both up to the next barrier. Each
+/// closes one as it acquires, one as it releases and one as it arrives.
+fn one_after_another(rt: &impl Abort, alloc: Global) -> Result<Store, AllocError>
+    ensures nodes { IfOk result (λ store. length store.last ≡ 3) }
+    ensures few { IfOk result (λ store. store.pages ≡ 2) }
+{
+    let mut store = Store::new(alloc, 3, 2)?;
+    put(rt, alloc, &mut store, 0, [1, 0, 0], [false, false])?;
+    put(rt, alloc, &mut store, 0, [2, 0, 0], [true, false])?;
+    put(rt, alloc, &mut store, 0, [3, 0, 0], [false, false])?;
+    put(rt, alloc, &mut store, 1, [0, 1, 0], [false, false])?;
+    put(rt, alloc, &mut store, 1, [3, 2, 1], [false, false])?;
+    put(rt, alloc, &mut store, 1, [3, 3, 1], [true, false])?;
+    Ok(store)
+}
+
+#[test]
+fn the_later_of_two_writers_weighs_more(rt: HostRuntime) -> Result<(), Fail> {
+    let store = one_after_another(&rt, rt.alloc())?;
+    let upto = time_of(&rt, [3, 3, 1]);
+    let found = weighed(rt.alloc(), &store, 0, &upto)?;
+    assert!(rt; found.as_slice() == [(0, 2, 2), (1, 3, 7)].as_slice());
+    Ok(())
+}
+
 #[test]
 fn discards_nothing_and_everything(rt: HostRuntime) -> Result<(), Fail> {
     let mut store = worked(&rt, rt.alloc())?;

@@ -121,6 +121,36 @@ fn boxes_of_the_legend_are_those_of_rows(rt: HostRuntime) -> Result<(), AllocErr
     Ok(())
 }
 
+// The shapes of the legend's lines, from where they begin: plain ones, one to a cross around its end, and one between two bars.
+const SHAPES: [&[u8]; 5] = [
+    b" 44h28",
+    b" 44h28",
+    b" 44h28",
+    b" 44h23 m-5 -5 l10 10 m-10 0 l10 -10",
+    b" 44m0 -4 v8 m0 -4 h28 m0 -4 v8",
+];
+
+// Whether the points of a path, its first attribute, end so.
+fn ends_so(document: &Document, place: usize, shape: &[u8]) -> bool {
+    match document.inside.get(place) {
+        Some(path) => match attributes(path).first() {
+            Some(points) => points.value.as_slice().ends_with(shape),
+            None => false,
+        },
+        None => false,
+    }
+}
+
+#[test]
+fn lines_of_the_legend_have_their_shapes(rt: HostRuntime) -> Result<(), AllocError> {
+    let document = drawn(rt.alloc())?;
+    for line in 0..5usize {
+        let same = ends_so(&document, LINES + 2 * line, SHAPES[line]);
+        assert!(rt; same, "line {line}");
+    }
+    Ok(())
+}
+
 // The first line of the legend is the rule of a row; then come a message, one taken again, one never taken, and a race.
 #[test]
 fn lines_of_the_legend_are_those_of_messages_and_races(rt: HostRuntime) -> Result<(), AllocError> {

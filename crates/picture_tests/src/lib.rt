@@ -6,4 +6,6 @@ mod drawing;
 #[cfg(test)]
 mod legend;
 #[cfg(test)]
+mod lost;
+#[cfg(test)]
 mod sketching;

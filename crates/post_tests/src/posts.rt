@@ -4,7 +4,7 @@ ghost use Rattle.std.specs.Prelude.{◌≡◌};
 
 use bytes::Bytes;
 use lrc_envelope::Picker;
-use lrc_post::{Mailbox, Parcel, Post, PostFault};
+use lrc_post::{Mailbox, Parcel, Post, PostFault, Unput, Wire};
 use std::alloc::{AllocError, Global};
 use std::process::Abort;
 use std::sync::Wait;
@@ -111,6 +111,17 @@ fn put_stamps<R: Wait>(
     post: &Post,
     stamps: &[u64],
 ) -> Result<Option<(PostFault, usize)>, AllocError> {
+    put_stamps_of(rt, alloc, post, 0, stamps)
+}
+
+/// The same, of any node.
+fn put_stamps_of<R: Wait>(
+    rt: &R,
+    alloc: Global,
+    post: &Post,
+    from: u8,
+    stamps: &[u64],
+) -> Result<Option<(PostFault, usize)>, AllocError> {
     let mut parcels = Vec::new(alloc);
     for stamp in stamps {
         parcels.push(Parcel {
@@ -119,7 +130,7 @@ fn put_stamps<R: Wait>(
             bytes: Bytes::new(),
         })?;
     }
-    Ok(match post.put_all(rt, 0, parcels) {
+    Ok(match post.put_all(rt, from, parcels) {
         Ok(()) => None,
         Err(unput) => Some((unput.fault, unput.parcels.len())),
     })
@@ -260,7 +271,7 @@ fn post_keeps_three_thousand_parcels(rt: HostRuntime) -> Result<(), Fail> {
 /// A node puts five hundred parcels for node 1, one in each call, and then waits for a parcel of its own, which never comes.
 fn put_many<R: Wait>(rt: &R, alloc: Global, post: &Post, me: u8) -> Result<bool, AllocError> {
     for _ in 0..500u64 {
-        if put_stamps(rt, alloc, post, &[u64::from(me)])?.is_some() {
+        if put_stamps_of(rt, alloc, post, me, &[u64::from(me)])?.is_some() {
             return Ok(false);
         }
     }
@@ -278,6 +289,17 @@ fn take_many<R: Wait>(rt: &R, post: &Post) -> Option<u64> {
         }
     }
     Some(taken)
+}
+
+/// How many of the entries are puts of this node.
+fn puts_of(history: &[Wire], node: u8) -> usize {
+    history
+        .iter()
+        .filter(|wire| match wire {
+            Wire::Put { from, .. } => *from == node,
+            Wire::Took { .. } => false,
+        })
+        .count()
 }
 
 #[test]
@@ -300,7 +322,9 @@ fn two_threads_put_a_thousand_and_one_takes_them(rt: HostRuntime) -> Result<(), 
     assert!(rt; taken == Some(1000));
     let wires = post.into_wires();
     assert!(rt; wires.mailboxes().len() == 3);
-    assert!(rt; wires.mailboxes()[1].history().len() == 2000);
+    let history = wires.mailboxes()[1].history();
+    assert!(rt; history.len() == 2000);
+    assert!(rt; (puts_of(history, 0), puts_of(history, 2)) == (500, 500));
     Ok(())
 }
 
@@ -358,5 +382,98 @@ fn post_closes_when_all_wait_and_nothing_is_in_flight(rt: HostRuntime) -> Result
     assert!(rt; oldest == (open_till_then, [2, 1]));
     assert!(rt; newest == (open_till_then, [2, 1]));
     assert!(rt; twice == (open_till_then, [4, 2]));
+    Ok(())
+}
+
+/// Twenty parcels for node 1, with stamps from 1 on.
+fn twenty(alloc: Global) -> Result<Vec<Parcel>, AllocError> {
+    let mut parcels = Vec::new(alloc);
+    for before in 0..20u64 {
+        parcels.push(Parcel {
+            to: 1,
+            stamp: before + 1,
+            bytes: Bytes::new(),
+        })?;
+    }
+    Ok(parcels)
+}
+
+/// The same, made a second time where memory was refused.
+fn twenty_at_last(alloc: Global) -> Result<Vec<Parcel>, AllocError> {
+    match twenty(alloc) {
+        Err(AllocError) => twenty(alloc),
+        parcels => parcels,
+    }
+}
+
+/// A post of two nodes, made a second time where memory was refused.
+fn post_at_last(alloc: Global) -> Result<Post, AllocError> {
+    match Post::new(alloc, 2, Picker::Oldest) {
+        Err(AllocError) => Post::new(alloc, 2, Picker::Oldest),
+        post => post,
+    }
+}
+
+/// Node 0 puts parcels: those that come back for want of memory.
+fn put_what_fits<R: Wait>(rt: &R, alloc: Global, post: &Post, parcels: Vec<Parcel>) -> Vec<Parcel> {
+    match post.put_all(rt, 0, parcels) {
+        Err(
+            Unput {
+                fault: PostFault::NoMemory,
+                parcels,
+            },
+        ) => parcels,
+        _ => Vec::new(alloc),
+    }
+}
+
+/// The stamp of the parcel that node 1 polls next, a second time where memory was refused, and 0 for none.
+fn polled_at_last<R: Wait>(rt: &R, post: &Post) -> Result<u64, PostFault> {
+    match polled(rt, post) {
+        Err(PostFault::NoMemory) => polled(rt, post),
+        stamp => stamp,
+    }
+}
+
+/// Which stamp node 1 polls last, where stamps rise by one from the one after `last` on.
+fn polled_from<R: Wait>(rt: &R, post: &Post, last: u64) -> Result<u64, PostFault> {
+    let mut stamp = last;
+    for _ in 0..21u32 {
+        if polled_at_last(rt, post)? != stamp.saturating_add(1) {
+            return Ok(stamp);
+        }
+        stamp = stamp.saturating_add(1);
+    }
+    Ok(stamp)
+}
+
+/// Whether these are those of the twenty parcels that come after this stamp, in order.
+fn are_after(parcels: &[Parcel], last: u64) -> bool {
+    last.saturating_add(parcels.len() as u64) == 20
+        && parcels.iter().zip(0..20u64).all(|(parcel, place)| {
+            parcel.to == 1 && parcel.stamp == last.saturating_add(place + 1)
+        })
+}
+
+/// Whether what comes back and what is polled before are always the twenty parcels, in order; and whether all are polled once
+/// those that came back were put again.
+fn comes_back_or_is_polled<R: Wait>(rt: &R, alloc: Global, post: &Post) -> Result<bool, Fail> {
+    let mut parcels = twenty_at_last(alloc)?;
+    let mut last = 0;
+    for _ in 0..3u32 {
+        parcels = put_what_fits(rt, alloc, post, parcels);
+        last = polled_from(rt, post, last)?;
+        if !are_after(&parcels, last) {
+            return Ok(false);
+        }
+    }
+    Ok(parcels.is_empty())
+}
+
+// Whichever growth is refused, if one is.
+#[test]
+fn parcels_that_find_no_memory_come_back_and_the_post_goes_on(rt: HostRuntime) -> Result<(), Fail> {
+    let post = post_at_last(rt.alloc())?;
+    assert!(rt; comes_back_or_is_polled(&rt, rt.alloc(), &post)?);
     Ok(())
 }
