@@ -12,8 +12,8 @@ pub record IsLastWritten (run : List Act) (j word value : ℕ) : Type 0 where
       → ((k u : ℕ) → i < k → k < j → ¬ IsDone run k (Write word u)) → value ≡ v
 
 -- every read of the run gives the value of the last write before it
-abbrev pub ReadsInOrder : List Act → Type 0
-ReadsInOrder run = (j word value : ℕ) → IsDone run j (Read word value) → IsLastWritten run j word value
+abbrev pub ReadsLastWritten : List Act → Type 0
+ReadsLastWritten run = (j word value : ℕ) → IsDone run j (Read word value) → IsLastWritten run j word value
 
 -- the first read that does not, and what was last written
 pub record IsFirstOutOfOrder (run : List Act) (first : OutOfOrder) : Type 0 where

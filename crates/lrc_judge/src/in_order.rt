@@ -3,7 +3,7 @@ ghost use Rattle.std.specs.Prelude.{◌≡◌, ℕ, IfOk, MatchOption};
 ghost use Rattle.std.specs.Ordering.{nat_cmp};
 ghost use Rattle.std.specs.BTreeMap.{get};
 ghost use Rattle.std.specs.Option.{option_map_or};
-ghost use Rattle.lrc_judge.specs.InOrder.{ReadsInOrder, IsFirstOutOfOrder};
+ghost use Rattle.lrc_judge.specs.InOrder.{ReadsLastWritten, IsFirstOutOfOrder};
 
 use lrc_trace::act::{Act, Deed};
 use std::alloc::{AllocError, Global};
@@ -30,7 +30,7 @@ fn last_written(memory: &BTreeMap<u32, u64>, word: u32) -> u64
 
 /// The first read of a run that does not give what the last write before it wrote. It takes one pass over the acts.
 pub fn first_out_of_order(alloc: Global, acts: &[Act]) -> Result<Option<OutOfOrder>, AllocError>
-    ensures { IfOk result (λ first. MatchOption first (ReadsInOrder acts.now) (IsFirstOutOfOrder acts.now)) }
+    ensures { IfOk result (λ first. MatchOption first (ReadsLastWritten acts.now) (IsFirstOutOfOrder acts.now)) }
 {
     let mut memory = BTreeMap::new(alloc);
     for position in 0..acts.len() {

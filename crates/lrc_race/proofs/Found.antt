@@ -12,11 +12,12 @@ use Rattle.lrc_trace.specs.declared.trace.Segment.{Segment}
 use Rattle.lrc_trace.specs.Trace.{TraceRecord, has_access}
 use Rattle.lrc_race.specs.declared.places.TouchedPlace.{TouchedPlace}
 use Rattle.lrc_race.specs.declared.detector.Lane.{Lane}
-use Rattle.lrc_race.specs.Adding.{Adds}
+use Rattle.lrc_judge.specs.Adding.{Adds}
 use Rattle.lrc_race.specs.Places.{IsPlace}
-use Rattle.lrc_race.specs.Races.{AreConflicting, AreUnordered, IsRaceOf, name_of}
+use Rattle.lrc_race.specs.Races.{AreConflicting, AreUnordered, IsRaceOf, race_named}
 use Rattle.lrc_race.specs.Pairs.{AreWithin, IsLane, AreLanes, IsRaceOfPlaces, IsRaceOfLists, IsRaceOfLanes, IsRaceOfTraces}
-use Rattle.lrc_race.proofs.Additions.{adds-same, adds-iff, adds-both, some_same, IsBelow}
+use Rattle.lrc_judge.proofs.Additions.{adds-same, adds-iff, adds-both, IsBelow}
+use Rattle.lrc_race.proofs.Same.{some_same}
 use Rattle.lrc_race.proofs.Stretches.{at_contains, contains_at}
 
 -- the race is of the i-th trace with some trace
@@ -184,7 +185,7 @@ module _ (traces : List TraceRecord) (i j : ℕ) (a b : TraceRecord) (first seco
         second = n_is;
         word = refl;
         unordered = subst (λ (u : TraceRecord). AreUnordered a r.s u r.t) b_same (subst (λ (u : TraceRecord). AreUnordered u r.s r.b r.t) a_same r.unordered);
-        named = r.named ∙ ap (λ u. name_of r.word u r.s r.b r.t) a_same ∙ ap (λ u. name_of r.word a r.s u r.t) b_same;
+        named = r.named ∙ ap (λ u. race_named r.word u r.s r.b r.t) a_same ∙ ap (λ u. race_named r.word a r.s u r.t) b_same;
       }))
       adds
 
@@ -201,11 +202,11 @@ pair-none traces i j a b rs a_is b_is same =
 -- ---- all traces
 
 named_low : (word : ℕ) (a : TraceRecord) (s : Segment) (b : TraceRecord) (t : Segment) → a.node < b.node
-    → name_of word a s b t ≡ record { word = word; node_a = a.node; node_b = b.node; interval_a = s.interval; interval_b = t.interval }
+    → race_named word a s b t ≡ record { word = word; node_a = a.node; node_b = b.node; interval_a = s.interval; interval_b = t.interval }
 named_low word a s b t low = rw (lt-ltb a.node b.node low) refl
 
 named_high : (word : ℕ) (a : TraceRecord) (s : Segment) (b : TraceRecord) (t : Segment) → b.node ≤ a.node
-    → name_of word a s b t ≡ record { word = word; node_a = b.node; node_b = a.node; interval_a = t.interval; interval_b = s.interval }
+    → race_named word a s b t ≡ record { word = word; node_a = b.node; node_b = a.node; interval_a = t.interval; interval_b = s.interval }
 named_high word a s b t high = rw (le-ltb a.node b.node high) refl
 
 -- a race of two of the traces, the lower node first
@@ -279,7 +280,7 @@ same_race race node_a node_b interval_a interval_b first second third fourth =
 -- a race of two traces of which the second comes later
 race_at : (traces : List TraceRecord) (race : Race) (i j word : ℕ) (a : TraceRecord) (s : Segment) (b : TraceRecord) (t : Segment) → i < j
     → slice_get traces i ≡ Some a → slice_get traces j ≡ Some b → Contains a.segments s → Contains b.segments t → a.node ≢ b.node
-    → AreConflicting a s b t word → AreUnordered a s b t → race ≡ name_of word a s b t
+    → AreConflicting a s b t word → AreUnordered a s b t → race ≡ race_named word a s b t
     → (i : ℕ) × (i < length traces) × IsRaceOfTrace traces i race
 race_at traces race i j word a s b t later a_there b_there s_there t_there apart conflicting unordered named = (
   i,

@@ -1,4 +1,4 @@
-pub mod Additions
+pub mod Same
 pub mod PlaceLists
 pub mod PlaceOrder
 pub mod Stretches

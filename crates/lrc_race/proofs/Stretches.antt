@@ -6,11 +6,12 @@ use Rattle.std.proofs.lemmas.Option.{get_or_from_slice_get, slice_get_read, slic
 use Rattle.lrc_trace.specs.declared.race.Race.{Race}
 use Rattle.lrc_trace.specs.Trace.{TraceRecord}
 use Rattle.lrc_race.specs.declared.places.TouchedPlace.{TouchedPlace}
-use Rattle.lrc_race.specs.Adding.{Adds, IsOfSome}
+use Rattle.lrc_judge.specs.Adding.{Adds, IsOfSome}
 use Rattle.lrc_race.specs.Places.{IsBefore, AreInOrder}
-use Rattle.lrc_race.specs.Races.{RisesAlong, name_of}
+use Rattle.lrc_race.specs.Races.{RisesAlong, race_named}
 use Rattle.lrc_race.specs.Pairs.{AreWithin, IsBehind, IsRaceOfPlaces, IsRaceAt, IsRaceFrom}
-use Rattle.lrc_race.proofs.Additions.{adds-same, adds-push, adds-iff, below-more, some_same, IsBelow}
+use Rattle.lrc_judge.proofs.Additions.{adds-same, adds-push, adds-iff, below-more, IsBelow}
+use Rattle.lrc_race.proofs.Same.{some_same}
 
 -- ---- elements at their numbers
 
@@ -78,7 +79,7 @@ one_race : (a : TraceRecord) (x : TouchedPlace) (b : TraceRecord) (y : TouchedPl
 one_race a x b y q r first second =
     let s : first.s ≡ second.s = some_same first.s second.s (sym first.first ∙ second.first) in
     let t : first.t ≡ second.t = some_same first.t second.t (sym first.second ∙ second.second) in
-    first.named ∙ ap (λ u. name_of x.word a u b first.t) s ∙ ap (λ u. name_of x.word a second.s b u) t ∙ sym second.named
+    first.named ∙ ap (λ u. race_named x.word a u b first.t) s ∙ ap (λ u. race_named x.word a second.s b u) t ∙ sym second.named
 
 -- ---- the races of one place
 

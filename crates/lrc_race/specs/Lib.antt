@@ -1,4 +1,3 @@
-pub mod Adding
 pub mod Places
 pub mod Races
 pub mod Pairs

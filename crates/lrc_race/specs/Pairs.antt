@@ -6,9 +6,9 @@ use Rattle.lrc_trace.specs.declared.trace.Segment.{Segment}
 use Rattle.lrc_trace.specs.Trace.{TraceRecord}
 use Rattle.lrc_race.specs.declared.places.TouchedPlace.{TouchedPlace}
 use Rattle.lrc_race.specs.declared.detector.Lane.{Lane}
-use Rattle.lrc_race.specs.Adding.{IsOfSome}
+use Rattle.lrc_judge.specs.Adding.{IsOfSome}
 use Rattle.lrc_race.specs.Places.{AreInOrder, ArePlaces, IsPlace}
-use Rattle.lrc_race.specs.Races.{AreConflicting, AreUnordered, name_of}
+use Rattle.lrc_race.specs.Races.{AreConflicting, AreUnordered, race_named}
 
 -- The lane has the words that the trace writes, and in order words that it reads, among them each that it does not write.
 pub record IsLane (trace : TraceRecord) (lane : Lane) : Type 0 where
@@ -52,7 +52,7 @@ pub record IsRaceOfPlaces (a : TraceRecord) (x : TouchedPlace) (b : TraceRecord)
   pub second : slice_get b.segments y.segment ≡ Some t
   pub word : x.word ≡ y.word
   pub unordered : AreUnordered a s b t
-  pub named : race ≡ name_of x.word a s b t
+  pub named : race ≡ race_named x.word a s b t
 
 -- the race is one of the place with that at number k, or at a later number
 abbrev pub IsRaceAt : TraceRecord → TouchedPlace → TraceRecord → List TouchedPlace → ℕ → Race → Type 0
@@ -85,4 +85,4 @@ pub record IsRaceOfTraces (traces : List TraceRecord) (i j : ℕ) (race : Race) 
   pub word : ℕ
   pub conflicting : AreConflicting a s b t word
   pub unordered : AreUnordered a s b t
-  pub named : race ≡ name_of word a s b t
+  pub named : race ≡ race_named word a s b t

@@ -54,8 +54,8 @@ pub record AreTracesOf (nodes : ℕ) (traces : List TraceRecord) : Type 0 where
   pub entries : (a : TraceRecord) (s : Segment) → Contains traces a → Contains a.segments s → length s.time ≡ nodes
 
 -- the race of two segments of different nodes, the lower node first
-abbrev pub name_of : ℕ → TraceRecord → Segment → TraceRecord → Segment → Race
-name_of word a s b t = if nat_lt a.node b.node
+abbrev pub race_named : ℕ → TraceRecord → Segment → TraceRecord → Segment → Race
+race_named word a s b t = if nat_lt a.node b.node
     then record { word = word; node_a = a.node; node_b = b.node; interval_a = s.interval; interval_b = t.interval }
     else record { word = word; node_a = b.node; node_b = a.node; interval_a = t.interval; interval_b = s.interval }
 

@@ -3,11 +3,11 @@
 ghost use Rattle.std.specs.Prelude.{◌≡◌, ℕ, ◌<◌, ◌≤◌, ◌↔◌, Contains, IfOk, IsTrue, MatchOption, OnOk, Some, length, slice_get};
 ghost use Rattle.lrc_trace.specs.Trace.{TraceRecord};
 ghost use Rattle.lrc_time.specs.Time.{Knows};
-ghost use Rattle.lrc_race.specs.Adding.{Adds};
+ghost use Rattle.lrc_judge.specs.Adding.{Adds};
 ghost use Rattle.lrc_trace.specs.declared.race.Race.{Race};
 ghost use Rattle.lrc_race.specs.declared.places.TouchedPlace.{TouchedPlace};
 ghost use Rattle.lrc_race.specs.Places.{AreInOrder};
-ghost use Rattle.lrc_race.specs.Races.{AreRacesOf, AreTracesOf, RisesAlong, name_of};
+ghost use Rattle.lrc_race.specs.Races.{AreRacesOf, AreTracesOf, RisesAlong, race_named};
 ghost use Rattle.lrc_race.specs.Pairs.{IsLane, AreLanes, AreWithin, HaveEntries, IsBehind, IsRaceOfPlaces, IsRaceFrom, IsRaceOfLists, IsRaceOfLanes, IsRaceOfTraces};
 
 use crate::places::{TouchedPlace, places_of, without};
@@ -55,7 +55,7 @@ pub fn knows(segment: &Segment, node: u8, other: &Segment) -> bool
 
 // The race of two segments of different nodes on a word, as a report names it.
 fn named(word: u32, a: &Trace, s: &Segment, b: &Trace, t: &Segment) -> Race
-    ensures { result ≡ name_of word a.now s.now b.now t.now }
+    ensures { result ≡ race_named word a.now s.now b.now t.now }
 {
     if a.node() < b.node() {
         return Race {

@@ -3,7 +3,7 @@ use Rattle.std.proofs.Common.{◌≡◌, ◌∙◌, ℕ, List, [], ◌∷◌, �
 use Rattle.lrc_protocol.specs.Node.{Node}
 use Rattle.lrc_protocol.specs.Log.{Input, EntryRecord, Logged, logged, logs}
 use Rattle.lrc_protocol.proofs.Worlds.{Entries, IsEntry, logs-entries}
-use Rattle.lrc_weave.specs.Logs.{MayCome, GoesOn}
+use Rattle.lrc_weave.specs.Logs.{MayCome, GoesOnBy}
 use Rattle.lrc_run.specs.Worker.{Turns, none, more, unmade}
 
 -- a node with its log goes on by these entries to another state of it
@@ -40,11 +40,11 @@ leads_on {l = l} (more {k = k} {j = j} {entry = entry} input came before may tur
       one_more l k j so_far.0 entry input came so_far.2 may turn,
     )
 
-goes_on_by : (l j : Logged) (log : List EntryRecord) → LeadsTo l log j → GoesOn l log
+goes_on_by : (l j : Logged) (log : List EntryRecord) → LeadsTo l log j → GoesOnBy l log
 goes_on_by l j [] leads = tt
 goes_on_by l j (entry ∷ others) leads = (leads.0, leads.1, leads.2, leads.3, goes_on_by leads.1 j others leads.4)
 
 -- the log of a node's turns from its first on is one by which it goes on
-pub log_goes_on : (start : Node) (j : Logged) → Turns (unmade start) j → GoesOn (unmade start) j.log
+pub log_goes_on : (start : Node) (j : Logged) → Turns (unmade start) j → GoesOnBy (unmade start) j.log
 log_goes_on start j turns =
-    let led = leads_on turns in subst (GoesOn (unmade start)) (sym led.1) (goes_on_by (unmade start) j led.0 led.2)
+    let led = leads_on turns in subst (GoesOnBy (unmade start)) (sym led.1) (goes_on_by (unmade start) j led.0 led.2)

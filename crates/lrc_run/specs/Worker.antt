@@ -13,7 +13,7 @@ use Rattle.lrc_node.specs.Logged.{LoggedNode, sound}
 use Rattle.lrc_node.specs.declared.fault.NodeFault.{NodeFault}
 use Rattle.lrc_node.specs.declared.fault.NodeFault.TheVariants as NodeFaults
 use Rattle.lrc_node.specs.declared.fault.NodeFault.TheVariants.{Failed, NotReady, Unexpected}
-use Rattle.lrc_weave.specs.Logs.{MayCome, GoesOn}
+use Rattle.lrc_weave.specs.Logs.{MayCome, GoesOnBy}
 use Rattle.lrc_run.specs.declared.stop.Stop.{Stop}
 use Rattle.lrc_run.specs.declared.stop.Stop.TheVariants.{Closed, Worn, NoMemory}
 
@@ -74,7 +74,7 @@ unmade node = record { node = node; log = [] }
 
 -- a log is that of turns of this node, from its first on
 abbrev pub IsLogOf : Node → List EntryRecord → Type 0
-IsLogOf start log = GoesOn (unmade start) log
+IsLogOf start log = GoesOnBy (unmade start) log
 
 -- What comes of a thread's steps: its log tells what it put and took. Where the post was closed while the node had messages to
 -- send, its log is still that of its turns. Otherwise the node has failed.

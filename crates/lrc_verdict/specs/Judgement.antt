@@ -13,7 +13,7 @@ use Rattle.lrc_trace.specs.Conflict.{IsFirstRace, IsRaceFree}
 use Rattle.lrc_judge.specs.Synchronization.{IsFirstBreak}
 use Rattle.lrc_judge.specs.Allowed.{AreAllowed}
 use Rattle.lrc_judge.specs.Reading.{IsFirstMisread}
-use Rattle.lrc_judge.specs.InOrder.{IsFirstOutOfOrder, ReadsInOrder}
+use Rattle.lrc_judge.specs.InOrder.{IsFirstOutOfOrder, ReadsLastWritten}
 use Rattle.lrc_judge.specs.Races.{AreNamedRaces}
 use Rattle.lrc_judge.specs.Pairs.{AreRacingPairs}
 use Rattle.lrc_judge.specs.declared.lanes.Pair.{Pair}
@@ -43,7 +43,7 @@ pub data TellsLazyReading (acts : List Act) (lines : List ℕ) : Bool → List �
 
 -- the acts read, or do not read, in order, and this line says so
 pub data TellsOrder (acts : List Act) (lines : List ℕ) : List ℕ → Type 0 where
-  ordered : ReadsInOrder acts → TellsOrder acts lines ordered_line
+  ordered : ReadsLastWritten acts → TellsOrder acts lines ordered_line
   unordered : {first : OutOfOrder} {word value : ℕ} → IsFirstOutOfOrder acts first → IsDone acts first.position (Read word value)
       → TellsOrder acts lines (unordered_line (place_at lines first.position) value first.last_written)
 

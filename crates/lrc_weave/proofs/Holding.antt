@@ -15,7 +15,7 @@ use Rattle.lrc_protocol.specs.Log.{taken, EntryRecord, next_stamp}
 use Rattle.lrc_protocol.specs.World.{Flying, marked, sent_by}
 use Rattle.lrc_weave.specs.Logs.{AreLogs}
 use Rattle.lrc_weave.specs.Matched.{AreMatched}
-use Rattle.lrc_weave.specs.Woven.{IsUpTo, log_of, come_of, next_entry, IsNext, takes_same, is_taken_in, IsTakenAt, Makes, runs, takes_last, takes_again}
+use Rattle.lrc_weave.specs.Woven.{IsUpTo, log_of, come_of, next_entry, IsNext, takes_same, is_taken_among, IsTakenAt, Makes, runs, takes_last, takes_again}
 use Rattle.lrc_weave.proofs.Places.{within_outer}
 use Rattle.lrc_weave.proofs.Members.{IsIn, in_left, in_right, of_map, stays_in, in_drop}
 use Rattle.lrc_weave.proofs.Paired.{IsSent, paired}
@@ -43,14 +43,14 @@ takes_itself envelope =
     ap (λ b. b && (envelope.number == envelope.number)) (eq-eqb envelope.from envelope.from refl) ∙ eq-eqb envelope.number envelope.number refl
 
 taken_in : (log : List EntryRecord) (envelope : EnvelopeRecord) (place : ℕ) (entry : EntryRecord) → slice_get log place ≡ Some entry
-    → entry.input ≡ taken envelope → is_taken_in envelope log ≡ true
+    → entry.input ≡ taken envelope → is_taken_among envelope log ≡ true
 taken_in [] envelope place entry at is = cc
 taken_in (e ∷ log) envelope zero entry at is =
     let same : e ≡ entry = cc in
-    ap (λ (x : EntryRecord). takes_same envelope x.input || is_taken_in envelope log) same
-    ∙ ap (λ i. takes_same envelope i || is_taken_in envelope log) is ∙ ap (λ b. b || is_taken_in envelope log) (takes_itself envelope)
+    ap (λ (x : EntryRecord). takes_same envelope x.input || is_taken_among envelope log) same
+    ∙ ap (λ i. takes_same envelope i || is_taken_among envelope log) is ∙ ap (λ b. b || is_taken_among envelope log) (takes_itself envelope)
 taken_in (e ∷ log) envelope (suc place) entry at is =
-    either_true (takes_same envelope e.input) (is_taken_in envelope log) (taken_in log envelope place entry at is)
+    either_true (takes_same envelope e.input) (is_taken_among envelope log) (taken_in log envelope place entry at is)
 
 -- ---- what stays in flight
 
@@ -91,7 +91,7 @@ has_right flight more flying i =
 
 -- a turn leaves in flight what is still to be taken
 has_after : (n : ℕ) (before after : List EntryRecord) (entry : EntryRecord) (flight left : List Flying) (event : Event) (flying : Flying)
-    → Makes n before after entry flight event left → (flying.envelope.to ≡ n → is_taken_in flying.envelope after ≡ true) → Has flight flying → Has left flying
+    → Makes n before after entry flight event left → (flying.envelope.to ≡ n → is_taken_among flying.envelope after ≡ true) → Has flight flying → Has left flying
 has_after n before after entry flight left event flying (runs i) again h = h
 has_after n before after entry flight left event flying (takes_again {place = place} t more) again h =
     has_marked flight 0 place h.place flying h.found h.there h.envelope h.stamp
@@ -99,7 +99,7 @@ has_after n before after entry flight left event flying (takes_last {place = pla
     let other : h.place ≡ place → ⊥ = λ e.
     let same : h.found ≡ f = same_Some h.found f (sym h.there ∙ ap (slice_get flight) e ∙ t.there) in
     let message : flying.envelope ≡ f.envelope = sym h.envelope ∙ ap (λ (x : Flying). x.envelope) same in
-    let both : false ≡ true = sym no_more ∙ ap (λ m. is_taken_in m after) (sym message) ∙ again (ap (λ (m : EnvelopeRecord). m.to) message ∙ t.receiver) in
+    let both : false ≡ true = sym no_more ∙ ap (λ m. is_taken_among m after) (sym message) ∙ again (ap (λ (m : EnvelopeRecord). m.to) message ∙ t.receiver) in
     false_true both in
     let i = stays_in flight h.place place h.found h.there other in
     record { place = i.0; found = h.found; there = i.1; envelope = h.envelope; stamp = h.stamp }
@@ -131,7 +131,7 @@ module _ (logs : List (List EntryRecord)) where
         | inl e ↦ (let x : come_of new n ≡ come_of come n + 1 = subst (λ i. come_of new i ≡ come_of come i + 1) (sym e) here in omega (arith, le, x))
         | inr ne ↦ (let x : come_of new n ≡ come_of come n = get_or-set_other come m n (come_of come m + 1) 0 ne in omega (arith, le, x))
       ] in
-      let again : flying.envelope.to ≡ m → is_taken_in flying.envelope (drop (come_of come m + 1) (log_of logs m)) ≡ true = λ e.
+      let again : flying.envelope.to ≡ m → is_taken_among flying.envelope (drop (come_of come m + 1) (log_of logs m)) ≡ true = λ e.
       let same : n ≡ m = sym to ∙ e in
       let past : come_of come m + 1 ≤ k = (let x : come_of new m ≤ k = subst (λ i. come_of new i ≤ k) same le in omega (arith, x, here)) in
       let i = in_drop (log_of logs m) (come_of come m + 1) k entry (subst (λ i. slice_get (log_of logs i) k ≡ Some entry) same at) past in

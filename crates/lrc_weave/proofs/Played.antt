@@ -16,7 +16,7 @@ use Rattle.lrc_protocol.specs.Log.{Input, run, taken, EntryRecord, Logged, logge
 use Rattle.lrc_protocol.specs.World.{World, Flying, fresh_world, with_turn, with_mark, sent_by, inputs}
 use Rattle.lrc_protocol.specs.World.{input_to, after_input, delivers, event_on, step_of, run_of}
 use Rattle.lrc_protocol.proofs.Worlds.{get_set_same, get_set_other}
-use Rattle.lrc_weave.specs.Logs.{GoesOn, MayCome, AreLogs}
+use Rattle.lrc_weave.specs.Logs.{GoesOnBy, MayCome, AreLogs}
 use Rattle.lrc_weave.specs.Woven.{log_of, come_of, next_entry, IsTakenAt, Makes, runs, takes_last, takes_again, Woven, nothing_yet, then_one, AreWoven}
 use Rattle.lrc_weave.proofs.Places.{taken_more, dropped_less, taken_all, within_outer, mapped_is}
 
@@ -69,14 +69,14 @@ pub record IsAt (logs : List (List EntryRecord)) (come : List ℕ) (flight : Lis
   pub counted : length come ≡ length logs
   pub flown : world.flight ≡ flight
   pub each : (n : ℕ) → n < length logs
-      → (l : Logged) × (slice_get world.nodes n ≡ Some l) × (l.log ≡ take (come_of come n) (log_of logs n)) × GoesOn l (drop (come_of come n) (log_of logs n))
+      → (l : Logged) × (slice_get world.nodes n ≡ Some l) × (l.log ≡ take (come_of come n) (log_of logs n)) × GoesOnBy l (drop (come_of come n) (log_of logs n))
 
 module _ (logs : List (List EntryRecord)) where
   -- a turn more
   more : (world : World) (come : List ℕ) (flight left : List Flying) (n : ℕ) (entry : EntryRecord) (l after : Logged)
       → IsAt logs come flight world → n < length logs → slice_get world.nodes n ≡ Some l → next_entry logs come n ≡ Some entry
       → l.log ≡ take (come_of come n) (log_of logs n) → after.log ≡ l.log ++ entry ∷ []
-      → GoesOn after (drop (come_of come n + 1) (log_of logs n))
+      → GoesOnBy after (drop (come_of come n + 1) (log_of logs n))
       → IsAt logs (slice_set come n (come_of come n + 1)) (left ++ sent_by entry) (with_turn world left n entry after)
   more world come flight left n entry l after at within there next log_is more_is on =
       let k = come_of come n in
@@ -89,21 +89,21 @@ module _ (logs : List (List EntryRecord)) where
           | inl e ↦
               let now : come_of new n ≡ k + 1 = get_or-set_same come n (k + 1) 0 (subst (λ x. n < x) (sym at.counted) within) in
               let here : (x : Logged) × (slice_get (slice_set world.nodes n after) n ≡ Some x) × (x.log ≡ take (come_of new n) (log_of logs n))
-              × GoesOn x (drop (come_of new n) (log_of logs n)) = (
+              × GoesOnBy x (drop (come_of new n) (log_of logs n)) = (
                 after,
                 get_set_same world.nodes n l after there,
                 more_is ∙ ap (λ xs. xs ++ entry ∷ []) log_is ∙ sym (taken_more (log_of logs n) k entry next) ∙ ap (λ c. take c (log_of logs n)) (sym now),
-                subst (λ c. GoesOn after (drop c (log_of logs n))) (sym now) on,
+                subst (λ c. GoesOnBy after (drop c (log_of logs n))) (sym now) on,
               ) in
               subst (λ m. (x : Logged) × (slice_get (slice_set world.nodes n after) m ≡ Some x) × (x.log ≡ take (come_of new m) (log_of logs m))
-              × GoesOn x (drop (come_of new m) (log_of logs m))) e here
+              × GoesOnBy x (drop (come_of new m) (log_of logs m))) e here
           | inr ne ↦
               let old = at.each m lt in
               let now : come_of new m ≡ come_of come m = get_or-set_other come n m (k + 1) 0 (λ e. ne (sym e)) in (
                 old.0,
                 get_set_other world.nodes n m after ne ∙ old.1,
                 old.2 ∙ ap (λ c. take c (log_of logs m)) (sym now),
-                subst (λ c. GoesOn old.0 (drop c (log_of logs m))) (sym now) old.3,
+                subst (λ c. GoesOnBy old.0 (drop c (log_of logs m))) (sym now) old.3,
               )
         ];
       }
@@ -146,7 +146,7 @@ module _ (logs : List (List EntryRecord)) where
       let k = come_of come n in
       let within : n < length logs = within_outer logs n k entry next in
       let old = at.each n within in
-      let on : GoesOn old.0 (entry ∷ drop (k + 1) (log_of logs n)) = subst (GoesOn old.0) (dropped_less (log_of logs n) k entry next) old.3 in
+      let on : GoesOnBy old.0 (entry ∷ drop (k + 1) (log_of logs n)) = subst (GoesOnBy old.0) (dropped_less (log_of logs n) k entry next) old.3 in
       let turned : logs' old.0 entry.input on.0 ≡ logged entry on.1 = on.3 in (
         with_turn world left n entry on.1,
         event_is world flight left n on.0 entry old.0 on.1 _ _ event at.flown old.1 old.2 on.2 turned makes,
@@ -176,7 +176,7 @@ module _ (logs : List (List EntryRecord)) where
             new_at n,
             fresh_there 0 nodes n (subst (λ k. n < k) are.count lt) ∙ ap (λ m. Some (new_at m)) (omega arith),
             ap (λ c. take c (log_of logs n)) (sym none),
-            subst (λ c. GoesOn (new_at n) (drop c (log_of logs n))) (sym none) (are.each n (log_of logs n) (slice_get-get_or logs n [] lt)),
+            subst (λ c. GoesOnBy (new_at n) (drop c (log_of logs n))) (sym none) (are.each n (log_of logs n) (slice_get-get_or logs n [] lt)),
           );
     }
 

@@ -10,9 +10,9 @@ use Rattle.lrc_envelope.specs.Envelope.{EnvelopeRecord}
 use Rattle.lrc_protocol.specs.declared.event.Event.{Event}
 use Rattle.lrc_protocol.specs.Log.{Input, run, taken, EntryRecord}
 use Rattle.lrc_weave.specs.declared.events.MessageName.{MessageName}
-use Rattle.lrc_weave.specs.Woven.{takes_same, is_taken_in}
+use Rattle.lrc_weave.specs.Woven.{takes_same, is_taken_among}
 use Rattle.lrc_weave.specs.Again.{has_key, is_noted, is_again, AreAgain, AreAllAgain}
-use Rattle.lrc_weave.specs.Events.{name_of, IsMadeBy, IsTurnOf}
+use Rattle.lrc_weave.specs.Events.{message_name, IsMadeByEvent, IsTurnOf}
 use Rattle.lrc_weave.proofs.Places.{taken_more, dropped_less}
 use Rattle.lrc_weave.proofs.Members.{in_map}
 
@@ -35,7 +35,7 @@ noted_one message other from number keys new is from_is number_is =
 pub record AreSo (log : List EntryRecord) (place : ℕ) (keys : List (ℕ × ℕ)) (again : List Bool) : Type 0 where
   pub there : place ≤ length log
   pub count : length again ≡ length log
-  pub noted : (message : EnvelopeRecord) → has_key keys message ≡ is_taken_in message (drop place log)
+  pub noted : (message : EnvelopeRecord) → has_key keys message ≡ is_taken_among message (drop place log)
   pub bits : (k : ℕ) (entry : EntryRecord) → place ≤ k → slice_get log k ≡ Some entry → slice_get again k ≡ Some (is_again entry.input (drop (k + 1) log))
 
 pub so_begun : (log : List EntryRecord) (place : ℕ) (keys : List (ℕ × ℕ)) (again : List Bool) → place ≡ length log → keys ≡ [] → length again ≡ length log
@@ -44,7 +44,7 @@ so_begun log place keys again all none counted = record {
   there = omega (arith, all);
   count = counted;
   noted = λ message.
-      ap (λ ks. has_key ks message) none ∙ sym (ap (is_taken_in message) (ap (λ n. drop n log) all ∙ drop-length log));
+      ap (λ ks. has_key ks message) none ∙ sym (ap (is_taken_among message) (ap (λ n. drop n log) all ∙ drop-length log));
   bits = λ k entry le at. absurd (omega (arith, le, all, slice_get_within log k entry at));
 }
 
@@ -52,7 +52,7 @@ pub so_done : (log : List EntryRecord) (keys : List (ℕ × ℕ)) (again : List 
 so_done log keys again so = record { count = so.count; each = λ place entry at. so.bits place entry (omega arith) at }
 
 noted_is : (log : List EntryRecord) (keys : List (ℕ × ℕ)) (later : List EntryRecord)
-    → ((message : EnvelopeRecord) → has_key keys message ≡ is_taken_in message later)
+    → ((message : EnvelopeRecord) → has_key keys message ≡ is_taken_among message later)
     → (input : Input) → is_noted keys input ≡ is_again input later
 noted_is log keys later noted run = refl
 noted_is log keys later noted (taken message) = noted message
@@ -64,14 +64,14 @@ pub so_more : (log : List EntryRecord) (place below : ℕ) (keys new : List (ℕ
 so_more log place below keys new again entry input b so next low entry_is is more input_is =
     let at : slice_get log below ≡ Some entry = slice_get_read log (length log) below entry refl low entry_is in
     let within : below < length again = omega (arith, so.count, low) in
-    let noted : (message : EnvelopeRecord) → has_key keys message ≡ is_taken_in message (drop (below + 1) log) =
-    λ message. subst (λ p. has_key keys message ≡ is_taken_in message (drop p log)) next (so.noted message) in
+    let noted : (message : EnvelopeRecord) → has_key keys message ≡ is_taken_among message (drop (below + 1) log) =
+    λ message. subst (λ p. has_key keys message ≡ is_taken_among message (drop p log)) next (so.noted message) in
     record {
       there = omega (arith, low);
       count = length-set again below b ∙ so.count;
       noted = λ message.
           more message ∙ ap (λ i. takes_same message i || has_key keys message) input_is ∙ ap (λ c. takes_same message entry.input || c) (noted message)
-          ∙ ap (is_taken_in message) (sym (dropped_less log below entry at));
+          ∙ ap (is_taken_among message) (sym (dropped_less log below entry at));
       bits = λ k other le there. elim (cases_eq below k) [
         | inl e ↦ (
             let same : entry ≡ other = same_Some entry other (sym at ∙ ap (slice_get log) e ∙ there) in
@@ -140,13 +140,13 @@ bit_is log again place entry b are at is =
 pub turned : (node : ℕ) (log : List EntryRecord) (again : List Bool) (place : ℕ) (old left new : List MessageName) (event : Event)
     (entry : EntryRecord) (b : Bool)
     → place < length log → entry ≡ slice_index_or log place entry → AreAgain log again → b ≡ slice_index_or again place b
-    → IsMadeBy node b old entry.input left event → new ≡ left ++ map name_of entry.turn.out → IsTurnOf node log place old new event
+    → IsMadeByEvent node b old entry.input left event → new ≡ left ++ map message_name entry.turn.out → IsTurnOf node log place old new event
 turned node log again place old left new event entry b within is are bit made sent =
     let at : slice_get log place ≡ Some entry = slice_get_read log (length log) place entry refl within is in (
       entry,
       left,
       at,
-      subst (λ x. IsMadeBy node x old entry.input left event) (bit_is log again place entry b are at bit) made,
+      subst (λ x. IsMadeByEvent node x old entry.input left event) (bit_is log again place entry b are at bit) made,
       sent,
     )
 

@@ -4,7 +4,7 @@ use Rattle.std.specs.Prelude.{Some, slice_get}
 use Rattle.std.proofs.Math.Nat.{le-max_left, le-max_right}
 use Rattle.std.proofs.lemmas.Grind.{fold-append}
 use Rattle.lrc_protocol.specs.Log.{EntryRecord, Logged, last_stamp, next_stamp}
-use Rattle.lrc_weave.specs.Logs.{GoesOn}
+use Rattle.lrc_weave.specs.Logs.{GoesOnBy}
 use Rattle.lrc_weave.proofs.Played.{IsLogged, is_logged}
 
 pub last_is : (log : List EntryRecord) (entry : EntryRecord) → last_stamp (log ++ entry ∷ []) ≡ entry.stamp
@@ -17,7 +17,7 @@ above_last before came = omega (arith, le-max_left (last_stamp before) came)
 pub above_came : (before : List EntryRecord) (came : ℕ) → came < next_stamp before came
 above_came before came = omega (arith, le-max_right (last_stamp before) came)
 
-above : (log : List EntryRecord) (l : Logged) → GoesOn l log → (k : ℕ) (entry : EntryRecord) → slice_get log k ≡ Some entry → last_stamp l.log < entry.stamp
+above : (log : List EntryRecord) (l : Logged) → GoesOnBy l log → (k : ℕ) (entry : EntryRecord) → slice_get log k ≡ Some entry → last_stamp l.log < entry.stamp
 above [] l on k entry at = cc
 above (e ∷ log) l on zero entry at =
     let same : e ≡ entry = cc in
@@ -30,7 +30,7 @@ above (e ∷ log) l on (suc k) entry at =
     let last : last_stamp on.1.log ≡ e.stamp = ap last_stamp is.log ∙ last_is l.log e in
     omega (arith, here, rest, last)
 
-pub rises : (log : List EntryRecord) (l : Logged) → GoesOn l log → (j k : ℕ) (x y : EntryRecord) → slice_get log j ≡ Some x → slice_get log k ≡ Some y
+pub rises : (log : List EntryRecord) (l : Logged) → GoesOnBy l log → (j k : ℕ) (x y : EntryRecord) → slice_get log j ≡ Some x → slice_get log k ≡ Some y
     → j ≤ k → x.stamp ≤ y.stamp
 rises [] l on j k x y at_j at_k le = cc
 rises (e ∷ log) l on zero zero x y at_j at_k le =

@@ -19,12 +19,12 @@ use Rattle.lrc_protocol.specs.World.{Flying, marked, with_mark, sent_by}
 use Rattle.lrc_invariants.specs.Numbers.{numbers_between, Rises}
 use Rattle.lrc_invariants.proofs.InFlight.{Sends, all_send}
 use Rattle.lrc_weave.specs.declared.events.MessageName.{MessageName}
-use Rattle.lrc_weave.specs.Logs.{GoesOn, AreLogs}
+use Rattle.lrc_weave.specs.Logs.{GoesOnBy, AreLogs}
 use Rattle.lrc_weave.specs.Matched.{AreMatched}
-use Rattle.lrc_weave.specs.Woven.{log_of, come_of, IsNext, is_taken_in, IsTakenAt, Makes, runs, takes_last, takes_again, Woven, nothing_yet, then_one, AreWoven}
+use Rattle.lrc_weave.specs.Woven.{log_of, come_of, IsNext, is_taken_among, IsTakenAt, Makes, runs, takes_last, takes_again, Woven, nothing_yet, then_one, AreWoven}
 use Rattle.lrc_weave.specs.Next.{IsNextOf}
 use Rattle.lrc_weave.specs.Again.{is_again}
-use Rattle.lrc_weave.specs.Events.{name_of, is_named, taking, left_by, IsTakenFrom, IsMadeBy, IsTurnOf, LacksMessage, IsUnsent}
+use Rattle.lrc_weave.specs.Events.{message_name, has_name, event_taking, names_left, IsTakenFrom, IsMadeByEvent, IsTurnOf, LacksMessage, IsUnsent}
 use Rattle.lrc_weave.proofs.Places.{dropped_less, within_outer}
 use Rattle.lrc_weave.proofs.Members.{in_map, of_map}
 use Rattle.lrc_weave.proofs.Played.{all_played}
@@ -94,7 +94,7 @@ addressed l envelope came entry after e =
 -- ---- what flight is known by
 
 abbrev pub name_at : Flying → MessageName
-name_at flying = name_of flying.envelope
+name_at flying = message_name flying.envelope
 
 name_marked : (b : Bool) (f : Flying) → name_at (cond b (marked f) f) ≡ name_at f
 name_marked true f = refl
@@ -115,7 +115,7 @@ names_removed (f ∷ flight) zero = refl
 names_removed (f ∷ flight) (suc place) = ap (λ ks. name_at f ∷ ks) (names_removed flight place)
 
 -- a message is known by its name
-named_itself : (e : EnvelopeRecord) → is_named e (name_of e) ≡ true
+named_itself : (e : EnvelopeRecord) → has_name e (message_name e) ≡ true
 named_itself e =
     ap (λ b. b && ((e.to == e.to) && (e.number == e.number))) (eq-eqb e.from e.from refl)
     ∙ ap (λ b. b && (e.number == e.number)) (eq-eqb e.to e.to refl) ∙ eq-eqb e.number e.number refl
@@ -177,12 +177,12 @@ module _ (logs : List (List EntryRecord)) (come : List ℕ) (events : List Event
   from_in envelope is =
       let played = all_played logs program nodes options are come flight events woven in
       let here = played.2.each node (within_outer logs node (come_of come node) entry next.next) in
-      let on : GoesOn here.0 (entry ∷ later) = subst (GoesOn here.0) (dropped_less (log_of logs node) (come_of come node) entry next.next) here.3 in
+      let on : GoesOnBy here.0 (entry ∷ later) = subst (GoesOnBy here.0) (dropped_less (log_of logs node) (come_of come node) entry next.next) here.3 in
       let sends : Sends _ options _ here.0.node = (all_send program nodes options events played.0 played.1).each node here.0 here.1 in
       subst (λ s. envelope.from < s) (ap (λ (s : _). s.nodes) sends.setting)
       (addressed here.0 envelope on.0 entry on.1 (ap (λ i. logs' here.0 i on.0) (sym is) ∙ on.3))
 
-  same_place : (p q : ℕ) (f g : Flying) → slice_get flight p ≡ Some f → slice_get flight q ≡ Some g → is_named g.envelope (name_at f) ≡ true
+  same_place : (p q : ℕ) (f g : Flying) → slice_get flight p ≡ Some f → slice_get flight q ≡ Some g → has_name g.envelope (name_at f) ≡ true
       → g.envelope.from < nodes → g.envelope.to < nodes → p ≡ q
   same_place p q f g at_p at_q is from_lt to_lt =
       let played = all_played logs program nodes options are come flight events woven in
@@ -201,7 +201,7 @@ module _ (logs : List (List EntryRecord)) (come : List ℕ) (events : List Event
 
   by_again : (names left : List MessageName) (event : Event) (place : ℕ) (f : Flying) (b : Bool) → map name_at flight ≡ names
       → IsTakenAt node before entry flight place f
-      → is_taken_in f.envelope later ≡ b → event ≡ taking b place → left ≡ left_by b place names → MadeOf event left
+      → is_taken_among f.envelope later ≡ b → event ≡ event_taking b place → left ≡ names_left b place names → MadeOf event left
   by_again names left event place f true same t again event_is left_is = (
     with_mark flight place,
     subst (λ e. Makes node before later entry flight e (with_mark flight place)) (sym event_is) (takes_again t again),
@@ -214,26 +214,26 @@ module _ (logs : List (List EntryRecord)) (come : List ℕ) (events : List Event
   )
 
   by_take : (names left : List MessageName) (event : Event) (envelope : EnvelopeRecord) → map name_at flight ≡ names → entry.input ≡ taken envelope
-      → IsTakenFrom names envelope (is_taken_in envelope later) left event → MadeOf event left
+      → IsTakenFrom names envelope (is_taken_among envelope later) left event → MadeOf event left
   by_take names left event envelope same is t =
       let can = can_take logs program nodes options are wires matched count come flight node entry envelope next is holds in
-      let found = position-Some (is_named envelope) names t.0 (name_of envelope) t.1 in
-      let there : slice_get (map name_at flight) t.0 ≡ Some (slice_index_or names t.0 (name_of envelope)) =
-      ap (λ ks. slice_get ks t.0) same ∙ slice_get-get_or names t.0 (name_of envelope) found.0 in
-      let f = of_map name_at flight (slice_index_or names t.0 (name_of envelope)) t.0 there in
-      let passes : is_named can.1.envelope (name_at f.0) ≡ true =
-      ap (λ e. is_named e (name_at f.0)) can.3 ∙ ap (is_named envelope) f.2 ∙ found.1 in
+      let found = position-Some (has_name envelope) names t.0 (message_name envelope) t.1 in
+      let there : slice_get (map name_at flight) t.0 ≡ Some (slice_index_or names t.0 (message_name envelope)) =
+      ap (λ ks. slice_get ks t.0) same ∙ slice_get-get_or names t.0 (message_name envelope) found.0 in
+      let f = of_map name_at flight (slice_index_or names t.0 (message_name envelope)) t.0 there in
+      let passes : has_name can.1.envelope (name_at f.0) ≡ true =
+      ap (λ e. has_name e (name_at f.0)) can.3 ∙ ap (has_name envelope) f.2 ∙ found.1 in
       let within : node < length logs = within_outer logs node (come_of come node) entry next.next in
       let place_is : t.0 ≡ can.0 =
       same_place t.0 can.0 f.0 can.1 f.1 can.2.there passes
       (subst (λ (e : EnvelopeRecord). e.from < nodes) (sym can.3) (from_in envelope is))
       (subst (λ k. k < nodes) (sym can.2.receiver) (subst (λ k. node < k) are.count within)) in
-      by_again names left event t.0 can.1 (is_taken_in envelope later) same
+      by_again names left event t.0 can.1 (is_taken_among envelope later) same
       (subst (λ p. IsTakenAt node before entry flight p can.1) (sym place_is) can.2)
-      (ap (λ e. is_taken_in e later) can.3) t.2 t.3
+      (ap (λ e. is_taken_among e later) can.3) t.2 t.3
 
   made_by : (names left : List MessageName) (event : Event) (input : Input) → map name_at flight ≡ names → entry.input ≡ input
-      → IsMadeBy node (is_again input later) names input left event → MadeOf event left
+      → IsMadeByEvent node (is_again input later) names input left event → MadeOf event left
   made_by names left event run same is m =
       (flight, subst (λ e. Makes node before later entry flight e flight) (sym m.0) (runs is), same ∙ sym m.1)
   made_by names left event (taken envelope) same is m = by_take names left event envelope same is m
@@ -244,14 +244,14 @@ module _ (logs : List (List EntryRecord)) (come : List ℕ) (events : List Event
   one_step names new event same t =
       let entry_is : t.0 ≡ entry = same_Some t.0 entry (sym t.2 ∙ next.next) in
       let made = made_by names t.1 event entry.input same refl
-      (subst (λ (e : EntryRecord). IsMadeBy node (is_again e.input later) names e.input t.1 event) entry_is t.3) in (
+      (subst (λ (e : EntryRecord). IsMadeByEvent node (is_again e.input later) names e.input t.1 event) entry_is t.3) in (
         made.0 ++ sent_by entry,
         then_one woven next made.1,
         holds_more logs come flight made.0 event node entry counted next.next made.1 holds,
         map-append name_at made.0 (sent_by entry)
             ∙ ap (λ ks. ks ++ map name_at (sent_by entry)) made.2
             ∙ ap (λ ks. t.1 ++ ks) (map-map name_at (λ envelope. record { envelope = envelope; stamp = entry.stamp; delivered = false }) entry.turn.out)
-            ∙ ap (λ (e : EntryRecord). t.1 ++ map name_of e.turn.out) (sym entry_is)
+            ∙ ap (λ (e : EntryRecord). t.1 ++ map message_name e.turn.out) (sym entry_is)
             ∙ sym t.4,
       )
 
@@ -260,9 +260,9 @@ module _ (logs : List (List EntryRecord)) (come : List ℕ) (events : List Event
   lacks_none names run same is lacks = lacks
   lacks_none names (taken envelope) same is lacks =
       let can = can_take logs program nodes options are wires matched count come flight node entry envelope next is holds in
-      passes_none (is_named envelope) names can.0 (name_at can.1) lacks
+      passes_none (has_name envelope) names can.0 (name_at can.1) lacks
       (ap (λ ks. slice_get ks can.0) (sym same) ∙ in_map name_at flight can.1 can.0 can.2.there)
-      (ap (λ e. is_named envelope (name_of e)) can.3 ∙ named_itself envelope)
+      (ap (λ e. has_name envelope (message_name e)) can.3 ∙ named_itself envelope)
 
 -- the next turn is made
 pub so_more : (logs : List (List EntryRecord)) (come : List ℕ) (names new : List MessageName) (events : List Event) (event : Event) (node : ℕ)

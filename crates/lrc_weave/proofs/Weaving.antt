@@ -12,7 +12,7 @@ use Rattle.lrc_protocol.specs.Log.{Input, run, taken, EntryRecord}
 use Rattle.lrc_protocol.specs.World.{Flying, sent_by, with_mark}
 use Rattle.lrc_weave.specs.Logs.{AreLogs}
 use Rattle.lrc_weave.specs.Matched.{AreMatched}
-use Rattle.lrc_weave.specs.Woven.{log_of, come_of, next_entry, IsNext, is_taken_in, IsTakenAt, Makes, runs}
+use Rattle.lrc_weave.specs.Woven.{log_of, come_of, next_entry, IsNext, is_taken_among, IsTakenAt, Makes, runs}
 use Rattle.lrc_weave.specs.Woven.{takes_last, takes_again, Woven, nothing_yet, then_one, AreWoven}
 use Rattle.lrc_weave.specs.Next.{IsNextOf}
 use Rattle.lrc_weave.proofs.Heads.{next_or_none}
@@ -43,7 +43,7 @@ module _ (program : Program) (nodes : ℕ) (options : OptionsRecord) (logs : Lis
 
   by_last : (come : List ℕ) (flight : List Flying) (n place : ℕ) (entry : EntryRecord) (flying : Flying)
       → IsTakenAt n (take (come_of come n) (log_of logs n)) entry flight place flying
-      → (b : Bool) → is_taken_in flying.envelope (drop (come_of come n + 1) (log_of logs n)) ≡ b → Made come flight n entry
+      → (b : Bool) → is_taken_among flying.envelope (drop (come_of come n + 1) (log_of logs n)) ≡ b → Made come flight n entry
   by_last come flight n place entry flying t true again = (Repeat place, with_mark flight place, takes_again t again)
   by_last come flight n place entry flying t false last = (Deliver place, remove flight place, takes_last t last)
 
@@ -52,7 +52,7 @@ module _ (program : Program) (nodes : ℕ) (options : OptionsRecord) (logs : Lis
   by_input come flight n entry run is next holds = (Run n, flight, runs is)
   by_input come flight n entry (taken envelope) is next holds =
       let t = can_take logs program nodes options are wires matched count come flight n entry envelope next is holds in
-      by_last come flight n t.0 entry t.1 t.2 (is_taken_in t.1.envelope (drop (come_of come n + 1) (log_of logs n))) refl
+      by_last come flight n t.0 entry t.1 t.2 (is_taken_among t.1.envelope (drop (come_of come n + 1) (log_of logs n))) refl
 
   abbrev Whole : Type 0
   Whole = (events : List Event) × (flight : List Flying) × AreWoven logs events flight

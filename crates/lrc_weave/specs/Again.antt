@@ -3,7 +3,7 @@ use Rattle.std.specs.Prelude.{◌≡◌, ℕ, ◌+◌, ◌==◌, ◌&&◌, Bool,
 use Rattle.std.specs.List.{list_any}
 use Rattle.lrc_envelope.specs.Envelope.{EnvelopeRecord}
 use Rattle.lrc_protocol.specs.Log.{Input, run, taken, EntryRecord}
-use Rattle.lrc_weave.specs.Woven.{is_taken_in}
+use Rattle.lrc_weave.specs.Woven.{is_taken_among}
 
 -- one of these senders and numbers is the message's
 abbrev pub has_key : List (ℕ × ℕ) → EnvelopeRecord → Bool
@@ -17,7 +17,7 @@ is_noted keys (taken message) = has_key keys message
 -- one of these turns takes what an input takes
 abbrev pub is_again : Input → List EntryRecord → Bool
 is_again run later = false
-is_again (taken message) later = is_taken_in message later
+is_again (taken message) later = is_taken_among message later
 
 -- for each turn of a log, whether a later one takes the same message
 pub record AreAgain (log : List EntryRecord) (again : List Bool) : Type 0 where

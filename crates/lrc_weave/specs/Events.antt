@@ -8,37 +8,37 @@ use Rattle.lrc_weave.specs.declared.events.MessageName.{MessageName}
 use Rattle.lrc_weave.specs.Again.{is_again}
 
 -- what a message is known by
-abbrev pub name_of : EnvelopeRecord → MessageName
-name_of envelope = record { from = envelope.from; to = envelope.to; number = envelope.number }
+abbrev pub message_name : EnvelopeRecord → MessageName
+message_name envelope = record { from = envelope.from; to = envelope.to; number = envelope.number }
 
 -- whether a message is known by this
-abbrev pub is_named : EnvelopeRecord → MessageName → Bool
-is_named envelope name = (name.from == envelope.from) && ((name.to == envelope.to) && (name.number == envelope.number))
+abbrev pub has_name : EnvelopeRecord → MessageName → Bool
+has_name envelope name = (name.from == envelope.from) && ((name.to == envelope.to) && (name.number == envelope.number))
 
 -- the event that takes a message at a place, for the last time or not
-abbrev pub taking : Bool → ℕ → Event
-taking true place = Repeat place
-taking false place = Deliver place
+abbrev pub event_taking : Bool → ℕ → Event
+event_taking true place = Repeat place
+event_taking false place = Deliver place
 
 -- what is left in flight then
-abbrev pub left_by : Bool → ℕ → List MessageName → List MessageName
-left_by true place flight = flight
-left_by false place flight = remove flight place
+abbrev pub names_left : Bool → ℕ → List MessageName → List MessageName
+names_left true place flight = flight
+names_left false place flight = remove flight place
 
 -- a message is taken from flight by this event
 abbrev pub IsTakenFrom : List MessageName → EnvelopeRecord → Bool → List MessageName → Event → Type 0
 IsTakenFrom old envelope again new event =
-    (place : ℕ) × (position (is_named envelope) old ≡ Some place) × (event ≡ taking again place) × (new ≡ left_by again place old)
+    (place : ℕ) × (position (has_name envelope) old ≡ Some place) × (event ≡ event_taking again place) × (new ≡ names_left again place old)
 
 -- an input of a node, which is made again later or not, is made by this event
-abbrev pub IsMadeBy : ℕ → Bool → List MessageName → Input → List MessageName → Event → Type 0
-IsMadeBy node again old run new event = (event ≡ Run node) × (new ≡ old)
-IsMadeBy node again old (taken envelope) new event = IsTakenFrom old envelope again new event
+abbrev pub IsMadeByEvent : ℕ → Bool → List MessageName → Input → List MessageName → Event → Type 0
+IsMadeByEvent node again old run new event = (event ≡ Run node) × (new ≡ old)
+IsMadeByEvent node again old (taken envelope) new event = IsTakenFrom old envelope again new event
 
 -- an input takes a message that is not in flight
 abbrev pub LacksMessage : List MessageName → Input → Type 0
 LacksMessage flight run = ⊥
-LacksMessage flight (taken envelope) = position (is_named envelope) flight ≡ None
+LacksMessage flight (taken envelope) = position (has_name envelope) flight ≡ None
 
 -- the turn at a place of a log does
 abbrev pub IsUnsent : List EntryRecord → ℕ → List MessageName → Type 0
@@ -47,4 +47,4 @@ IsUnsent log place flight = (entry : EntryRecord) × (slice_get log place ≡ So
 -- the turn at a place of a node's log is made by this event, and its messages are in flight then
 abbrev pub IsTurnOf : ℕ → List EntryRecord → ℕ → List MessageName → List MessageName → Event → Type 0
 IsTurnOf node log place old new event = (entry : EntryRecord) × (left : List MessageName) × (slice_get log place ≡ Some entry)
-    × IsMadeBy node (is_again entry.input (drop (place + 1) log)) old entry.input left event × (new ≡ left ++ map name_of entry.turn.out)
+    × IsMadeByEvent node (is_again entry.input (drop (place + 1) log)) old entry.input left event × (new ≡ left ++ map message_name entry.turn.out)

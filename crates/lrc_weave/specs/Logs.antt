@@ -11,16 +11,16 @@ MayCome run came = came ≡ 0
 MayCome (taken envelope) came = Unit {0}
 
 -- a node with its log goes on by these entries: each is what its input makes of the node as it is then
-abbrev pub GoesOn : Logged → List EntryRecord → Type 0
-GoesOn l [] = Unit {0}
-GoesOn l (entry ∷ more) =
-    (came : ℕ) × (after : Logged) × MayCome entry.input came × (logs l entry.input came ≡ logged entry after) × GoesOn after more
+abbrev pub GoesOnBy : Logged → List EntryRecord → Type 0
+GoesOnBy l [] = Unit {0}
+GoesOnBy l (entry ∷ more) =
+    (came : ℕ) × (after : Logged) × MayCome entry.input came × (logs l entry.input came ≡ logged entry after) × GoesOnBy after more
 
 -- there is one log for each node of a program, from 0 up, and it is that of a fresh node
 pub record AreLogs (program : Program) (nodes : ℕ) (options : OptionsRecord) (logs : List (List EntryRecord)) : Type 0 where
   pub count : length logs ≡ nodes
   pub each : (n : ℕ) (log : List EntryRecord) → slice_get logs n ≡ Some log
-      → GoesOn (record { node = fresh_node program nodes options n; log = [] }) log
+      → GoesOnBy (record { node = fresh_node program nodes options n; log = [] }) log
 
 -- the messages that these entries send, in order
 abbrev pub all_sent : List EntryRecord → List Flying

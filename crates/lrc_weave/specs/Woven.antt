@@ -35,8 +35,8 @@ takes_same envelope run = false
 takes_same envelope (taken other) = (other.from == envelope.from) && (other.number == envelope.number)
 
 -- one of these entries takes this message
-abbrev pub is_taken_in : EnvelopeRecord → List EntryRecord → Bool
-is_taken_in envelope log = list_any (λ entry. takes_same envelope entry.input) log
+abbrev pub is_taken_among : EnvelopeRecord → List EntryRecord → Bool
+is_taken_among envelope log = list_any (λ entry. takes_same envelope entry.input) log
 
 -- the message in flight at a place is what this turn of a node takes, with the stamp that the message's own one gives
 pub record IsTakenAt (n : ℕ) (before : List EntryRecord) (entry : EntryRecord) (flight : List Flying) (place : ℕ) (flying : Flying) : Type 0 where
@@ -49,9 +49,9 @@ pub record IsTakenAt (n : ℕ) (before : List EntryRecord) (entry : EntryRecord)
 -- what is left of that: a message leaves the flight with its last take.
 pub data Makes (n : ℕ) (before after : List EntryRecord) (entry : EntryRecord) (flight : List Flying) : Event → List Flying → Type 0 where
   runs : entry.input ≡ run → Makes n before after entry flight (Run n) flight
-  takes_last : {place : ℕ} {flying : Flying} → IsTakenAt n before entry flight place flying → is_taken_in flying.envelope after ≡ false
+  takes_last : {place : ℕ} {flying : Flying} → IsTakenAt n before entry flight place flying → is_taken_among flying.envelope after ≡ false
       → Makes n before after entry flight (Deliver place) (remove flight place)
-  takes_again : {place : ℕ} {flying : Flying} → IsTakenAt n before entry flight place flying → is_taken_in flying.envelope after ≡ true
+  takes_again : {place : ℕ} {flying : Flying} → IsTakenAt n before entry flight place flying → is_taken_among flying.envelope after ≡ true
       → Makes n before after entry flight (Repeat place) (with_mark flight place)
 
 -- How many turns of each node have come, what is in flight, and the events so far: each event makes the turn that is next.

@@ -5,7 +5,7 @@ ghost use Rattle.lrc_node.specs.Logged.{seen_input};
 ghost use Rattle.lrc_protocol.specs.Log.{taken};
 ghost use Rattle.lrc_weave.specs.declared.fault.WeaveFault.TheVariants.{Mismatch};
 ghost use Rattle.lrc_weave.specs.Again.{AreAgain};
-ghost use Rattle.lrc_weave.specs.Events.{is_named, name_of, IsMadeBy, IsTakenFrom, IsTurnOf, IsUnsent, LacksMessage};
+ghost use Rattle.lrc_weave.specs.Events.{has_name, message_name, IsMadeByEvent, IsTakenFrom, IsTurnOf, IsUnsent, LacksMessage};
 
 use crate::fault::WeaveFault;
 use lrc_envelope::Envelope;
@@ -51,7 +51,7 @@ fn event_of(
     input: &Input,
     again: bool,
 ) -> Result<Event, WeaveFault>
-    ensures made { IfOk result (λ event. IsMadeBy node again flight.old.items (seen_input input.now) flight.new.items event) }
+    ensures made { IfOk result (λ event. IsMadeByEvent node again flight.old.items (seen_input input.now) flight.new.items event) }
     ensures unsent { result ≡ Err Mismatch → LacksMessage flight.old.items (seen_input input.now) }
 {
     match input {
@@ -84,21 +84,21 @@ fn take(
 
 // The first place in flight of a message.
 fn place_in(flight: &[MessageName], envelope: &Envelope) -> Option<usize>
-    ensures { result ≡ position (is_named envelope.now) flight.now }
+    ensures { result ≡ position (has_name envelope.now) flight.now }
 {
-    flight.iter().position(|name| is_named(envelope, *name))
+    flight.iter().position(|name| has_name(envelope, *name))
 }
 
 // Whether a message is known by this.
-fn is_named(envelope: &Envelope, name: MessageName) -> bool
-    ensures { result ≡ is_named envelope.now name }
+fn has_name(envelope: &Envelope, name: MessageName) -> bool
+    ensures { result ≡ has_name envelope.now name }
 {
     name.from == envelope.from && name.to == envelope.to && name.number == envelope.number
 }
 
 // Puts messages in flight.
 fn send(flight: &mut Vec<MessageName>, out: &[Envelope]) -> Result<(), AllocError>
-    ensures { OnOk result (flight.new.items ≡ flight.old.items ++ map name_of out.now) }
+    ensures { OnOk result (flight.new.items ≡ flight.old.items ++ map message_name out.now) }
 {
     for envelope in out {
         flight.push(MessageName {

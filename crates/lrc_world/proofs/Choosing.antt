@@ -16,10 +16,10 @@ use Rattle.lrc_world.specs.declared.report.SimFault.{SimFault}
 use Rattle.lrc_world.specs.declared.report.TheConstants.{MOST_EVENTS}
 use Rattle.lrc_world.specs.declared.rounds.Driver.{Driver}
 use Rattle.lrc_world.specs.declared.world.World.{World}
-use Rattle.lrc_world.specs.Driven.{GoesTo, IsIdle, PlaysOne, IsFull}
-use Rattle.lrc_world.specs.Random.{choices_of, chosen, picked, next_state, number_of, wandering}
+use Rattle.lrc_world.specs.Driven.{DrivesTo, IsRunOver, PlaysOne, IsFull}
+use Rattle.lrc_world.specs.Random.{choices_of, drawn_event, picked, next_state, drawn_number, wandering}
 use Rattle.lrc_world.specs.Rounds.{ready_at}
-use Rattle.lrc_world.specs.World.{Starts, Shows, seen, shown}
+use Rattle.lrc_world.specs.World.{Starts, Shows, seen_flying, seen_sent}
 use Rattle.lrc_world.proofs.Driven.{goes_by, is_over, none_long}
 use Rattle.lrc_world.proofs.Lists.{same_length}
 use Rattle.lrc_world.proofs.NodeTurns.{not_none}
@@ -62,8 +62,8 @@ none_in_flight : (n : ℕ) → min n (2 ^ 32) ≡ 0 → n ≤ 0
 none_in_flight n e = omega (arith, e)
 
 -- nothing is left to do where no number says anything
-pub idle_where : (nodes number : ℕ) (world : World) → ((starts : Starts) (run : Run) → Shows starts world run → None ≡ chosen nodes number run)
-    → IsIdle nodes world
+pub idle_where : (nodes number : ℕ) (world : World) → ((starts : Starts) (run : Run) → Shows starts world run → None ≡ drawn_event nodes number run)
+    → IsRunOver nodes world
 idle_where nodes number world none = λ starts run shows count.
     let all : choices_of nodes run ≡ [] = picked_none number (choices_of nodes run) (sym (none starts run shows)) in
     let apart = both_empty (map events.Run (filter (ready_at run) (range_with_len 0 nodes)))
@@ -79,12 +79,12 @@ idle_where nodes number world none = λ starts run shows count.
 -- ---- an event more
 
 pub wanders_on : (nodes seed state after number : ℕ) (event : Event) (old new : Driver) (result : Result (Unit {0}) SimFault) → after ≡ next_state state
-    → number ≡ number_of after
-    → ((starts : Starts) (run : Run) → Shows starts old.world run → Some event ≡ chosen nodes number run)
-    → PlaysOne old new event result ⊎ IsFull old new result → GoesTo (wandering nodes seed) state after old new result
+    → number ≡ drawn_number after
+    → ((starts : Starts) (run : Run) → Shows starts old.world run → Some event ≡ drawn_event nodes number run)
+    → PlaysOne old new event result ⊎ IsFull old new result → DrivesTo (wandering nodes seed) state after old new result
 wanders_on nodes seed state after number event old new result next is chooses either =
     goes_by (wandering nodes seed) state after old new event (λ starts run shows.
-    (next, sym (ap (λ z. chosen nodes z run) is) ∙ sym (chooses starts run shows))) result either
+    (next, sym (ap (λ z. drawn_event nodes z run) is) ∙ sym (chooses starts run shows))) result either
 
 -- where there was room there is one event more
 pub one_more : (old new : Driver) (event : Event) (u : Unit {0}) → PlaysOne old new event (Ok u) ⊎ IsFull old new (Ok u)
@@ -184,9 +184,9 @@ picks_delivery number deliveries place ready is past some =
 -- what is chosen of a world's choices
 pub chosen_of : (nodes number deliveries : ℕ) (ready : List ℕ) (world : World) (starts : Starts) (run : Run) (event : Option Event) → Shows starts world run
     → ready ≡ filter (ready_at run) (range_with_len 0 nodes) → deliveries ≡ min (length world.flight.items) (2 ^ 32)
-    → event ≡ picked number (turns_and ready deliveries) → event ≡ chosen nodes number run
+    → event ≡ picked number (turns_and ready deliveries) → event ≡ drawn_event nodes number run
 chosen_of nodes number deliveries ready world starts run event shows is few picks =
     picks
     ∙ ap (λ r. picked number (turns_and r deliveries)) is
     ∙ ap (λ d. picked number (turns_and (filter (ready_at run) (range_with_len 0 nodes)) d))
-    (few ∙ ap (λ n. min n (2 ^ 32)) (same_length seen shown world.flight.items run.flight shows.flight))
+    (few ∙ ap (λ n. min n (2 ^ 32)) (same_length seen_flying seen_sent world.flight.items run.flight shows.flight))

@@ -17,11 +17,11 @@ use Rattle.lrc_world.specs.declared.report.SimFault.TheVariants.{BadNodes, BadSt
 use Rattle.lrc_world.specs.declared.report.TheConstants.{MOST_EVENTS}
 use Rattle.lrc_world.specs.declared.rounds.Driver.{Driver}
 use Rattle.lrc_world.specs.declared.world.World.{World}
-use Rattle.lrc_world.specs.Driven.{StandsAt, Goes, GoesTo, IsStill, IsAsleep, NoneReady, IsIdle, PlaysOne, IsFull}
+use Rattle.lrc_world.specs.Driven.{StandsAt, Goes, DrivesTo, IsStill, IsAsleep, NoneReady, IsRunOver, PlaysOne, IsFull}
 use Rattle.lrc_world.specs.Led.{Schedule, Led, begins, plays, passes, WearsOut}
 use Rattle.lrc_world.specs.Report.{IsOver, IsWornFrom}
-use Rattle.lrc_world.specs.Rounds.{rounds, at_node, delivering, IsDue, turn, delivery, asleep, all_went, all_delivered, ready_at, delivery_of}
-use Rattle.lrc_world.specs.World.{Starts, Shows, seen, shown}
+use Rattle.lrc_world.specs.Rounds.{schedule_of_rounds, at_node, delivering, IsDue, turn, delivery, asleep, all_went, all_delivered, ready_at, delivery_of}
+use Rattle.lrc_world.specs.World.{Starts, Shows, seen_flying, seen_sent}
 use Rattle.lrc_world.proofs.Lists.{same_length}
 
 -- ---- from one moment to another
@@ -37,8 +37,8 @@ module _ (s : Schedule) where
     more = omega (arith, g.more, h.more);
   }
 
-  pub goes-after : (from mid to : s.Standing) (a b c : Driver) (result : Result (Unit {0}) SimFault) → Goes s from mid a b → GoesTo s mid to b c result
-      → GoesTo s from to a c result
+  pub goes-after : (from mid to : s.Standing) (a b c : Driver) (result : Result (Unit {0}) SimFault) → Goes s from mid a b → DrivesTo s mid to b c result
+      → DrivesTo s from to a c result
   goes-after from mid to a b c (Ok u) g h = goes-twice from mid to a b c g h
   goes-after from mid to a b c (Err Worn) g h = λ starts start d. h starts start (g.drives starts start d)
   goes-after from mid to a b c (Err NoMemory) g h = tt
@@ -46,7 +46,7 @@ module _ (s : Schedule) where
   goes-after from mid to a b c (Err BadSteps) g h = λ starts start d. h starts start (g.drives starts start d)
 
   -- it may end elsewhere where it comes to a fault
-  other_end : (from to end : s.Standing) (a b : Driver) (fault : SimFault) → GoesTo s from to a b (Err fault) → GoesTo s from end a b (Err fault)
+  other_end : (from to end : s.Standing) (a b : Driver) (fault : SimFault) → DrivesTo s from to a b (Err fault) → DrivesTo s from end a b (Err fault)
   other_end from to end a b Worn h = h
   other_end from to end a b NoMemory h = h
   other_end from to end a b BadNodes h = h
@@ -54,11 +54,11 @@ module _ (s : Schedule) where
 
   -- a fault that is handed on is one met before
   pub fails-after : (from mid to end : s.Standing) (a b c : Driver) (fault : SimFault) (result : Result (Unit {0}) SimFault)
-      → IsErrAnd result (λ f. f ≡ fault) → Goes s from mid a b → GoesTo s mid to b c (Err fault) → GoesTo s from end a c result
+      → IsErrAnd result (λ f. f ≡ fault) → Goes s from mid a b → DrivesTo s mid to b c (Err fault) → DrivesTo s from end a c result
   fails-after from mid to end a b c fault (Ok u) is g h = absurd is
   fails-after from mid to end a b c fault (Err f) is g h =
       goes-after from mid end a b c (Err f) g
-      (subst (λ x. GoesTo s mid end b c (Err x)) (sym is) (other_end mid to end b c fault h))
+      (subst (λ x. DrivesTo s mid end b c (Err x)) (sym is) (other_end mid to end b c fault h))
 
   -- before any event
   pub at_start : (starts : Starts) (start : Run) (d : Driver) (world : World) → Shows starts world start → d.world ≡ world → d.events.items ≡ []
@@ -73,7 +73,7 @@ module _ (s : Schedule) where
 
   -- what is driven is not out of range
   pub in_range : (from to : s.Standing) (old new : Driver) (starts : Starts) (start : Run) (fault : SimFault) → StandsAt s starts start from old
-      → GoesTo s from to old new (Err fault)
+      → DrivesTo s from to old new (Err fault)
       → (fault ≡ BadNodes → ⊥) × (fault ≡ BadSteps → ⊥)
   in_range from to old new starts start BadNodes d g = absurd (g starts start d)
   in_range from to old new starts start BadSteps d g = absurd (g starts start d)
@@ -159,7 +159,7 @@ module _ (s : Schedule) where
       more = let long = ap length p.events ∙ length_push old.events.items event in omega (arith, long);
     }
 
-    plays_by : (result : Result (Unit {0}) SimFault) → PlaysOne old new event result → GoesTo s from to old new result
+    plays_by : (result : Result (Unit {0}) SimFault) → PlaysOne old new event result → DrivesTo s from to old new result
     plays_by (Ok u) p = plays_ok u p
     plays_by (Err Worn) p = λ starts start d. record {
       before = old.events.items;
@@ -182,11 +182,11 @@ module _ (s : Schedule) where
       more = omega arith;
     }
 
-    pub goes_by : (result : Result (Unit {0}) SimFault) → PlaysOne old new event result ⊎ IsFull old new result → GoesTo s from to old new result
+    pub goes_by : (result : Result (Unit {0}) SimFault) → PlaysOne old new event result ⊎ IsFull old new result → DrivesTo s from to old new result
     goes_by result either =
         ⊎_elim
         (plays_by result)
-        (λ (f : IsFull old new result). subst (GoesTo s from to old new) (sym f.ok) (subst (Goes s from to old) (sym f.same) (stays_full f.full)))
+        (λ (f : IsFull old new result). subst (DrivesTo s from to old new) (sym f.ok) (subst (Goes s from to old) (sym f.same) (stays_full f.full)))
         either
 
 pub still-before : (a b c : Driver) → length b.events.items ≤ length c.events.items → IsStill a c → IsStill a b
@@ -233,26 +233,26 @@ none_long (x ∷ xs) h = absurd (omega (arith, h))
 
 module _ (picker : Picker) (nodes : ℕ) where
   -- one node more had its turn, though it was not ready
-  pub passed_over : (node : ℕ) (d : Driver) → node < nodes → IsAsleep node d.world → Goes (rounds picker nodes) (at_node node) (at_node (node + 1)) d d
-  passed_over node d lt sleeps = passes_on (rounds picker nodes) (at_node node) (at_node (node + 1)) d (λ starts run shows. asleep lt (sleeps starts run shows))
+  pub passed_over : (node : ℕ) (d : Driver) → node < nodes → IsAsleep node d.world → Goes (schedule_of_rounds picker nodes) (at_node node) (at_node (node + 1)) d d
+  passed_over node d lt sleeps = passes_on (schedule_of_rounds picker nodes) (at_node node) (at_node (node + 1)) d (λ starts run shows. asleep lt (sleeps starts run shows))
 
   -- the deliveries begin
-  pub turns_done : (d : Driver) → Goes (rounds picker nodes) (at_node nodes) (delivering (length d.world.flight.items)) d d
-  turns_done d = passes_on (rounds picker nodes) (at_node nodes) (delivering (length d.world.flight.items)) d (λ starts run shows.
-      subst (λ n. (rounds picker nodes).Passes run (at_node nodes) (delivering n))
-      (sym (same_length seen shown d.world.flight.items run.flight shows.flight)) all_went)
+  pub turns_done : (d : Driver) → Goes (schedule_of_rounds picker nodes) (at_node nodes) (delivering (length d.world.flight.items)) d d
+  turns_done d = passes_on (schedule_of_rounds picker nodes) (at_node nodes) (delivering (length d.world.flight.items)) d (λ starts run shows.
+      subst (λ n. (schedule_of_rounds picker nodes).Passes run (at_node nodes) (delivering n))
+      (sym (same_length seen_flying seen_sent d.world.flight.items run.flight shows.flight)) all_went)
 
   -- and then the next round
-  pub next_round : (d : Driver) → Goes (rounds picker nodes) (delivering zero) (at_node zero) d d
-  next_round d = passes_on (rounds picker nodes) (delivering zero) (at_node zero) d (λ starts run shows. all_delivered)
+  pub next_round : (d : Driver) → Goes (schedule_of_rounds picker nodes) (delivering zero) (at_node zero) d d
+  next_round d = passes_on (schedule_of_rounds picker nodes) (delivering zero) (at_node zero) d (λ starts run shows. all_delivered)
 
-  pub closes_round : (from : _) (a b : Driver) (result : Result (Unit {0}) SimFault) → GoesTo (rounds picker nodes) from (delivering zero) a b result
-      → GoesTo (rounds picker nodes) from (at_node zero) a b result
-  closes_round from a b (Ok u) g = goes-twice (rounds picker nodes) from (delivering zero) (at_node zero) a b b g (next_round b)
-  closes_round from a b (Err fault) g = other_end (rounds picker nodes) from (delivering zero) (at_node zero) a b fault g
+  pub closes_round : (from : _) (a b : Driver) (result : Result (Unit {0}) SimFault) → DrivesTo (schedule_of_rounds picker nodes) from (delivering zero) a b result
+      → DrivesTo (schedule_of_rounds picker nodes) from (at_node zero) a b result
+  closes_round from a b (Ok u) g = goes-twice (schedule_of_rounds picker nodes) from (delivering zero) (at_node zero) a b b g (next_round b)
+  closes_round from a b (Err fault) g = other_end (schedule_of_rounds picker nodes) from (delivering zero) (at_node zero) a b fault g
 
 pub over_or_not : (s : Schedule) (from mid to : s.Standing) (a b c : Driver) (nodes : ℕ) (result : Result (Unit {0}) SimFault) → Goes s from mid a b
-    → GoesTo s mid to b c result
+    → DrivesTo s mid to b c result
     → (IsStill a b → (b.world ≡ a.world) × NoneReady nodes a.world) → OnOk result (IsStill b c → (c.world ≡ b.world) × (b.world.flight.items ≡ []))
     → OnOk result (IsStill a c → NoneReady nodes c.world × (c.world.flight.items ≡ []))
 over_or_not s from mid to a b c nodes (Ok u) g h before here = round-over a b c nodes g.more h.more before here
@@ -283,14 +283,14 @@ is_over nodes run count none landed = record {
   taken = landed;
 }
 
-pub idle_after : (nodes : ℕ) (world : World) → NoneReady nodes world × (world.flight.items ≡ []) → IsIdle nodes world
+pub idle_after : (nodes : ℕ) (world : World) → NoneReady nodes world × (world.flight.items ≡ []) → IsRunOver nodes world
 idle_after nodes world still = λ starts run shows count.
     is_over nodes run count (λ n below. still.0 n below starts run shows)
-    (none_long run.flight (omega (arith, same_length seen shown world.flight.items run.flight shows.flight, ap length still.1)))
+    (none_long run.flight (omega (arith, same_length seen_flying seen_sent world.flight.items run.flight shows.flight, ap length still.1)))
 
 pub idle_if : (nodes : ℕ) (new : Driver) (result : Result (Unit {0}) SimFault)
     → OnOk result (length new.events.items < MOST_EVENTS → NoneReady nodes new.world × (new.world.flight.items ≡ []))
-    → OnOk result (length new.events.items < MOST_EVENTS → IsIdle nodes new.world)
+    → OnOk result (length new.events.items < MOST_EVENTS → IsRunOver nodes new.world)
 idle_if nodes new (Ok u) over = λ few. idle_after nodes new.world (over few)
 idle_if nodes new (Err fault) over = tt
 
@@ -298,17 +298,17 @@ module _ (picker : Picker) (nodes : ℕ) (old new : Driver) (event : Event) (res
     (either : PlaysOne old new event result ⊎ IsFull old new result) where
   -- one node more had its turn
   pub runs_one : (node : ℕ) → node < nodes → events.Run node ≡ event → ((starts : Starts) (run : Run) → Shows starts old.world run → ready_at run node ≡ true)
-      → GoesTo (rounds picker nodes) (at_node node) (at_node (node + 1)) old new result
+      → DrivesTo (schedule_of_rounds picker nodes) (at_node node) (at_node (node + 1)) old new result
   runs_one node lt is ready =
-      goes_by (rounds picker nodes) (at_node node) (at_node (node + 1)) old new event (λ starts run shows.
+      goes_by (schedule_of_rounds picker nodes) (at_node node) (at_node (node + 1)) old new event (λ starts run shows.
       subst (λ e. IsDue picker nodes run (at_node node) e (at_node (node + 1))) is (turn lt (ready starts run shows))) result either
 
   -- one message more was delivered
   pub delivers_one : (count i : ℕ) → i < count → ((starts : Starts) (run : Run) → Shows starts old.world run → event ≡ delivery_of picker run.flight)
-      → GoesTo (rounds picker nodes) (delivering (count - i)) (delivering (count - (i + 1))) old new result
+      → DrivesTo (schedule_of_rounds picker nodes) (delivering (count - i)) (delivering (count - (i + 1))) old new result
   delivers_one count i lt is =
       let left : ℕ = count - (i + 1) in
       let one : suc left ≡ count - i = omega (arith, lt) in
-      subst (λ k. GoesTo (rounds picker nodes) (delivering k) (delivering left) old new result) one
-      (goes_by (rounds picker nodes) (delivering (suc left)) (delivering left) old new event (λ starts run shows.
+      subst (λ k. DrivesTo (schedule_of_rounds picker nodes) (delivering k) (delivering left) old new result) one
+      (goes_by (schedule_of_rounds picker nodes) (delivering (suc left)) (delivering left) old new event (λ starts run shows.
       subst (λ e. IsDue picker nodes run (delivering (suc left)) e (delivering left)) (sym (is starts run shows)) delivery) result either)

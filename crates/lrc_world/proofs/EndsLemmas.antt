@@ -10,7 +10,8 @@ use Rattle.std.proofs.lemmas.List.FromFn.{length-range_with_len, get_or-range_wi
 use Rattle.lrc_trace.specs.declared.act.Act.{Act}
 use Rattle.lrc_node.specs.declared.end.End.{End}
 use Rattle.lrc_node.specs.declared.end.End.TheVariants.{Unfinished}
-use Rattle.lrc_world.specs.Ends.{end_after, end_by, end_of, ends_of}
+use Rattle.lrc_node.specs.Logged.{end_after, end_by}
+use Rattle.lrc_world.specs.Ends.{end_of, ends_of}
 
 length-ends : (nodes : ℕ) (acts : List Act) → length (ends_of nodes acts) ≡ nodes
 length-ends nodes acts = length-map (range_with_len 0 nodes) (λ node. end_of node acts) ∙ length-range_with_len 0 nodes

@@ -24,7 +24,8 @@ use Rattle.lrc_protocol.proofs.Worlds.{IsEntry, fresh_at, get_set_same, get_set_
 use Rattle.lrc_invariants.proofs.Shift.{Moved, Shifted, ShiftedIf, course_in, deed_back, deed_in, deed_made, shifts}
 use Rattle.lrc_node.specs.declared.end.End.{End}
 use Rattle.lrc_node.specs.Text.{end_of as end_of_text}
-use Rattle.lrc_world.specs.Ends.{end_after, end_of, ends_of}
+use Rattle.lrc_node.specs.Logged.{end_after}
+use Rattle.lrc_world.specs.Ends.{end_of, ends_of}
 use Rattle.lrc_world.specs.Report.{end_of_logged}
 use Rattle.lrc_world.proofs.EndsLemmas.{end_of-own, end_of-other}
 

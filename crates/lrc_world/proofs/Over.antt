@@ -7,7 +7,7 @@ use Rattle.lrc_protocol.specs.Turn.{is_ready}
 use Rattle.lrc_protocol.specs.World.{World as Run}
 use Rattle.lrc_theory.proofs.Ahead.{take_ahead}
 use Rattle.lrc_world.specs.Report.{IsOver}
-use Rattle.lrc_world.specs.World.{Starts, Shows, seen, shown}
+use Rattle.lrc_world.specs.World.{Starts, Shows, seen_flying, seen_sent}
 use Rattle.lrc_world.specs.declared.world.World.{World}
 use Rattle.lrc_world.proofs.Driven.{none_long}
 use Rattle.lrc_world.proofs.Lists.{none-end, same_length}
@@ -39,7 +39,7 @@ pub over_where : (starts : Starts) (world : World) (run : Run) (any : Bool) → 
 over_where starts world run any shows landed is = (
   λ e. record {
     idle = sym is ∙ not_true any e;
-    taken = none_long run.flight (omega (arith, same_length seen shown world.flight.items run.flight shows.flight, landed));
+    taken = none_long run.flight (omega (arith, same_length seen_flying seen_sent world.flight.items run.flight shows.flight, landed));
   },
   λ over. ap not (is ∙ over.idle),
 )

@@ -22,15 +22,15 @@ use Rattle.std.proofs.lemmas.Option.{get_or_from_slice_get, same_Some, slice_get
 use Rattle.lrc_world.specs.declared.world.World.{World}
 use Rattle.lrc_world.specs.declared.report.SimFault.{SimFault}
 use Rattle.lrc_world.specs.declared.report.SimFault.TheVariants.{BadNodes, BadSteps, Worn, NoMemory}
-use Rattle.lrc_world.specs.World.{Starts, cut, kept_of, trimmed, after_turn, Shows, PlaysTo, Adds, AddsTo, LogsLast, IsTurn, TurnsBy, TurnsTo, IsTaken}
-use Rattle.lrc_world.specs.World.{ReceivesTo, made_of, Seen, seen, shown, shown_new, entry_is_long, log_is_long, sends_long}
+use Rattle.lrc_world.specs.World.{Starts, cut, kept_node, trimmed, after_turn, Shows, PlaysTo, Adds, AddsTo, NodeLogsLast, IsTurn, TurnsBy, TurnsTo, IsTaken}
+use Rattle.lrc_world.specs.World.{ReceivesTo, turn_made, Seen, seen_flying, seen_sent, shown_new, entry_is_long, log_is_long, sends_long}
 use Rattle.lrc_world.proofs.Lists.{map-map, map-both, map-get, none_of, none-set, some-set, none-end, set-set, some-end, same_length}
 
 -- a turn that is added to a world
 module _ (starts : Starts) (old mid new : World) (run : Run) (flight : List Sent) (n : ℕ) (input : Input) (came : ℕ) (l : Logged) (entry : EntryRecord)
     (after : Logged) (before : TracedLog) (shows : Shows starts old run) (there : slice_get run.nodes n ≡ Some l)
     (turn : logs l input came ≡ logged entry after) (stood : slice_get old.nodes.items n ≡ Some before)
-    (nodes : mid.nodes.items ≡ slice_set old.nodes.items n (after_turn entry after before)) (flown : map seen mid.flight.items ≡ map shown flight)
+    (nodes : mid.nodes.items ≡ slice_set old.nodes.items n (after_turn entry after before)) (flown : map seen_flying mid.flight.items ≡ map seen_sent flight)
     (acts : mid.acts.items ≡ old.acts.items) (kept : mid.keep ≡ old.keep) where
   entered : IsEntry l input entry after
   entered = entry_of l input came entry after turn
@@ -38,13 +38,13 @@ module _ (starts : Starts) (old mid new : World) (run : Run) (flight : List Sent
   outcome_is : inputs run flight n input came ≡ Some (with_turn run flight n entry after)
   outcome_is = ap (input_to run flight n input came) there ∙ ap (after_input run flight n) turn
 
-  stands : slice_get (map (kept_of starts) (enumerate_from 0 run.nodes)) n ≡ Some before
+  stands : slice_get (map (kept_node starts) (enumerate_from 0 run.nodes)) n ≡ Some before
   stands = ap (λ xs. slice_get xs n) (sym shows.nodes) ∙ stood
 
   there_now : slice_get mid.nodes.items n ≡ Some (after_turn entry after before)
   there_now = ap (λ xs. slice_get xs n) nodes ∙ get_set_same old.nodes.items n before (after_turn entry after before) stood
 
-  last : LogsLast mid n entry
+  last : NodeLogsLast mid n entry
   last = (after_turn entry after before, there_now, before.logged.log, refl)
 
   short_before : log_is_long l ≡ false
@@ -58,14 +58,14 @@ module _ (starts : Starts) (old mid new : World) (run : Run) (flight : List Sent
         ∙ ap (λ xs. slice_set xs n (trimmed starts.keep (after_turn entry after before))) nodes
         ∙ set-set old.nodes.items n (after_turn entry after before) (trimmed starts.keep (after_turn entry after before))
         ∙ ap (λ xs. slice_set xs n (trimmed starts.keep (after_turn entry after before))) shows.nodes
-        ∙ ap (slice_set (map (kept_of starts) (enumerate_from 0 run.nodes)) n)
+        ∙ ap (slice_set (map (kept_node starts) (enumerate_from 0 run.nodes)) n)
         (kept_after starts run.nodes n l after input entry there entered shows.replayed before stands)
         ∙ kept_set starts run.nodes n l after input entry there entered shows.replayed;
     replayed = replayed_after starts run.nodes n l after input entry there entered shows.replayed;
     flight = a.flight ∙ ap (λ xs. xs ++ map (shown_new entry.stamp) entry.turn.out) flown
-        ∙ ap (λ xs. map shown flight ++ xs)
-        (sym (map-map shown (λ envelope. record { envelope = envelope; stamp = entry.stamp; delivered = false }) entry.turn.out))
-        ∙ sym (map-both shown flight (sent_by entry));
+        ∙ ap (λ xs. map seen_sent flight ++ xs)
+        (sym (map-map seen_sent (λ envelope. record { envelope = envelope; stamp = entry.stamp; delivered = false }) entry.turn.out))
+        ∙ sym (map-both seen_sent flight (sent_by entry));
     acts = a.acts ∙ ap (λ xs. xs ++ option_to_list entry.turn.act) (acts ∙ shows.acts);
     short = none-set log_is_long run.nodes n after shows.short
         (ap (list_any entry_is_long) entered.log_is ∙ none-end entry_is_long l.log entry short_before a.short);
@@ -74,7 +74,7 @@ module _ (starts : Starts) (old mid new : World) (run : Run) (flight : List Sent
   long : entry_is_long entry ≡ true → sends_long (with_turn run flight n entry after) ≡ true
   long holds = some-set log_is_long run.nodes n l after there (ap (list_any entry_is_long) entered.log_is ∙ some-end entry_is_long l.log entry holds)
 
-  pub comes : (result : Result (Unit {0}) SimFault) → ((e : EntryRecord) → LogsLast mid n e → AddsTo mid new n e result)
+  pub comes : (result : Result (Unit {0}) SimFault) → ((e : EntryRecord) → NodeLogsLast mid n e → AddsTo mid new n e result)
       → PlaysTo starts new (inputs run flight n input came) result
   comes (Ok u) follows = (with_turn run flight n entry after, outcome_is, adds (follows entry last))
   comes (Err Worn) follows = inr (with_turn run flight n entry after, outcome_is, long (follows entry last))
@@ -91,13 +91,13 @@ unmoved starts old mid run shows flight acts kept nodes = record {
   keep = kept ∙ shows.keep;
   nodes = nodes ∙ shows.nodes;
   replayed = shows.replayed;
-  flight = ap (λ q. map seen q.items) flight ∙ shows.flight;
+  flight = ap (λ q. map seen_flying q.items) flight ∙ shows.flight;
   acts = ap (λ v. v.items) acts ∙ shows.acts;
   short = shows.short;
 }
 
 -- a node that made a turn answered so
-made_turn : (outcome : Result (Unit {0}) NodeFault) → made_of outcome ≡ Ok true → (u : Unit {0}) × (outcome ≡ Ok u)
+made_turn : (outcome : Result (Unit {0}) NodeFault) → turn_made outcome ≡ Ok true → (u : Unit {0}) × (outcome ≡ Ok u)
 made_turn (Ok u) e = (u, refl)
 made_turn (Err NotReady) e = cc
 made_turn (Err Unexpected) e = cc
@@ -121,7 +121,7 @@ whole starts old mid run n input came outcome shows turns =
 -- a node that is named goes on
 pub goes : (starts : Starts) (old mid new : World) (run : Run) (n : ℕ) (input : Input) (came : ℕ) (outcome : Result (Unit {0}) NodeFault)
     (result : Result (Unit {0}) SimFault) → Shows starts old run → TurnsTo old.nodes.items mid.nodes.items n input came outcome
-    → made_of outcome ≡ Ok true → mid.flight ≡ old.flight → mid.acts ≡ old.acts → mid.keep ≡ old.keep → ((e : EntryRecord) → LogsLast mid n e → AddsTo mid new n e result)
+    → turn_made outcome ≡ Ok true → mid.flight ≡ old.flight → mid.acts ≡ old.acts → mid.keep ≡ old.keep → ((e : EntryRecord) → NodeLogsLast mid n e → AddsTo mid new n e result)
     → PlaysTo starts new (inputs run run.flight n input came) result
 goes starts old mid new run n input came outcome result shows turns made flight acts kept follows =
     let ok = made_turn outcome made in
@@ -129,7 +129,7 @@ goes starts old mid new run n input came outcome result shows turns made flight 
     (whole starts old mid run n input came outcome shows turns) in
     let t = turn_of_ok old.nodes.items mid.nodes.items n input came (slice_get run.nodes n) ok.0 by in
     comes starts old mid new run run.flight n input came t.0 t.2.entry t.2.after t.2.before shows t.1 t.2.turn t.2.stood t.2.nodes
-    (ap (λ q. map seen q.items) flight ∙ shows.flight) (ap (λ v. v.items) acts) kept result follows
+    (ap (λ q. map seen_flying q.items) flight ∙ shows.flight) (ap (λ v. v.items) acts) kept result follows
 
 -- one that made none
 module _ (starts : Starts) (old mid : World) (run : Run) (n : ℕ) (input : Input) (came : ℕ) (shows : Shows starts old run)
@@ -144,7 +144,7 @@ module _ (starts : Starts) (old mid : World) (run : Run) (n : ℕ) (input : Inpu
   after_some l r at e = ap (input_to run run.flight n input came) at ∙ ap (after_input run run.flight n) e
 
   rests_by : (o : Option Logged) → slice_get run.nodes n ≡ o → (outcome : Result (Unit {0}) NodeFault)
-      → TurnsBy old.nodes.items mid.nodes.items n input came o outcome → made_of outcome ≡ Ok false → (After ≡ Some run) × Shows starts mid run
+      → TurnsBy old.nodes.items mid.nodes.items n input came o outcome → turn_made outcome ≡ Ok false → (After ≡ Some run) × Shows starts mid run
   rests_by None at (Ok u) t e = cc
   rests_by None at (Err NotReady) t e = (after_none at, unmoved starts old mid run shows flight acts kept t)
   rests_by None at (Err Unexpected) t e = absurd t
@@ -159,7 +159,7 @@ module _ (starts : Starts) (old mid : World) (run : Run) (n : ℕ) (input : Inpu
   rests_by (Some l) at (Err Failed) t e = cc
 
   fails_by : (o : Option Logged) → slice_get run.nodes n ≡ o → (outcome : Result (Unit {0}) NodeFault)
-      → TurnsBy old.nodes.items mid.nodes.items n input came o outcome → (fault : SimFault) → made_of outcome ≡ Err fault
+      → TurnsBy old.nodes.items mid.nodes.items n input came o outcome → (fault : SimFault) → turn_made outcome ≡ Err fault
       → PlaysTo starts mid After (Err fault)
   fails_by None at (Ok u) t fault e = cc
   fails_by None at (Err NotReady) t fault e = cc
@@ -176,14 +176,14 @@ module _ (starts : Starts) (old mid : World) (run : Run) (n : ℕ) (input : Inpu
   fails_by (Some l) at (Err Failed) t fault e = absurd t
 
   -- what it answered
-  pub rests : (outcome : Result (Unit {0}) NodeFault) → TurnsTo old.nodes.items mid.nodes.items n input came outcome → made_of outcome ≡ Ok false
+  pub rests : (outcome : Result (Unit {0}) NodeFault) → TurnsTo old.nodes.items mid.nodes.items n input came outcome → turn_made outcome ≡ Ok false
       → PlaysTo starts mid After (Ok tt)
   rests outcome turns made =
       let r = rests_by (slice_get run.nodes n) refl outcome (whole starts old mid run n input came outcome shows turns) made in
       (run, r.0, r.1)
 
   pub fails : (outcome : Result (Unit {0}) NodeFault) → TurnsTo old.nodes.items mid.nodes.items n input came outcome → (fault : SimFault)
-      → made_of outcome ≡ Err fault → (result : Result (Unit {0}) SimFault) → IsErrAnd result (λ f. f ≡ fault) → PlaysTo starts mid After result
+      → turn_made outcome ≡ Err fault → (result : Result (Unit {0}) SimFault) → IsErrAnd result (λ f. f ≡ fault) → PlaysTo starts mid After result
   fails outcome turns fault made (Ok u) is = absurd is
   fails outcome turns fault made (Err f) is =
       subst (λ x. PlaysTo starts mid After (Err x)) (sym is)
@@ -192,21 +192,21 @@ module _ (starts : Starts) (old mid : World) (run : Run) (n : ℕ) (input : Inpu
 -- ---- a message
 
 -- the message at a place, as the run has it
-pub sent_at : (items : List Flying) (flight : List Sent) (place : ℕ) (f : Flying) → map seen items ≡ map shown flight → place < length items
-    → f ≡ slice_index_or items place f → (sent : Sent) × (slice_get flight place ≡ Some sent) × (seen f ≡ shown sent)
+pub sent_at : (items : List Flying) (flight : List Sent) (place : ℕ) (f : Flying) → map seen_flying items ≡ map seen_sent flight → place < length items
+    → f ≡ slice_index_or items place f → (sent : Sent) × (slice_get flight place ≡ Some sent) × (seen_flying f ≡ seen_sent sent)
 sent_at items flight place f e within is = go (slice_get items place) refl (slice_get flight place) refl
   where
-    both : option_map seen (slice_get items place) ≡ option_map shown (slice_get flight place)
-    both = sym (map-get seen items place) ∙ ap (λ xs. slice_get xs place) e ∙ map-get shown flight place
+    both : option_map seen_flying (slice_get items place) ≡ option_map seen_sent (slice_get flight place)
+    both = sym (map-get seen_flying items place) ∙ ap (λ xs. slice_get xs place) e ∙ map-get seen_sent flight place
 
     go : (o : Option Flying) → slice_get items place ≡ o → (p : Option Sent) → slice_get flight place ≡ p
-        → (sent : Sent) × (slice_get flight place ≡ Some sent) × (seen f ≡ shown sent)
+        → (sent : Sent) × (slice_get flight place ≡ Some sent) × (seen_flying f ≡ seen_sent sent)
     go None none p at = absurd (not_none items place within none)
-    go (Some g) there None at = let x : Some (seen g) ≡ None = sym (ap (option_map seen) there) ∙ both ∙ ap (option_map shown) at in cc
+    go (Some g) there None at = let x : Some (seen_flying g) ≡ None = sym (ap (option_map seen_flying) there) ∙ both ∙ ap (option_map seen_sent) at in cc
     go (Some g) there (Some sent) at =
-        let x : Some (seen g) ≡ Some (shown sent) = sym (ap (option_map seen) there) ∙ both ∙ ap (option_map shown) at in
+        let x : Some (seen_flying g) ≡ Some (seen_sent sent) = sym (ap (option_map seen_flying) there) ∙ both ∙ ap (option_map seen_sent) at in
         let same : f ≡ g = is ∙ get_or_from_slice_get items place g f there in
-        (sent, at, ap seen same ∙ same_Some (seen g) (shown sent) x)
+        (sent, at, ap seen_flying same ∙ same_Some (seen_flying g) (seen_sent sent) x)
 
 -- what is received, by whether its node made a turn
 abbrev pub received : ℕ → Result Bool SimFault → Result (Option ℕ) SimFault
@@ -227,7 +227,7 @@ module _ (starts : Starts) (old mid : World) (run : Run) (place : ℕ) (sent : S
 
   pub receives : (o : Option Logged) → slice_get run.nodes sent.envelope.to ≡ o → (outcome : Result (Unit {0}) NodeFault)
       → TurnsBy old.nodes.items mid.nodes.items sent.envelope.to (taken sent.envelope) sent.stamp o outcome
-      → ReceivesTo starts old mid run place (received sent.envelope.to (made_of outcome))
+      → ReceivesTo starts old mid run place (received sent.envelope.to (turn_made outcome))
   receives None at (Ok u) t = absurd t
   receives None at (Err NotReady) t = (unchanged t, λ others. by_node others None at)
   receives None at (Err Unexpected) t = absurd t
@@ -262,14 +262,14 @@ module _ (starts : Starts) (old mid : World) (run : Run) (place : ℕ) (sent : S
 -- a message that was taken is out of flight, or marked, and its node's turn is added
 pub delivered : (starts : Starts) (old taking mid new : World) (run : Run) (place to : ℕ) (others : List Sent) (result : Result (Unit {0}) SimFault)
     → Shows starts old run → (t : IsTaken old taking run place to) → mid.nodes ≡ taking.nodes → mid.acts ≡ taking.acts → mid.keep ≡ taking.keep
-    → map seen mid.flight.items ≡ map shown others
-    → ((e : EntryRecord) → LogsLast mid to e → AddsTo mid new to e result) → PlaysTo starts new (delivers run others (slice_get run.flight place)) result
+    → map seen_flying mid.flight.items ≡ map seen_sent others
+    → ((e : EntryRecord) → NodeLogsLast mid to e → AddsTo mid new to e result) → PlaysTo starts new (delivers run others (slice_get run.flight place)) result
 delivered starts old taking mid new run place to others result shows t nodes acts kept flown follows =
     let whole = comes starts old mid new run others t.sent.envelope.to (taken t.sent.envelope) t.sent.stamp t.node t.entry t.after t.before shows
     (ap (slice_get run.nodes) t.receiver ∙ t.stands) t.turn (ap (slice_get old.nodes.items) t.receiver ∙ t.stood)
     (ap (λ v. v.items) nodes ∙ t.nodes ∙ ap (λ n. slice_set old.nodes.items n (after_turn t.entry t.after t.before)) (sym t.receiver)) flown
     (ap (λ v. v.items) (acts ∙ t.acts)) (kept ∙ t.keep) result
-    (λ e last. subst (λ n. AddsTo mid new n e result) (sym t.receiver) (follows e (subst (λ n. LogsLast mid n e) t.receiver last))) in
+    (λ e last. subst (λ n. AddsTo mid new n e result) (sym t.receiver) (follows e (subst (λ n. NodeLogsLast mid n e) t.receiver last))) in
     subst (λ o. PlaysTo starts new o result) (sym (ap (delivers run others) t.there)) whole
 
 -- the message that its bytes spell is taken by its receiver
@@ -277,7 +277,7 @@ pub taken_at : (starts : Starts) (old mid : World) (run : Run) (place : ℕ) (f 
     (outcome : Result (Unit {0}) NodeFault) → Shows starts old run
     → place < length old.flight.items → f ≡ slice_index_or old.flight.items place f → envelope_of f.bytes ≡ Ok envelope
     → to ≡ envelope.to → TurnsTo old.nodes.items mid.nodes.items to (taken envelope) f.stamp outcome → mid.flight ≡ old.flight → mid.acts ≡ old.acts → mid.keep ≡ old.keep
-    → ReceivesTo starts old mid run place (received to (made_of outcome))
+    → ReceivesTo starts old mid run place (received to (turn_made outcome))
 taken_at starts old mid run place f envelope to outcome shows within is spelled here turns flight acts kept =
     let s = sent_at old.flight.items run.flight place f shows.flight within is in
     let two : Ok envelope ≡ Ok s.0.envelope = sym spelled ∙ ap (λ (x : Seen). x.0) s.2 in
@@ -287,7 +287,7 @@ taken_at starts old mid run place f envelope to outcome shows within is spelled 
     subst (λ e. TurnsTo old.nodes.items mid.nodes.items e.to (taken e) s.0.stamp outcome) envelope_is
     (subst (λ t. TurnsTo old.nodes.items mid.nodes.items envelope.to (taken envelope) t outcome) stamp_is
     (subst (λ n. TurnsTo old.nodes.items mid.nodes.items n (taken envelope) f.stamp outcome) here turns)) in
-    subst (λ n. ReceivesTo starts old mid run place (received n (made_of outcome))) (sym (here ∙ ap (λ (e : EnvelopeRecord). e.to) envelope_is))
+    subst (λ n. ReceivesTo starts old mid run place (received n (turn_made outcome))) (sym (here ∙ ap (λ (e : EnvelopeRecord). e.to) envelope_is))
     (receives starts old mid run place s.0 shows s.1 flight acts kept (slice_get run.nodes s.0.envelope.to) refl outcome
     (whole starts old mid run s.0.envelope.to (taken s.0.envelope) s.0.stamp outcome shows by))
 
@@ -296,6 +296,6 @@ pub taken_within : (starts : Starts) (old taking : World) (run : Run) (place to 
     → place < length taking.flight.items
 taken_within starts old taking run place to shows t =
     let there : place < length run.flight = slice_get_within run.flight place t.sent t.there in
-    let same : length old.flight.items ≡ length run.flight = same_length seen shown old.flight.items run.flight shows.flight in
+    let same : length old.flight.items ≡ length run.flight = same_length seen_flying seen_sent old.flight.items run.flight shows.flight in
     let still : length taking.flight.items ≡ length old.flight.items = ap (λ q. length q.items) t.flight in
     omega (arith, there, same, still)

@@ -19,7 +19,7 @@ use Rattle.lrc_coherence.proofs.Traced.Laws.{are_traces, races_named}
 use Rattle.lrc_node.specs.Logged.{TracedLog}
 use Rattle.lrc_world.specs.declared.world.World.{World}
 use Rattle.lrc_world.specs.declared.keep.Keep.{Keep}
-use Rattle.lrc_world.specs.World.{Shows, kept_of, starts_of}
+use Rattle.lrc_world.specs.World.{Shows, kept_node, starts_of}
 use Rattle.lrc_world.proofs.Lists.{map-map}
 
 module _ (acts : List Act) (none : AreNamedRaces acts []) where
@@ -50,7 +50,7 @@ module _ (program : Program) (nodes : ℕ) (options : OptionsRecord) (events : L
   same : kept ≡ traces_of program nodes options run
   same =
       ap (map (λ (t : TracedLog). t.trace)) shows.nodes
-      ∙ map-map (λ (t : TracedLog). t.trace) (kept_of (starts_of program nodes options keep)) (enumerate_from 0 run.nodes)
+      ∙ map-map (λ (t : TracedLog). t.trace) (kept_node (starts_of program nodes options keep)) (enumerate_from 0 run.nodes)
 
   pub kept_traces : (n : ℕ) × AreTracesOf n kept
   kept_traces = (nodes, subst (AreTracesOf nodes) (sym same) (are_traces program nodes options events run runs))

@@ -29,9 +29,9 @@ use Rattle.lrc_protocol.proofs.Skips.{ready-goes_on}
 use Rattle.lrc_invariants.proofs.Timely.{get_within}
 use Rattle.lrc_world.specs.Led.{Schedule, Led, begins as starts, plays, passes, AreLed}
 use Rattle.lrc_world.specs.Moments.{RefusesNone}
-use Rattle.lrc_world.specs.Random.{choices_of, chosen, number_of, next_state, wandering}
+use Rattle.lrc_world.specs.Random.{choices_of, drawn_event, drawn_number, next_state, wandering}
 use Rattle.lrc_world.specs.Rounds.{Stage, at_node, delivering, IsDue, turn, delivery, Passes, asleep, all_went, all_delivered}
-use Rattle.lrc_world.specs.Rounds.{rounds, ready_at, delivery_of, is_delivered, newest_place}
+use Rattle.lrc_world.specs.Rounds.{schedule_of_rounds, ready_at, delivery_of, is_delivered, newest_place}
 use Rattle.lrc_world.specs.Turned.{node_if, node_by, taker, turner, turned_by, turned_from, turned_of, events_in, AreAllTurned}
 use Rattle.lrc_world.proofs.Driven.{led_played}
 use Rattle.lrc_world.proofs.Made.{Made, MadeOrNot, by_taker, turned_more, turned_last}
@@ -232,19 +232,19 @@ module _ (program : Program) (nodes : ℕ) (options : OptionsRecord) where
   pass_room world at after all_delivered room = tt
 
   by_rounds : (picker : Picker) (events : List Event) (world : Run) (at : Stage)
-      → Led (rounds picker nodes) (fresh_world program nodes options) events world at
+      → Led (schedule_of_rounds picker nodes) (fresh_world program nodes options) events world at
       → AreAllTurned program nodes options events × Room at world
   by_rounds picker events world at starts = (refl, tt)
   by_rounds picker events world at (plays {events = before} {run = now} {at = stood} {after = after} {event = event} led due next) =
       let so_far = by_rounds picker before now stood led in
-      let runs = led_played (rounds picker nodes) (fresh_world program nodes options) before now stood led in
+      let runs = led_played (schedule_of_rounds picker nodes) (fresh_world program nodes options) before now stood led in
       let one = due_turns picker now world stood after event (welcome_at before now runs) due so_far.1 next in
       (unskipped_more (fresh_world program nodes options) now before event one.0.0 runs one.0.1 so_far.0, one.1)
   by_rounds picker events world at (passes {at = stood} led on) =
       let so_far = by_rounds picker events world stood led in (so_far.0, pass_room world stood at on so_far.1)
 
   -- no event of a run in rounds is skipped
-  pub rounds_unskipped : (picker : Picker) (events : List Event) → AreLed (rounds picker nodes) program nodes options events
+  pub rounds_unskipped : (picker : Picker) (events : List Event) → AreLed (schedule_of_rounds picker nodes) program nodes options events
       → AreAllTurned program nodes options events
   rounds_unskipped picker events led = (by_rounds picker events led.0 led.1 led.2).0
 
@@ -279,7 +279,7 @@ get_ranged a (suc n) (suc k) x e = let below = get_ranged (a + 1) n k x e in ome
 few_below : (n x : ℕ) → x < 0 + min n 4294967296 → x < n
 few_below n x e = omega (arith, e)
 
-chosen_turns : (nodes number : ℕ) (world next : Run) (event : Event) → RefusesNone world → chosen nodes number world ≡ Some event
+chosen_turns : (nodes number : ℕ) (world next : Run) (event : Event) → RefusesNone world → drawn_event nodes number world ≡ Some event
     → event_on world event ≡ Some next → (m : ℕ) × (turner world event ≡ Some m)
 chosen_turns nodes number world next event welcome is e =
     let turns : List Event = map events.Run (filter (ready_at world) (range_with_len 0 nodes)) in
@@ -307,7 +307,7 @@ module _ (program : Program) (nodes : ℕ) (options : OptionsRecord) (seed : ℕ
   by_wandering events world at (plays {events = before} {run = now} {at = stood} {event = event} led due next) =
       let so_far = by_wandering before now stood led in
       let runs = led_played (wandering nodes seed) (fresh_world program nodes options) before now stood led in
-      let one = chosen_turns nodes (number_of at) now world event (welcome_at program nodes options before now runs) due.1 next in
+      let one = chosen_turns nodes (drawn_number at) now world event (welcome_at program nodes options before now runs) due.1 next in
       unskipped_more (fresh_world program nodes options) now before event one.0 runs one.1 so_far
   by_wandering events world at (passes led on) = absurd on
 

@@ -21,7 +21,7 @@ use Rattle.lrc_protocol.proofs.Worlds.{run-whole, get_set_same}
 use Rattle.lrc_world.specs.declared.turned.Turned.{Turned}
 use Rattle.lrc_world.specs.Moments.{RefusesNone}
 use Rattle.lrc_world.specs.Turned.{node_if, node_by, taker, turner, turned_by, turned_from, turned_of, HaveLogs}
-use Rattle.lrc_world.specs.Walk.{Leads, come_of, next_entry, is_run, is_own, next_turner, left_by, receivers_of, come_after, come_with, flight_with}
+use Rattle.lrc_world.specs.Walk.{Leads, come_of, next_entry, is_run, is_own, next_turner, flight_after, receivers_of, come_after, come_with, flight_with}
 use Rattle.lrc_world.proofs.Events.{split_at}
 use Rattle.lrc_world.proofs.Lists.{map-set, map-remove, map-map}
 use Rattle.lrc_world.proofs.Made.{Made, TurnsOrNot, GoesLater, Later, by_event, goes_later, is_entry, left_in, nowhere, still_refused}
@@ -175,7 +175,7 @@ module _ (now end : Run) (logs : List (List EntryRecord)) (come flight : List �
   node_is next rest (events.Repeat place) e plays few welcome =
       taken_is next (with_mark now.flight place) place (slice_get now.flight place) refl e welcome
 
-  left_is : (event : Event) (n : ℕ) → left_by flight event (Some n) ≡ map (λ (s : Sent). s.envelope.to) (left_in now event)
+  left_is : (event : Event) (n : ℕ) → flight_after flight event (Some n) ≡ map (λ (s : Sent). s.envelope.to) (left_in now event)
   left_is (events.Run m) n = at.receivers
   left_is (events.Deliver place) n =
       ap (λ xs. remove xs place) at.receivers ∙ sym (map-remove (λ (s : Sent). s.envelope.to) now.flight place)
@@ -183,7 +183,7 @@ module _ (now end : Run) (logs : List (List EntryRecord)) (come flight : List �
 
   at_made : (next : Run) (rest : List Event) (event : Event) (n : ℕ) (input : Input) → Made now next (left_in now event) n input
       → played next rest ≡ Some end
-      → IsAt (come_with logs come (Some n)) (flight_with logs come (left_by flight event (Some n)) (Some n)) next
+      → IsAt (come_with logs come (Some n)) (flight_with logs come (flight_after flight event (Some n)) (Some n)) next
   at_made next rest event n input made plays =
       let first = made_next next rest (left_in now event) n input made plays in
       let i = is_entry made.l input made.came made.entry made.after made.turn in
@@ -195,7 +195,7 @@ module _ (now end : Run) (logs : List (List EntryRecord)) (come flight : List �
             ∙ ap (λ xs. slice_set xs n (length made.after.log)) at.counts
             ∙ sym (map-set (λ (l : Logged). length l.log) now.nodes n made.after)
             ∙ ap (λ (w : Run). map (λ (l : Logged). length l.log) w.nodes) (sym made.next_is);
-        receivers = ap (λ o. left_by flight event (Some n) ++ receivers_of o) first
+        receivers = ap (λ o. flight_after flight event (Some n) ++ receivers_of o) first
             ∙ ap (λ xs. xs ++ map (λ envelope. envelope.to) made.entry.turn.out) (left_is event n)
             ∙ ap (λ xs. map (λ (s : Sent). s.envelope.to) (left_in now event) ++ xs)
             (sym (map-map (λ (s : Sent). s.envelope.to) (λ envelope. record { envelope = envelope; stamp = made.entry.stamp; delivered = false })
@@ -206,13 +206,13 @@ module _ (now end : Run) (logs : List (List EntryRecord)) (come flight : List �
 
   -- and goes on past it
   next_at : (next : Run) (rest : List Event) (event : Event) (o : Option ℕ) → TurnsOrNot now next (left_in now event) o → played next rest ≡ Some end
-      → IsAt (come_with logs come o) (flight_with logs come (left_by flight event o) o) next
+      → IsAt (come_with logs come o) (flight_with logs come (flight_after flight event o) o) next
   next_at next rest event o either plays = elim either [
     | inl none ↦
-        subst (λ x. IsAt (come_with logs come x) (flight_with logs come (left_by flight event x) x) next) (sym none.0)
+        subst (λ x. IsAt (come_with logs come x) (flight_with logs come (flight_after flight event x) x) next) (sym none.0)
         (subst (IsAt come flight) (sym none.1) at)
     | inr made ↦
-        subst (λ x. IsAt (come_with logs come x) (flight_with logs come (left_by flight event x) x) next) (sym made.1)
+        subst (λ x. IsAt (come_with logs come x) (flight_with logs come (flight_after flight event x) x) next) (sym made.1)
         (at_made next rest event made.0 made.2 made.3 plays)
   ]
 
@@ -334,7 +334,7 @@ module _ (program : Program) (nodes : ℕ) (options : OptionsRecord) (events : L
 
   module _ (k : ℕ) (event : Event) (there : slice_get events k ≡ Some event) (come flight new_come new_flight : List ℕ) (turned more : List Turned)
       (node : Option ℕ) (node_so : node ≡ next_turner logs come flight event) (come_so : new_come ≡ come_with logs come node)
-      (flight_so : new_flight ≡ flight_with logs come (left_by flight event node) node) (more_so : more ≡ turned ++ turned_by event node)
+      (flight_so : new_flight ≡ flight_with logs come (flight_after flight event node) node) (more_so : more ≡ turned ++ turned_by event node)
       (few : nodes ≤ 256) (has : HaveLogs program nodes options events logs) (now : Run)
       (runs : run_of program nodes options (take k events) ≡ Some now) (at : IsAt come flight now)
       (told : turned ≡ turned_of program nodes options (take k events)) where
@@ -382,7 +382,7 @@ module _ (program : Program) (nodes : ℕ) (options : OptionsRecord) (events : L
   pub walk_goes_on : (k : ℕ) (event : Event) (come flight new_come new_flight : List ℕ) (turned more : List Turned) (node : Option ℕ)
       → slice_get events k ≡ Some event → Walks program nodes options events logs k come flight turned
       → node ≡ next_turner logs come flight event → new_come ≡ come_with logs come node
-      → new_flight ≡ flight_with logs come (left_by flight event node) node → more ≡ turned ++ turned_by event node
+      → new_flight ≡ flight_with logs come (flight_after flight event node) node → more ≡ turned ++ turned_by event node
       → Walks program nodes options events logs (k + 1) new_come new_flight more
   walk_goes_on k event come flight new_come new_flight turned more node there before node_so come_so flight_so more_so = λ few has.
       let so_far = before few has in

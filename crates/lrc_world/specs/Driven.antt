@@ -12,7 +12,7 @@ use Rattle.lrc_world.specs.declared.world.World.{World}
 use Rattle.lrc_world.specs.Led.{Schedule, Led, WearsOut}
 use Rattle.lrc_world.specs.Random.{wandering}
 use Rattle.lrc_world.specs.Report.{IsOver}
-use Rattle.lrc_world.specs.Rounds.{ready_at, rounds}
+use Rattle.lrc_world.specs.Rounds.{ready_at, schedule_of_rounds}
 use Rattle.lrc_world.specs.World.{Starts, Shows, PlaysTo}
 
 -- this node is not ready
@@ -24,8 +24,8 @@ abbrev pub NoneReady : ℕ → World → Type 0
 NoneReady nodes world = (n : ℕ) → n < nodes → IsAsleep n world
 
 -- nothing is left to do in a world of so many nodes
-abbrev pub IsIdle : ℕ → World → Type 0
-IsIdle nodes world = (starts : Starts) (run : Run) → Shows starts world run → length run.nodes ≡ nodes → IsOver run
+abbrev pub IsRunOver : ℕ → World → Type 0
+IsRunOver nodes world = (starts : Starts) (run : Run) → Shows starts world run → length run.nodes ≡ nodes → IsOver run
 
 -- What is driven stands here, unless it has as many events as there may be: its events are led so from a world on, and its world
 -- shows the run after them.
@@ -43,20 +43,20 @@ pub record Goes (schedule : Schedule) (from to : schedule.Standing) (old new : D
   pub more : length old.events.items ≤ length new.events.items
 
 -- the same, or a number or a message was too large, or no memory is left
-abbrev pub GoesTo : (schedule : Schedule) → schedule.Standing → schedule.Standing → Driver → Driver → Result (Unit {0}) SimFault → Type 0
-GoesTo schedule from to old new (Ok done) = Goes schedule from to old new
-GoesTo schedule from to old new (Err Worn) = (starts : Starts) (start : Run) → StandsAt schedule starts start from old → WearsOut schedule start
-GoesTo schedule from to old new (Err NoMemory) = Unit {0}
-GoesTo schedule from to old new (Err _) = (starts : Starts) (start : Run) → ¬ StandsAt schedule starts start from old
+abbrev pub DrivesTo : (schedule : Schedule) → schedule.Standing → schedule.Standing → Driver → Driver → Result (Unit {0}) SimFault → Type 0
+DrivesTo schedule from to old new (Ok done) = Goes schedule from to old new
+DrivesTo schedule from to old new (Err Worn) = (starts : Starts) (start : Run) → StandsAt schedule starts start from old → WearsOut schedule start
+DrivesTo schedule from to old new (Err NoMemory) = Unit {0}
+DrivesTo schedule from to old new (Err _) = (starts : Starts) (start : Run) → ¬ StandsAt schedule starts start from old
 
 -- what leads a run of so many nodes in this order
 abbrev pub schedule_of : ℕ → Order → Schedule
-schedule_of nodes (Rounds picker) = rounds picker nodes
+schedule_of nodes (Rounds picker) = schedule_of_rounds picker nodes
 schedule_of nodes (Random seed) = wandering nodes seed
 
 -- from the beginning on it is driven to somewhere
 abbrev pub IsDrivenBy : Schedule → Driver → Driver → Result (Unit {0}) SimFault → Type 0
-IsDrivenBy schedule old new result = (to : schedule.Standing) × GoesTo schedule schedule.first to old new result
+IsDrivenBy schedule old new result = (to : schedule.Standing) × DrivesTo schedule schedule.first to old new result
 
 -- no event was added, though there was room for one
 pub record IsStill (old new : Driver) : Type 0 where

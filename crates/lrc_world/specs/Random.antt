@@ -20,8 +20,8 @@ abbrev pub folded : ℕ → ℕ → ℕ → ℕ
 folded z places factor = bit_xor z (z / 2 ^ places) * factor % 2 ^ 64
 
 -- the number that a state gives
-abbrev pub number_of : ℕ → ℕ
-number_of state =
+abbrev pub drawn_number : ℕ → ℕ
+drawn_number state =
     let z = folded (folded state 30 0xbf58476d1ce4e5b9) 27 0x94d049bb133111eb in
     bit_xor z (z / 2 ^ 31)
 
@@ -38,8 +38,8 @@ choices_of nodes run =
 abbrev pub picked : ℕ → List Event → Option Event
 picked number choices = slice_get choices (number % length choices)
 
-abbrev pub chosen : ℕ → ℕ → Run → Option Event
-chosen nodes number run = picked number (choices_of nodes run)
+abbrev pub drawn_event : ℕ → ℕ → Run → Option Event
+drawn_event nodes number run = picked number (choices_of nodes run)
 
 -- Each event is the one of all that may happen next that the generator's next number says. The run stands at the generator's state, at
 -- first the seed.
@@ -47,7 +47,7 @@ abbrev pub wandering : ℕ → ℕ → Schedule
 wandering nodes seed = record {
   Standing = ℕ;
   first = seed;
-  Due = λ run state event after. (after ≡ next_state state) × (chosen nodes (number_of after) run ≡ Some event);
+  Due = λ run state event after. (after ≡ next_state state) × (drawn_event nodes (drawn_number after) run ≡ Some event);
   Passes = λ run state after. ⊥;
 }
 

@@ -49,13 +49,13 @@ pub data Passes (nodes : ℕ) (run : Run) : Stage → Stage → Type 0 where
   all_delivered : Passes nodes run (delivering zero) (at_node zero)
 
 -- rounds of so many nodes, from node 0 up
-abbrev pub rounds : Picker → ℕ → Schedule
-rounds picker nodes = record { Standing = Stage; first = at_node zero; Due = IsDue picker nodes; Passes = Passes nodes }
+abbrev pub schedule_of_rounds : Picker → ℕ → Schedule
+schedule_of_rounds picker nodes = record { Standing = Stage; first = at_node zero; Due = IsDue picker nodes; Passes = Passes nodes }
 
 -- the events are the first ones of a program's run in rounds; the last round may be cut
 abbrev pub AreRounds : Program → ℕ → OptionsRecord → Picker → List Event → Type 0
-AreRounds program nodes options picker events = AreLed (rounds picker nodes) program nodes options events
+AreRounds program nodes options picker events = AreLed (schedule_of_rounds picker nodes) program nodes options events
 
 -- a number or a message becomes too large at an event of a program's run in rounds
 abbrev pub RoundsWearOut : Program → ℕ → OptionsRecord → Picker → Type 0
-RoundsWearOut program nodes options picker = WearsOut (rounds picker nodes) (fresh_world program nodes options)
+RoundsWearOut program nodes options picker = WearsOut (schedule_of_rounds picker nodes) (fresh_world program nodes options)

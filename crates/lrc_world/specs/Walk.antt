@@ -32,11 +32,11 @@ next_turner logs come flight (events.Deliver place) = slice_get flight place
 next_turner logs come flight (events.Repeat place) = slice_get flight place
 
 -- what an event leaves in flight, which makes a turn of this node, or of none
-abbrev pub left_by : List ℕ → Event → Option ℕ → List ℕ
-left_by flight event None = flight
-left_by flight (events.Run n) (Some node) = flight
-left_by flight (events.Deliver place) (Some node) = remove flight place
-left_by flight (events.Repeat place) (Some node) = flight
+abbrev pub flight_after : List ℕ → Event → Option ℕ → List ℕ
+flight_after flight event None = flight
+flight_after flight (events.Run n) (Some node) = flight
+flight_after flight (events.Deliver place) (Some node) = remove flight place
+flight_after flight (events.Repeat place) (Some node) = flight
 
 -- the receivers of the messages of a turn
 abbrev pub receivers_of : Option EntryRecord → List ℕ

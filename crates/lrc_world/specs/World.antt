@@ -34,11 +34,11 @@ abbrev pub Seen : Type 0
 Seen = Result EnvelopeRecord WireFault × (ℕ × Bool)
 
 -- a message as it is kept, and as the protocol has it
-abbrev pub seen : Flying → Seen
-seen flying = (envelope_of flying.bytes, (flying.stamp, flying.delivered))
+abbrev pub seen_flying : Flying → Seen
+seen_flying flying = (envelope_of flying.bytes, (flying.stamp, flying.delivered))
 
-abbrev pub shown : Sent → Seen
-shown sent = (Ok sent.envelope, (sent.stamp, sent.delivered))
+abbrev pub seen_sent : Sent → Seen
+seen_sent sent = (Ok sent.envelope, (sent.stamp, sent.delivered))
 
 -- a message that was just sent, with this stamp
 abbrev pub shown_new : ℕ → EnvelopeRecord → Seen
@@ -88,16 +88,16 @@ abbrev pub starts_of : Program → ℕ → OptionsRecord → Keep → Starts
 starts_of program nodes options keep = record { start = fresh_node program nodes options; keep = keep }
 
 -- a node of a run, with what is kept of its log, and its trace
-abbrev pub kept_of : Starts → ℕ × Logged → TracedLog
-kept_of starts at = record { logged = sound (cut starts.keep at.1); trace = trace_of (starts.start at.0) at.1.log }
+abbrev pub kept_node : Starts → ℕ × Logged → TracedLog
+kept_node starts at = record { logged = sound (cut starts.keep at.1); trace = trace_of (starts.start at.0) at.1.log }
 
 -- the nodes with what is kept of their logs, and their traces, the messages in flight and the acts are those of the run, in which each node's log leads
 -- to it from how it starts, and no message was too long
 pub record Shows (starts : Starts) (world : World) (run : Run) : Type 0 where
   pub keep : world.keep ≡ starts.keep
-  pub nodes : world.nodes.items ≡ map (kept_of starts) (enumerate_from 0 run.nodes)
+  pub nodes : world.nodes.items ≡ map (kept_node starts) (enumerate_from 0 run.nodes)
   pub replayed : (n : ℕ) (l : Logged) → slice_get run.nodes n ≡ Some l → (traced (starts.start n) (inputs_of l.log)).node ≡ l.node
-  pub flight : map seen world.flight.items ≡ map shown run.flight
+  pub flight : map seen_flying world.flight.items ≡ map seen_sent run.flight
   pub acts : world.acts.items ≡ run.acts
   pub short : sends_long run ≡ false
 
@@ -110,15 +110,15 @@ PlaysTo starts new outcome (Err NoMemory) = Unit {0}
 PlaysTo starts new outcome (Err _) = ⊥
 
 -- the newest entry in a node's log is this
-abbrev pub LogsLast : World → ℕ → EntryRecord → Type 0
-LogsLast world n entry =
+abbrev pub NodeLogsLast : World → ℕ → EntryRecord → Type 0
+NodeLogsLast world n entry =
     (l : TracedLog) × (slice_get world.nodes.items n ≡ Some l) × (before : List EntryRecord) × (l.logged.log ≡ before ++ entry ∷ [])
 
 -- What a turn of a node did was added: its act, and its messages in flight. The node keeps of its log what is to be kept.
 pub record Adds (old new : World) (n : ℕ) (entry : EntryRecord) : Type 0 where
   pub keep : new.keep ≡ old.keep
   pub nodes : (l : TracedLog) → slice_get old.nodes.items n ≡ Some l → new.nodes.items ≡ slice_set old.nodes.items n (trimmed old.keep l)
-  pub flight : map seen new.flight.items ≡ map seen old.flight.items ++ map (shown_new entry.stamp) entry.turn.out
+  pub flight : map seen_flying new.flight.items ≡ map seen_flying old.flight.items ++ map (shown_new entry.stamp) entry.turn.out
   pub acts : new.acts.items ≡ old.acts.items ++ option_to_list entry.turn.act
   pub short : entry_is_long entry ≡ false
 
@@ -129,13 +129,13 @@ AddsTo old new n entry (Err fault) = IsSendFault entry.turn.out fault
 -- ---- turns
 
 -- whether a node made a turn, by what it answered
-abbrev pub made_of : Result (Unit {0}) NodeFault → Result Bool SimFault
-made_of (Ok done) = Ok true
-made_of (Err NotReady) = Ok false
-made_of (Err Unexpected) = Ok false
-made_of (Err NodeFaults.Worn) = Err Worn
-made_of (Err NodeFaults.NoMemory) = Err NoMemory
-made_of (Err Failed) = Err NoMemory
+abbrev pub turn_made : Result (Unit {0}) NodeFault → Result Bool SimFault
+turn_made (Ok done) = Ok true
+turn_made (Err NotReady) = Ok false
+turn_made (Err Unexpected) = Ok false
+turn_made (Err NodeFaults.Worn) = Err Worn
+turn_made (Err NodeFaults.NoMemory) = Err NoMemory
+turn_made (Err Failed) = Err NoMemory
 
 -- a node with its log after a turn, whose access is noted
 abbrev pub after_turn : EntryRecord → Logged → TracedLog → TracedLog

@@ -1,7 +1,8 @@
 // How the nodes of a run ended.
 
 ghost use Rattle.std.specs.Prelude.{◌≡◌, IfOk, slice_set};
-ghost use Rattle.lrc_world.specs.Ends.{end_after, ends_of};
+ghost use Rattle.lrc_node.specs.Logged.{end_after};
+ghost use Rattle.lrc_world.specs.Ends.{ends_of};
 
 use lrc_node::End;
 use lrc_trace::act::{Act, Deed};

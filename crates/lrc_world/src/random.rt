@@ -1,7 +1,7 @@
 // Random numbers.
 
 ghost use Rattle.std.specs.Prelude.{◌≡◌};
-ghost use Rattle.lrc_world.specs.Random.{next_state, number_of};
+ghost use Rattle.lrc_world.specs.Random.{next_state, drawn_number};
 
 /// The generator SplitMix64.
 #[derive(Drop)]
@@ -20,7 +20,7 @@ impl Random {
     /// The next number.
     pub(crate) fn next(&mut self) -> u64
         ensures state { self.new.state ≡ next_state self.old.state }
-        ensures number { result ≡ number_of self.new.state }
+        ensures number { result ≡ drawn_number self.new.state }
     {
         self.state = self.state.wrapping_add(0x9e37_79b9_7f4a_7c15);
         let mut z = self.state;

@@ -6,9 +6,9 @@ ghost use Rattle.lrc_judge.specs.declared.TheConstants.{NODES};
 ghost use Rattle.lrc_protocol.specs.World.{World as Run};
 ghost use Rattle.lrc_world.specs.Report.{IsKeptReport};
 ghost use Rattle.lrc_trace.specs.Conflict.{IsRaceFree};
-ghost use Rattle.lrc_world.specs.Driven.{GoesTo, IsAsleep, IsDrivenBy, IsFull, IsIdle, IsStill, NoneReady, PlaysOne, schedule_of};
+ghost use Rattle.lrc_world.specs.Driven.{DrivesTo, IsAsleep, IsDrivenBy, IsFull, IsRunOver, IsStill, NoneReady, PlaysOne, schedule_of};
 ghost use Rattle.lrc_world.specs.Random.{wandering};
-ghost use Rattle.lrc_world.specs.Rounds.{at_node, delivering, rounds};
+ghost use Rattle.lrc_world.specs.Rounds.{at_node, delivering, schedule_of_rounds};
 ghost use Rattle.lrc_envelope.specs.declared.picker.Picker.{Picker as AnyPicker};
 ghost use Rattle.lrc_world.specs.World.{Starts, Shows};
 
@@ -51,7 +51,7 @@ impl<'c> Driver<'c> {
     pub(crate) fn lead(&mut self, nodes: u8, order: Order) -> Result<(), SimFault>
         requires { self.old.events.items ≡ [] }
         ensures goes { IsDrivenBy (schedule_of nodes order) self.old self.new result }
-        ensures over { OnOk result (length self.new.events.items < MOST_EVENTS → IsIdle nodes self.new.world) }
+        ensures over { OnOk result (length self.new.events.items < MOST_EVENTS → IsRunOver nodes self.new.world) }
     {
         match order {
             Order::Rounds(picker) => self.drive(nodes, picker),
@@ -76,7 +76,7 @@ impl<'c> Driver<'c> {
     // Goes on round by round, until one has no event or there are as many events as there may be.
     fn drive(&mut self, nodes: u8, picker: Picker) -> Result<(), SimFault>
         requires { length self.old.events.items ≤ MOST_EVENTS }
-        ensures goes { GoesTo (rounds picker nodes) (at_node 0) (at_node 0) self.old self.new result }
+        ensures goes { DrivesTo (schedule_of_rounds picker nodes) (at_node 0) (at_node 0) self.old self.new result }
         ensures over { OnOk result (length self.new.events.items < MOST_EVENTS
             → NoneReady nodes self.new.world × (self.new.world.flight.items ≡ [])) }
     {
@@ -94,7 +94,7 @@ impl<'c> Driver<'c> {
     fn wander(&mut self, nodes: u8, seed: u64) -> Result<(), SimFault>
         requires { self.old.events.items ≡ [] }
         ensures goes { IsDrivenBy (wandering nodes seed) self.old self.new result }
-        ensures over { OnOk result (length self.new.events.items < MOST_EVENTS → IsIdle nodes self.new.world) }
+        ensures over { OnOk result (length self.new.events.items < MOST_EVENTS → IsRunOver nodes self.new.world) }
     {
         let mut random = Random::new(seed);
         for _event in 0..MOST_EVENTS {
@@ -108,7 +108,7 @@ impl<'c> Driver<'c> {
 
     // Each ready node goes on, and then as many messages are delivered as are in flight.
     fn round(&mut self, nodes: u8, picker: Picker) -> Result<(), SimFault>
-        ensures goes { GoesTo (rounds picker nodes) (at_node 0) (at_node 0) self.old self.new result }
+        ensures goes { DrivesTo (schedule_of_rounds picker nodes) (at_node 0) (at_node 0) self.old self.new result }
         ensures over { OnOk result (IsStill self.old self.new → NoneReady nodes self.new.world × (self.new.world.flight.items ≡ [])) }
     {
         self.run_each(nodes)?;
@@ -117,7 +117,7 @@ impl<'c> Driver<'c> {
 
     // Each ready node goes on once, from node 0 up, as far as there is room for events.
     fn run_each(&mut self, nodes: u8) -> Result<(), SimFault>
-        ensures goes { (picker : AnyPicker) → GoesTo (rounds picker nodes) (at_node 0) (at_node nodes) self.old self.new result }
+        ensures goes { (picker : AnyPicker) → DrivesTo (schedule_of_rounds picker nodes) (at_node 0) (at_node nodes) self.old self.new result }
         ensures still { OnOk result (IsStill self.old self.new → (self.new.world ≡ self.old.world) × NoneReady nodes self.old.world) }
     {
         for node in 0..nodes {
@@ -129,7 +129,7 @@ impl<'c> Driver<'c> {
     // The node goes on, if it is ready and there is room for an event.
     fn run_if_ready(&mut self, node: u8) -> Result<(), SimFault>
         ensures goes { (picker : AnyPicker) (nodes : ℕ) → node < nodes
-            → GoesTo (rounds picker nodes) (at_node node) (at_node (node + 1)) self.old self.new result }
+            → DrivesTo (schedule_of_rounds picker nodes) (at_node node) (at_node (node + 1)) self.old self.new result }
         ensures still { OnOk result (IsStill self.old self.new → (self.new.world ≡ self.old.world) × IsAsleep node self.old.world) }
     {
         if !self.world.is_ready(node as usize) {
@@ -141,7 +141,7 @@ impl<'c> Driver<'c> {
     // As many messages are delivered as are in flight, each of them the one that the picker says, as far as there is room for
     // events.
     fn deliver_each(&mut self, picker: Picker) -> Result<(), SimFault>
-        ensures goes { (nodes : ℕ) → GoesTo (rounds picker nodes) (at_node nodes) (delivering 0) self.old self.new result }
+        ensures goes { (nodes : ℕ) → DrivesTo (schedule_of_rounds picker nodes) (at_node nodes) (delivering 0) self.old self.new result }
         ensures still { OnOk result (IsStill self.old self.new → (self.new.world ≡ self.old.world) × (self.old.world.flight.items ≡ [])) }
     {
         let count = self.world.in_flight();

@@ -11,7 +11,7 @@ ghost use Rattle.lrc_protocol.specs.World.{World as Run, run_of};
 ghost use Rattle.lrc_world.specs.declared.report.Report.{Report as AnyReport};
 ghost use Rattle.lrc_world.specs.Report.{IsReportOf};
 ghost use Rattle.lrc_world.specs.Turned.{AreAllTurned, HaveLogs, events_in, turned_by, turned_of};
-ghost use Rattle.lrc_world.specs.Walk.{Leads, come_after, come_with, flight_with, is_run, left_by, next_entry, next_turner, receivers_of};
+ghost use Rattle.lrc_world.specs.Walk.{Leads, come_after, come_with, flight_with, is_run, flight_after, next_entry, next_turner, receivers_of};
 
 use lrc_envelope::Envelope;
 use lrc_node::{Entry, Input};
@@ -95,7 +95,7 @@ impl Walk {
         ensures node { IfOk result (λ node. node ≡ next_turner (map (λ log. log.items) logs.now) self.old.come.items self.old.flight.items event) }
         ensures come { IfOk result (λ node. self.new.come.items ≡ come_with (map (λ log. log.items) logs.now) self.old.come.items node) }
         ensures flight { IfOk result (λ node. self.new.flight.items
-            ≡ flight_with (map (λ log. log.items) logs.now) self.old.come.items (left_by self.old.flight.items event node) node) }
+            ≡ flight_with (map (λ log. log.items) logs.now) self.old.come.items (flight_after self.old.flight.items event node) node) }
     {
         let turner = self.turner(logs, event);
         if let Some(node) = turner {
@@ -109,7 +109,7 @@ impl Walk {
         requires { length self.old.come.items ≡ length logs.now }
         ensures node { result ≡ next_turner (map (λ log. log.items) logs.now) self.old.come.items self.old.flight.items event }
         ensures come { self.new.come ≡ self.old.come }
-        ensures flight { self.new.flight.items ≡ left_by self.old.flight.items event result }
+        ensures flight { self.new.flight.items ≡ flight_after self.old.flight.items event result }
     {
         match event {
             Event::Run(node) => runner(logs, self.come.as_slice(), node),

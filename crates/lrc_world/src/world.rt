@@ -13,10 +13,10 @@ ghost use Rattle.lrc_protocol.specs.Log.{EntryRecord};
 ghost use Rattle.lrc_protocol.specs.Log as log;
 ghost use Rattle.lrc_protocol.specs.Turn.{is_ready};
 ghost use Rattle.lrc_world.specs.Report.{IsKeptReport, IsOver, end_of_logged};
-ghost use Rattle.lrc_world.specs.Random.{chosen, picked};
+ghost use Rattle.lrc_world.specs.Random.{drawn_event, picked};
 ghost use Rattle.lrc_world.specs.Rounds.{delivery_of, is_delivered, newest_place, ready_at};
-ghost use Rattle.lrc_world.specs.World.{Starts, starts_of, Shows, PlaysTo, AddsTo, LogsLast, ReceivesTo, TurnsTo, made_of, IsSendFault, trimmed};
-ghost use Rattle.lrc_world.specs.World.{seen, shown, shown_new, is_long};
+ghost use Rattle.lrc_world.specs.World.{Starts, starts_of, Shows, PlaysTo, AddsTo, NodeLogsLast, ReceivesTo, TurnsTo, turn_made, IsSendFault, trimmed};
+ghost use Rattle.lrc_world.specs.World.{seen_flying, seen_sent, shown_new, is_long};
 ghost use Rattle.lrc_node.specs.Logged.{TracedLog, sound};
 ghost use Rattle.lrc_trace.specs.Conflict.{IsFirstRace, IsRaceFree};
 
@@ -126,7 +126,7 @@ impl<'c> World<'c> {
 
     /// What a random number says of all that may happen next, if anything may.
     pub(crate) fn choice(&self, nodes: u8, number: u64) -> Result<Option<Event>, AllocError>
-        ensures { (starts : Starts) (run : Run) → Shows starts self.now run → IfOk result (λ event. event ≡ chosen nodes number run) }
+        ensures { (starts : Starts) (run : Run) → Shows starts self.now run → IfOk result (λ event. event ≡ drawn_event nodes number run) }
     {
         let ready = self.ready_nodes(nodes)?;
         let deliveries = self.flight.len().min(1 << 32);
@@ -244,7 +244,7 @@ impl<'c> World<'c> {
 
     // Adds what the node's newest turn did: its act, and its messages in flight. Of the node's log is left what is to be kept.
     fn follow(&mut self, node: usize) -> Result<(), SimFault>
-        ensures { (entry : EntryRecord) → LogsLast self.old node entry → AddsTo self.old self.new node entry result }
+        ensures { (entry : EntryRecord) → NodeLogsLast self.old node entry → AddsTo self.old self.new node entry result }
     {
         let Some(logged) = self.nodes.get(node) else {
             return Ok(());
@@ -301,7 +301,7 @@ fn send(
     stamp: u64,
     flight: &mut VecDeque<Flying>,
 ) -> Result<(), SimFault>
-    ensures flight { OnOk result (map seen flight.new.items ≡ map seen flight.old.items ++ map (shown_new stamp) out.now) }
+    ensures flight { OnOk result (map seen_flying flight.new.items ≡ map seen_flying flight.old.items ++ map (shown_new stamp) out.now) }
     ensures short { OnOk result (list_any is_long out.now ≡ false) }
     ensures err { IfErr result (IsSendFault out.now) }
 {
@@ -344,7 +344,7 @@ fn envelope_in(alloc: Global, bytes: &[u8]) -> Result<Envelope, SimFault>
 
 // Whether a node made a turn; a node that has none left has no memory, or has used up its numbers.
 fn is_made(outcome: Result<(), NodeFault>) -> Result<bool, SimFault>
-    ensures { result ≡ made_of outcome }
+    ensures { result ≡ turn_made outcome }
 {
     match outcome {
         Ok(()) => Ok(true),
@@ -397,7 +397,7 @@ fn trim(keep: Keep, nodes: &mut Vec<Logged<'_>>, node: usize)
 
 // Marks the message at the place as delivered, if it is there.
 fn mark(flight: &mut VecDeque<Flying>, place: usize)
-    ensures { (sent : List Sent) → map seen flight.old.items ≡ map shown sent → map seen flight.new.items ≡ map shown (with_mark sent place) }
+    ensures { (sent : List Sent) → map seen_flying flight.old.items ≡ map seen_sent sent → map seen_flying flight.new.items ≡ map seen_sent (with_mark sent place) }
 {
     if place < flight.len() {
         flight[place].delivered = true;

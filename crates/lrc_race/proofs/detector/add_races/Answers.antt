@@ -4,9 +4,9 @@ use Rattle.std.proofs.lemmas.Bool.{cases_lt}
 use Rattle.std.proofs.lemmas.List.{get_or_default}
 use Rattle.std.proofs.lemmas.Option.{slice_get-get_or}
 use Rattle.lrc_race.specs.declared.places.TouchedPlace.{TouchedPlace}
-use Rattle.lrc_race.specs.Adding.{IsOfSome}
+use Rattle.lrc_judge.specs.Adding.{IsOfSome}
 use Rattle.lrc_race.specs.Pairs.{IsBehind, IsRaceOfPlaces}
-use Rattle.lrc_race.proofs.Additions.{some-all, some-more}
+use Rattle.lrc_judge.proofs.Additions.{some-all, some-more}
 use Rattle.lrc_race.proofs.Stretches.{nowhere, behind-later, from-all, order_at, within_at}
 use Rattle.lrc_race.proofs.detector.add_races.Goals as goal
 

@@ -1,7 +1,7 @@
 use Rattle.std.proofs.Common.{◌≡◌, ℕ, ◌<◌, ◌≤◌, Some, length, take}
 use Rattle.std.specs.Prelude.{slice_get}
 use Rattle.lrc_race.specs.declared.places.TouchedPlace.{TouchedPlace}
-use Rattle.lrc_race.specs.Adding.{Adds, IsOfSome}
+use Rattle.lrc_judge.specs.Adding.{Adds, IsOfSome}
 use Rattle.lrc_race.specs.Pairs.{IsBehind, IsRaceOfPlaces}
 use Rattle.lrc_race.proofs.detector.add_races.Given as goal
 

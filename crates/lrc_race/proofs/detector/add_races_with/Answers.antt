@@ -2,7 +2,7 @@ use Rattle.std.proofs.Common.{◌≡◌, ◌∙◌, Some, sym, length, refl, ari
 use Rattle.std.specs.Prelude.{slice_get}
 use Rattle.std.proofs.lemmas.Option.{slice_get_read}
 use Rattle.lrc_race.specs.Pairs.{IsLane, IsRaceOfTraces}
-use Rattle.lrc_race.proofs.Additions.{below-more}
+use Rattle.lrc_judge.proofs.Additions.{below-more}
 use Rattle.lrc_race.proofs.Found.{pair-found, pair-none, below-all, below-start}
 use Rattle.lrc_race.proofs.Stretches.{at_contains}
 use Rattle.lrc_race.proofs.detector.add_races_with.Goals as goal

@@ -1,6 +1,6 @@
-use Rattle.lrc_race.specs.Adding.{Adds}
+use Rattle.lrc_judge.specs.Adding.{Adds}
 use Rattle.lrc_race.specs.Pairs.{IsRaceOfTraces}
-use Rattle.lrc_race.proofs.Additions.{IsBelow}
+use Rattle.lrc_judge.proofs.Additions.{IsBelow}
 use Rattle.lrc_race.proofs.detector.add_races_with.Given as goal
 
 -- the races with the traces so far are added

@@ -1,5 +1,5 @@
-use Rattle.lrc_race.specs.Adding.{Adds}
-use Rattle.lrc_race.proofs.Additions.{IsBelow}
+use Rattle.lrc_judge.specs.Adding.{Adds}
+use Rattle.lrc_judge.proofs.Additions.{IsBelow}
 use Rattle.lrc_race.proofs.Stretches.{IsStretchAt}
 use Rattle.lrc_race.proofs.detector.add_stretch.Given as goal
 

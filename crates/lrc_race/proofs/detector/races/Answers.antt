@@ -1,7 +1,7 @@
 use Rattle.std.proofs.Common.{[], arith}
 use Rattle.std.proofs.lemmas.List.Filters.{dedup_is}
 use Rattle.lrc_judge.proofs.Ascending.{race_eq, unique-ascending, unique-contains}
-use Rattle.lrc_race.proofs.Additions.{below-none, below-more}
+use Rattle.lrc_judge.proofs.Additions.{below-none, below-more}
 use Rattle.lrc_race.proofs.Found.{IsRaceOfTrace, found-all}
 use Rattle.lrc_race.proofs.detector.races.Goals as goal
 

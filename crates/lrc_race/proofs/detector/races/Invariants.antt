@@ -1,6 +1,6 @@
 use Rattle.std.proofs.Common.{[]}
-use Rattle.lrc_race.specs.Adding.{Adds}
-use Rattle.lrc_race.proofs.Additions.{IsBelow}
+use Rattle.lrc_judge.specs.Adding.{Adds}
+use Rattle.lrc_judge.proofs.Additions.{IsBelow}
 use Rattle.lrc_race.proofs.Found.{IsRaceOfTrace}
 use Rattle.lrc_race.proofs.detector.races.Given as goal
 

@@ -1,5 +1,5 @@
 use Rattle.std.proofs.Common.{Option, MatchOption, subst}
-use Rattle.lrc_judge.specs.InOrder.{IsFirstOutOfOrder, ReadsInOrder}
+use Rattle.lrc_judge.specs.InOrder.{IsFirstOutOfOrder, ReadsLastWritten}
 use Rattle.lrc_judge.specs.declared.in_order.OutOfOrder.{OutOfOrder}
 use Rattle.lrc_acts.specs.JudgeLines.{ordered_line}
 use Rattle.lrc_verdict.specs.Judgement.{ordered}
@@ -9,6 +9,6 @@ pub returns-in_ok-extend_from_slice-in-None : goal.returns-in_ok-extend_from_sli
 returns-in_ok-extend_from_slice-in-None c = record {
   added = ordered_line;
   whole = c.in_ok-extend_from_slice-in-None.ensures.items;
-  so = ordered (subst (λ (o : Option OutOfOrder). MatchOption o (ReadsInOrder c.args.acts.now) (IsFirstOutOfOrder c.args.acts.now)) c.in-None.is
+  so = ordered (subst (λ (o : Option OutOfOrder). MatchOption o (ReadsLastWritten c.args.acts.now) (IsFirstOutOfOrder c.args.acts.now)) c.in-None.is
       c.in_ok-first.ensures);
 }

@@ -1,6 +1,6 @@
 use Rattle.std.proofs.lemmas.Result.{IfOk-weaker}
 use Rattle.lrc_protocol.specs.World.{fresh_world}
-use Rattle.lrc_world.specs.Rounds.{rounds}
+use Rattle.lrc_world.specs.Rounds.{schedule_of_rounds}
 use Rattle.lrc_world.proofs.Driven.{worn_by}
 use Rattle.lrc_world.proofs.Unskipped.{rounds_unskipped}
 use Rattle.lrc_world.proofs.simulate.drive.Goals as goal
@@ -13,7 +13,7 @@ returns-clause-report c =
 
 pub returns-clause-worn : goal.returns-clause-worn
 returns-clause-worn c = λ e.
-    worn_by (rounds c.args.picker c.args.nodes) (fresh_world c.args.program.now c.args.nodes c.args.options.now)
+    worn_by (schedule_of_rounds c.args.picker c.args.nodes) (fresh_world c.args.program.now c.args.nodes c.args.options.now)
     (c.lead.ensures.worn e)
 
 pub returns-clause-unskipped : goal.returns-clause-unskipped

@@ -1,7 +1,7 @@
 use Rattle.std.proofs.Common.{◌≡◌, ◌∙◌, Err, ap}
 use Rattle.lrc_protocol.specs.World.{fresh_world}
 use Rattle.lrc_world.specs.declared.report.SimFault.TheVariants.{Worn}
-use Rattle.lrc_world.specs.Rounds.{rounds}
+use Rattle.lrc_world.specs.Rounds.{schedule_of_rounds}
 use Rattle.lrc_world.proofs.Briefly.{ok_of, brief_kept, brief_races, brief_report}
 use Rattle.lrc_world.proofs.Driven.{worn_by}
 use Rattle.lrc_world.proofs.Unskipped.{rounds_unskipped}
@@ -29,5 +29,5 @@ returns-in-Ok-clause-kept c =
 
 pub returns-in-Err-clause-worn : goal.returns-in-Err-clause-worn
 returns-in-Err-clause-worn c = λ e.
-    worn_by (rounds c.args.picker c.args.nodes) (fresh_world c.args.program.now c.args.nodes c.args.options.now)
+    worn_by (schedule_of_rounds c.args.picker c.args.nodes) (fresh_world c.args.program.now c.args.nodes c.args.options.now)
     (c.lead.ensures.worn (let same : c.in-Err.fault ≡ Worn = cc in c.in-Err.is ∙ ap Err same))

@@ -2,7 +2,7 @@ use Rattle.std.proofs.Common.{◌≡◌, ◌∙◌, refl, ap, map, arith, [], �
 use Rattle.std.specs.List.{range_with_len}
 use Rattle.lrc_node.specs.Node.{TracedNode}
 use Rattle.lrc_node.specs.Logged.{TracedLog}
-use Rattle.lrc_world.specs.World.{Starts, starts_of, seen}
+use Rattle.lrc_world.specs.World.{Starts, starts_of, seen_flying}
 use Rattle.lrc_world.proofs.Kept.{all_fresh, fresh_replayed}
 use Rattle.lrc_world.proofs.Worlds.{fresh_one, fresh_short, fresh_next}
 use Rattle.lrc_world.proofs.world.World.new.Goals as goal
@@ -17,7 +17,7 @@ returns c =
           ∙ ap (λ n. map (fresh_one c.args.code.now c.args.nodes c.args.options.now) (range_with_len 0 n)) all
           ∙ all_fresh starts c.args.nodes;
       replayed = fresh_replayed starts c.args.nodes;
-      flight = ap (map seen) c.new-2.ensures.items;
+      flight = ap (map seen_flying) c.new-2.ensures.items;
       acts = c.new-3.ensures.items;
       short = fresh_short c.args.code.now c.args.nodes c.args.options.now;
     }

@@ -2,7 +2,7 @@ use Rattle.std.proofs.Common.{◌≡◌, refl, sym, subst, Ok, Err, true, false,
 use Rattle.lrc_protocol.specs.World.{World as Run}
 use Rattle.lrc_world.specs.declared.report.SimFault.{SimFault}
 use Rattle.lrc_world.specs.declared.world.World.{World}
-use Rattle.lrc_world.specs.World.{Starts, ReceivesTo, made_of}
+use Rattle.lrc_world.specs.World.{Starts, ReceivesTo, turn_made}
 use Rattle.lrc_world.proofs.Played.{received, taken_at}
 use Rattle.lrc_world.proofs.world.World.receive.Goals as goal
 
@@ -13,7 +13,7 @@ refused_up starts old mid run place to fault (Err f) is h = subst (λ x. Receive
 
 pub returns-in_err-is_made : goal.returns-in_err-is_made
 returns-in_err-is_made c = λ starts run shows.
-    let made : made_of c.take_at-outcome.result ≡ Err c.in_err-is_made.field-0.0 = search rules in
+    let made : turn_made c.take_at-outcome.result ≡ Err c.in_err-is_made.field-0.0 = search rules in
     let mid : World = record {
       alloc = c.args.self.now.alloc;
       keep = c.args.self.now.keep;
@@ -30,7 +30,7 @@ returns-in_err-is_made c = λ starts run shows.
 
 pub returns-then-branch : goal.returns-then-branch
 returns-then-branch c = λ starts run shows.
-    let made : made_of c.take_at-outcome.result ≡ Ok true = search rules in
+    let made : turn_made c.take_at-outcome.result ≡ Ok true = search rules in
     let mid : World = record {
       alloc = c.args.self.now.alloc;
       keep = c.args.self.now.keep;
@@ -45,7 +45,7 @@ returns-then-branch c = λ starts run shows.
 
 pub returns-else-branch : goal.returns-else-branch
 returns-else-branch c = λ starts run shows.
-    let made : made_of c.take_at-outcome.result ≡ Ok false = search rules in
+    let made : turn_made c.take_at-outcome.result ≡ Ok false = search rules in
     let mid : World = record {
       alloc = c.args.self.now.alloc;
       keep = c.args.self.now.keep;
