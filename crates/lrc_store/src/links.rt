@@ -1,6 +1,6 @@
 // What links the intervals and the notices of a store.
 
-ghost use Rattle.std.specs.Prelude.{◌≡◌, ◌<◌, ◌≤◌, ◌+◌, ℕ, All, AllPairs, IfOk, IsTrue, OnOk, ◌++◌, filter, flat_map, length, map, position};
+ghost use Rattle.std.specs.Prelude.{◌≡◌, ◌<◌, ◌≤◌, ◌+◌, ℕ, All, AllPairs, IfOk, IsTrue, OnOk, [], ◌∷◌, ◌++◌, filter, flat_map, length, map, position};
 ghost use Rattle.lrc_time.specs.Time.{knows};
 ghost use Rattle.lrc_store.specs.Interval.{index_of};
 ghost use Rattle.lrc_store.specs.Lists.{keys_of, knows_notice, places_from};
@@ -15,33 +15,199 @@ use crate::interval::Interval;
 use crate::key::Key;
 use crate::nodes::Nodes;
 use lrc_time::Time;
-use std::alloc::AllocError;
+use std::alloc::{AllocError, Global};
 
-/// Makes room for the links of an interval of a node with this many notices. An error changes no link.
-pub(crate) fn make_room(
-    by_node: &mut Nodes,
-    by_page: &mut Chains,
-    node: u16,
-    more: usize,
-) -> Result<(), AllocError>
-    requires { node < by_node.old.lists }
-    ensures node_keys { by_node.new.keys ≡ by_node.old.keys }
-    ensures node_lists { by_node.new.lists ≡ by_node.old.lists }
-    ensures node_starts { by_node.new.starts ≡ by_node.old.starts }
-    ensures page_keys { by_page.new.keys ≡ by_page.old.keys }
-    ensures page_lists { by_page.new.lists ≡ by_page.old.lists }
-    ensures node_room { OnOk result (length by_node.old.keys < by_node.new.room) }
-    ensures node_few { OnOk result (length by_node.old.keys < MOST_ENTRIES) }
-    ensures node_row { OnOk result (HasRoom by_node.new.rows by_node.old.keys node) }
-    ensures page_room { OnOk result (length by_page.old.keys + more ≤ by_page.new.room) }
-    ensures page_few { OnOk result (length by_page.old.keys + more ≤ MOST_ENTRIES) }
-{
-    by_node.reserve(node)?;
-    by_page.reserve(more)
+/// What links the intervals of an arena and their notices: each interval to the one before it of its node, each notice to
+/// the one before it of its page. Both are counted in the order of adding.
+#[derive(Drop)]
+pub(crate) struct Links {
+    /// The intervals by node.
+    pub(crate) by_node: Nodes,
+    /// The notices by page.
+    pub(crate) by_page: Chains,
 }
 
-/// Links the notices of these pages, for which there is room.
-pub(crate) fn add_pages(by_page: &mut Chains, pages: &[u16])
+impl Links {
+    /// No links, for this many nodes and pages.
+    pub(crate) fn new(alloc: Global, nodes: usize, pages: usize) -> Result<Self, AllocError>
+        ensures node_lists { IfOk result (λ links. links.by_node.lists ≡ nodes) }
+        ensures node_keys { IfOk result (λ links. links.by_node.keys ≡ []) }
+        ensures node_starts { IfOk result (λ links. links.by_node.starts ≡ []) }
+        ensures page_lists { IfOk result (λ links. links.by_page.lists ≡ pages) }
+        ensures page_keys { IfOk result (λ links. links.by_page.keys ≡ []) }
+    {
+        Ok(Links {
+            by_node: Nodes::new(alloc, nodes)?,
+            by_page: Chains::new(alloc, pages)?,
+        })
+    }
+
+    /// Makes room for the links of an interval of a node with this many notices. An error changes no link.
+    pub(crate) fn make_room(&mut self, node: u16, more: usize) -> Result<(), AllocError>
+        requires { node < self.old.by_node.lists }
+        ensures node_keys { self.new.by_node.keys ≡ self.old.by_node.keys }
+        ensures node_lists { self.new.by_node.lists ≡ self.old.by_node.lists }
+        ensures node_starts { self.new.by_node.starts ≡ self.old.by_node.starts }
+        ensures page_keys { self.new.by_page.keys ≡ self.old.by_page.keys }
+        ensures page_lists { self.new.by_page.lists ≡ self.old.by_page.lists }
+        ensures node_room { OnOk result (length self.old.by_node.keys < self.new.by_node.room) }
+        ensures node_few { OnOk result (length self.old.by_node.keys < MOST_ENTRIES) }
+        ensures node_row { OnOk result (HasRoom self.new.by_node.rows self.old.by_node.keys node) }
+        ensures page_room { OnOk result (length self.old.by_page.keys + more ≤ self.new.by_page.room) }
+        ensures page_few { OnOk result (length self.old.by_page.keys + more ≤ MOST_ENTRIES) }
+    {
+        self.by_node.reserve(node)?;
+        self.by_page.reserve(more)
+    }
+
+    /// Links an interval of a node, and its notices of these pages. There is room for both.
+    pub(crate) fn push(&mut self, node: u16, pages: &[u16])
+        requires node_in_range { node < self.old.by_node.lists }
+        requires node_room { length self.old.by_node.keys < self.old.by_node.room }
+        requires node_few { length self.old.by_node.keys < MOST_ENTRIES }
+        requires node_row { HasRoom self.old.by_node.rows self.old.by_node.keys node }
+        requires pages_in_range { All (λ page. page < self.old.by_page.lists) pages.now }
+        requires page_room { length self.old.by_page.keys + length pages.now ≤ self.old.by_page.room }
+        requires page_few { length self.old.by_page.keys + length pages.now ≤ MOST_ENTRIES }
+        ensures node_keys { self.new.by_node.keys ≡ self.old.by_node.keys ++ node ∷ [] }
+        ensures node_lists { self.new.by_node.lists ≡ self.old.by_node.lists }
+        ensures node_starts { self.new.by_node.starts ≡ self.old.by_node.starts ++ length self.old.by_page.keys ∷ [] }
+        ensures page_keys { self.new.by_page.keys ≡ self.old.by_page.keys ++ pages.now }
+        ensures page_lists { self.new.by_page.lists ≡ self.old.by_page.lists }
+    {
+        let start = self.by_page.len() as u32;
+        self.by_node.push(node, start);
+        add_pages(&mut self.by_page, pages);
+    }
+
+    /// Links the intervals and the notices again, fewer than there were.
+    pub(crate) fn renew(&mut self, arena: &Arena)
+        requires nodes_in_range { All (λ stored. stored.node < self.old.by_node.lists) arena.now.entries }
+        requires fewer_nodes { length arena.now.entries ≤ length self.old.by_node.keys }
+        requires fewer_of_each { (node : ℕ) → length (places_from node 0 (map (λ stored. stored.node) arena.now.entries))
+            ≤ length (places_from node 0 self.old.by_node.keys) }
+        requires pages_in_range { All (λ notice. notice.1.page < self.old.by_page.lists) arena.now.notices }
+        requires fewer_pages { length arena.now.notices ≤ length self.old.by_page.keys }
+        requires noted { length (flat_map keys_of (map interval_of arena.now.entries)) ≡ length arena.now.notices }
+        ensures node_keys { self.new.by_node.keys ≡ map (λ stored. stored.node) arena.now.entries }
+        ensures node_starts { AreStarts self.new.by_node.starts (map interval_of arena.now.entries) }
+        ensures node_lists { self.new.by_node.lists ≡ self.old.by_node.lists }
+        ensures page_keys { self.new.by_page.keys ≡ map page_named arena.now.notices }
+        ensures page_lists { self.new.by_page.lists ≡ self.old.by_page.lists }
+    {
+        link_pages(&mut self.by_page, arena);
+        link_nodes(&mut self.by_node, arena);
+    }
+
+    /// The notices of a page that the time does not know, oldest first, found along the page's list.
+    pub(crate) fn unknown_on(
+        &self,
+        arena: &Arena,
+        page: u16,
+        since: &Time,
+    ) -> Result<Vec<(u64, Key)>, AllocError>
+        requires linked { self.now.by_page.keys ≡ map page_named arena.now.notices }
+        ensures { IfOk result (λ found. found.items ≡ filter (is_unknown_on page since.now) arena.now.notices) }
+    {
+        let mut found = Vec::new(arena.allocator());
+        let mut next = self.by_page.first(page);
+        while let Some(at) = next {
+            let (weight, key) = arena.notice(at as usize);
+            if !is_known(since, key.node, key.index) {
+                found.push((weight, key))?;
+            }
+            next = self.by_page.next(at);
+        }
+        found.reverse();
+        Ok(found)
+    }
+
+    /// The same where the time knows what was added first: the walk ends at the first notice that it knows.
+    pub(crate) fn unknown_until_known(
+        &self,
+        arena: &Arena,
+        page: u16,
+        since: &Time,
+    ) -> Result<Vec<(u64, Key)>, AllocError>
+        requires linked { self.now.by_page.keys ≡ map page_named arena.now.notices }
+        requires first { AllPairs (λ earlier later. page_named earlier ≡ page → page_named later ≡ page
+            → IsTrue (knows_notice since.now later.1) → IsTrue (knows_notice since.now earlier.1)) arena.now.notices }
+        ensures { IfOk result (λ found. found.items ≡ filter (is_unknown_on page since.now) arena.now.notices) }
+    {
+        let mut found = Vec::new(arena.allocator());
+        let mut next = self.by_page.first(page);
+        while let Some(at) = next {
+            let (weight, key) = arena.notice(at as usize);
+            if is_known(since, key.node, key.index) {
+                next = None;
+            } else {
+                found.push((weight, key))?;
+                next = self.by_page.next(at);
+            }
+        }
+        found.reverse();
+        Ok(found)
+    }
+
+    /// The intervals of a node that `upto` knows and `since` does not, oldest first, found along the node's list. The walk
+    /// ends at the first that `since` knows.
+    pub(crate) fn newer_of_node(
+        &self,
+        arena: &Arena,
+        node: u8,
+        since: &Time,
+        upto: &Time,
+    ) -> Result<Vec<Interval>, AllocError>
+        requires linked { self.now.by_node.keys ≡ map (λ interval. interval.node) (map interval_of arena.now.entries) }
+        requires ascending { AllPairs (λ a b. a.node ≡ b.node → index_of a < index_of b) (map interval_of arena.now.entries) }
+        ensures { IfOk result (λ found. found.items
+            ≡ filter (is_newer_of node since.now upto.now) (map interval_of arena.now.entries)) }
+    {
+        let mut found = Vec::new(arena.allocator());
+        let mut next = self.by_node.first(u16::from(node));
+        while let Some(at) = next {
+            let interval = arena.interval(at as usize);
+            if interval.is_known(since) {
+                next = None;
+            } else {
+                if interval.is_known(upto) {
+                    found.push(interval.duplicate()?)?;
+                }
+                next = self.by_node.next(at);
+            }
+        }
+        found.reverse();
+        Ok(found)
+    }
+
+    /// Where the interval of this key's node and index stands, counted back from the last of its node.
+    pub(crate) fn place_of(&self, arena: &Arena, last: &Time, key: Key) -> Option<u32>
+        requires linked { self.now.by_node.keys ≡ map (λ interval. interval.node) (map interval_of arena.now.entries) }
+        requires nodes { self.now.by_node.lists ≡ length last.now }
+        requires in_range { All (λ stored. stored.node < length last.now) arena.now.entries }
+        requires ascending { AllPairs (λ a b. a.node ≡ b.node → index_of a < index_of b) (map interval_of arena.now.entries) }
+        requires gapless { HasNoGaps last.now (map interval_of arena.now.entries) }
+        ensures { result ≡ position (is_at key.node key.index) arena.now.entries }
+    {
+        if key.node >= last.nodes() {
+            return None;
+        }
+        let newest = last.at(key.node);
+        if key.index > newest {
+            return None;
+        }
+        let back = newest - key.index;
+        let place = self.by_node.from_newest(u16::from(key.node), back)?;
+        if arena.interval(place as usize).is_at(key.node, key.index) {
+            Some(place)
+        } else {
+            None
+        }
+    }
+}
+
+// Links the notices of these pages, for which there is room.
+fn add_pages(by_page: &mut Chains, pages: &[u16])
     requires in_range { All (λ page. page < by_page.old.lists) pages.now }
     requires linked { length by_page.old.keys + length pages.now ≤ by_page.old.room }
     requires few { length by_page.old.keys + length pages.now ≤ MOST_ENTRIES }
@@ -53,8 +219,8 @@ pub(crate) fn add_pages(by_page: &mut Chains, pages: &[u16])
     }
 }
 
-/// Links the intervals again, fewer than there were.
-pub(crate) fn link_nodes(by_node: &mut Nodes, arena: &Arena)
+// Links the intervals again, fewer than there were.
+fn link_nodes(by_node: &mut Nodes, arena: &Arena)
     requires in_range { All (λ stored. stored.node < by_node.old.lists) arena.now.entries }
     requires fewer { length arena.now.entries ≤ length by_node.old.keys }
     requires fewer_of_each { (node : ℕ) → length (places_from node 0 (map (λ stored. stored.node) arena.now.entries))
@@ -75,8 +241,8 @@ pub(crate) fn link_nodes(by_node: &mut Nodes, arena: &Arena)
     }
 }
 
-/// Links the notices again, fewer than there were.
-pub(crate) fn link_pages(by_page: &mut Chains, arena: &Arena)
+// Links the notices again, fewer than there were.
+fn link_pages(by_page: &mut Chains, arena: &Arena)
     requires in_range { All (λ notice. notice.1.page < by_page.old.lists) arena.now.notices }
     requires fewer { length arena.now.notices ≤ length by_page.old.keys }
     ensures keys { by_page.new.keys ≡ map page_named arena.now.notices }
@@ -89,117 +255,6 @@ pub(crate) fn link_pages(by_page: &mut Chains, arena: &Arena)
     for at in 0..arena.noted() {
         let (_, key) = arena.notice(at);
         by_page.push(key.page);
-    }
-}
-
-/// The notices of a page that the time does not know, oldest first, found along the page's list.
-pub(crate) fn unknown_on(
-    arena: &Arena,
-    by_page: &Chains,
-    page: u16,
-    since: &Time,
-) -> Result<Vec<(u64, Key)>, AllocError>
-    requires linked { by_page.now.keys ≡ map page_named arena.now.notices }
-    ensures { IfOk result (λ found. found.items ≡ filter (is_unknown_on page since.now) arena.now.notices) }
-{
-    let mut found = Vec::new(arena.allocator());
-    let mut next = by_page.first(page);
-    while let Some(at) = next {
-        let (weight, key) = arena.notice(at as usize);
-        if !is_known(since, key.node, key.index) {
-            found.push((weight, key))?;
-        }
-        next = by_page.next(at);
-    }
-    found.reverse();
-    Ok(found)
-}
-
-/// The same where the time knows what was added first: the walk ends at the first notice that it knows.
-pub(crate) fn unknown_until_known(
-    arena: &Arena,
-    by_page: &Chains,
-    page: u16,
-    since: &Time,
-) -> Result<Vec<(u64, Key)>, AllocError>
-    requires linked { by_page.now.keys ≡ map page_named arena.now.notices }
-    requires first { AllPairs (λ earlier later. page_named earlier ≡ page → page_named later ≡ page
-        → IsTrue (knows_notice since.now later.1) → IsTrue (knows_notice since.now earlier.1)) arena.now.notices }
-    ensures { IfOk result (λ found. found.items ≡ filter (is_unknown_on page since.now) arena.now.notices) }
-{
-    let mut found = Vec::new(arena.allocator());
-    let mut next = by_page.first(page);
-    while let Some(at) = next {
-        let (weight, key) = arena.notice(at as usize);
-        if is_known(since, key.node, key.index) {
-            next = None;
-        } else {
-            found.push((weight, key))?;
-            next = by_page.next(at);
-        }
-    }
-    found.reverse();
-    Ok(found)
-}
-
-/// The intervals of a node that `upto` knows and `since` does not, oldest first, found along the node's list. The walk
-/// ends at the first that `since` knows.
-pub(crate) fn newer_of_node(
-    arena: &Arena,
-    by_node: &Nodes,
-    node: u8,
-    since: &Time,
-    upto: &Time,
-) -> Result<Vec<Interval>, AllocError>
-    requires linked { by_node.now.keys ≡ map (λ interval. interval.node) (map interval_of arena.now.entries) }
-    requires ascending { AllPairs (λ a b. a.node ≡ b.node → index_of a < index_of b) (map interval_of arena.now.entries) }
-    ensures { IfOk result (λ found. found.items
-        ≡ filter (is_newer_of node since.now upto.now) (map interval_of arena.now.entries)) }
-{
-    let mut found = Vec::new(arena.allocator());
-    let mut next = by_node.first(u16::from(node));
-    while let Some(at) = next {
-        let interval = arena.interval(at as usize);
-        if interval.is_known(since) {
-            next = None;
-        } else {
-            if interval.is_known(upto) {
-                found.push(interval.duplicate()?)?;
-            }
-            next = by_node.next(at);
-        }
-    }
-    found.reverse();
-    Ok(found)
-}
-
-/// Where the interval of this node and index stands, counted back from the last of its node.
-pub(crate) fn place_of(
-    arena: &Arena,
-    by_node: &Nodes,
-    last: &Time,
-    node: u8,
-    index: u32,
-) -> Option<u32>
-    requires linked { by_node.now.keys ≡ map (λ interval. interval.node) (map interval_of arena.now.entries) }
-    requires nodes { by_node.now.lists ≡ length last.now }
-    requires in_range { All (λ stored. stored.node < length last.now) arena.now.entries }
-    requires ascending { AllPairs (λ a b. a.node ≡ b.node → index_of a < index_of b) (map interval_of arena.now.entries) }
-    requires gapless { HasNoGaps last.now (map interval_of arena.now.entries) }
-    ensures { result ≡ position (is_at node index) arena.now.entries }
-{
-    if node >= last.nodes() {
-        return None;
-    }
-    let newest = last.at(node);
-    if index > newest {
-        return None;
-    }
-    let place = by_node.from_newest(u16::from(node), newest - index)?;
-    if arena.interval(place as usize).is_at(node, index) {
-        Some(place)
-    } else {
-        None
     }
 }
 

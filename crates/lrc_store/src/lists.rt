@@ -18,7 +18,7 @@ impl Store {
         ensures newest { result ≡ newest_of self.now node }
         ensures in_use { ForSome result (λ at. at < length (intervals_of self.now)) }
     {
-        let place = self.by_node.first(u16::from(node))?;
+        let place = self.links.by_node.first(u16::from(node))?;
         Some(IntervalAt { place })
     }
 
@@ -28,7 +28,7 @@ impl Store {
         ensures before { result ≡ before_of self.now at }
         ensures in_use { ForSome result (λ earlier. earlier < at) }
     {
-        let place = self.by_node.next(at.place)?;
+        let place = self.links.by_node.next(at.place)?;
         Some(IntervalAt { place })
     }
 
@@ -42,7 +42,7 @@ impl Store {
         if self.arena.interval(at.place as usize).pages.is_empty() {
             return None;
         }
-        let place = self.by_node.start(at.place);
+        let place = self.links.by_node.start(at.place);
         Some(NoticeAt { place })
     }
 
@@ -53,7 +53,7 @@ impl Store {
         ensures in_use { ForSome result (λ notice. notice < length (notices_of self.now)) }
     {
         // For the proof: there are at most `MOST_ENTRIES` notices.
-        let _few = self.by_page.len();
+        let _few = self.links.by_page.len();
         let here = self.key(at)?;
         let after = NoticeAt {
             place: at.place + 1,
@@ -71,7 +71,7 @@ impl Store {
         ensures first { result ≡ first_on_page_of self.now page }
         ensures in_use { ForSome result (λ at. at < length (notices_of self.now)) }
     {
-        let place = self.by_page.first(page)?;
+        let place = self.links.by_page.first(page)?;
         Some(NoticeAt { place })
     }
 
@@ -81,7 +81,7 @@ impl Store {
         ensures next { result ≡ next_on_page_of self.now at }
         ensures in_use { ForSome result (λ earlier. earlier < at) }
     {
-        let place = self.by_page.next(at.place)?;
+        let place = self.links.by_page.next(at.place)?;
         Some(NoticeAt { place })
     }
 

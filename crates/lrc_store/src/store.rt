@@ -7,15 +7,10 @@ ghost use Rattle.lrc_store.specs.Links.{ranked};
 ghost use Rattle.lrc_store.specs.Store.{StoreRecord, IsMissing, IsStore, intervals_of, is_missing};
 
 use crate::arena::Arena;
-use crate::chains::Chains;
 use crate::interval::Interval;
 use crate::intervals::Intervals;
 use crate::key::Key;
-use crate::links::{
-    add_pages, link_nodes, link_pages, make_room, newer_of_node, place_of, unknown_on,
-    unknown_until_known,
-};
-use crate::nodes::Nodes;
+use crate::links::Links;
 use lrc_page::{Changes, MOST_PAGES};
 use lrc_time::Time;
 use std::alloc::{AllocError, Global};
@@ -33,8 +28,7 @@ pub struct Store {
     pages: u16,
     last: Time,
     pub(crate) arena: Arena,
-    pub(crate) by_node: Nodes,
-    pub(crate) by_page: Chains,
+    pub(crate) links: Links,
 }
 
 impl Model for Store {
@@ -47,7 +41,7 @@ impl Model for Store {
 
     ghost invariant = { λ s.
         IsLinkedUp (record { pages = s.pages; last = s.last; entries = s.arena.entries })
-        s.by_node s.by_page s.arena.notices };
+        s.links.by_node s.links.by_page s.arena.notices };
 }
 
 impl Store {
@@ -67,8 +61,7 @@ impl Store {
             pages,
             last: Time::new(nodes),
             arena: Arena::new(alloc),
-            by_node: Nodes::new(alloc, usize::from(nodes))?,
-            by_page: Chains::new(alloc, usize::from(pages))?,
+            links: Links::new(alloc, usize::from(nodes), usize::from(pages))?,
         })
     }
 
@@ -82,16 +75,10 @@ impl Store {
         ensures err { OnErr result (self.new ≡ self.old) }
         ensures sound { IsStore self.new }
     {
-        make_room(
-            &mut self.by_node,
-            &mut self.by_page,
-            u16::from(interval.node),
-            interval.pages.len(),
-        )?;
+        let node = u16::from(interval.node);
+        self.links.make_room(node, interval.pages.len())?;
         self.arena.push(interval)?;
-        let start = self.by_page.len() as u32;
-        add_pages(&mut self.by_page, interval.pages.as_slice());
-        self.by_node.push(u16::from(interval.node), start);
+        self.links.push(node, interval.pages.as_slice());
         self.last.raise(interval.node, interval.index());
         Ok(())
     }
@@ -123,8 +110,8 @@ impl Store {
     pub fn changes(&self, key: Key) -> Option<&Changes>
         ensures { option_copied result ≡ changes_at self.now key }
     {
-        let place = place_of(&self.arena, &self.by_node, &self.last, key.node, key.index)?;
-        let start = self.by_node.start(place) as usize;
+        let place = self.links.place_of(&self.arena, &self.last, key)?;
+        let start = self.links.by_node.start(place) as usize;
         self.arena.changes(place as usize, start, key.page)
     }
 
@@ -132,7 +119,7 @@ impl Store {
     pub fn has_notice(&self, key: Key) -> bool
         ensures { result ≡ is_some (notice_at self.now key) }
     {
-        if let Some(place) = place_of(&self.arena, &self.by_node, &self.last, key.node, key.index) {
+        if let Some(place) = self.links.place_of(&self.arena, &self.last, key) {
             self.arena.has_notice(place as usize, key.page)
         } else {
             false
@@ -144,8 +131,8 @@ impl Store {
         requires { notice_at self.old key ≡ Some (record { page = key.page; changes = None }) }
         ensures { self.new ≡ attached self.old key changes }
     {
-        if let Some(place) = place_of(&self.arena, &self.by_node, &self.last, key.node, key.index) {
-            let start = self.by_node.start(place) as usize;
+        if let Some(place) = self.links.place_of(&self.arena, &self.last, key) {
+            let start = self.links.by_node.start(place) as usize;
             self.arena.attach(place as usize, start, key.page, changes);
         }
     }
@@ -157,8 +144,7 @@ impl Store {
         ensures { self.new ≡ discarded self.old time.now }
     {
         self.arena.discard(time);
-        link_pages(&mut self.by_page, &self.arena);
-        link_nodes(&mut self.by_node, &self.arena);
+        self.links.renew(&self.arena);
     }
 
     /// The intervals that `upto` knows and `since` does not, ascending by node and index.
@@ -170,7 +156,7 @@ impl Store {
     {
         let mut found = Vec::new(self.arena.allocator());
         for node in 0..self.last.nodes() {
-            let mut newer = newer_of_node(&self.arena, &self.by_node, node, since, upto)?;
+            let mut newer = self.links.newer_of_node(&self.arena, node, since, upto)?;
             found.append(&mut newer)?;
         }
         Ok(Intervals::from_ascending(found))
@@ -183,7 +169,7 @@ impl Store {
         ensures missing { IfOk result (λ found. IsMissing self.now page since.now found.items) }
         ensures value { IfOk result (λ found. found.items ≡ missing_of self.now page since.now) }
     {
-        let found = unknown_on(&self.arena, &self.by_page, page, since)?;
+        let found = self.links.unknown_on(&self.arena, page, since)?;
         keys_in_order(self.arena.allocator(), found)
     }
 
@@ -195,7 +181,7 @@ impl Store {
         ensures missing { IfOk result (λ found. IsMissing self.now page since.now found.items) }
         ensures value { IfOk result (λ found. found.items ≡ missing_of self.now page since.now) }
     {
-        let found = unknown_until_known(&self.arena, &self.by_page, page, since)?;
+        let found = self.links.unknown_until_known(&self.arena, page, since)?;
         keys_in_order(self.arena.allocator(), found)
     }
 }

@@ -29,26 +29,27 @@ entries_after : (c : After-raise)
     → c.push.new.self.entries ≡ c.self.inside.arena.entries ++ without_changes c.args.interval.now ∷ []
 entries_after c = c.in_ok-push.ensures.entries
 
-linked : (c : After-raise) → IsLinkedUp (after c) c.push-2.new.self c.add_pages.new.by_page c.push.new.self.notices
+linked : (c : After-raise) → IsLinkedUp (after c) c.push-2.new.self.by_node c.push-2.new.self.by_page c.push.new.self.notices
 linked c =
     let store = before c in
     let interval = c.args.interval.now in
     let is : c.args.self.now ≡ store = sym c.self.view_is in
     let same : after c ≡ added store interval = cc (last_after c, entries_after c) in
-    let node : c.from-2.result ≡ interval.node = c.from-2.ensures ∙ ap (λ (i : IntervalRecord). i.node) c.interval.view_is in
+    let node : c.from-node.result ≡ interval.node = c.from-node.ensures ∙ ap (λ (i : IntervalRecord). i.node) c.interval.view_is in
     let pages : c.as_slice.result.now ≡ interval.pages = c.as_slice.ensures ∙ ap (λ (i : IntervalRecord). i.pages) c.interval.view_is in
-    subst (λ (s : StoreRecord). IsLinkedUp s c.push-2.new.self c.add_pages.new.by_page c.push.new.self.notices) (sym same)
-    (IsLinkedUp-added store c.self.inside.by_node c.push-2.new.self c.self.inside.by_page c.add_pages.new.by_page
-    c.self.inside.arena.notices c.push.new.self.notices interval c.len-start.result c.self.invariant c.index.ensures.interval
+    let room = c.make_room.new.self in
+    subst (λ (s : StoreRecord). IsLinkedUp s c.push-2.new.self.by_node c.push-2.new.self.by_page c.push.new.self.notices) (sym same)
+    (IsLinkedUp-added store c.self.inside.links.by_node c.push-2.new.self.by_node c.self.inside.links.by_page c.push-2.new.self.by_page
+    c.self.inside.arena.notices c.push.new.self.notices interval (length room.by_page.keys) c.self.invariant c.index.ensures.interval
     (rw is at c.requires.stamp) (rw is at c.requires.pages) (rw is at c.requires.next)
-    (c.push-2.ensures.keys ∙ ap (λ n. c.make_room.new.by_node.keys ++ n ∷ []) node
+    (c.push-2.ensures.node_keys ∙ ap (λ n. room.by_node.keys ++ n ∷ []) node
     ∙ ap (λ (l : List ℕ). l ++ interval.node ∷ []) c.make_room.ensures.node_keys)
-    (c.push-2.ensures.lists ∙ c.make_room.ensures.node_lists)
-    (c.push-2.ensures.starts ∙ ap (λ (l : List ℕ). l ++ c.len-start.result ∷ []) c.make_room.ensures.node_starts)
-    (c.len-start.ensures.count ∙ ap length c.make_room.ensures.page_keys)
-    (c.add_pages.ensures.keys ∙ ap (λ (l : List ℕ). c.make_room.new.by_page.keys ++ l) pages
+    (c.push-2.ensures.node_lists ∙ c.make_room.ensures.node_lists)
+    (c.push-2.ensures.node_starts ∙ ap (λ (l : List ℕ). l ++ length room.by_page.keys ∷ []) c.make_room.ensures.node_starts)
+    (ap length c.make_room.ensures.page_keys)
+    (c.push-2.ensures.page_keys ∙ ap (λ (l : List ℕ). room.by_page.keys ++ l) pages
     ∙ ap (λ (l : List ℕ). l ++ interval.pages) c.make_room.ensures.page_keys)
-    (c.add_pages.ensures.lists ∙ c.make_room.ensures.page_lists)
+    (c.push-2.ensures.page_lists ∙ c.make_room.ensures.page_lists)
     c.in_ok-push.ensures.notices)
 
 pub invariant_of-self-2 : goal.invariant_of-self-2

@@ -40,9 +40,9 @@ pub invariant_of-self : goal.invariant_of-self
 invariant_of-self c =
     let a = (goal.at.invariant_of-self c).After-attach in
     let store : StoreRecord = record { pages = a.self.inside.pages; last = a.self.inside.last; entries = a.self.inside.arena.entries } in
-    subst (λ (arena : ArenaRecord). IsLinkedUp (record store { entries = arena.entries }) a.self.inside.by_node a.self.inside.by_page arena.notices)
+    subst (λ (arena : ArenaRecord). IsLinkedUp (record store { entries = arena.entries }) a.self.inside.links.by_node a.self.inside.links.by_page arena.notices)
     (sym (arena_after a))
-    (IsLinkedUp-attached store a.self.inside.by_node a.self.inside.by_page a.self.inside.arena.notices a.args.key a.args.changes a.self.invariant)
+    (IsLinkedUp-attached store a.self.inside.links.by_node a.self.inside.links.by_page a.self.inside.arena.notices a.args.key a.args.changes a.self.invariant)
 
 pub returns-in-Some : goal.returns-in-Some
 returns-in-Some c =
@@ -64,4 +64,4 @@ pub place_of-requires-clause-in_range : goal.place_of-requires-clause-in_range
 place_of-requires-clause-in_range c =
     let store : StoreRecord = record { pages = c.self.inside.pages; last = c.self.inside.last; entries = c.self.inside.arena.entries } in
     subst (λ n. All (λ stored. stored.node < n) c.self.inside.arena.entries) c.self.invariant.node_lists
-    (nodes_in_range store c.self.inside.by_node c.self.inside.by_page c.self.inside.arena.notices c.self.invariant)
+    (nodes_in_range store c.self.inside.links.by_node c.self.inside.links.by_page c.self.inside.arena.notices c.self.invariant)

@@ -8,7 +8,7 @@ use Rattle.lrc_store.proofs.store.Store.before.Goals as goal
 pub returns-clause-in_use : goal.returns-clause-in_use
 returns-clause-in_use c = λ earlier is.
     let store : StoreRecord = record { pages = c.self.inside.pages; last = c.self.inside.last; entries = c.self.inside.arena.entries } in
-    let less = link_within c.self.inside.by_node.keys c.at.inside.place earlier
+    let less = link_within c.self.inside.links.by_node.keys c.at.inside.place earlier
     (omega (
       arith,
       c.requires,

@@ -37,4 +37,4 @@ pub place_of-requires-clause-in_range : goal.place_of-requires-clause-in_range
 place_of-requires-clause-in_range c =
     let store : StoreRecord = record { pages = c.self.inside.pages; last = c.self.inside.last; entries = c.self.inside.arena.entries } in
     subst (λ n. All (λ stored. stored.node < n) c.self.inside.arena.entries) c.self.invariant.node_lists
-    (nodes_in_range store c.self.inside.by_node c.self.inside.by_page c.self.inside.arena.notices c.self.invariant)
+    (nodes_in_range store c.self.inside.links.by_node c.self.inside.links.by_page c.self.inside.arena.notices c.self.invariant)

@@ -33,20 +33,20 @@ invariant_of-self c =
     let b = (goal.at.invariant_of-self c).After-discard in
     let store = before a in
     let time = a.args.time.now in
-    subst (λ (entries : List StoredRecord). IsLinkedUp (record store { entries = entries }) c.link_nodes.new.by_node
-    c.link_pages.new.by_page c.discard.new.self.notices)
+    subst (λ (entries : List StoredRecord). IsLinkedUp (record store { entries = entries }) c.renew.new.self.by_node
+    c.renew.new.self.by_page c.discard.new.self.notices)
     (sym (entries_after a))
-    (IsLinkedUp-discarded store a.self.inside.by_node c.link_nodes.new.by_node a.self.inside.by_page c.link_pages.new.by_page
+    (IsLinkedUp-discarded store a.self.inside.links.by_node c.renew.new.self.by_node a.self.inside.links.by_page c.renew.new.self.by_page
     a.self.inside.arena.notices c.discard.new.self.notices time a.self.invariant
-    (c.link_nodes.ensures.keys ∙ ap (map (λ (s : StoredRecord). s.node)) (entries_after a))
-    c.link_nodes.ensures.lists
-    (subst (λ (l : List StoredRecord). AreStarts c.link_nodes.new.by_node.starts (map interval_of l)) (entries_after a) c.link_nodes.ensures.starts)
+    (c.renew.ensures.node_keys ∙ ap (map (λ (s : StoredRecord). s.node)) (entries_after a))
+    c.renew.ensures.node_lists
+    (subst (λ (l : List StoredRecord). AreStarts c.renew.new.self.by_node.starts (map interval_of l)) (entries_after a) c.renew.ensures.node_starts)
     (notices_after b)
-    c.link_pages.ensures.keys c.link_pages.ensures.lists)
+    c.renew.ensures.page_keys c.renew.ensures.page_lists)
 
-pub link_pages-requires-clause-fewer : goal.link_pages-requires-clause-fewer
-link_pages-requires-clause-fewer c =
-    let a = (goal.at.link_pages-requires-clause-fewer c).After-discard in
+pub renew-requires-clause-fewer_pages : goal.renew-requires-clause-fewer_pages
+renew-requires-clause-fewer_pages c =
+    let a = (goal.at.renew-requires-clause-fewer_pages c).After-discard in
     let notices = a.self.inside.arena.notices in
     omega (
       arith,
@@ -57,9 +57,9 @@ link_pages-requires-clause-fewer c =
       length-map notices page_named,
     )
 
-pub link_nodes-requires-clause-fewer : goal.link_nodes-requires-clause-fewer
-link_nodes-requires-clause-fewer c =
-    let a = (goal.at.link_nodes-requires-clause-fewer c).After-discard in
+pub renew-requires-clause-fewer_nodes : goal.renew-requires-clause-fewer_nodes
+renew-requires-clause-fewer_nodes c =
+    let a = (goal.at.renew-requires-clause-fewer_nodes c).After-discard in
     let entries = a.self.inside.arena.entries in
     omega (
       arith,
@@ -71,40 +71,40 @@ link_nodes-requires-clause-fewer c =
       length-map entries interval_of,
     )
 
-pub link_nodes-requires-clause-in_range : goal.link_nodes-requires-clause-in_range
-link_nodes-requires-clause-in_range c =
-    let a = (goal.at.link_nodes-requires-clause-in_range c).After-discard in
-    let InRange : StoredRecord → Type 0 = λ stored. stored.node < a.self.inside.by_node.lists in
+pub renew-requires-clause-nodes_in_range : goal.renew-requires-clause-nodes_in_range
+renew-requires-clause-nodes_in_range c =
+    let a = (goal.at.renew-requires-clause-nodes_in_range c).After-discard in
+    let InRange : StoredRecord → Type 0 = λ stored. stored.node < a.self.inside.links.by_node.lists in
     subst (All InRange) (sym (entries_after a))
     (All-filter (λ stored. not (is_covered a.args.time.now (interval_of stored))) InRange a.self.inside.arena.entries
-    (nodes_in_range (before a) a.self.inside.by_node a.self.inside.by_page a.self.inside.arena.notices a.self.invariant))
+    (nodes_in_range (before a) a.self.inside.links.by_node a.self.inside.links.by_page a.self.inside.arena.notices a.self.invariant))
 
-pub link_pages-requires-clause-in_range : goal.link_pages-requires-clause-in_range
-link_pages-requires-clause-in_range c =
-    let a = (goal.at.link_pages-requires-clause-in_range c).After-discard in
-    let b = (goal.at.link_pages-requires-clause-in_range c).After-discard in
-    let InRange : ℕ × Key → Type 0 = λ notice. notice.1.page < a.self.inside.by_page.lists in
+pub renew-requires-clause-pages_in_range : goal.renew-requires-clause-pages_in_range
+renew-requires-clause-pages_in_range c =
+    let a = (goal.at.renew-requires-clause-pages_in_range c).After-discard in
+    let b = (goal.at.renew-requires-clause-pages_in_range c).After-discard in
+    let InRange : ℕ × Key → Type 0 = λ notice. notice.1.page < a.self.inside.links.by_page.lists in
     subst (All InRange) (sym (notices_after b))
     (All-filter (stays a.args.time.now) InRange a.self.inside.arena.notices
-    (pages_in_range (before a) a.self.inside.by_node a.self.inside.by_page a.self.inside.arena.notices a.self.invariant))
+    (pages_in_range (before a) a.self.inside.links.by_node a.self.inside.links.by_page a.self.inside.arena.notices a.self.invariant))
 
-pub link_nodes-requires-clause-fewer_of_each : goal.link_nodes-requires-clause-fewer_of_each
-link_nodes-requires-clause-fewer_of_each c = λ node.
-    let a = (goal.at.link_nodes-requires-clause-fewer_of_each c).After-discard in
-    let fewer = fewer_left (before a) a.self.inside.by_node a.self.inside.by_page a.self.inside.arena.notices a.args.time.now a.self.invariant node in
+pub renew-requires-clause-fewer_of_each : goal.renew-requires-clause-fewer_of_each
+renew-requires-clause-fewer_of_each c = λ node.
+    let a = (goal.at.renew-requires-clause-fewer_of_each c).After-discard in
+    let fewer = fewer_left (before a) a.self.inside.links.by_node a.self.inside.links.by_page a.self.inside.arena.notices a.args.time.now a.self.invariant node in
     let same = ap (λ (l : List StoredRecord). length (places_from node 0 (map (λ (s : StoredRecord). s.node) l))) (entries_after a) in
     omega (arith, fewer, same)
 
-pub link_nodes-requires-clause-few : goal.link_nodes-requires-clause-few
-link_nodes-requires-clause-few c =
-    let a = (goal.at.link_nodes-requires-clause-few c).After-discard in
-    let b = (goal.at.link_nodes-requires-clause-few c).After-discard in
+pub renew-requires-clause-noted : goal.renew-requires-clause-noted
+renew-requires-clause-noted c =
+    let a = (goal.at.renew-requires-clause-noted c).After-discard in
+    let b = (goal.at.renew-requires-clause-noted c).After-discard in
     let store = before a in
     let left = discarded store a.args.time.now in
     let count = count_of-noted (intervals_of left) b.discard.new.self.notices
     (noted-discarded store a.self.inside.arena.notices b.discard.new.self.notices a.args.time.now a.self.invariant.noted (notices_after b)) in
     let same : map interval_of a.discard.new.self.entries ≡ intervals_of left = ap (map interval_of) (entries_after a) in
-    omega (arith, count, ap count_of same, c.link_pages.ensures.few)
+    omega (arith, count, ap count_of same)
 
 pub returns : goal.returns
 returns c =

@@ -12,7 +12,7 @@ first c =
     let store : StoreRecord = record { pages = c.self.inside.pages; last = c.self.inside.last; entries = c.self.inside.arena.entries } in
     c.first.ensures
     ∙ ap (λ (keys : List ℕ). head_of keys c.args.page)
-    (noted_pages store c.self.inside.by_node c.self.inside.by_page c.self.inside.arena.notices c.self.invariant)
+    (noted_pages store c.self.inside.links.by_node c.self.inside.links.by_page c.self.inside.arena.notices c.self.invariant)
     ∙ ap (λ (s : StoreRecord). first_on_page_of s c.args.page) c.self.view_is
 
 pub returns-in_err-place-clause-first : goal.returns-in_err-place-clause-first
@@ -25,6 +25,6 @@ returns-clause-first c = sym c.in_ok-place.was ∙ first (goal.at.returns-clause
 pub returns-clause-in_use : goal.returns-clause-in_use
 returns-clause-in_use c = λ at is.
     let store : StoreRecord = record { pages = c.self.inside.pages; last = c.self.inside.last; entries = c.self.inside.arena.entries } in
-    let long = noted_long store c.args.self.now c.self.inside.by_node c.self.inside.by_page c.self.inside.arena.notices c.self.invariant c.self.view_is in
-    let within = head_within c.self.inside.by_page.keys c.args.page at (sym c.first.ensures ∙ c.in_ok-place.was ∙ is) in
+    let long = noted_long store c.args.self.now c.self.inside.links.by_node c.self.inside.links.by_page c.self.inside.arena.notices c.self.invariant c.self.view_is in
+    let within = head_within c.self.inside.links.by_page.keys c.args.page at (sym c.first.ensures ∙ c.in_ok-place.was ∙ is) in
     omega (arith, within, long)

@@ -13,7 +13,7 @@ use Rattle.lrc_store.proofs.store.Store.key.Goals.{After-noted}
 noted : (c : After-noted) → option_map (λ notice. notice.1) (slice_get c.self.inside.arena.notices c.at.inside.place) ≡ key_at c.args.self.now c.args.at
 noted c =
     let store : StoreRecord = record { pages = c.self.inside.pages; last = c.self.inside.last; entries = c.self.inside.arena.entries } in
-    sym (key_at-noted store c.self.inside.by_node c.self.inside.by_page c.self.inside.arena.notices c.at.inside.place c.self.invariant)
+    sym (key_at-noted store c.self.inside.links.by_node c.self.inside.links.by_page c.self.inside.arena.notices c.at.inside.place c.self.invariant)
     ∙ ap (key_at store) c.at.view_is
     ∙ ap (λ (s : StoreRecord). key_at s c.args.at) c.self.view_is
 

@@ -11,7 +11,7 @@ found : (c : After-keys_in_order) (keys : List Key) → ArePutInOrder c.in_ok-fo
     → IsMissing c.args.self.now c.args.page c.args.since.now keys × (keys ≡ missing_of c.args.self.now c.args.page c.args.since.now)
 found c keys =
     let store : StoreRecord = record { pages = c.self.inside.pages; last = c.self.inside.last; entries = c.self.inside.arena.entries } in
-    IsMissing-found store c.args.self.now c.self.inside.by_node c.self.inside.by_page c.self.inside.arena.notices c.args.page c.args.since.now
+    IsMissing-found store c.args.self.now c.self.inside.links.by_node c.self.inside.links.by_page c.self.inside.arena.notices c.args.page c.args.since.now
     c.in_ok-found.found.items keys c.self.invariant c.self.view_is c.in_ok-found.ensures
 
 pub returns-clause-missing : goal.returns-clause-missing

@@ -13,7 +13,7 @@ found : (c : After-keys_in_order) (keys : List Key) → ArePutInOrder c.in_ok-fo
     → IsMissing c.args.self.now c.args.page c.args.since.now keys × (keys ≡ missing_of c.args.self.now c.args.page c.args.since.now)
 found c keys =
     let store : StoreRecord = record { pages = c.self.inside.pages; last = c.self.inside.last; entries = c.self.inside.arena.entries } in
-    IsMissing-found store c.args.self.now c.self.inside.by_node c.self.inside.by_page c.self.inside.arena.notices c.args.page c.args.since.now
+    IsMissing-found store c.args.self.now c.self.inside.links.by_node c.self.inside.links.by_page c.self.inside.arena.notices c.args.page c.args.since.now
     c.in_ok-found.found.items keys c.self.invariant c.self.view_is c.in_ok-found.ensures
 
 pub returns-clause-missing : goal.returns-clause-missing
@@ -29,5 +29,5 @@ returns-clause-value c =
 pub unknown_until_known-requires-clause-first : goal.unknown_until_known-requires-clause-first
 unknown_until_known-requires-clause-first c =
     let store : StoreRecord = record { pages = c.self.inside.pages; last = c.self.inside.last; entries = c.self.inside.arena.entries } in
-    (known_first store c.self.inside.by_node c.self.inside.by_page c.self.inside.arena.notices c.args.page c.args.since.now c.self.invariant
+    (known_first store c.self.inside.links.by_node c.self.inside.links.by_page c.self.inside.arena.notices c.args.page c.args.since.now c.self.invariant
     (subst (λ (s : StoreRecord). KnowsTheFirst s c.args.page c.args.since.now) (sym c.self.view_is) c.requires.first))

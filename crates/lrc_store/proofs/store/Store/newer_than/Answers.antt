@@ -23,7 +23,7 @@ loop-node-preserved c =
 pub from_ascending-requires : goal.from_ascending-requires
 from_ascending-requires c =
     let store : StoreRecord = record { pages = c.self.inside.pages; last = c.self.inside.last; entries = c.self.inside.arena.entries } in
-    (IsNewer-found store c.args.self.now c.self.inside.by_node c.self.inside.by_page c.self.inside.arena.notices c.args.since.now c.args.upto.now
+    (IsNewer-found store c.args.self.now c.self.inside.links.by_node c.self.inside.links.by_page c.self.inside.arena.notices c.args.since.now c.args.upto.now
     c.loop-node.node c.loop-node.found.items c.self.invariant c.self.view_is
     (omega (arith, c.loop-node-test.false, c.loop-node.auto, c.nodes-node-end.ensures.all)) c.loop-node.invariant).ascending
 
@@ -31,7 +31,7 @@ from_ascending-requires c =
 newer : (c : After-from_ascending) → IsNewer c.args.self.now c.args.since.now c.args.upto.now c.from_ascending.result
 newer c =
     let store : StoreRecord = record { pages = c.self.inside.pages; last = c.self.inside.last; entries = c.self.inside.arena.entries } in
-    IsNewer-found store c.args.self.now c.self.inside.by_node c.self.inside.by_page c.self.inside.arena.notices c.args.since.now c.args.upto.now
+    IsNewer-found store c.args.self.now c.self.inside.links.by_node c.self.inside.links.by_page c.self.inside.arena.notices c.args.since.now c.args.upto.now
     c.loop-node.node c.from_ascending.result c.self.invariant c.self.view_is
     (omega (arith, c.loop-node-test.false, c.loop-node.auto, c.nodes-node-end.ensures.all)) (c.from_ascending.ensures ∙ c.loop-node.invariant)
 

@@ -7,7 +7,7 @@ use Rattle.lrc_store.proofs.store.Store.newest.Goals as goal
 
 pub returns-clause-in_use : goal.returns-clause-in_use
 returns-clause-in_use c = λ at is.
-    let within = head_within c.self.inside.by_node.keys c.from.result at (sym c.first.ensures ∙ c.in_ok-place.was ∙ is) in
+    let within = head_within c.self.inside.links.by_node.keys c.from.result at (sym c.first.ensures ∙ c.in_ok-place.was ∙ is) in
     let store : StoreRecord = record { pages = c.self.inside.pages; last = c.self.inside.last; entries = c.self.inside.arena.entries } in
     omega (
       arith,

@@ -8,7 +8,7 @@ use Rattle.lrc_store.proofs.store.Store.next_in_interval.Goals as goal
 pub overflow_add-after : goal.overflow_add-after
 overflow_add-after c =
     let store : StoreRecord = record { pages = c.self.inside.pages; last = c.self.inside.last; entries = c.self.inside.arena.entries } in
-    let long = noted_long store c.args.self.now c.self.inside.by_node c.self.inside.by_page c.self.inside.arena.notices c.self.invariant c.self.view_is in
+    let long = noted_long store c.args.self.now c.self.inside.links.by_node c.self.inside.links.by_page c.self.inside.arena.notices c.self.invariant c.self.view_is in
     omega (arith, long, c.requires, c.at.view_is, c.len-few.ensures.few)
 
 pub returns-then-is_of_one_with-clause-in_use : goal.returns-then-is_of_one_with-clause-in_use

@@ -4,12 +4,12 @@ use Rattle.lrc_time.specs.Time.{knows}
 use Rattle.lrc_store.specs.declared.key.Key.{Key}
 use Rattle.lrc_store.specs.Links.{page_named}
 use Rattle.lrc_store.proofs.Walks.{IsWalked, walk_starts, walk_at, walk_falls, walk_within, walk_goes_on, walk_ends}
-use Rattle.lrc_store.proofs.links.unknown_on.Goals as goal
-use Rattle.lrc_store.proofs.links.unknown_on.Goals.{In-Some, then-not-is_known+in_ok-push, else-not-is_known}
+use Rattle.lrc_store.proofs.links.Links.unknown_on.Goals as goal
+use Rattle.lrc_store.proofs.links.Links.unknown_on.Goals.{In-Some, then-not-is_known+in_ok-push, else-not-is_known}
 
 pub loop-next-init : goal.loop-next-init
 loop-next-init c =
-    walk_starts c.args.page c.args.since.now c.args.arena.now.notices c.args.by_page.now.keys c.first-next.result _
+    walk_starts c.args.page c.args.since.now c.args.arena.now.notices c.args.self.now.by_page.keys c.first-next.result _
     c.new-found.ensures.items c.requires.linked c.first-next.ensures
 
 -- the walk as it stands in the loop
@@ -39,20 +39,20 @@ loop-next-preserved c =
     elim c.if-not-is_known.branch [
       | then-not-is_known+in_ok-push w ↦
           walk_goes_on page since notices c.in-Some.at c.loop-next.found.items c.if-not-is_known.found.items false
-          c.args.by_page.now.keys c.next-next.result notice h c.requires.linked c.next-next.ensures
+          c.args.self.now.by_page.keys c.next-next.result notice h c.requires.linked c.next-next.ensures
           (known ∙ sym c.is_known.ensures ∙ w.if-not-is_known.true)
           (ap (λ (v : Vec (ℕ × Key) Global). v.items) w.found-is ∙ w.in_ok-push.ensures.items
           ∙ ap (λ (n : ℕ × Key). c.loop-next.found.items ++ n ∷ []) read)
       | else-not-is_known w ↦
           walk_goes_on page since notices c.in-Some.at c.loop-next.found.items c.if-not-is_known.found.items true
-          c.args.by_page.now.keys c.next-next.result notice h c.requires.linked c.next-next.ensures
+          c.args.self.now.by_page.keys c.next-next.result notice h c.requires.linked c.next-next.ensures
           (known ∙ sym c.is_known.ensures ∙ w.if-not-is_known.false)
           (ap (λ (v : Vec (ℕ × Key) Global). v.items) w.found-is ∙ sym (append-nil c.loop-next.found.items))
     ]
 
 pub loop-next-smaller : goal.loop-next-smaller
 loop-next-smaller c =
-    walk_falls c.args.page c.args.since.now c.args.arena.now.notices c.in-Some.at _ c.next-next.result c.args.by_page.now.keys c.in-Some.is
+    walk_falls c.args.page c.args.since.now c.args.arena.now.notices c.in-Some.at _ c.next-next.result c.args.self.now.by_page.keys c.in-Some.is
     (within (goal.at.loop-next-smaller c).In-Some) c.requires.linked c.next-next.ensures
 
 pub returns : goal.returns

@@ -2,12 +2,12 @@ use Rattle.std.proofs.Common.{◌<◌, ◌∙◌, ◌++◌, ◌∷◌, [], ℕ, 
 use Rattle.lrc_time.specs.Time.{knows}
 use Rattle.lrc_store.specs.declared.key.Key.{Key}
 use Rattle.lrc_store.proofs.Walks.{IsWalked, walk_starts, walk_at, walk_falls, walk_within, walk_goes_on, walk_stops, walk_ends}
-use Rattle.lrc_store.proofs.links.unknown_until_known.Goals as goal
-use Rattle.lrc_store.proofs.links.unknown_until_known.Goals.{In-Some}
+use Rattle.lrc_store.proofs.links.Links.unknown_until_known.Goals as goal
+use Rattle.lrc_store.proofs.links.Links.unknown_until_known.Goals.{In-Some}
 
 pub loop-next-init : goal.loop-next-init
 loop-next-init c =
-    walk_starts c.args.page c.args.since.now c.args.arena.now.notices c.args.by_page.now.keys c.first-next.result _
+    walk_starts c.args.page c.args.since.now c.args.arena.now.notices c.args.self.now.by_page.keys c.first-next.result _
     c.new-found.ensures.items c.requires.linked c.first-next.ensures
 
 -- the walk as it stands in the loop
@@ -31,14 +31,14 @@ loop-next-preserved-then-is_known c =
 pub loop-next-preserved : goal.loop-next-preserved
 loop-next-preserved c =
     walk_goes_on c.args.page c.args.since.now c.args.arena.now.notices c.in-Some.at c.loop-next.found.items c.push.new.self.items false
-    c.args.by_page.now.keys c.next-next.result c.notice-weight.result (here (goal.at.loop-next-preserved c).In-Some) c.requires.linked c.next-next.ensures
+    c.args.self.now.by_page.keys c.next-next.result c.notice-weight.result (here (goal.at.loop-next-preserved c).In-Some) c.requires.linked c.next-next.ensures
     (ap (λ (n : ℕ × Key). knows c.args.since.now n.1.node n.1.index) (sym (c.notice-weight.ensures c.notice-weight.result))
     ∙ sym c.is_known.ensures ∙ c.if-is_known.false)
     (c.in_ok-push.ensures.items ∙ ap (λ (n : ℕ × Key). c.loop-next.found.items ++ n ∷ []) (c.notice-weight.ensures c.notice-weight.result))
 
 pub loop-next-smaller : goal.loop-next-smaller
 loop-next-smaller c =
-    walk_falls c.args.page c.args.since.now c.args.arena.now.notices c.in-Some.at _ c.next-next.result c.args.by_page.now.keys c.in-Some.is
+    walk_falls c.args.page c.args.since.now c.args.arena.now.notices c.in-Some.at _ c.next-next.result c.args.self.now.by_page.keys c.in-Some.is
     (within (goal.at.loop-next-smaller c).In-Some) c.requires.linked c.next-next.ensures
 
 pub returns : goal.returns

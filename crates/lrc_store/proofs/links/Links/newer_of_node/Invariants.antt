@@ -2,7 +2,7 @@ use Rattle.std.proofs.Common.{map}
 use Rattle.lrc_store.specs.Store.{interval_of}
 use Rattle.lrc_store.proofs.Chained.{reach}
 use Rattle.lrc_store.proofs.NodeWalks.{IsWalked, no_interval}
-use Rattle.lrc_store.proofs.links.newer_of_node.Given as goal
+use Rattle.lrc_store.proofs.links.Links.newer_of_node.Given as goal
 
 abbrev pub invariant-loop-next : goal.invariant-loop-next
 invariant-loop-next l = IsWalked l.node l.since l.upto (map interval_of l.arena.entries) no_interval l.next l.found.items

@@ -7,15 +7,15 @@ use Rattle.lrc_store.specs.Chains.{last_at}
 use Rattle.lrc_store.specs.Store.{StoredRecord, interval_of, is_newer}
 use Rattle.lrc_store.proofs.Chained.{reach, reach-taken}
 use Rattle.lrc_store.proofs.NodeWalks.{IsWalked, no_interval, walk_starts, walk_within, walk_goes_on, walk_stops}
-use Rattle.lrc_store.proofs.links.newer_of_node.Goals as goal
-use Rattle.lrc_store.proofs.links.newer_of_node.Goals.{In-Some, After-is_known, then-is_known-2+in_ok-duplicate+in_ok-push, else-is_known-2}
+use Rattle.lrc_store.proofs.links.Links.newer_of_node.Goals as goal
+use Rattle.lrc_store.proofs.links.Links.newer_of_node.Goals.{In-Some, After-is_known, then-is_known-2+in_ok-duplicate+in_ok-push, else-is_known-2}
 
 pub loop-next-init : goal.loop-next-init
 loop-next-init c =
     let intervals = map interval_of c.args.arena.now.entries in
     subst (IsWalked c.args.node c.args.since.now c.args.upto.now intervals no_interval c.first-next.result) (sym c.new-found.ensures.items)
-    (walk_starts c.args.node c.args.since.now c.args.upto.now intervals no_interval c.args.by_node.now.keys c.first-next.result c.requires.linked
-    (c.first-next.ensures ∙ ap (λ n. last_at (λ other. eqb other n) c.args.by_node.now.keys) c.from.ensures))
+    (walk_starts c.args.node c.args.since.now c.args.upto.now intervals no_interval c.args.self.now.by_node.keys c.first-next.result c.requires.linked
+    (c.first-next.ensures ∙ ap (λ n. last_at (λ other. eqb other n) c.args.self.now.by_node.keys) c.from.ensures))
 
 -- the walk as it stands in the loop
 here : (c : In-Some)
@@ -70,13 +70,13 @@ loop-next-preserved c =
     elim c.if-is_known-2.branch [
       | then-is_known-2+in_ok-duplicate+in_ok-push w ↦
           walk_goes_on c.args.node since upto intervals no_interval c.in-Some.at c.loop-next.found.items c.if-is_known-2.found.items true
-          c.args.by_node.now.keys c.next-next.result d (here s) c.requires.linked c.next-next.ensures
+          c.args.self.now.by_node.keys c.next-next.result d (here s) c.requires.linked c.next-next.ensures
           (newer true (sym c.is_known-else-is_known.ensures ∙ w.if-is_known-2.true))
           (ap (λ (v : Vec IntervalRecord Global). v.items) w.found-is ∙ w.in_ok-push.ensures.items
           ∙ ap (λ (i : IntervalRecord). c.loop-next.found.items ++ i ∷ []) (w.in_ok-duplicate.ensures ∙ sym same))
       | else-is_known-2 w ↦
           walk_goes_on c.args.node since upto intervals no_interval c.in-Some.at c.loop-next.found.items c.if-is_known-2.found.items false
-          c.args.by_node.now.keys c.next-next.result d (here s) c.requires.linked c.next-next.ensures
+          c.args.self.now.by_node.keys c.next-next.result d (here s) c.requires.linked c.next-next.ensures
           (newer false (sym c.is_known-else-is_known.ensures ∙ w.if-is_known-2.false))
           (ap (λ (v : Vec IntervalRecord Global). v.items) w.found-is ∙ sym (append-nil c.loop-next.found.items))
     ]
@@ -84,7 +84,7 @@ loop-next-preserved c =
 pub loop-next-smaller : goal.loop-next-smaller
 loop-next-smaller c =
     let at = c.in-Some.at in
-    let keys = c.args.by_node.now.keys in
+    let keys = c.args.self.now.by_node.keys in
     let inside = within (goal.at.loop-next-smaller c).In-Some in
     let falls = reach-taken (λ other. eqb other (get_or keys at 0)) keys 0 at
     (omega (arith, inside, ap length c.requires.linked, length-map (map interval_of c.args.arena.now.entries) (λ (i : IntervalRecord). i.node))) in
