@@ -1,7 +1,7 @@
 // The turns of a run in the order in which its nodes made them.
 
 ghost use Rattle.std.specs.Prelude.{◌≡◌, ◌<◌, ◌++◌, IfOk, MatchOption, None, OnOk, OnSome, Some, map};
-ghost use Rattle.lrc_turns.specs.Turns.{entry_at, next, turns_of};
+ghost use Rattle.lrc_turns.specs.Turns.{log_entry, next, turns_of};
 ghost use Rattle.lrc_chart.specs.Counts.{Counts};
 
 use crate::counts::Made;
@@ -26,8 +26,8 @@ impl<'a> Model for TurnOf<'a> {
 
 // The turn at a place of a node's log.
 fn entry_of(logs: &[Vec<Entry>], node: u8, place: usize) -> Option<&Entry>
-    ensures there { MatchOption result (entry_at (map (λ log. log.items) logs.now) node place ≡ None)
-        (λ entry. entry_at (map (λ log. log.items) logs.now) node place ≡ Some entry.now) }
+    ensures there { MatchOption result (log_entry (map (λ log. log.items) logs.now) node place ≡ None)
+        (λ entry. log_entry (map (λ log. log.items) logs.now) node place ≡ Some entry.now) }
     ensures bound { OnSome result (place < 18446744073709551615) }
 {
     logs.get(usize::from(node))?.get(place)

@@ -45,14 +45,14 @@ key_number keys.Weight = 17
 key_number keys.Anchor = 18
 
 -- whether one of these attributes has the name of this number
-abbrev pub is_named : ℕ → List Attribute → Bool
-is_named number [] = false
-is_named number (first ∷ more) = (key_number first.key == number) || is_named number more
+abbrev pub names_key : ℕ → List Attribute → Bool
+names_key number [] = false
+names_key number (first ∷ more) = (key_number first.key == number) || names_key number more
 
 -- whether each is named once
 abbrev pub named_once : List Attribute → Bool
 named_once [] = true
-named_once (first ∷ more) = not (is_named (key_number first.key) more) && named_once more
+named_once (first ∷ more) = not (names_key (key_number first.key) more) && named_once more
 
 abbrev is_foot : Key → Bool
 is_foot keys.Y = true
@@ -91,8 +91,8 @@ behind tags.Group = ends ∷ []
 behind other = []
 
 -- what it shows, with these words and marks in it
-abbrev pub shown : Tag → List Attribute → (words : List ℕ) → (inside : List Mark) → List Mark
-shown tag attributes words inside =
+abbrev pub shown_marks : Tag → List Attribute → (words : List ℕ) → (inside : List Mark) → List Mark
+shown_marks tag attributes words inside =
     cond (named_once attributes) (own tag attributes words ++ inside ++ behind tag) (unreadable ∷ [])
 
 -- words that stand alone
@@ -104,13 +104,13 @@ abbrev pub row_words : {m : _} → Row_of-Content m → List ℕ
 row_words end_of-Content = []
 row_words (more_of-Content first more) = plain_words first ++ row_words more
 
-abbrev pub words_of : List Content → List ℕ
-words_of contents = flat_map plain_words contents
+abbrev pub all_words : List Content → List ℕ
+all_words contents = flat_map plain_words contents
 
 abbrev mutual
   pub marks : Content → List Mark
   marks (Text words) = []
-  marks (Element' tag attributes shape inside) = shown tag attributes.items (row_words inside) (row_marks inside)
+  marks (Element' tag attributes shape inside) = shown_marks tag attributes.items (row_words inside) (row_marks inside)
 
   pub row_marks : {m : _} → Row_of-Content m → List Mark
   row_marks end_of-Content = []

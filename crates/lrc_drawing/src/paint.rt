@@ -1,7 +1,7 @@
 // What is painted: elements, one behind another.
 
 ghost use Rattle.std.specs.Prelude.{◌≡◌, ◌++◌, ◌∷◌, [], IfOk, OnOk, decimal, true};
-ghost use Rattle.lrc_drawing.specs.Marks.{all_marks, begins, behind, box, ends, hint, named_once, own, path, stroke, word, words_of};
+ghost use Rattle.lrc_drawing.specs.Marks.{all_marks, all_words, begins, behind, box, ends, hint, named_once, own, path, stroke, word};
 
 use crate::layout::width;
 use crate::style::{Anchor, GROUND, Hand, Style};
@@ -58,7 +58,7 @@ fn push_element(
 ) -> Result<(), AllocError>
     requires { named_once attributes.items ≡ true }
     ensures { OnOk result (all_marks contents.new.items
-        ≡ all_marks contents.old.items ++ own tag attributes.items (words_of inside.items) ++ all_marks inside.items ++ behind tag) }
+        ≡ all_marks contents.old.items ++ own tag attributes.items (all_words inside.items) ++ all_marks inside.items ++ behind tag) }
 {
     contents.push(Content::Element(tag, attributes, inside))?;
     Ok(())

@@ -13,7 +13,7 @@ use Rattle.lrc_judge.proofs.Ascending.{is_eq-nat, is_eq-then}
 use Rattle.lrc_judge.specs.declared.lanes.Pair.{Pair}
 use Rattle.lrc_trace.specs.declared.act.Act.{Act}
 use Rattle.lrc_explain.specs.declared.site.Site.{Site}
-use Rattle.lrc_explain.specs.Groups.{group_at, group_if, group_text, is_of}
+use Rattle.lrc_explain.specs.Groups.{group_at, group_if, group_text, is_of_site}
 use Rattle.lrc_explain.specs.Site.{site_cmp, site_of}
 
 site_total : IsTotalOrder site_cmp
@@ -44,26 +44,26 @@ site_exact a b h =
     (record { line = b.line; writes = b.writes; later_line = b.later_line; later_writes = b.later_writes }) = cc in e
 
 -- a pair is of its own site
-own_site : (acts : List Act) (lines : List ℕ) (pair : Pair) → is_of acts lines (site_of acts lines pair) pair ≡ true
+own_site : (acts : List Act) (lines : List ℕ) (pair : Pair) → is_of_site acts lines (site_of acts lines pair) pair ≡ true
 own_site acts lines pair = (eq_by_cmp_equiv site_total).refl (site_of acts lines pair)
 
 -- one pair more is counted
 pub counted_more : (acts : List Act) (lines : List ℕ) (pairs : List Pair) (i : ℕ) (d : Pair) (old new : BTreeMap Site ℕ) (count : ℕ) → i < length pairs
     → Updates site_cmp old new (site_of acts lines (get_or pairs i d)) (Some (count + 1))
     → count ≡ unwrap_or (get site_cmp old (site_of acts lines (get_or pairs i d))) 0
-    → ((q : Site) → unwrap_or (get site_cmp old q) 0 ≡ count_by (is_of acts lines q) (take i pairs))
-    → (q : Site) → unwrap_or (get site_cmp new q) 0 ≡ count_by (is_of acts lines q) (take (i + 1) pairs)
+    → ((q : Site) → unwrap_or (get site_cmp old q) 0 ≡ count_by (is_of_site acts lines q) (take i pairs))
+    → (q : Site) → unwrap_or (get site_cmp new q) 0 ≡ count_by (is_of_site acts lines q) (take (i + 1) pairs)
 counted_more acts lines pairs i d old new count lt updates count_is before q =
     let key = site_of acts lines (get_or pairs i d) in
-    elim (cases_Bool (is_of acts lines q (get_or pairs i d))) [
+    elim (cases_Bool (is_of_site acts lines q (get_or pairs i d))) [
       | inl yes' ↦
           let same : key ≡ q = site_exact key q yes' in
           ap (λ o. unwrap_or o 0) (updates.0 q ∙ ap (λ b. cond b (Some (count + 1)) (get site_cmp old q)) yes')
           ∙ ap (λ m. m + 1) (count_is ∙ ap (λ k. unwrap_or (get site_cmp old k) 0) same ∙ before q)
-          ∙ sym (count_by_more_yes (is_of acts lines q) pairs i d lt yes')
+          ∙ sym (count_by_more_yes (is_of_site acts lines q) pairs i d lt yes')
       | inr no' ↦
           ap (λ o. unwrap_or o 0) (updates.0 q ∙ ap (λ b. cond b (Some (count + 1)) (get site_cmp old q)) no')
-          ∙ before q ∙ sym (count_by_more_no (is_of acts lines q) pairs i d lt no')
+          ∙ before q ∙ sym (count_by_more_no (is_of_site acts lines q) pairs i d lt no')
     ]
 
 or_true : (b c : Bool) → c ≡ true → (b || c) ≡ true
@@ -77,29 +77,29 @@ or_false false c h = h
 -- the counts of a site are taken out
 pub left_more : (acts : List Act) (lines : List ℕ) (pairs : List Pair) (i : ℕ) (d : Pair) (start old new : BTreeMap Site ℕ) → i < length pairs
     → Updates site_cmp old new (site_of acts lines (get_or pairs i d)) None
-    → ((q : Site) → get site_cmp old q ≡ (if list_any (is_of acts lines q) (take i pairs) then None else get site_cmp start q))
-    → (q : Site) → get site_cmp new q ≡ (if list_any (is_of acts lines q) (take (i + 1) pairs) then None else get site_cmp start q)
+    → ((q : Site) → get site_cmp old q ≡ (if list_any (is_of_site acts lines q) (take i pairs) then None else get site_cmp start q))
+    → (q : Site) → get site_cmp new q ≡ (if list_any (is_of_site acts lines q) (take (i + 1) pairs) then None else get site_cmp start q)
 left_more acts lines pairs i d start old new lt updates before q =
     let here = get_or pairs i d in
-    let seen = list_any (is_of acts lines q) (take i pairs) in
-    let more = list_any_more (is_of acts lines q) pairs i d lt in
-    elim (cases_Bool (is_of acts lines q here)) [
+    let seen = list_any (is_of_site acts lines q) (take i pairs) in
+    let more = list_any_more (is_of_site acts lines q) pairs i d lt in
+    elim (cases_Bool (is_of_site acts lines q here)) [
       | inl yes' ↦
           updates.0 q ∙ ap (λ b. cond b None (get site_cmp old q)) yes'
-          ∙ sym (ap (λ b. if b then None else get site_cmp start q) (more ∙ or_true seen (is_of acts lines q here) yes'))
+          ∙ sym (ap (λ b. if b then None else get site_cmp start q) (more ∙ or_true seen (is_of_site acts lines q here) yes'))
       | inr no' ↦
           updates.0 q ∙ ap (λ b. cond b None (get site_cmp old q)) no' ∙ before q
-          ∙ sym (ap (λ b. if b then None else get site_cmp start q) (more ∙ or_false seen (is_of acts lines q here) no'))
+          ∙ sym (ap (λ b. if b then None else get site_cmp start q) (more ∙ or_false seen (is_of_site acts lines q here) no'))
     ]
 
 -- a pair whose site is counted is the first of its group
 pub group_new : (acts : List Act) (lines : List ℕ) (pairs : List Pair) (i : ℕ) (d : Pair) (start : Option ℕ) (count : ℕ)
-    → Some count ≡ (if list_any (is_of acts lines (site_of acts lines (get_or pairs i d))) (take i pairs) then None else start)
-    → unwrap_or start 0 ≡ count_by (is_of acts lines (site_of acts lines (get_or pairs i d))) pairs
+    → Some count ≡ (if list_any (is_of_site acts lines (site_of acts lines (get_or pairs i d))) (take i pairs) then None else start)
+    → unwrap_or start 0 ≡ count_by (is_of_site acts lines (site_of acts lines (get_or pairs i d))) pairs
     → group_text acts lines (get_or pairs i d) count ≡ group_at acts lines pairs i (get_or pairs i d)
 group_new acts lines pairs i d start count found counted =
     let here = get_or pairs i d in
-    let of = is_of acts lines (site_of acts lines here) in
+    let of = is_of_site acts lines (site_of acts lines here) in
     elim (cases_Bool (list_any of (take i pairs))) [
       | inl seen ↦ let never : Some count ≡ None = found ∙ ap (λ b. if b then None else start) seen in let no' : ⊥ = cc in absurd no'
       | inr fresh ↦
@@ -114,12 +114,12 @@ one_if b = cond b 1 0
 
 -- any other stands behind one of its group
 pub group_old : (acts : List Act) (lines : List ℕ) (pairs : List Pair) (i : ℕ) (d : Pair) (start : Option ℕ) → i < length pairs
-    → None ≡ (if list_any (is_of acts lines (site_of acts lines (get_or pairs i d))) (take i pairs) then None else start)
-    → unwrap_or start 0 ≡ count_by (is_of acts lines (site_of acts lines (get_or pairs i d))) pairs
+    → None ≡ (if list_any (is_of_site acts lines (site_of acts lines (get_or pairs i d))) (take i pairs) then None else start)
+    → unwrap_or start 0 ≡ count_by (is_of_site acts lines (site_of acts lines (get_or pairs i d))) pairs
     → [] ≡ group_at acts lines pairs i (get_or pairs i d)
 group_old acts lines pairs i d start lt found counted =
     let here = get_or pairs i d in
-    let of = is_of acts lines (site_of acts lines here) in
+    let of = is_of_site acts lines (site_of acts lines here) in
     elim (cases_Bool (list_any of (take i pairs))) [
       | inl seen ↦ sym (ap (λ b. if b then [] else group_text acts lines here (count_by of pairs)) seen)
       | inr fresh ↦
@@ -133,8 +133,8 @@ group_old acts lines pairs i d start lt found counted =
 
 -- what was taken out of the counts says whether a pair is the first of its group
 pub group_is : (acts : List Act) (lines : List ℕ) (pairs : List Pair) (i : ℕ) (d : Pair) (start taken : Option ℕ) → i < length pairs
-    → taken ≡ (if list_any (is_of acts lines (site_of acts lines (get_or pairs i d))) (take i pairs) then None else start)
-    → unwrap_or start 0 ≡ count_by (is_of acts lines (site_of acts lines (get_or pairs i d))) pairs
+    → taken ≡ (if list_any (is_of_site acts lines (site_of acts lines (get_or pairs i d))) (take i pairs) then None else start)
+    → unwrap_or start 0 ≡ count_by (is_of_site acts lines (site_of acts lines (get_or pairs i d))) pairs
     → group_if acts lines (get_or pairs i d) taken ≡ group_at acts lines pairs i (get_or pairs i d)
 group_is acts lines pairs i d start None lt found counted = group_old acts lines pairs i d start lt found counted
 group_is acts lines pairs i d start (Some count) lt found counted = group_new acts lines pairs i d start count found counted

@@ -20,10 +20,10 @@ use Rattle.lrc_judge.specs.FirstPairs.{AreFirstPairs}
 use Rattle.lrc_judge.specs.Firsts.{AreIntervals}
 use Rattle.lrc_judge.specs.Races.{word_of}
 use Rattle.lrc_judge.proofs.Ascending.{is_eq-nat}
+use Rattle.lrc_show.specs.Acts.{act_at}
 use Rattle.lrc_explain.specs.Access.{left_in, stored}
 use Rattle.lrc_explain.specs.Before.{AreLefts}
 use Rattle.lrc_explain.specs.Groups.{IsWithin}
-use Rattle.lrc_explain.specs.Site.{act_at}
 
 -- what a list has in front of an element that is added, and that element
 front : (xs : List ℕ) (x k : ℕ) → k < length xs → get_or (xs ++ x ∷ []) k 0 ≡ get_or xs k 0

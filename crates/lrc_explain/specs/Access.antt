@@ -4,7 +4,7 @@ use Rattle.lrc_trace.specs.declared.act.Act.{Act}
 use Rattle.lrc_trace.specs.declared.act.Deed.{Deed}
 use Rattle.lrc_trace.specs.declared.act.Deed.TheVariants.{Read, Write}
 use Rattle.lrc_trace.specs.Interval.{interval_at}
-use Rattle.lrc_explain.specs.Site.{act_at}
+use Rattle.lrc_show.specs.Acts.{act_at}
 
 -- what a word has once a deed is done that finds this value in it
 abbrev pub stored : (word value : ℕ) → Deed → ℕ
@@ -22,8 +22,8 @@ node_words number = codes "node " ++ decimal number
 unfoldable pub interval_words : ℕ → List ℕ
 interval_words number = codes " interval " ++ decimal number
 
-unfoldable pub place_words : ℕ → List ℕ
-place_words number = codes " act " ++ decimal number
+unfoldable pub act_words : ℕ → List ℕ
+act_words number = codes " act " ++ decimal number
 
 unfoldable pub reads_words : ℕ → List ℕ
 reads_words number = codes " reads " ++ decimal number
@@ -33,16 +33,16 @@ abbrev pub unless_last : (value last : ℕ) → List ℕ
 unless_last value last = if value == last then [] else codes " (last written " ++ decimal last ++ codes ")"
 
 -- what a deed did with its word, behind these acts
-abbrev pub access_words : (before : List Act) → Deed → List ℕ
-access_words before (Read word value) = reads_words value ++ unless_last value (left_in word before)
-access_words before (Write word value) = codes " writes " ++ decimal value
-access_words before _ = []
+abbrev pub effect_words : (before : List Act) → Deed → List ℕ
+effect_words before (Read word value) = reads_words value ++ unless_last value (left_in word before)
+effect_words before (Write word value) = codes " writes " ++ decimal value
+effect_words before _ = []
 
 -- an access at a position
-abbrev pub access_of : List Act → (position : ℕ) → Act → List ℕ
-access_of acts position act = node_words act.node ++ interval_words (interval_at acts act.node position) ++ place_words position
-    ++ access_words (take position acts) act.deed
+abbrev pub act_access_text : List Act → (position : ℕ) → Act → List ℕ
+act_access_text acts position act = node_words act.node ++ interval_words (interval_at acts act.node position) ++ act_words position
+    ++ effect_words (take position acts) act.deed
 
 -- the access at a position
 unfoldable pub access_text : List Act → (position : ℕ) → List ℕ
-access_text acts position = access_of acts position (act_at acts position)
+access_text acts position = act_access_text acts position (act_at acts position)

@@ -3,9 +3,9 @@ use Rattle.std.specs.Prelude.{◌≡◌, ℕ, ◌<◌, List, length, slice_index
 use Rattle.lrc_trace.specs.declared.act.Act.{Act}
 use Rattle.lrc_judge.specs.Firsts.{AreIntervals}
 use Rattle.lrc_judge.specs.Races.{word_of}
+use Rattle.lrc_show.specs.Acts.{act_at}
 use Rattle.lrc_explain.specs.declared.before.Before.{Before}
 use Rattle.lrc_explain.specs.Access.{left_in}
-use Rattle.lrc_explain.specs.Site.{act_at}
 
 -- of each of the first acts what those before it leave in its word
 pub record AreLefts (acts : List Act) (many : ℕ) (lefts : List ℕ) : Type 0 where
@@ -13,6 +13,6 @@ pub record AreLefts (acts : List Act) (many : ℕ) (lefts : List ℕ) : Type 0 w
   pub each : (k : ℕ) → k < many → slice_index lefts k ≡ left_in (word_of (act_at acts k).deed) (take k acts)
 
 -- these are the intervals of the acts, and what those before them leave in their words
-pub record IsBefore (acts : List Act) (before : Before) : Type 0 where
+pub record IsBeforeActs (acts : List Act) (before : Before) : Type 0 where
   pub intervals : AreIntervals acts (length acts) before.intervals.items
   pub lefts : AreLefts acts (length acts) before.lefts.items

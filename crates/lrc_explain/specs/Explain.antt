@@ -29,12 +29,12 @@ abbrev pub prints_text : (node : ℕ) → List Act → List ℕ
 prints_text node acts = flat_map (print_of node) acts
 
 -- what each node printed, how it ended and why
-abbrev pub nodes_text : List Act → List Stand → List ℕ
-nodes_text acts stands = each (λ node stand. prints_text node acts ++ end_text stands node stand) stands
+abbrev pub fates_text : List Act → List Stand → List ℕ
+fates_text acts stands = each (λ node stand. prints_text node acts ++ end_text stands node stand) stands
 
 -- What is printed of the acts of a program whose statements, and the text's end behind them, have these lines: the lines of the nodes,
 -- those of the circles of waiting, the groups of these first pairs of races, and the first race.
 abbrev pub explain_text : Program → (nodes : ℕ) → (lines : List ℕ) → (steps : ℕ) → List Act → List Pair → (first : Option ℕ) → List ℕ
 explain_text program nodes lines steps acts pairs first =
     let stands = stands_of program nodes lines (Some steps) acts in
-    nodes_text acts stands ++ deadlocks_text stands ++ groups_text acts (lines_of program nodes lines acts) pairs ++ first_race_text first
+    fates_text acts stands ++ deadlocks_text stands ++ groups_text acts (lines_of program nodes lines acts) pairs ++ first_race_text first

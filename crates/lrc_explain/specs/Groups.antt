@@ -5,14 +5,15 @@ use Rattle.std.specs.Ordering.{eq_by_cmp}
 use Rattle.lrc_trace.specs.declared.act.Act.{Act}
 use Rattle.lrc_judge.specs.Races.{word_of}
 use Rattle.lrc_judge.specs.declared.lanes.Pair.{Pair}
+use Rattle.lrc_show.specs.Acts.{act_at}
 use Rattle.lrc_show.specs.Each.{each}
 use Rattle.lrc_explain.specs.declared.site.Site.{Site}
 use Rattle.lrc_explain.specs.Access.{access_text}
-use Rattle.lrc_explain.specs.Site.{act_at, site_cmp, site_of}
+use Rattle.lrc_explain.specs.Site.{site_cmp, site_of}
 
 -- whether a pair is of this site
-abbrev pub is_of : List Act → (lines : List ℕ) → Site → Pair → Bool
-is_of acts lines site pair = eq_by_cmp site_cmp (site_of acts lines pair) site
+abbrev pub is_of_site : List Act → (lines : List ℕ) → Site → Pair → Bool
+is_of_site acts lines site pair = eq_by_cmp site_cmp (site_of acts lines pair) site
 
 -- both positions of a pair are those of acts
 pub record IsWithin (acts : List Act) (pair : Pair) : Type 0 where
@@ -20,9 +21,9 @@ pub record IsWithin (acts : List Act) (pair : Pair) : Type 0 where
   pub later : pair.later < length acts
 
 -- the kind of an access that writes, or not
-abbrev pub kind_text : Bool → List ℕ
-kind_text true = codes " write"
-kind_text false = codes " read"
+abbrev pub access_kind_text : Bool → List ℕ
+access_kind_text true = codes " write"
+access_kind_text false = codes " read"
 
 -- numbers with what they are of
 unfoldable pub line_words : ℕ → List ℕ
@@ -39,7 +40,7 @@ word_words number = codes "  word " ++ decimal number
 
 -- the lines and kinds of a group, and how many races it has
 abbrev pub site_line : Site → ℕ → List ℕ
-site_line site count = line_words site.line ++ kind_text site.writes ++ later_line_words site.later_line ++ kind_text site.later_writes
+site_line site count = line_words site.line ++ access_kind_text site.writes ++ later_line_words site.later_line ++ access_kind_text site.later_writes
     ++ count_words count ++ codes "\n"
 
 -- the two acts of a pair
@@ -59,7 +60,7 @@ group_if acts lines pair (Some count) = group_text acts lines pair count
 -- a group at the first of its pairs, where none of those before is of it
 abbrev pub group_at : List Act → (lines : List ℕ) → List Pair → ℕ → Pair → List ℕ
 group_at acts lines pairs at pair =
-    let here = is_of acts lines (site_of acts lines pair) in
+    let here = is_of_site acts lines (site_of acts lines pair) in
     if list_any here (take at pairs) then [] else group_text acts lines pair (count_by here pairs)
 
 -- The groups of these pairs, each with its number of pairs and the first of them, in the order of the first ones.

@@ -1,30 +1,26 @@
 -- Where the two acts of a racing pair stand, and whether they write.
-use Rattle.std.specs.Prelude.{ℕ, Bool, true, false, List, slice_index, slice_index_or}
+use Rattle.std.specs.Prelude.{ℕ, Bool, true, false, List, slice_index}
 use Rattle.std.specs.Ordering.{nat_cmp, bool_cmp, ordering_then}
 use Rattle.std.specs.declared.cmp.Ordering.{Ordering}
 use Rattle.lrc_trace.specs.declared.act.Act.{Act}
 use Rattle.lrc_trace.specs.declared.act.Deed.{Deed}
-use Rattle.lrc_trace.specs.declared.act.Deed.TheVariants.{Quiet, Write}
-use Rattle.lrc_trace.specs.Run.{act_of}
+use Rattle.lrc_trace.specs.declared.act.Deed.TheVariants.{Write}
 use Rattle.lrc_judge.specs.declared.lanes.Pair.{Pair}
+use Rattle.lrc_show.specs.Acts.{act_at}
 use Rattle.lrc_explain.specs.declared.site.Site.{Site}
 
--- the act at a position; past the last one an act that does nothing
-abbrev pub act_at : List Act → ℕ → Act
-act_at acts position = slice_index_or acts position (act_of 0 Quiet)
-
 -- whether a deed writes
-abbrev pub writes : Deed → Bool
-writes (Write word value) = true
-writes _ = false
+abbrev pub deed_writes : Deed → Bool
+deed_writes (Write word value) = true
+deed_writes _ = false
 
 -- the site of two acts: the line of each, and whether it writes
 abbrev pub site_of : List Act → (lines : List ℕ) → Pair → Site
 site_of acts lines pair = record {
   line = slice_index lines pair.earlier;
-  writes = writes (act_at acts pair.earlier).deed;
+  writes = deed_writes (act_at acts pair.earlier).deed;
   later_line = slice_index lines pair.later;
-  later_writes = writes (act_at acts pair.later).deed;
+  later_writes = deed_writes (act_at acts pair.later).deed;
 }
 
 -- by the earlier acts, then by the later ones

@@ -3,9 +3,9 @@
 ghost use Rattle.std.specs.Prelude.{◌≡◌, ◌<◌, ◌++◌, List, OnOk, length};
 ghost use Rattle.lrc_trace.specs.declared.act.Act.{Act as ActRecord};
 ghost use Rattle.lrc_judge.specs.Races.{word_of};
-ghost use Rattle.lrc_explain.specs.Access.{access_text, access_words, interval_words, left_in, node_words};
-ghost use Rattle.lrc_explain.specs.Access.{place_words, reads_words, unless_last};
-ghost use Rattle.lrc_explain.specs.Before.{IsBefore};
+ghost use Rattle.lrc_explain.specs.Access.{access_text, effect_words, interval_words, left_in, node_words};
+ghost use Rattle.lrc_explain.specs.Access.{act_words, reads_words, unless_last};
+ghost use Rattle.lrc_explain.specs.Before.{IsBeforeActs};
 
 use crate::before::Before;
 use lrc_text::push_number;
@@ -25,7 +25,7 @@ fn push_interval(text: &mut Vec<u8>, number: u64) -> Result<(), AllocError>
 }
 
 fn push_place(text: &mut Vec<u8>, number: u64) -> Result<(), AllocError>
-    ensures { OnOk result (text.new.items ≡ text.old.items ++ place_words number) }
+    ensures { OnOk result (text.new.items ≡ text.old.items ++ act_words number) }
 {
     push_number(text, b" act ", number)
 }
@@ -49,7 +49,7 @@ fn push_read(text: &mut Vec<u8>, value: u64, last: u64) -> Result<(), AllocError
 // Adds what a deed did with its word, in which the acts before leave this value.
 fn push_words(text: &mut Vec<u8>, left: u64, deed: Deed) -> Result<(), AllocError>
     ensures { (before : List ActRecord) → left ≡ left_in (word_of deed) before
-        → OnOk result (text.new.items ≡ text.old.items ++ access_words before deed) }
+        → OnOk result (text.new.items ≡ text.old.items ++ effect_words before deed) }
 {
     match deed {
         Deed::Read(_, value) => {
@@ -69,7 +69,7 @@ pub(crate) fn push_access(
     position: usize,
 ) -> Result<(), AllocError>
     requires within { position < length acts.now }
-    requires before { IsBefore acts.now before.now }
+    requires before { IsBeforeActs acts.now before.now }
     ensures { OnOk result (text.new.items ≡ text.old.items ++ access_text acts.now position) }
 {
     let act = acts[position];

@@ -6,7 +6,7 @@ ghost use Rattle.std.specs.Ordering.{nat_cmp};
 ghost use Rattle.lrc_judge.specs.declared.TheConstants.{NODES};
 ghost use Rattle.lrc_judge.specs.Firsts.{AreIntervals};
 ghost use Rattle.lrc_judge.specs.Races.{word_of};
-ghost use Rattle.lrc_explain.specs.Before.{AreLefts, IsBefore};
+ghost use Rattle.lrc_explain.specs.Before.{AreLefts, IsBeforeActs};
 
 use lrc_judge::NODES;
 use lrc_trace::act::{Act, Deed};
@@ -83,7 +83,7 @@ impl Before {
     /// What stands before these acts.
     pub(crate) fn of(alloc: Global, acts: &[Act]) -> Result<Before, AllocError>
         requires { All (λ act. act.node < NODES) acts.now }
-        ensures { IfOk result (IsBefore acts.now) }
+        ensures { IfOk result (IsBeforeActs acts.now) }
     {
         let intervals = intervals_of(alloc, acts)?;
         let lefts = lefts_of(alloc, acts)?;

@@ -3,10 +3,10 @@
 ghost use Rattle.std.specs.Prelude.{◌≡◌, ◌<◌, ◌++◌, count_by, unwrap_or, All, IfOk, OnOk};
 ghost use Rattle.std.specs.BTreeMap.{get};
 ghost use Rattle.lrc_explain.specs.declared.site.Site.{Site as SiteRecord};
-ghost use Rattle.lrc_explain.specs.Groups.{count_words, group_if, group_text, groups_text, is_of, IsWithin};
-ghost use Rattle.lrc_explain.specs.Groups.{kind_text, later_line_words, line_words, pair_text, site_line, word_words};
+ghost use Rattle.lrc_explain.specs.Groups.{count_words, group_if, group_text, groups_text, is_of_site, IsWithin};
+ghost use Rattle.lrc_explain.specs.Groups.{access_kind_text, later_line_words, line_words, pair_text, site_line, word_words};
 ghost use Rattle.lrc_judge.specs.declared.TheConstants.{NODES};
-ghost use Rattle.lrc_explain.specs.Before.{IsBefore};
+ghost use Rattle.lrc_explain.specs.Before.{IsBeforeActs};
 ghost use Rattle.lrc_explain.specs.Site.{site_cmp};
 
 use crate::access::push_access;
@@ -36,7 +36,7 @@ fn counts_of(
     pairs: &[Pair],
 ) -> Result<BTreeMap<Site, u64>, AllocError>
     ensures { IfOk result (λ counts. (site : SiteRecord) → unwrap_or (get site_cmp counts site) 0
-        ≡ count_by (is_of acts.now lines.now site) pairs.now) }
+        ≡ count_by (is_of_site acts.now lines.now site) pairs.now) }
 {
     let mut counts = BTreeMap::new(alloc);
     for at in 0..pairs.len() {
@@ -49,7 +49,7 @@ fn counts_of(
 }
 
 fn kind_of(writes: bool) -> &'static [u8]
-    ensures { result.now ≡ kind_text writes }
+    ensures { result.now ≡ access_kind_text writes }
 {
     if writes { b" write" } else { b" read" }
 }
@@ -96,7 +96,7 @@ fn push_pair(
     pair: Pair,
 ) -> Result<(), AllocError>
     requires within { IsWithin acts.now pair }
-    requires before { IsBefore acts.now before.now }
+    requires before { IsBeforeActs acts.now before.now }
     ensures { OnOk result (text.new.items ≡ text.old.items ++ pair_text acts.now pair) }
 {
     let word = word_of(act_at(acts, pair.later).deed);
@@ -118,7 +118,7 @@ fn push_group(
     count: u64,
 ) -> Result<(), AllocError>
     requires within { IsWithin acts.now pair }
-    requires before { IsBefore acts.now before.now }
+    requires before { IsBeforeActs acts.now before.now }
     ensures { OnOk result (text.new.items ≡ text.old.items ++ group_text acts.now lines.now pair count) }
 {
     push_site(text, site_of(acts, lines, pair), count)?;
@@ -135,7 +135,7 @@ fn push_group_if(
     count: Option<u64>,
 ) -> Result<(), AllocError>
     requires within { IsWithin acts.now pair }
-    requires before { IsBefore acts.now before.now }
+    requires before { IsBeforeActs acts.now before.now }
     ensures { OnOk result (text.new.items ≡ text.old.items ++ group_if acts.now lines.now pair count) }
 {
     match count {

@@ -1,7 +1,8 @@
 // Where the two acts of a racing pair stand.
 
 ghost use Rattle.std.specs.Prelude.{◌≡◌, slice_index};
-ghost use Rattle.lrc_explain.specs.Site.{act_at, site_of, writes};
+ghost use Rattle.lrc_show.specs.Acts.{act_at};
+ghost use Rattle.lrc_explain.specs.Site.{deed_writes, site_of};
 
 use lrc_judge::first_pairs::Pair;
 use lrc_trace::act::{Act, Deed};
@@ -39,8 +40,8 @@ fn line_at(lines: &[u32], position: usize) -> u32
     }
 }
 
-fn writes(deed: Deed) -> bool
-    ensures { result ≡ writes deed }
+fn deed_writes(deed: Deed) -> bool
+    ensures { result ≡ deed_writes deed }
 {
     matches!(deed, Deed::Write(_, _))
 }
@@ -51,8 +52,8 @@ pub fn site_of(acts: &[Act], lines: &[u32], pair: Pair) -> Site
 {
     Site {
         line: line_at(lines, pair.earlier),
-        writes: writes(act_at(acts, pair.earlier).deed),
+        writes: deed_writes(act_at(acts, pair.earlier).deed),
         later_line: line_at(lines, pair.later),
-        later_writes: writes(act_at(acts, pair.later).deed),
+        later_writes: deed_writes(act_at(acts, pair.later).deed),
     }
 }

@@ -6,7 +6,7 @@ ghost use Rattle.lrc_judge.specs.declared.lanes.Pair.{Pair as PairRecord};
 ghost use Rattle.lrc_judge.specs.FirstPairs.{AreFirstPairs};
 ghost use Rattle.lrc_text.specs.Parts.{whole_text};
 ghost use Rattle.lrc_text.specs.RaceText.{first_race_text};
-ghost use Rattle.lrc_explain.specs.Explain.{explain_text, nodes_text, print_of, print_text, prints_text};
+ghost use Rattle.lrc_explain.specs.Explain.{explain_text, fates_text, print_of, print_text, prints_text};
 ghost use Rattle.lrc_stuck.specs.Circles.{deadlocks_text};
 
 use crate::access::push_node;
@@ -55,7 +55,7 @@ fn push_prints(text: &mut Vec<u8>, node: usize, acts: &[Act]) -> Result<(), Allo
 
 // What each node printed, how it ended and why.
 fn nodes_part(alloc: Global, acts: &[Act], stands: &[Stand]) -> Result<Vec<u8>, AllocError>
-    ensures { IfOk result (λ part. part.items ≡ nodes_text acts.now stands.now) }
+    ensures { IfOk result (λ part. part.items ≡ fates_text acts.now stands.now) }
 {
     let mut text = Vec::new(alloc);
     for node in 0..stands.len() {

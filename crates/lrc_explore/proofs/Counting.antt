@@ -19,9 +19,9 @@ use Rattle.lrc_explore.specs.declared.state.State.{State}
 use Rattle.lrc_explore.specs.declared.search.Found.{Found}
 use Rattle.lrc_explore.specs.declared.search.Origin.{Origin}
 use Rattle.lrc_explore.specs.Kept.{AreFull, IsAddedAt, IsAt, Widens, size}
-use Rattle.lrc_explore.specs.Meeting.{IsReached}
+use Rattle.lrc_explore.specs.Meeting.{IsReachable}
 use Rattle.lrc_explore.specs.contracts.state.StatePartialEq.TheImpl.{eq-value as state_eq}
-use Rattle.lrc_explore.specs.States.{plain_at, begun, IsCopy}
+use Rattle.lrc_explore.specs.States.{plain_at, machine_begun, IsCopy}
 use Rattle.lrc_explore.specs.Search.{Stands, Steps, IsFound}
 use Rattle.lrc_explore.specs.Limit.{AreCounted, HasMoreStates, MeetsMore}
 use Rattle.lrc_explore.proofs.Searching.{stands_one, stands_grown, stands_within}
@@ -131,7 +131,7 @@ zero_at zero k = refl
 zero_at (suc n) zero = refl
 zero_at (suc n) (suc k) = zero_at n k
 
-pub counted_first : (flat : Flat) (place : ℕ) (start : State) → plain_at flat start ≡ begun flat place → (node : ℕ)
+pub counted_first : (flat : Flat) (place : ℕ) (start : State) → plain_at flat start ≡ machine_begun flat place → (node : ℕ)
     → slice_index start.arrivals.items node ≤ 0
 counted_first flat place start is node =
     let none : slice_index start.arrivals.items node ≡ 0 = ap (λ (m : Plain). slice_index m.arrivals node) is ∙ zero_at flat.nodes node in omega arith
@@ -166,7 +166,7 @@ counted_put old new place added state w full put at counted last =
 -- some order leads to each state that was found
 module _ (program : Program) (flat : Flat) (found : Found) (sound : IsFound flat found)
     (start : Stands flat found.states 0 (plain_start program flat.nodes)) where
-  reached_below : (bound k : ℕ) (state : State) → k < bound → IsAt found.states k state → IsReached program flat.nodes (plain_at flat state)
+  reached_below : (bound k : ℕ) (state : State) → k < bound → IsAt found.states k state → IsReachable program flat.nodes (plain_at flat state)
   reached_below zero k state lt at = absurd (omega arith)
   reached_below (suc bound) k state lt at = elim (cases_eq k 0) [
     | inl first ↦
@@ -190,7 +190,7 @@ module _ (program : Program) (flat : Flat) (found : Found) (sound : IsFound flat
         }
   ]
 
-  pub reached_all : (k : ℕ) (state : State) → IsAt found.states k state → IsReached program flat.nodes (plain_at flat state)
+  pub reached_all : (k : ℕ) (state : State) → IsAt found.states k state → IsReachable program flat.nodes (plain_at flat state)
   reached_all k state at = reached_below (k + 1) k state (omega arith) at
 
 -- a search that met more states than a bound

@@ -22,12 +22,12 @@ use Rattle.lrc_explore.specs.declared.outcomes.Gathered.{Gathered}
 use Rattle.lrc_explore.specs.declared.outcomes.Outcome.{Outcome}
 use Rattle.lrc_explore.specs.contracts.noted.NotedPartialEq.TheImpl.{eq-value as noted_eq}
 use Rattle.lrc_explore.specs.Kept.{Grows, IsAddedAt}
-use Rattle.lrc_explore.specs.Noted.{AreNotedDistinct, AreNotedFull, IsNotedAt, IsNotedCopy, WidensNoted, count}
-use Rattle.lrc_explore.specs.Notes.{noted, notes_of, notes_from}
-use Rattle.lrc_explore.specs.Outcome.{AreDone, AreGathered, AreSound, EndsWith, FitsNoted, HasNextBelow, HasNoted, HasOutcome}
-use Rattle.lrc_explore.specs.Outcome.{IsDone, IsDoneAt, IsGathered, IsLed, IsOutcome, MeetsMoreNoted}
-use Rattle.lrc_explore.specs.States.{begun, thread_begun, plain_at, IsState}
-use Rattle.lrc_explore.specs.Stuck.{IsStill}
+use Rattle.lrc_explore.specs.Noted.{AreNotedDistinct, AreNotedFull, IsNotedAt, IsNotedCopy, WidensNoted, noted_count}
+use Rattle.lrc_explore.specs.Notes.{notes_with, notes_of, notes_from}
+use Rattle.lrc_explore.specs.Outcome.{AreGathered, AreSearched, AreSound, EndsWith, FitsNoted, HasNextBelow, HasNoted, HasOutcome}
+use Rattle.lrc_explore.specs.Outcome.{IsGathered, IsLed, IsOutcome, IsSearched, IsSearchedAt, MeetsMoreNoted}
+use Rattle.lrc_explore.specs.States.{machine_begun, thread_begun, plain_at, IsStateOf}
+use Rattle.lrc_explore.specs.Stuck.{IsAtRest}
 use Rattle.lrc_explore.proofs.Counting.{counted_first, step_threads}
 use Rattle.lrc_explore.proofs.Keeping.{item_at, stands_on}
 use Rattle.lrc_explore.proofs.Ways.{noted_apart, noted_copy, noted_grows, noted_store, noted_within}
@@ -38,10 +38,10 @@ use Rattle.lrc_explore.proofs.Stores.{added_all, before, full_more, listed, list
 
 -- a search that began with these states is done with those before a place
 pub record Going (flat : Flat) (start : ℕ) (first : NotedStates) (gathered : Gathered) (place : ℕ) : Type 0 where
-  pub led : AreGathered flat (begun flat start) gathered.states
+  pub led : AreGathered flat (machine_begun flat start) gathered.states
   pub widens : WidensNoted first gathered.states
-  pub sound : AreSound flat (begun flat start) gathered.outcomes.keys
-  pub done : AreDone flat gathered.states gathered.outcomes.keys place
+  pub sound : AreSound flat (machine_begun flat start) gathered.outcomes.keys
+  pub done : AreSearched flat gathered.states gathered.outcomes.keys place
 
 -- where an item is put to a list, or it stays, what holds of the old ones at their places, and of the item at the end, holds of all
 pub put_all : {A : Type 0} (P : ℕ → A → Type 0) (b : Bool) (old new : List A) (x : A) → new ≡ (if b then old else old ++ x ∷ [])
@@ -74,17 +74,17 @@ gathered_copy flat start most copy key c g = record {
 
 -- a state with notes that is added, if it is new
 pub gathered_put : (flat : Flat) (start : Plain) (old new : NotedStates) (key : Noted) (place : ℕ) (added : Bool) → AreGathered flat start old
-    → IsGathered flat start (count old) key → WidensNoted old new → AreNotedDistinct new → IsAddedAt (count old) (count new) place added
+    → IsGathered flat start (noted_count old) key → WidensNoted old new → AreNotedDistinct new → IsAddedAt (noted_count old) (noted_count new) place added
     → IsNotedAt new place key → AreGathered flat start new
 gathered_put flat start old new key place added g one w distinct put at = record {
-  full = full_more IsNotedAt count WidensNoted IsNotedCopy noted_store old new place added key w g.full put at;
+  full = full_more IsNotedAt noted_count WidensNoted IsNotedCopy noted_store old new place added key w g.full put at;
   distinct = distinct;
-  each = added_all IsNotedAt count WidensNoted IsNotedCopy noted_store old new place added key w g.full put at (λ k x. IsGathered flat start k x) g.each
-      (λ is copy c. gathered_copy flat start (count old) copy key c one);
+  each = added_all IsNotedAt noted_count WidensNoted IsNotedCopy noted_store old new place added key w g.full put at (λ k x. IsGathered flat start k x) g.each
+      (λ is copy c. gathered_copy flat start (noted_count old) copy key c one);
 }
 
 -- none yet
-pub gathered_none : (flat : Flat) (start : Plain) (all : NotedStates) → count all ≡ 0 → AreNotedDistinct all → AreGathered flat start all
+pub gathered_none : (flat : Flat) (start : Plain) (all : NotedStates) → noted_count all ≡ 0 → AreNotedDistinct all → AreGathered flat start all
 gathered_none flat start all none distinct = record {
   full = λ k lt. absurd (omega (arith, lt, none));
   distinct = distinct;
@@ -93,7 +93,7 @@ gathered_none flat start all none distinct = record {
 
 -- one step more
 pub led_next : (flat : Flat) (start : Plain) (key after : Noted) (node : ℕ) (deed : Deed) → IsLed flat start key
-    → plain_step (plain_at flat key.state) node ≡ Some (deed, plain_at flat after.state) → after.notes.items ≡ noted key.notes.items (act_of node deed)
+    → plain_step (plain_at flat key.state) node ≡ Some (deed, plain_at flat after.state) → after.notes.items ≡ notes_with key.notes.items (act_of node deed)
     → node < flat.nodes → IsLed flat start after
 led_next flat start key after node deed l step noted_is lt =
     let act = act_of node deed in
@@ -103,7 +103,7 @@ led_next flat start key after node deed l step noted_is lt =
       order = l.order ++ node ∷ [];
       acts = l.acts ++ act ∷ [];
       led = plain_from-joined l.order (node ∷ []) start from to l.acts (act ∷ []) l.led (one_more from to to node deed [] [] step refl);
-      are = notes_more flat.nodes l.acts act lt ∙ ap (λ n. noted n act) l.are ∙ sym noted_is;
+      are = notes_more flat.nodes l.acts act lt ∙ ap (λ n. notes_with n act) l.are ∙ sym noted_is;
     }
 
 -- a state that was there is there still
@@ -119,25 +119,25 @@ noted_grown {old = old} {new = new} g h = record {
 
 -- one node more
 pub next_more : (flat : Flat) (old new : NotedStates) (key after : Noted) (bound : ℕ) (deed : Deed) → WidensNoted old new → HasNextBelow flat old key bound
-    → plain_step (plain_at flat key.state) bound ≡ Some (deed, plain_at flat after.state) → after.notes.items ≡ noted key.notes.items (act_of bound deed)
+    → plain_step (plain_at flat key.state) bound ≡ Some (deed, plain_at flat after.state) → after.notes.items ≡ notes_with key.notes.items (act_of bound deed)
     → HasNoted flat new (plain_at flat after.state) after.notes.items → HasNextBelow flat new key (bound + 1)
 next_more flat old new key after bound deed g before step noted_is has node other made lt stepped = elim (cases_eq node bound) [
   | inl same ↦
       let there : plain_step (plain_at flat key.state) bound ≡ Some (other, made) =
       subst (λ n. plain_step (plain_at flat key.state) n ≡ Some (other, made)) same stepped in
       let parts = some_pair_parts deed other (plain_at flat after.state) made (sym step ∙ there) in
-      let notes : after.notes.items ≡ noted key.notes.items (act_of node other) =
-      noted_is ∙ ap (λ d. noted key.notes.items (act_of bound d)) parts.0 ∙ ap (λ n. noted key.notes.items (act_of n other)) (sym same) in
-      subst (λ m. HasNoted flat new m (noted key.notes.items (act_of node other))) parts.1
+      let notes : after.notes.items ≡ notes_with key.notes.items (act_of node other) =
+      noted_is ∙ ap (λ d. notes_with key.notes.items (act_of bound d)) parts.0 ∙ ap (λ n. notes_with key.notes.items (act_of n other)) (sym same) in
+      subst (λ m. HasNoted flat new m (notes_with key.notes.items (act_of node other))) parts.1
       (subst (HasNoted flat new (plain_at flat after.state)) notes has)
   | inr apart ↦ noted_grown g (before node other made (omega arith) stepped)
 ]
 
-pub count_grows : (old new : NotedStates) → WidensNoted old new → count old ≤ count new
+pub count_grows : (old new : NotedStates) → WidensNoted old new → noted_count old ≤ noted_count new
 count_grows old new w = let e = ap length w.ways.is in omega (arith, e, length-append old.ways.keys w.ways.more)
 
 -- an order that leads to where no node can make an act has an outcome
-pub ends_there : (flat : Flat) (start : Plain) (key : Noted) → IsLed flat start key → IsStill (plain_at flat key.state)
+pub ends_there : (flat : Flat) (start : Plain) (key : Noted) → IsLed flat start key → IsAtRest (plain_at flat key.state)
     → EndsWith start flat.nodes key.notes.items
 ends_there flat start key l still = record {
   order = l.order;
@@ -156,28 +156,28 @@ next_all flat all key next bound node deed after lt step =
     next node deed after (omega (arith, within, length-map key.state.spots.items (spot_thread flat))) step
 
 -- a copy is done where the state is
-done_copy : (flat : Flat) (all : NotedStates) (outcomes : List Outcome) (copy key : Noted) → IsNotedCopy copy key → IsDone flat all outcomes key
-    → IsDone flat all outcomes copy
+done_copy : (flat : Flat) (all : NotedStates) (outcomes : List Outcome) (copy key : Noted) → IsNotedCopy copy key → IsSearched flat all outcomes key
+    → IsSearched flat all outcomes copy
 done_copy flat all outcomes copy key c d =
     let same = copy_same flat copy.state key.state c.state in
     record {
       next = λ bound node deed after lt step.
-          subst (λ n. HasNoted flat all after (noted n (act_of node deed))) (sym c.notes)
+          subst (λ n. HasNoted flat all after (notes_with n (act_of node deed))) (sym c.notes)
           (d.next bound node deed after lt (ap (λ m. plain_step m node) (sym same) ∙ step));
       gathered = λ still.
-          let o = d.gathered (subst IsStill same still) in
+          let o = d.gathered (subst IsAtRest same still) in
           record { place = o.place; outcome = o.outcome; there = o.there; same = o.same ∙ sym c.notes };
     }
 
 pub done_at : (flat : Flat) (old new : NotedStates) (outcomes : List Outcome) (place : ℕ) (key : Noted) → WidensNoted old new → IsNotedAt old place key
-    → HasNextBelow flat new key (length key.state.spots.items) → (IsStill (plain_at flat key.state) → HasOutcome outcomes key.notes.items)
-    → IsDoneAt flat new outcomes place
+    → HasNextBelow flat new key (length key.state.spots.items) → (IsAtRest (plain_at flat key.state) → HasOutcome outcomes key.notes.items)
+    → IsSearchedAt flat new outcomes place
 done_at flat old new outcomes place key g there next gathered other at =
     let copy = noted_copy new place other key at (noted_grows old new place key g there) in
     done_copy flat new outcomes other key copy (record { next = next_all flat new key next; gathered = gathered })
 
 done_grown : (flat : Flat) (old new : NotedStates) (before after : List Outcome) (key : Noted) → WidensNoted old new → Grows before after
-    → IsDone flat old before key → IsDone flat new after key
+    → IsSearched flat old before key → IsSearched flat new after key
 done_grown flat old new before after key g h d = record {
   next = λ bound node deed made lt step. noted_grown g (d.next bound node deed made lt step);
   gathered = λ still.
@@ -186,17 +186,17 @@ done_grown flat old new before after key g h d = record {
 }
 
 -- one state more
-pub done_more : (flat : Flat) (old new : NotedStates) (outcomes after : List Outcome) (place : ℕ) → AreDone flat old outcomes place → AreNotedFull old
-    → WidensNoted old new → Grows outcomes after → place < count old → IsDoneAt flat new after place → AreDone flat new after (place + 1)
+pub done_more : (flat : Flat) (old new : NotedStates) (outcomes after : List Outcome) (place : ℕ) → AreSearched flat old outcomes place → AreNotedFull old
+    → WidensNoted old new → Grows outcomes after → place < noted_count old → IsSearchedAt flat new after place → AreSearched flat new after (place + 1)
 done_more flat old new outcomes after place done full g h lt here k key below at = elim (cases_eq k place) [
   | inl same ↦ here key (subst (λ n. IsNotedAt new n key) same at)
   | inr apart ↦
-      let there = before IsNotedAt count WidensNoted IsNotedCopy noted_store old new k key g (full k (omega (arith, lt, below, apart))) at in
+      let there = before IsNotedAt noted_count WidensNoted IsNotedCopy noted_store old new k key g (full k (omega (arith, lt, below, apart))) at in
       done_grown flat old new outcomes after key g h (done k key (omega (arith, below, apart)) there)
 ]
 
 -- where all states are done, each that an order leads to is among them, with the notes of its acts
-pub noted_all : (flat : Flat) (all : NotedStates) (outcomes : List Outcome) → AreDone flat all outcomes (count all) → (order : List ℕ) (from : Plain)
+pub noted_all : (flat : Flat) (all : NotedStates) (outcomes : List Outcome) → AreSearched flat all outcomes (noted_count all) → (order : List ℕ) (from : Plain)
     (before acts : List Act) (machine : Plain) → length from.threads ≡ flat.nodes → HasNoted flat all from (notes_of flat.nodes before)
     → plain_from from order ≡ Some (acts, machine) → HasNoted flat all machine (notes_of flat.nodes (before ++ acts))
 noted_all flat all outcomes done [] from before acts machine size has e =
@@ -212,8 +212,8 @@ noted_all flat all outcomes done (node ∷ order) from before acts machine size 
     let is_node = step_within from node (deed, after) begins.step_is in
     let step : plain_step (plain_at flat has.key.state) node ≡ Some (deed, after) = ap (λ m. plain_step m node) has.same ∙ begins.step_is in
     let next = (done has.place has.key (omega arith) has.there).next (node + 1) node deed after (omega arith) step in
-    let notes : noted has.key.notes.items act ≡ notes_of flat.nodes (before ++ act ∷ []) =
-    ap (λ n. noted n act) has.noted ∙ sym (notes_more flat.nodes before act (omega arith)) in
+    let notes : notes_with has.key.notes.items act ≡ notes_of flat.nodes (before ++ act ∷ []) =
+    ap (λ n. notes_with n act) has.noted ∙ sym (notes_more flat.nodes before act (omega arith)) in
     let there = subst (HasNoted flat all after) notes next in
     let size' : length after.threads ≡ flat.nodes = (step_threads from after node deed begins.step_is) ∙ size in
     let rest = noted_all flat all outcomes done order after (before ++ act ∷ []) begins.more.0 begins.more.1 size' there begins.more_is in
@@ -229,8 +229,8 @@ notes_none zero first = refl
 notes_none (suc count) first = notes_none count (suc first)
 
 -- the start is in order
-pub first_gathered : (flat : Flat) (place : ℕ) (key : Noted) → plain_at flat key.state ≡ begun flat place → IsState flat key.state → key.notes.items ≡ []
-    → IsGathered flat (begun flat place) 0 key
+pub first_gathered : (flat : Flat) (place : ℕ) (key : Noted) → plain_at flat key.state ≡ machine_begun flat place → IsStateOf flat key.state → key.notes.items ≡ []
+    → IsGathered flat (machine_begun flat place) 0 key
 first_gathered flat place key is state notes = record {
   valid = state;
   led = record { order = []; acts = []; led = ap (λ m. Some ([], m)) (sym is); are = notes_none flat.nodes 0 ∙ sym notes };
@@ -238,17 +238,17 @@ first_gathered flat place key is state notes = record {
 }
 
 -- the outcomes are those of the program
-pub exact : (program : Program) (flat : Flat) (place : ℕ) (all : NotedStates) (outcomes : List Outcome) → begun flat place ≡ plain_start program flat.nodes
-    → HasNoted flat all (begun flat place) [] → AreDone flat all outcomes (count all) → AreSound flat (begun flat place) outcomes → (notes : List Act)
+pub exact : (program : Program) (flat : Flat) (place : ℕ) (all : NotedStates) (outcomes : List Outcome) → machine_begun flat place ≡ plain_start program flat.nodes
+    → HasNoted flat all (machine_begun flat place) [] → AreSearched flat all outcomes (noted_count all) → AreSound flat (machine_begun flat place) outcomes → (notes : List Act)
     → (HasOutcome outcomes notes ↔ IsOutcome program flat.nodes notes)
 exact program flat place all outcomes start first done sound notes = (
-  (λ o. subst (λ m. EndsWith m flat.nodes notes) start (subst (EndsWith (begun flat place) flat.nodes) o.same (sound o.place o.outcome o.there))),
+  (λ o. subst (λ m. EndsWith m flat.nodes notes) start (subst (EndsWith (machine_begun flat place) flat.nodes) o.same (sound o.place o.outcome o.there))),
   (λ e.
-      let size : length (begun flat place).threads ≡ flat.nodes = length-map-range_with_len (λ k. Some (thread_begun flat place k)) 0 flat.nodes in
-      let has = noted_all flat all outcomes done e.order (begun flat place) [] e.acts e.machine size
-      (subst (HasNoted flat all (begun flat place)) (sym (notes_none flat.nodes 0)) first) (ap (λ m. plain_from m e.order) start ∙ e.led) in
+      let size : length (machine_begun flat place).threads ≡ flat.nodes = length-map-range_with_len (λ k. Some (thread_begun flat place k)) 0 flat.nodes in
+      let has = noted_all flat all outcomes done e.order (machine_begun flat place) [] e.acts e.machine size
+      (subst (HasNoted flat all (machine_begun flat place)) (sym (notes_none flat.nodes 0)) first) (ap (λ m. plain_from m e.order) start ∙ e.led) in
       let within = noted_within all has.place has.key has.there in
-      let o = (done has.place has.key within has.there).gathered (subst IsStill (sym has.same) e.still) in
+      let o = (done has.place has.key within has.there).gathered (subst IsAtRest (sym has.same) e.still) in
       record { place = o.place; outcome = o.outcome; there = o.there; same = o.same ∙ has.noted ∙ e.are }),
 )
 
@@ -261,19 +261,19 @@ told flat key = with_notes (plain_at flat key.state) key.notes.items
 
 -- where all states are done, there are no more than these
 pub fits_noted : (program : Program) (flat : Flat) (place most : ℕ) (all : NotedStates) (outcomes : List Outcome)
-    → begun flat place ≡ plain_start program flat.nodes → HasNoted flat all (begun flat place) [] → AreNotedFull all
-    → AreDone flat all outcomes (count all) → count all ≤ most → FitsNoted program flat.nodes most
+    → machine_begun flat place ≡ plain_start program flat.nodes → HasNoted flat all (machine_begun flat place) [] → AreNotedFull all
+    → AreSearched flat all outcomes (noted_count all) → noted_count all ≤ most → FitsNoted program flat.nodes most
 fits_noted program flat place most all outcomes start first full done few =
-    let items = listed IsNotedAt count WidensNoted IsNotedCopy noted_store all full in
+    let items = listed IsNotedAt noted_count WidensNoted IsNotedCopy noted_store all full in
     let keys = items.list in
     let long = items.long in
     record {
       states = map (told flat) keys;
       few = omega (arith, few, long, length-map keys (told flat));
       all = λ order acts machine led.
-          let size : length (begun flat place).threads ≡ flat.nodes = length-map-range_with_len (λ k. Some (thread_begun flat place k)) 0 flat.nodes in
-          let has = noted_all flat all outcomes done order (begun flat place) [] acts machine size
-          (subst (HasNoted flat all (begun flat place)) (sym (notes_none flat.nodes 0)) first) (ap (λ m. plain_from m order) start ∙ led) in
+          let size : length (machine_begun flat place).threads ≡ flat.nodes = length-map-range_with_len (λ k. Some (thread_begun flat place k)) 0 flat.nodes in
+          let has = noted_all flat all outcomes done order (machine_begun flat place) [] acts machine size
+          (subst (HasNoted flat all (machine_begun flat place)) (sym (notes_none flat.nodes 0)) first) (ap (λ m. plain_from m order) start ∙ led) in
           let within = subst (λ n. has.place < n) (sym long) (noted_within all has.place has.key has.there) in
           let (key, there) = item_at keys has.place within in
           let copy = noted_copy all has.place key has.key (items.at has.place key there) has.there in (
@@ -287,14 +287,14 @@ fits_noted program flat place most all outcomes start first full done few =
     }
 
 -- a search that met more states than a bound
-pub meets_more : (flat : Flat) (start : Plain) (most : ℕ) (all : NotedStates) → AreGathered flat start all → most < count all
+pub meets_more : (flat : Flat) (start : Plain) (most : ℕ) (all : NotedStates) → AreGathered flat start all → most < noted_count all
     → MeetsMoreNoted flat start most
 meets_more flat start most all g many =
-    let items = listed IsNotedAt count WidensNoted IsNotedCopy noted_store all g.full in
+    let items = listed IsNotedAt noted_count WidensNoted IsNotedCopy noted_store all g.full in
     record {
       keys = items.list;
       many = subst (λ n. most < n) (sym items.long) many;
-      distinct = listed_apart IsNotedAt count WidensNoted IsNotedCopy noted_store noted_eq.it all (noted_apart all g.distinct) items;
+      distinct = listed_apart IsNotedAt noted_count WidensNoted IsNotedCopy noted_store noted_eq.it all (noted_apart all g.distinct) items;
       led = record {
         valid = λ k key there. (g.each k key (items.at k key there)).valid;
         led = λ k key there. (g.each k key (items.at k key there)).led;

@@ -19,7 +19,7 @@ use Rattle.lrc_explore.specs.contracts.kept.SharedPartialEq.TheImpl.{eq-value as
 use Rattle.lrc_explore.specs.contracts.kept.KeptPartialEq.TheImpl.{eq-value as kept_eq}
 use Rattle.lrc_explore.specs.contracts.state.StatePartialEq.TheImpl.{eq-value as state_eq}
 use Rattle.lrc_explore.specs.States.{IsCopy}
-use Rattle.lrc_explore.specs.Kept.{AreDistinct, IsKept}
+use Rattle.lrc_explore.specs.Kept.{AreDistinct, IsKeptAs}
 use Rattle.lrc_explore.proofs.Same.{pointwise_same, option_same, spot_same, kept_same}
 use Rattle.lrc_explore.proofs.Keeping.{item_at}
 
@@ -96,7 +96,7 @@ shared_alike a b m h n =
     (both_true _ _ (equal_items (option_eq nat_eq) option_itself a.holders.items b.holders.items h)
     (equal_items nat_eq nat_itself a.arrivals.items b.arrivals.items n))
 
-module _ (states : States) (a b : Kept) (s t : State) (x : IsKept states a s) (y : IsKept states b t) where
+module _ (states : States) (a b : Kept) (s t : State) (x : IsKeptAs states a s) (y : IsKeptAs states b t) where
   pub copies : a.shared ≡ b.shared → a.spots.items ≡ b.spots.items → IsCopy s t
   copies same places =
       let shared : x.shared ≡ y.shared = same_Some x.shared y.shared (sym x.there ∙ ap (slice_get states.shared.keys) same ∙ y.there) in

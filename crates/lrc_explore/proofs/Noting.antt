@@ -6,7 +6,7 @@ use Rattle.std.specs.List.{insert}
 use Rattle.std.proofs.lemmas.Bool.{cases_eq, and_parts, eqb-true, ne_eqb, eq-eqb, lt-ltb, le-ltb}
 use Rattle.std.proofs.lemmas.List.Elements.{filter-append}
 use Rattle.lrc_trace.specs.declared.act.Act.{Act}
-use Rattle.lrc_explore.specs.Notes.{is_noted, is_note_of, notes_from, notes_of, place_in, noted}
+use Rattle.lrc_explore.specs.Notes.{is_noted_deed, is_note_of, notes_from, notes_of, place_in, notes_with}
 
 -- an act put in at its place
 abbrev ins : Act → List Act → List Act
@@ -22,7 +22,7 @@ From node [] = Unit {0}
 From node (x ∷ xs) = (node ≤ x.node) × From node xs
 
 own_more : (node : ℕ) (x : Act) (xs : List Act) (b : Bool) → is_note_of node x ≡ b → Own node xs → Own node (cond b (x ∷ xs) xs)
-own_more node x xs true e own = (eqb-true x.node node ((and_parts (nat_eq x.node node) (is_noted x.deed) e).0), own)
+own_more node x xs true e own = (eqb-true x.node node ((and_parts (nat_eq x.node node) (is_noted_deed x.deed) e).0), own)
 own_more node x xs false e own = own
 
 own_filter : (node : ℕ) (acts : List Act) → Own node (filter (is_note_of node) acts)
@@ -84,20 +84,20 @@ from_same (suc count) first acts act none =
     ∙ ap (λ l. filter (is_note_of first) acts ++ l) (from_same count (suc first) acts act (λ node le. none node (omega arith)))
 
 other_node : (node : ℕ) (act : Act) → (act.node ≡ node → ⊥) → is_note_of node act ≡ false
-other_node node act apart = ap (λ b. b && is_noted act.deed) (ne_eqb act.node node apart)
+other_node node act apart = ap (λ b. b && is_noted_deed act.deed) (ne_eqb act.node node apart)
 
-not_one : (node : ℕ) (act : Act) → is_noted act.deed ≡ false → is_note_of node act ≡ false
+not_one : (node : ℕ) (act : Act) → is_noted_deed act.deed ≡ false → is_note_of node act ≡ false
 not_one node act e = ap (λ b. nat_eq act.node node && b) e ∙ no_and (nat_eq act.node node)
   where
     no_and : (b : Bool) → (b && false) ≡ false
     no_and true = refl
     no_and false = refl
 
-its_own : (act : Act) → is_noted act.deed ≡ true → is_note_of act.node act ≡ true
-its_own act e = ap (λ b. b && is_noted act.deed) (eq-eqb act.node act.node refl) ∙ e
+its_own : (act : Act) → is_noted_deed act.deed ≡ true → is_note_of act.node act ≡ true
+its_own act e = ap (λ b. b && is_noted_deed act.deed) (eq-eqb act.node act.node refl) ∙ e
 
 -- an act that one of these nodes notes
-from_more : (count first : ℕ) (acts : List Act) (act : Act) → is_noted act.deed ≡ true → first ≤ act.node → act.node < first + count
+from_more : (count first : ℕ) (acts : List Act) (act : Act) → is_noted_deed act.deed ≡ true → first ≤ act.node → act.node < first + count
     → notes_from first count (acts ++ act ∷ []) ≡ ins act (notes_from first count acts)
 from_more zero first acts act is le lt = absurd (omega arith)
 from_more (suc count) first acts act is le lt =
@@ -119,9 +119,9 @@ from_more (suc count) first acts act is le lt =
           ∙ sym (ins_behind act first own rest le (own_filter first acts))
     ]
 
-pub notes_more : (nodes : ℕ) (acts : List Act) (act : Act) → act.node < nodes → notes_of nodes (acts ++ act ∷ []) ≡ noted (notes_of nodes acts) act
-notes_more nodes acts act lt = by_kind (is_noted act.deed) refl
+pub notes_more : (nodes : ℕ) (acts : List Act) (act : Act) → act.node < nodes → notes_of nodes (acts ++ act ∷ []) ≡ notes_with (notes_of nodes acts) act
+notes_more nodes acts act lt = by_kind (is_noted_deed act.deed) refl
   where
-    by_kind : (b : Bool) → is_noted act.deed ≡ b → notes_of nodes (acts ++ act ∷ []) ≡ (if b then ins act (notes_of nodes acts) else notes_of nodes acts)
+    by_kind : (b : Bool) → is_noted_deed act.deed ≡ b → notes_of nodes (acts ++ act ∷ []) ≡ (if b then ins act (notes_of nodes acts) else notes_of nodes acts)
     by_kind true e = from_more nodes 0 acts act e (omega arith) (omega arith)
     by_kind false e = from_same nodes 0 acts act (λ node le. not_one node act e)

@@ -13,7 +13,7 @@ use Rattle.lrc_exec.specs.Spots.{thread_at, spot_thread}
 use Rattle.lrc_exec.proofs.PlainParts.{thread_within}
 use Rattle.lrc_explore.specs.declared.state.State.{State}
 use Rattle.lrc_explore.specs.States.{plain_at}
-use Rattle.lrc_explore.specs.Stuck.{IsStill, IsUnfinished}
+use Rattle.lrc_explore.specs.Stuck.{IsAtRest, IsUnfinished}
 use Rattle.lrc_explore.proofs.Spots.{thread_there}
 
 -- no node below the bound can make an act
@@ -46,7 +46,7 @@ still_more machine bound still none node lt = elim (cases_eq node bound) [
 ]
 
 pub all_still : (flat : Flat) (state : State) (bound : ℕ) → length state.spots.items ≡ bound → StillBelow (plain_at flat state) bound
-    → IsStill (plain_at flat state)
+    → IsAtRest (plain_at flat state)
 all_still flat state bound long still node =
     let machine = plain_at flat state in
     none_or (plain_step machine node) (λ x e.
@@ -54,7 +54,7 @@ all_still flat state bound long still node =
     let none = still node (omega (arith, length-map state.spots.items (spot_thread flat))) in
     let no : None ≡ Some x = sym none ∙ e in cc)
 
-pub not_still : (machine : Plain) (node : ℕ) (deed : Deed) → option_map (λ step. step.0) (plain_step machine node) ≡ Some deed → IsStill machine → ⊥
+pub not_still : (machine : Plain) (node : ℕ) (deed : Deed) → option_map (λ step. step.0) (plain_step machine node) ≡ Some deed → IsAtRest machine → ⊥
 not_still machine node deed is still =
     let e : None ≡ Some deed = ap (option_map (λ step. step.0)) (sym (still node)) ∙ is in cc
 

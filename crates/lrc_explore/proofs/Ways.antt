@@ -15,7 +15,7 @@ use Rattle.lrc_explore.specs.contracts.noted.NotedPartialEq.TheImpl.{eq-value as
 use Rattle.lrc_explore.specs.contracts.noted.WayPartialEq.TheImpl.{eq-value as way_eq}
 use Rattle.lrc_explore.specs.contracts.state.StatePartialEq.TheImpl.{eq-value as state_eq}
 use Rattle.lrc_explore.specs.Kept.{IsAt}
-use Rattle.lrc_explore.specs.Noted.{AreNotedDistinct, IsNotedAt, IsNotedCopy, WidensNoted, count}
+use Rattle.lrc_explore.specs.Noted.{AreNotedDistinct, IsNotedAt, IsNotedCopy, WidensNoted, noted_count}
 use Rattle.lrc_explore.proofs.Alike.{acts_same}
 use Rattle.lrc_explore.proofs.Keeping.{grows_again, stands_on}
 use Rattle.lrc_explore.proofs.KeptAlike.{alike, both_true, equal_items, nat_itself, one_place}
@@ -23,7 +23,7 @@ use Rattle.lrc_explore.proofs.Same.{kept_same}
 use Rattle.lrc_explore.proofs.Stores.{IsStore}
 use Rattle.lrc_explore.proofs.Widening.{apart_in, at_copy, at_grown, at_same, not_true, widens_again}
 
-pub noted_within : (all : NotedStates) (k : ℕ) (key : Noted) → IsNotedAt all k key → k < count all
+pub noted_within : (all : NotedStates) (k : ℕ) (key : Noted) → IsNotedAt all k key → k < noted_count all
 noted_within all k key at = slice_get_within all.ways.keys k at.way at.there
 
 pub noted_copy : (all : NotedStates) (k : ℕ) (x y : Noted) → IsNotedAt all k x → IsNotedAt all k y → IsNotedCopy x y
@@ -46,7 +46,7 @@ noted_grows old new k key w at = record {
 pub widens_further : {a b c : NotedStates} → WidensNoted a b → WidensNoted b c → WidensNoted a c
 widens_further v w = record { states = widens_again v.states w.states; ways = grows_again v.ways w.ways }
 
-pub noted_store : IsStore IsNotedAt count WidensNoted IsNotedCopy
+pub noted_store : IsStore IsNotedAt noted_count WidensNoted IsNotedCopy
 noted_store = record {
   within = noted_within;
   grown = noted_grows;

@@ -11,7 +11,7 @@ use Rattle.lrc_explore.specs.declared.state.State.{State}
 use Rattle.lrc_explore.specs.contracts.kept.KeptPartialEq.TheImpl.{eq-value as kept_eq}
 use Rattle.lrc_explore.specs.contracts.state.StatePartialEq.TheImpl.{eq-value as state_eq}
 use Rattle.lrc_explore.specs.States.{IsCopy}
-use Rattle.lrc_explore.specs.Kept.{AreDistinct, AreThere, Grows, IsAt, IsKept, Widens, size}
+use Rattle.lrc_explore.specs.Kept.{AreDistinct, AreThere, Grows, IsAt, IsKeptAs, Widens, size}
 use Rattle.lrc_explore.proofs.Keeping.{grows_again, item_at, stands_on}
 use Rattle.lrc_explore.proofs.KeptAlike.{alike, copies}
 use Rattle.lrc_explore.proofs.Stores.{IsStore}
@@ -23,7 +23,7 @@ there_grown {places = places} {spots = spots} g t = record {
       let (x, at) = item_at spots node lt in stands_on (slice_index places node) x g (t.each node lt ∙ at) ∙ sym at;
 }
 
-kept_grown : {old new : States} {kept : Kept} {state : State} → Widens old new → IsKept old kept state → IsKept new kept state
+kept_grown : {old new : States} {kept : Kept} {state : State} → Widens old new → IsKeptAs old kept state → IsKeptAs new kept state
 kept_grown {kept = kept} w k = record {
   shared = k.shared;
   there = stands_on kept.shared k.shared w.shared k.there;

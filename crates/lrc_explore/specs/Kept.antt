@@ -31,7 +31,7 @@ pub record AreSpots (keys : List Spot) (places : List ℕ) : Type 0 where
   pub there : AreThere keys places spots
 
 -- the parts of the state stand where what is kept of it says
-pub record IsKept (states : States) (kept : Kept) (state : State) : Type 0 where
+pub record IsKeptAs (states : States) (kept : Kept) (state : State) : Type 0 where
   pub shared : Shared
   pub there : slice_get states.shared.keys kept.shared ≡ Some shared
   pub memory : shared.memory.items ≡ state.memory.items
@@ -43,15 +43,15 @@ pub record IsKept (states : States) (kept : Kept) (state : State) : Type 0 where
 pub record IsAt (states : States) (place : ℕ) (state : State) : Type 0 where
   pub kept : Kept
   pub there : slice_get states.kept.keys place ≡ Some kept
-  pub is : IsKept states kept state
+  pub is : IsKeptAs states kept state
 
 -- some state is
-abbrev pub IsPlace : States → (place : ℕ) → Type 0
-IsPlace states place = (state : State) × IsAt states place state
+abbrev pub IsStatePlace : States → (place : ℕ) → Type 0
+IsStatePlace states place = (state : State) × IsAt states place state
 
 -- at each place before the end some state is kept
 abbrev pub AreFull : States → Type 0
-AreFull states = (k : ℕ) → k < size states → IsPlace states k
+AreFull states = (k : ℕ) → k < size states → IsStatePlace states k
 
 -- the states and their parts stay where they are, and there may be more
 pub record Widens (old new : States) : Type 0 where

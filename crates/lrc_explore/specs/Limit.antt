@@ -14,8 +14,8 @@ use Rattle.lrc_explore.specs.declared.search.ExploreFault.{ExploreFault}
 use Rattle.lrc_explore.specs.declared.search.ExploreFault.TheVariants.{BadNodes, TooMany, NoMemory}
 use Rattle.lrc_explore.specs.contracts.state.StatePartialEq.TheImpl.{eq-value}
 use Rattle.lrc_explore.specs.Kept.{IsAt, Widens, size}
-use Rattle.lrc_explore.specs.Meeting.{IsReached}
-use Rattle.lrc_explore.specs.States.{plain_at, IsState}
+use Rattle.lrc_explore.specs.Meeting.{IsReachable}
+use Rattle.lrc_explore.specs.States.{plain_at, IsStateOf}
 use Rattle.lrc_explore.specs.Search.{IsFound}
 
 -- more states than a bound over the program's code, no two of them equal, to each of which some order leads
@@ -28,14 +28,14 @@ pub record HasMoreStates (program : Program) (nodes most : ℕ) : Type 0 where
   pub states : List State
   pub many : most < length states
   pub distinct : IsDistinct eq-value.it states
-  pub valid : (k : ℕ) (state : State) → slice_get states k ≡ Some state → IsState flat state
-  pub reached : (k : ℕ) (state : State) → slice_get states k ≡ Some state → IsReached program nodes (plain_at flat state)
+  pub valid : (k : ℕ) (state : State) → slice_get states k ≡ Some state → IsStateOf flat state
+  pub reached : (k : ℕ) (state : State) → slice_get states k ≡ Some state → IsReachable program nodes (plain_at flat state)
 
 -- all states to which some order leads are among so many
 pub record FitsIn (program : Program) (nodes most : ℕ) : Type 0 where
   pub states : List Plain
   pub few : length states ≤ most
-  pub all : (machine : Plain) → IsReached program nodes machine → Contains states machine
+  pub all : (machine : Plain) → IsReachable program nodes machine → Contains states machine
 
 -- a search that went past all of its states met no more than a bound
 abbrev pub FitsEnd : States → (most : ℕ) → End → Type 0
@@ -50,10 +50,10 @@ pub record MeetsMore (flat : Flat) (first : States) (most : ℕ) : Type 0 where
   pub many : most < size found.states
 
 -- why a search gives up: it met too many states, or had no memory
-abbrev pub IsFault : Flat → States → (most : ℕ) → ExploreFault → Type 0
-IsFault flat first most BadNodes = ⊥
-IsFault flat first most TooMany = MeetsMore flat first most
-IsFault flat first most NoMemory = Unit {0}
+abbrev pub IsExploreFault : Flat → States → (most : ℕ) → ExploreFault → Type 0
+IsExploreFault flat first most BadNodes = ⊥
+IsExploreFault flat first most TooMany = MeetsMore flat first most
+IsExploreFault flat first most NoMemory = Unit {0}
 
 -- no node has arrived more often at a state than there are states before it
 abbrev pub AreCounted : States → Type 0

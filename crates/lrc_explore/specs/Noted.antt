@@ -9,8 +9,8 @@ use Rattle.lrc_explore.specs.Kept.{AreDistinct, Grows, IsAt, Widens}
 use Rattle.lrc_explore.specs.States.{IsCopy}
 
 -- how many there are
-abbrev pub count : NotedStates → ℕ
-count all = length all.ways.keys
+abbrev pub noted_count : NotedStates → ℕ
+noted_count all = length all.ways.keys
 
 -- the state is kept, and its place with its notes at this place
 pub record IsNotedAt (all : NotedStates) (place : ℕ) (key : Noted) : Type 0 where
@@ -25,7 +25,7 @@ IsNotedPlace all place = (key : Noted) × IsNotedAt all place key
 
 -- at each place before the end one is
 abbrev pub AreNotedFull : NotedStates → Type 0
-AreNotedFull all = (k : ℕ) → k < count all → IsNotedPlace all k
+AreNotedFull all = (k : ℕ) → k < noted_count all → IsNotedPlace all k
 
 -- all stay where they are, and there may be more
 pub record WidensNoted (old new : NotedStates) : Type 0 where

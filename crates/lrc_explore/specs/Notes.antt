@@ -6,15 +6,15 @@ use Rattle.lrc_trace.specs.declared.act.Deed.{Deed}
 use Rattle.lrc_trace.specs.declared.act.Deed.TheVariants.{Print, Trap, End}
 
 -- prints, traps and ends are noted
-abbrev pub is_noted : Deed → Bool
-is_noted (Print value) = true
-is_noted (Trap cause) = true
-is_noted End = true
-is_noted _ = false
+abbrev pub is_noted_deed : Deed → Bool
+is_noted_deed (Print value) = true
+is_noted_deed (Trap cause) = true
+is_noted_deed End = true
+is_noted_deed _ = false
 
 -- whether this is an act of the node that is noted
 abbrev pub is_note_of : ℕ → Act → Bool
-is_note_of node act = (act.node == node) && is_noted act.deed
+is_note_of node act = (act.node == node) && is_noted_deed act.deed
 
 -- the notes of so many nodes from this one on: node by node, each one's in order
 abbrev pub notes_from : (first count : ℕ) → List Act → List Act
@@ -29,5 +29,5 @@ abbrev pub place_in : (node : ℕ) → List Act → ℕ
 place_in node notes = position_or_len (λ note. nat_lt node note.node) notes
 
 -- the notes with one act more, if it is noted
-abbrev pub noted : List Act → Act → List Act
-noted notes act = if is_noted act.deed then insert notes (place_in act.node notes) act else notes
+abbrev pub notes_with : List Act → Act → List Act
+notes_with notes act = if is_noted_deed act.deed then insert notes (place_in act.node notes) act else notes

@@ -12,10 +12,10 @@ use Rattle.lrc_exec.specs.declared.spot.Flat.{Flat}
 use Rattle.lrc_explore.specs.declared.noted.Noted.{Noted}
 use Rattle.lrc_explore.specs.declared.noted.NotedStates.{NotedStates}
 use Rattle.lrc_explore.specs.declared.outcomes.Outcome.{Outcome}
-use Rattle.lrc_explore.specs.Notes.{notes_of, noted}
+use Rattle.lrc_explore.specs.Notes.{notes_of, notes_with}
 use Rattle.lrc_explore.specs.Noted.{AreNotedDistinct, AreNotedFull, IsNotedAt}
-use Rattle.lrc_explore.specs.States.{plain_at, IsState}
-use Rattle.lrc_explore.specs.Stuck.{IsStill}
+use Rattle.lrc_explore.specs.States.{plain_at, IsStateOf}
+use Rattle.lrc_explore.specs.Stuck.{IsAtRest}
 
 -- an order from this start after which no node can make an act, and what is noted of its acts
 pub record EndsWith (start : Plain) (nodes : ℕ) (notes : List Act) : Type 0 where
@@ -23,7 +23,7 @@ pub record EndsWith (start : Plain) (nodes : ℕ) (notes : List Act) : Type 0 wh
   pub acts : List Act
   pub machine : Plain
   pub led : plain_from start order ≡ Some (acts, machine)
-  pub still : IsStill machine
+  pub still : IsAtRest machine
   pub are : notes_of nodes acts ≡ notes
 
 -- the notes are of an order of the program after which no node can make an act
@@ -53,8 +53,8 @@ pub record HasNoted (flat : Flat) (all : NotedStates) (machine : Plain) (notes :
   pub noted : key.notes.items ≡ notes
 
 -- the states are in order, led to, and no node has arrived more often than there are states before
-pub record AreLed (flat : Flat) (start : Plain) (keys : List Noted) : Type 0 where
-  pub valid : (k : ℕ) (key : Noted) → slice_get keys k ≡ Some key → IsState flat key.state
+pub record AreNotedLed (flat : Flat) (start : Plain) (keys : List Noted) : Type 0 where
+  pub valid : (k : ℕ) (key : Noted) → slice_get keys k ≡ Some key → IsStateOf flat key.state
   pub led : (k : ℕ) (key : Noted) → slice_get keys k ≡ Some key → IsLed flat start key
   pub counted : (k : ℕ) (key : Noted) → slice_get keys k ≡ Some key → (node : ℕ) → slice_index key.state.arrivals.items node ≤ k
 
@@ -64,7 +64,7 @@ CountsUpTo most key = (node : ℕ) → slice_index key.state.arrivals.items node
 
 -- the state is in order, led to, and no node has arrived more often than so
 pub record IsGathered (flat : Flat) (start : Plain) (most : ℕ) (key : Noted) : Type 0 where
-  pub valid : IsState flat key.state
+  pub valid : IsStateOf flat key.state
   pub led : IsLed flat start key
   pub counted : CountsUpTo most key
 
@@ -77,23 +77,23 @@ pub record AreGathered (flat : Flat) (start : Plain) (all : NotedStates) : Type 
 -- the states have all that a step of a node below a bound leads to from this one
 abbrev pub HasNextBelow : Flat → NotedStates → Noted → ℕ → Type 0
 HasNextBelow flat all key bound = (node : ℕ) (deed : Deed) (after : Plain) → node < bound → plain_step (plain_at flat key.state) node ≡ Some (deed, after)
-    → HasNoted flat all after (noted key.notes.items (act_of node deed))
+    → HasNoted flat all after (notes_with key.notes.items (act_of node deed))
 
 -- the outcomes are of orders from this start
 abbrev pub AreSound : Flat → Plain → List Outcome → Type 0
 AreSound flat start outcomes = (k : ℕ) (outcome : Outcome) → slice_get outcomes k ≡ Some outcome → EndsWith start flat.nodes outcome.notes.items
 
 -- the state at a place has all next ones, and its outcome where it is still
-pub record IsDone (flat : Flat) (all : NotedStates) (outcomes : List Outcome) (key : Noted) : Type 0 where
+pub record IsSearched (flat : Flat) (all : NotedStates) (outcomes : List Outcome) (key : Noted) : Type 0 where
   pub next : (bound : ℕ) → HasNextBelow flat all key bound
-  pub gathered : IsStill (plain_at flat key.state) → HasOutcome outcomes key.notes.items
+  pub gathered : IsAtRest (plain_at flat key.state) → HasOutcome outcomes key.notes.items
 
 -- so it is of the states before an index, and of the one at a place
-abbrev pub AreDone : Flat → NotedStates → List Outcome → (index : ℕ) → Type 0
-AreDone flat all outcomes index = (k : ℕ) (key : Noted) → k < index → IsNotedAt all k key → IsDone flat all outcomes key
+abbrev pub AreSearched : Flat → NotedStates → List Outcome → (index : ℕ) → Type 0
+AreSearched flat all outcomes index = (k : ℕ) (key : Noted) → k < index → IsNotedAt all k key → IsSearched flat all outcomes key
 
-abbrev pub IsDoneAt : Flat → NotedStates → List Outcome → (place : ℕ) → Type 0
-IsDoneAt flat all outcomes place = (key : Noted) → IsNotedAt all place key → IsDone flat all outcomes key
+abbrev pub IsSearchedAt : Flat → NotedStates → List Outcome → (place : ℕ) → Type 0
+IsSearchedAt flat all outcomes place = (key : Noted) → IsNotedAt all place key → IsSearched flat all outcomes key
 
 -- all states to which some order leads, each with what is noted of its acts, are among so many
 pub record FitsNoted (program : Program) (nodes most : ℕ) : Type 0 where
@@ -107,7 +107,7 @@ pub record MeetsMoreNoted (flat : Flat) (start : Plain) (most : ℕ) : Type 0 wh
   pub keys : List Noted
   pub many : most < length keys
   pub distinct : IsDistinct eq-value.it keys
-  pub led : AreLed flat start keys
+  pub led : AreNotedLed flat start keys
 
 -- so it is of the code of a program
 pub record HasMoreNoted (program : Program) (nodes most : ℕ) : Type 0 where

@@ -5,8 +5,8 @@ use Rattle.lrc_trace.specs.declared.act.Act.{Act}
 use Rattle.lrc_exec.specs.Plain.{Plain, thread_in, plain_step, plain_start, plain_from}
 
 -- no node can make an act
-abbrev pub IsStill : Plain → Type 0
-IsStill machine = (node : ℕ) → plain_step machine node ≡ None
+abbrev pub IsAtRest : Plain → Type 0
+IsAtRest machine = (node : ℕ) → plain_step machine node ≡ None
 
 -- some node has neither ended nor trapped
 abbrev pub IsUnfinished : Plain → Type 0
@@ -14,7 +14,7 @@ IsUnfinished machine = (node : ℕ) × IsSome (thread_in machine node)
 
 -- no node can make an act, and some node has neither ended nor trapped
 abbrev pub IsStuck : Plain → Type 0
-IsStuck machine = IsStill machine × IsUnfinished machine
+IsStuck machine = IsAtRest machine × IsUnfinished machine
 
 -- after this order the program is stuck
 pub record GetsStuck (program : Program) (nodes : ℕ) (order : List ℕ) : Type 0 where

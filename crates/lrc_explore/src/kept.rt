@@ -37,7 +37,7 @@ pub struct States {
 
 impl States {
     ghost use Rattle.std.specs.Prelude.{◌≡◌, ◌<◌, ◌^◌, IfOk, OnOk};
-    ghost use Rattle.lrc_explore.specs.Kept.{AreDistinct, IsAddedAt, IsAt, IsPlace, Widens, size};
+    ghost use Rattle.lrc_explore.specs.Kept.{AreDistinct, IsAddedAt, IsAt, IsStatePlace, Widens, size};
 
     /// No states.
     pub fn new(alloc: Global) -> States
@@ -61,7 +61,7 @@ impl States {
 
     /// The state at a place.
     pub fn state(&self, alloc: Global, place: usize) -> Result<State, AllocError>
-        requires { IsPlace self.now place }
+        requires { IsStatePlace self.now place }
         ensures { IfOk result (IsAt self.now place) }
     {
         let kept = &self.kept.as_slice()[place];

@@ -11,12 +11,12 @@ ghost use Rattle.lrc_theory.specs.Follows.{FollowsText, nodes_of};
 ghost use Rattle.lrc_theory.specs.Racing.{HasNoRace};
 ghost use Rattle.lrc_explore.specs.Meeting.{IsCertificate, NeverMeets};
 ghost use Rattle.lrc_explore.specs.declared.search.Verdict.{Verdict};
-ghost use Rattle.lrc_explore.specs.Notes.{notes_of, noted};
+ghost use Rattle.lrc_explore.specs.Notes.{notes_of, notes_with};
 ghost use Rattle.lrc_explore.specs.Verdict.{IsVerdict, FindsNoRace};
 ghost use Rattle.lrc_explore.specs.declared.kept.Kept.{Kept};
 ghost use Rattle.lrc_explore.specs.declared.kept.States.{States};
 ghost use Rattle.lrc_explore.specs.declared.state.State.{State};
-ghost use Rattle.lrc_explore.specs.Kept.{AreAlikeTogether, AreDistinct, IsKept};
+ghost use Rattle.lrc_explore.specs.Kept.{AreAlikeTogether, AreDistinct, IsKeptAs};
 
 /// A program has no race exactly where no order leads two nodes of the plain machine to where both are about to access one
 /// word, and one of them to write it.
@@ -41,11 +41,11 @@ pub fn runs_of_explored_programs_are_plain()
 /// What is noted of one act more is what was noted, with that act put in behind the notes of the nodes up to its own.
 pub fn notes_of_one_act_more()
     ensures { (nodes : ℕ) (acts : List Act) (act : Act) → act.node < nodes
-        → notes_of nodes (acts ++ act ∷ []) ≡ noted (notes_of nodes acts) act }
+        → notes_of nodes (acts ++ act ∷ []) ≡ notes_with (notes_of nodes acts) act }
 {}
 
 /// Where no two parts are equal, two states are kept alike exactly where they are alike: so the set of what is kept is the set of
 /// the states.
 pub fn states_are_kept_alike_where_they_are_alike()
-    ensures { (states : States) (a b : Kept) (s t : State) → AreDistinct states → IsKept states a s → IsKept states b t → AreAlikeTogether a b s t }
+    ensures { (states : States) (a b : Kept) (s t : State) → AreDistinct states → IsKeptAs states a s → IsKeptAs states b t → AreAlikeTogether a b s t }
 {}

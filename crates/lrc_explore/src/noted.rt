@@ -36,8 +36,8 @@ impl Noted {
     ghost use Rattle.lrc_trace.specs.Run.{act_of};
     ghost use Rattle.lrc_exec.specs.Plain.{plain_step};
     ghost use Rattle.lrc_exec.specs.Spots.{IsFlat};
-    ghost use Rattle.lrc_explore.specs.Notes.{noted};
-    ghost use Rattle.lrc_explore.specs.States.{plain_at, IsState, IsCopy};
+    ghost use Rattle.lrc_explore.specs.Notes.{notes_with};
+    ghost use Rattle.lrc_explore.specs.States.{plain_at, IsStateOf, IsCopy};
 
     // The same state and notes.
     fn copy(&self, alloc: Global) -> Result<Noted, AllocError>
@@ -59,13 +59,13 @@ impl Noted {
         deed: Deed,
     ) -> Result<Noted, AllocError>
         requires flat { IsFlat flat.now }
-        requires state { IsState flat.now self.now.state }
+        requires state { IsStateOf flat.now self.now.state }
         requires node { node < flat.now.nodes }
         requires can { option_map (λ step. step.0) (plain_step (plain_at flat.now self.now.state) node) ≡ Some deed }
         requires room { slice_index self.now.state.arrivals.items node < 2 ^ 64 - 1 }
         ensures made { IfOk result (λ after. plain_step (plain_at flat.now self.now.state) node ≡ Some (deed, plain_at flat.now after.state)) }
-        ensures state { IfOk result (λ after. IsState flat.now after.state) }
-        ensures notes { IfOk result (λ after. after.notes.items ≡ noted self.now.notes.items (act_of node deed)) }
+        ensures state { IfOk result (λ after. IsStateOf flat.now after.state) }
+        ensures notes { IfOk result (λ after. after.notes.items ≡ notes_with self.now.notes.items (act_of node deed)) }
     {
         let _nodes = flat.nodes;
         let mut after = self.copy(alloc)?;
@@ -82,11 +82,11 @@ impl Noted {
 impl NotedStates {
     ghost use Rattle.std.specs.Prelude.{◌≡◌, ◌<◌, ◌^◌, IfOk, OnOk};
     ghost use Rattle.lrc_explore.specs.Kept.{IsAddedAt};
-    ghost use Rattle.lrc_explore.specs.Noted.{AreNotedDistinct, IsNotedAt, IsNotedPlace, WidensNoted, count};
+    ghost use Rattle.lrc_explore.specs.Noted.{AreNotedDistinct, IsNotedAt, IsNotedPlace, WidensNoted, noted_count};
 
     /// No states.
     pub fn new(alloc: Global) -> NotedStates
-        ensures empty { count result ≡ 0 }
+        ensures empty { noted_count result ≡ 0 }
         ensures distinct { AreNotedDistinct result }
     {
         NotedStates {
@@ -97,7 +97,7 @@ impl NotedStates {
 
     /// How many there are.
     pub fn len(&self) -> usize
-        ensures len { result ≡ count self.now }
+        ensures len { result ≡ noted_count self.now }
         ensures small { result < 2 ^ 63 }
     {
         self.ways.len()
@@ -121,7 +121,7 @@ impl NotedStates {
         ensures widens { OnOk result (WidensNoted self.old self.new) }
         ensures distinct { OnOk result (AreNotedDistinct self.new) }
         ensures there { IfOk result (λ added. IsNotedAt self.new added.0 noted) }
-        ensures added { IfOk result (λ added. IsAddedAt (count self.old) (count self.new) added.0 added.1) }
+        ensures added { IfOk result (λ added. IsAddedAt (noted_count self.old) (noted_count self.new) added.0 added.1) }
     {
         let (place, _new) = self.states.add(alloc, noted.state)?;
         let (way, added) = self.ways.insert_full(Way {

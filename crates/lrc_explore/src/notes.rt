@@ -1,16 +1,16 @@
 // What is noted of a program's acts: what each node prints, in order, and how it ends.
 
 ghost use Rattle.std.specs.Prelude.{◌≡◌, ◌≤◌, OnOk, length};
-ghost use Rattle.lrc_explore.specs.Notes.{is_noted, noted, place_in};
+ghost use Rattle.lrc_explore.specs.Notes.{is_noted_deed, notes_with, place_in};
 
 use lrc_trace::act::{Act, Deed};
 use std::alloc::AllocError;
 
 /// Notes an act, if it is a print, a trap or the end of the text, behind the notes of the nodes up to its own.
 pub fn note(notes: &mut Vec<Act>, act: Act) -> Result<(), AllocError>
-    ensures { OnOk result (notes.new.items ≡ noted notes.old.items act) }
+    ensures { OnOk result (notes.new.items ≡ notes_with notes.old.items act) }
 {
-    if is_noted(act.deed) {
+    if is_noted_deed(act.deed) {
         let place = place_in(notes, act.node);
         notes.insert(place, act)?;
     }
@@ -18,8 +18,8 @@ pub fn note(notes: &mut Vec<Act>, act: Act) -> Result<(), AllocError>
 }
 
 // Whether a deed is noted.
-fn is_noted(deed: Deed) -> bool
-    ensures { result ≡ is_noted deed }
+fn is_noted_deed(deed: Deed) -> bool
+    ensures { result ≡ is_noted_deed deed }
 {
     matches!(deed, Deed::Print(_) | Deed::Trap(_) | Deed::End)
 }

@@ -58,16 +58,16 @@ pub fn outcomes(
 impl Gathered {
     ghost use Rattle.std.specs.Prelude.{◌≡◌, ◌≢◌, ◌<◌, ◌≤◌, ◌^◌, IfOk, IfErr, OnOk, length, []};
     ghost use Rattle.lrc_exec.specs.Spots.{IsFlat};
-    ghost use Rattle.lrc_explore.specs.States.{IsState, begun, plain_at};
+    ghost use Rattle.lrc_explore.specs.States.{IsStateOf, machine_begun, plain_at};
     ghost use Rattle.lrc_explore.specs.Kept.{Grows};
-    ghost use Rattle.lrc_explore.specs.Noted.{IsNotedAt, WidensNoted, count};
-    ghost use Rattle.lrc_explore.specs.Outcome.{AreGathered, AreSound, AreDone, HasNoted, HasNextBelow, IsLed, IsDoneAt, CountsUpTo, MeetsMoreNoted};
+    ghost use Rattle.lrc_explore.specs.Noted.{IsNotedAt, WidensNoted, noted_count};
+    ghost use Rattle.lrc_explore.specs.Outcome.{AreGathered, AreSound, AreSearched, HasNoted, HasNextBelow, IsLed, IsSearchedAt, CountsUpTo, MeetsMoreNoted};
 
     // The start alone.
     fn new(alloc: Global, flat: &Flat, place: usize) -> Result<Gathered, AllocError>
         requires { place ≤ length flat.now.code.now }
-        ensures led { IfOk result (λ new. AreGathered flat.now (begun flat.now place) new.states) }
-        ensures start { IfOk result (λ new. HasNoted flat.now new.states (begun flat.now place) []) }
+        ensures led { IfOk result (λ new. AreGathered flat.now (machine_begun flat.now place) new.states) }
+        ensures start { IfOk result (λ new. HasNoted flat.now new.states (machine_begun flat.now place) []) }
         ensures none { IfOk result (λ new. new.outcomes.keys ≡ []) }
     {
         let mut states = NotedStates::new(alloc);
@@ -87,15 +87,15 @@ impl Gathered {
         most: usize,
     ) -> Result<(), ExploreFault>
         requires flat { IsFlat flat.now }
-        requires led { AreGathered flat.now (begun flat.now start) self.old.states }
+        requires led { AreGathered flat.now (machine_begun flat.now start) self.old.states }
         requires none { self.old.outcomes.keys ≡ [] }
         ensures widens { OnOk result (WidensNoted self.old.states self.new.states) }
-        ensures led { OnOk result (AreGathered flat.now (begun flat.now start) self.new.states) }
-        ensures sound { OnOk result (AreSound flat.now (begun flat.now start) self.new.outcomes.keys) }
-        ensures done { OnOk result (AreDone flat.now self.new.states self.new.outcomes.keys (count self.new.states)) }
-        ensures fits { OnOk result (count self.new.states ≤ most) }
+        ensures led { OnOk result (AreGathered flat.now (machine_begun flat.now start) self.new.states) }
+        ensures sound { OnOk result (AreSound flat.now (machine_begun flat.now start) self.new.outcomes.keys) }
+        ensures done { OnOk result (AreSearched flat.now self.new.states self.new.outcomes.keys (noted_count self.new.states)) }
+        ensures fits { OnOk result (noted_count self.new.states ≤ most) }
         ensures nodes { IfErr result (λ fault. fault ≢ ExploreFault.BadNodes) }
-        ensures faults { IfErr result (λ fault. fault ≡ ExploreFault.TooMany → MeetsMoreNoted flat.now (begun flat.now start) most) }
+        ensures faults { IfErr result (λ fault. fault ≡ ExploreFault.TooMany → MeetsMoreNoted flat.now (machine_begun flat.now start) most) }
     {
         let mut place = 0;
         while place < self.states.len() {
@@ -117,15 +117,15 @@ impl Gathered {
         place: usize,
     ) -> Result<(), AllocError>
         requires flat { IsFlat flat.now }
-        requires led { AreGathered flat.now (begun flat.now start) self.old.states }
-        requires sound { AreSound flat.now (begun flat.now start) self.old.outcomes.keys }
-        requires within { place < count self.old.states }
+        requires led { AreGathered flat.now (machine_begun flat.now start) self.old.states }
+        requires sound { AreSound flat.now (machine_begun flat.now start) self.old.outcomes.keys }
+        requires within { place < noted_count self.old.states }
         requires small { place < 2 ^ 63 }
         ensures widens { OnOk result (WidensNoted self.old.states self.new.states) }
-        ensures led { OnOk result (AreGathered flat.now (begun flat.now start) self.new.states) }
+        ensures led { OnOk result (AreGathered flat.now (machine_begun flat.now start) self.new.states) }
         ensures more { OnOk result (Grows self.old.outcomes.keys self.new.outcomes.keys) }
-        ensures sound { OnOk result (AreSound flat.now (begun flat.now start) self.new.outcomes.keys) }
-        ensures done { OnOk result (IsDoneAt flat.now self.new.states self.new.outcomes.keys place) }
+        ensures sound { OnOk result (AreSound flat.now (machine_begun flat.now start) self.new.outcomes.keys) }
+        ensures done { OnOk result (IsSearchedAt flat.now self.new.states self.new.outcomes.keys place) }
     {
         let key = self.states.noted(alloc, place)?;
         self.expand(alloc, flat, start, place, &key)?;
@@ -145,12 +145,12 @@ impl Gathered {
         key: &Noted,
     ) -> Result<(), AllocError>
         requires flat { IsFlat flat.now }
-        requires led { AreGathered flat.now (begun flat.now start) self.old.states }
+        requires led { AreGathered flat.now (machine_begun flat.now start) self.old.states }
         requires there { IsNotedAt self.old.states place key.now }
         requires small { place < 2 ^ 63 }
-        requires state { IsState flat.now key.now.state }
+        requires state { IsStateOf flat.now key.now.state }
         ensures widens { OnOk result (WidensNoted self.old.states self.new.states) }
-        ensures led { OnOk result (AreGathered flat.now (begun flat.now start) self.new.states) }
+        ensures led { OnOk result (AreGathered flat.now (machine_begun flat.now start) self.new.states) }
         ensures same { self.new.outcomes.keys ≡ self.old.outcomes.keys }
         ensures next { OnOk result (HasNextBelow flat.now self.new.states key.now (length key.now.state.spots.items)) }
     {
@@ -172,12 +172,12 @@ impl Gathered {
         start: usize,
         after: Noted,
     ) -> Result<(), AllocError>
-        requires led { AreGathered flat.now (begun flat.now start) self.old.states }
-        requires state { IsState flat.now after.state }
-        requires led_to { IsLed flat.now (begun flat.now start) after }
-        requires counted { CountsUpTo (count self.old.states) after }
+        requires led { AreGathered flat.now (machine_begun flat.now start) self.old.states }
+        requires state { IsStateOf flat.now after.state }
+        requires led_to { IsLed flat.now (machine_begun flat.now start) after }
+        requires counted { CountsUpTo (noted_count self.old.states) after }
         ensures widens { OnOk result (WidensNoted self.old.states self.new.states) }
-        ensures led { OnOk result (AreGathered flat.now (begun flat.now start) self.new.states) }
+        ensures led { OnOk result (AreGathered flat.now (machine_begun flat.now start) self.new.states) }
         ensures same { self.new.outcomes.keys ≡ self.old.outcomes.keys }
         ensures has { OnOk result (HasNoted flat.now self.new.states (plain_at flat.now after.state) after.notes.items) }
     {

@@ -19,7 +19,8 @@ use Rattle.lrc_trace.proofs.Conflicts.{ConflictAt-symmetric}
 use Rattle.lrc_judge.specs.declared.lanes.Pair.{Pair}
 use Rattle.lrc_judge.specs.Pairs.{AreRacingPairs}
 use Rattle.lrc_judge.specs.Races.{word_of, race_of_places}
-use Rattle.lrc_explored.specs.LastRaces.{IsRaceAt, act_at, race_between, race_if}
+use Rattle.lrc_show.specs.Acts.{act_at}
+use Rattle.lrc_explored.specs.LastRaces.{IsRaceEndingAt, race_ending_at, race_of_pair}
 
 -- ---- one of a list
 
@@ -110,7 +111,7 @@ pair_of i j = record { later = j; earlier = i }
 
 -- of accesses of one word it is by their nodes and intervals
 between_is : (run : List Act) (i p j q word : ℕ) → Accesses run i p word → Accesses run j q word
-    → race_between run (pair_of i j) ≡ race_of_places word p (interval_at run p i) q (interval_at run q j)
+    → race_of_pair run (pair_of i j) ≡ race_of_places word p (interval_at run p i) q (interval_at run q j)
 between_is run i p j q word first second =
     let (a, does_i) = access_does first in
     let (b, does_j) = access_does second in
@@ -120,7 +121,7 @@ between_is run i p j q word first second =
 
 -- a racing pair names its race
 between_names : (run : List Act) (i j : ℕ) → Races run i j
-    → Names run (race_between run (pair_of i j)) i j ⊎ Names run (race_between run (pair_of i j)) j i
+    → Names run (race_of_pair run (pair_of i j)) i j ⊎ Names run (race_of_pair run (pair_of i j)) j i
 between_names run i j r =
     let (p, q, word, c) = r.conflict in
     let is = between_is run i p j q word c.first c.second in
@@ -135,7 +136,7 @@ between_names run i j r =
     ]
 
 -- a race that a pair's positions name is the pair's
-names_between : (run : List Act) (i j : ℕ) (race : Race) → Names run race i j ⊎ Names run race j i → race_between run (pair_of i j) ≡ race
+names_between : (run : List Act) (i j : ℕ) (race : Race) → Names run race i j ⊎ Names run race j i → race_of_pair run (pair_of i j) ≡ race
 names_between run i j race (inl n) =
     between_is run i race.node_a j race.node_b race.word n.conflict.first n.conflict.second
     ∙ named_lower race.word race.node_a (interval_at run race.node_a i) race.node_b (interval_at run race.node_b j) n.ascending
@@ -149,13 +150,13 @@ names_between run i j race (inr n) =
 
 -- the races of the pairs with this later position are those of the act there
 pub races_at_are : (run : List Act) (pairs : List Pair) (position : ℕ) (race : Race) → AreRacingPairs run pairs
-    → Contains (flat_map (race_if run position) pairs) race ↔ IsRaceAt run position race
+    → Contains (flat_map (race_ending_at run position) pairs) race ↔ IsRaceEndingAt run position race
 races_at_are run pairs position race are = (
   λ h.
-      let (pair, has, at, is) = is_picked (race_between run) (λ (x : Pair). x.later == position) pairs race h in
+      let (pair, has, at, is) = is_picked (race_of_pair run) (λ (x : Pair). x.later == position) pairs race h in
       let later : pair.later ≡ position = eqb-true pair.later position at in
       let r = subst (λ j. Races run pair.earlier j) later ((are.exact pair).0 has) in
-      let same : race_between run (pair_of pair.earlier position) ≡ race = ap (λ j. race_between run (pair_of pair.earlier j)) (sym later) ∙ is in
+      let same : race_of_pair run (pair_of pair.earlier position) ≡ race = ap (λ j. race_of_pair run (pair_of pair.earlier j)) (sym later) ∙ is in
       record {
         earlier = pair.earlier;
         races = r;
@@ -163,8 +164,8 @@ races_at_are run pairs position race are = (
       },
   λ at.
       let has = (are.exact (pair_of at.earlier position)).1 at.races in
-      subst (λ (x : Race). Contains (flat_map (race_if run position) pairs) x) (names_between run at.earlier position race at.names)
-      (has_picked (race_between run) (λ (x : Pair). x.later == position) pairs (pair_of at.earlier position) has (eq-eqb position position refl)),
+      subst (λ (x : Race). Contains (flat_map (race_ending_at run position) pairs) x) (names_between run at.earlier position race at.names)
+      (has_picked (race_of_pair run) (λ (x : Pair). x.later == position) pairs (pair_of at.earlier position) has (eq-eqb position position refl)),
 )
 
 races_within : (run : List Act) (i j : ℕ) → Races run i j → j < length run

@@ -5,7 +5,7 @@ ghost use Rattle.std.specs.List.{flat_map};
 ghost use Rattle.lrc_judge.specs.Races.{race_of_places, word_of};
 ghost use Rattle.lrc_judge.specs.declared.TheConstants.{NODES};
 ghost use Rattle.lrc_trace.specs.Interval.{closes, interval_at};
-ghost use Rattle.lrc_explored.specs.LastRaces.{AreRacesAt, race_between, race_if};
+ghost use Rattle.lrc_explored.specs.LastRaces.{AreRacesAt, race_ending_at, race_of_pair};
 
 use lrc_judge::pairs::{Pair, racing_pairs};
 use lrc_trace::act::{Act, Deed};
@@ -37,7 +37,7 @@ fn races_between(
 ) -> Result<Vec<Race>, AllocError>
     requires earlier { All (λ pair. pair.earlier < length acts.now) pairs.now }
     requires later { All (λ pair. pair.later < length acts.now) pairs.now }
-    ensures { IfOk result (λ races. races.items ≡ flat_map (race_if acts.now position) pairs.now) }
+    ensures { IfOk result (λ races. races.items ≡ flat_map (race_ending_at acts.now position) pairs.now) }
 {
     let mut races = Vec::new(alloc);
     for pair in pairs {
@@ -55,10 +55,10 @@ fn push_race_if(
 ) -> Result<(), AllocError>
     requires earlier { pair.earlier < length acts.now }
     requires later { pair.later < length acts.now }
-    ensures { OnOk result (races.new.items ≡ races.old.items ++ race_if acts.now position pair) }
+    ensures { OnOk result (races.new.items ≡ races.old.items ++ race_ending_at acts.now position pair) }
 {
     if is_at(pair, position) {
-        races.push(race_between(acts, pair))?;
+        races.push(race_of_pair(acts, pair))?;
     }
     Ok(())
 }
@@ -71,10 +71,10 @@ fn is_at(pair: Pair, position: usize) -> bool
 }
 
 // The race of the acts at two positions.
-fn race_between(acts: &[Act], pair: Pair) -> Race
+fn race_of_pair(acts: &[Act], pair: Pair) -> Race
     requires earlier { pair.earlier < length acts.now }
     requires later { pair.later < length acts.now }
-    ensures { result ≡ race_between acts.now pair }
+    ensures { result ≡ race_of_pair acts.now pair }
 {
     let first = acts[pair.earlier];
     let second = acts[pair.later];

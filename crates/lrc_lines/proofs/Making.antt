@@ -21,7 +21,7 @@ use Rattle.lrc_theory.specs.Follows.{and_then}
 use Rattle.lrc_lines.specs.Makes.{MakesNext, statement, barrier, end}
 use Rattle.lrc_lines.specs.Standing.{Agrees}
 use Rattle.lrc_lines.specs.Tasks.{Task, passed}
-use Rattle.lrc_lines.specs.Walks.{Walk, goes_on, led, led_by, onward, end_of, line_at, line_behind, lines_behind, lines_of, walk_at_start}
+use Rattle.lrc_lines.specs.Walks.{Walk, goes_on, led, led_by, onward, end_line, line_at, line_behind, lines_behind, lines_of, walk_at_start}
 use Rattle.lrc_lines.specs.Walks.{walk_behind}
 use Rattle.lrc_lines.proofs.Agreeing.{agrees_led, agrees_start, on_value, on_if}
 use Rattle.lrc_lines.proofs.Following.{onward_going}
@@ -255,8 +255,8 @@ line_there program nodes lines (first ∷ acts) before (suc i) act there =
     ∙ ap (λ b. Some (line_behind program nodes lines b act.node)) (append_assoc before (first ∷ []) (take i acts))
 
 pub line_of_act : (program : Program) (nodes : ℕ) (lines : List ℕ) (acts : List Act) (i n : ℕ) (d : Deed) → Does acts i n d → n < nodes
-    → slice_get (lines_of program nodes lines acts) i ≡ Some (line_at (end_of lines) (walk_behind program nodes lines (take i acts) n))
+    → slice_get (lines_of program nodes lines acts) i ≡ Some (line_at (end_line lines) (walk_behind program nodes lines (take i acts) n))
 line_of_act program nodes lines acts i n d does within =
     let walk = walk_behind program nodes lines (take i acts) n in
     line_there program nodes lines acts [] i (record { node = n; deed = d }) does.stands
-    ∙ ap (λ b. Some (if b then line_at (end_of lines) walk else end_of lines)) (lt-ltb n nodes within)
+    ∙ ap (λ b. Some (if b then line_at (end_line lines) walk else end_line lines)) (lt-ltb n nodes within)

@@ -10,7 +10,7 @@ use Rattle.lrc_lang.specs.declared.program.Statement.TheVariants.{Assign, Read, 
 use Rattle.lrc_exec.specs.Meaning.{block}
 use Rattle.lrc_exec.proofs.Flat.{if_made, while_made, block-items}
 use Rattle.lrc_lines.specs.declared.way.Stretch.{Stretch}
-use Rattle.lrc_lines.specs.Tasks.{Task, behind, behind_block, tasks, beyond, passed, line_of}
+use Rattle.lrc_lines.specs.Tasks.{Task, behind, behind_block, tasks, beyond, passed, next_line}
 use Rattle.lrc_lines.specs.Ways.{tasks_of, todo_of}
 
 -- ---- lines
@@ -64,7 +64,7 @@ todo_of_push all items stretch is = ap todo_of is ∙ fold_append (λ outer s. t
 
 -- the last stretch gives the line
 pub last_line : (end : ℕ) (outer : List Task) (items : List Stretch) (s : Stretch) → slice_get items (length items - 1) ≡ Some s →
-    line_of end (fold (λ around t. tasks_of t ++ around) outer items) ≡ slice_index_or s.lines.now 0 end
+    next_line end (fold (λ around t. tasks_of t ++ around) outer items) ≡ slice_index_or s.lines.now 0 end
 last_line end outer [] s is = cc
 last_line end outer (x ∷ []) s is =
     let place : length (x ∷ []) - 1 ≡ 0 = omega arith in

@@ -10,7 +10,7 @@ use Rattle.lrc_lang.specs.declared.program.Program.{Program}
 use Rattle.lrc_trace.specs.declared.act.Act.{Act}
 use Rattle.lrc_lines.specs.declared.walk.Walk as code
 use Rattle.lrc_lines.specs.Seen.{walk_of}
-use Rattle.lrc_lines.specs.Walks.{Walk, led, led_by, walk_at_start, walk_behind, walks_behind, line_at, line_behind, lines_behind, lines_of, end_of}
+use Rattle.lrc_lines.specs.Walks.{Walk, led, led_by, walk_at_start, walk_behind, walks_behind, line_at, line_behind, lines_behind, lines_of, end_line}
 use Rattle.lrc_lines.proofs.Passing.{fold_append}
 
 -- ---- numbers in a row
@@ -110,20 +110,20 @@ module _ (program : Program) (nodes : ℕ) (lines : List ℕ) where
 
   -- the line that is found among the walks
   pub line_found : (acts : List Act) (items : List code.Walk) (end node : ℕ) → map walk_of items ≡ walks_behind program nodes lines acts →
-      end ≡ end_of lines → slice_index_or (map (line_at end) (map walk_of items)) node end ≡ line_behind program nodes lines acts node
+      end ≡ end_line lines → slice_index_or (map (line_at end) (map walk_of items)) node end ≡ line_behind program nodes lines acts node
   line_found acts items end node same end_is =
       let there : slice_index_or (map (line_at end) (map walk_of items)) node end ≡
-      get_or (map (line_at (end_of lines)) (walks_behind program nodes lines acts)) node (end_of lines) =
+      get_or (map (line_at (end_line lines)) (walks_behind program nodes lines acts)) node (end_line lines) =
       ap₂ (λ l e. get_or (map (line_at e) l) node e) same end_is in
       let walks = walks_behind program nodes lines acts in
       let long : length walks ≡ nodes = length-map-range_with_len (walk_behind program nodes lines acts) 0 nodes in
       let here = walk_behind program nodes lines acts node in
       there ∙ elim (cases_lt node nodes) [
-        | inl lt ↦ get_or-map (line_at (end_of lines)) walks node here (end_of lines) (omega (arith, lt, long))
-            ∙ ap (line_at (end_of lines)) (walk_in acts node here lt)
-            ∙ sym (ap (λ b. if b then line_at (end_of lines) here else end_of lines) (lt-ltb node nodes lt))
-        | inr le ↦ get_or_past (map (line_at (end_of lines)) walks) node (end_of lines) (omega (arith, le, long, length-map walks (line_at (end_of lines))))
-            ∙ sym (ap (λ b. if b then line_at (end_of lines) here else end_of lines) (le-ltb node nodes le))
+        | inl lt ↦ get_or-map (line_at (end_line lines)) walks node here (end_line lines) (omega (arith, lt, long))
+            ∙ ap (line_at (end_line lines)) (walk_in acts node here lt)
+            ∙ sym (ap (λ b. if b then line_at (end_line lines) here else end_line lines) (lt-ltb node nodes lt))
+        | inr le ↦ get_or_past (map (line_at (end_line lines)) walks) node (end_line lines) (omega (arith, le, long, length-map walks (line_at (end_line lines))))
+            ∙ sym (ap (λ b. if b then line_at (end_line lines) here else end_line lines) (le-ltb node nodes le))
       ]
 
   lines_behind_more : (acts before : List Act) (act : Act) → lines_behind program nodes lines before (acts ++ act ∷ []) ≡

@@ -40,6 +40,6 @@ passed holds [] = []
 passed holds (first ∷ rest) = beyond holds first.statement first.lines rest
 
 -- the line of what comes next; `end` is the line of the text's end
-abbrev pub line_of : (end : ℕ) → List Task → ℕ
-line_of end [] = end
-line_of end (first ∷ rest) = slice_index_or first.lines 0 end
+abbrev pub next_line : (end : ℕ) → List Task → ℕ
+next_line end [] = end
+next_line end (first ∷ rest) = slice_index_or first.lines 0 end

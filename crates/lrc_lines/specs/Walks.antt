@@ -11,7 +11,7 @@ use Rattle.lrc_exec.specs.Meaning.{Thread, next_of}
 use Rattle.lrc_exec.specs.Plain.{start_of}
 use Rattle.lrc_exec.specs.Ask.{ask_of, answered}
 use Rattle.lrc_exec.specs.Condition.{condition_holds}
-use Rattle.lrc_lines.specs.Tasks.{Task, tasks, passed, line_of}
+use Rattle.lrc_lines.specs.Tasks.{Task, tasks, passed, next_line}
 
 -- a node's thread, and what it has still to do
 pub record Walk : Type 0 where
@@ -23,9 +23,9 @@ abbrev pub walk_at_start : Program → (nodes : ℕ) → (lines : List ℕ) → 
 walk_at_start program nodes lines me = record { thread = start_of program nodes me; todo = tasks program.statements.items lines }
 
 -- the value that a deed gives its thread
-abbrev pub value_in : Deed → ℕ
-value_in (Read word value) = value
-value_in _ = 0
+abbrev pub value_given : Deed → ℕ
+value_given (Read word value) = value
+value_given _ = 0
 
 -- a thread that asks for this goes on: it has not trapped, and is not at the end of the text
 abbrev pub goes_on : Ask → Bool
@@ -46,7 +46,7 @@ abbrev pub led : Walk → Deed → Walk
 led walk Arrive = walk
 led walk (Trap cause) = walk
 led walk End = walk
-led walk deed = onward (value_in deed) walk
+led walk deed = onward (value_given deed) walk
 
 -- a node's walk once an act is done: an act of another node leaves it where it is
 abbrev pub led_by : (node : ℕ) → Walk → Act → Walk
@@ -58,11 +58,11 @@ walk_behind program nodes lines acts node = fold (led_by node) (walk_at_start pr
 
 -- the line of what a walk comes to next; `end` is the line of the text's end
 abbrev pub line_at : (end : ℕ) → Walk → ℕ
-line_at end walk = line_of end walk.todo
+line_at end walk = next_line end walk.todo
 
 -- the line of the text's end, which comes last
-abbrev pub end_of : (lines : List ℕ) → ℕ
-end_of = fold (λ _ line. line) 0
+abbrev pub end_line : (lines : List ℕ) → ℕ
+end_line = fold (λ _ line. line) 0
 
 -- the same, of each node of a run
 abbrev pub walks_behind : Program → (nodes : ℕ) → (lines : List ℕ) → List Act → List Walk
@@ -71,7 +71,7 @@ walks_behind program nodes lines acts = map (walk_behind program nodes lines act
 -- the line that the acts so far have led a node to; where there is no such node, the line of the text's end
 abbrev pub line_behind : Program → (nodes : ℕ) → (lines : List ℕ) → List Act → (node : ℕ) → ℕ
 line_behind program nodes lines acts node =
-    if nat_lt node nodes then line_at (end_of lines) (walk_behind program nodes lines acts node) else end_of lines
+    if nat_lt node nodes then line_at (end_line lines) (walk_behind program nodes lines acts node) else end_line lines
 
 -- The lines of acts that come behind these ones: of each the line that its node has come to.
 abbrev pub lines_behind : Program → (nodes : ℕ) → (lines : List ℕ) → (before acts : List Act) → List ℕ

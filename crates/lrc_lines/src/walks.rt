@@ -5,7 +5,7 @@ ghost use Rattle.lrc_lang.specs.declared.program.Program.{Program};
 ghost use Rattle.lrc_exec.specs.Ask.{ask_of};
 ghost use Rattle.lrc_exec.specs.Meaning.{next_of};
 ghost use Rattle.lrc_lines.specs.Seen.{walks_of};
-ghost use Rattle.lrc_lines.specs.Walks.{walks_behind, line_at, lines_of, end_of};
+ghost use Rattle.lrc_lines.specs.Walks.{walks_behind, line_at, lines_of, end_line};
 
 use crate::walk::Walk;
 use lrc_exec::code::Code;
@@ -31,8 +31,8 @@ pub struct Followed<'c> {
 
 // The line of the text's end, which comes last.
 #[tactic(auto, using(crate::proofs::Following::end_of_last, crate::proofs::Following::end_of_none))]
-fn end_of(lines: &[u32]) -> u32
-    ensures { result ≡ end_of lines.now }
+fn end_line(lines: &[u32]) -> u32
+    ensures { result ≡ end_line lines.now }
 {
     match lines.last() {
         Some(end) => *end,
@@ -49,7 +49,7 @@ impl<'c> Walks<'c> {
         nodes: u8,
     ) -> Result<Walks<'c>, AllocError>
         ensures walks { IfOk result (λ walks. walks_of walks ≡ walks_behind code.now nodes lines.now []) }
-        ensures end { IfOk result (λ walks. walks.end ≡ end_of lines.now) }
+        ensures end { IfOk result (λ walks. walks.end ≡ end_line lines.now) }
     {
         let mut walks = Vec::new(alloc);
         for me in 0..nodes {
@@ -57,7 +57,7 @@ impl<'c> Walks<'c> {
         }
         Ok(Walks {
             nodes: walks,
-            end: end_of(lines),
+            end: end_line(lines),
         })
     }
 
@@ -114,7 +114,7 @@ pub fn follow_acts<'c>(
 ) -> Result<Followed<'c>, AllocError>
     ensures lines { IfOk result (λ followed. followed.lines.items ≡ lines_of code.now nodes lines.now acts.now) }
     ensures walks { IfOk result (λ followed. walks_of followed.walks ≡ walks_behind code.now nodes lines.now acts.now) }
-    ensures end { IfOk result (λ followed. followed.walks.end ≡ end_of lines.now) }
+    ensures end { IfOk result (λ followed. followed.walks.end ≡ end_line lines.now) }
 {
     let mut walks = Walks::start(alloc, code, lines, nodes)?;
     let mut found = Vec::new(alloc);

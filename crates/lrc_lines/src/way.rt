@@ -2,7 +2,7 @@
 
 ghost use Rattle.std.specs.Prelude.{◌≡◌, ◌∷◌, ◌+◌, ◌++◌, ◌≤◌, List, drop, fold, slice_index_or, IfOk, OnErr, OnOk};
 ghost use Rattle.std.specs.Vec.{vec_capacity, vec_len};
-ghost use Rattle.lrc_lines.specs.Tasks.{behind, tasks, passed, line_of};
+ghost use Rattle.lrc_lines.specs.Tasks.{behind, tasks, passed, next_line};
 ghost use Rattle.lrc_lines.specs.Ways.{todo_of};
 
 use lrc_lang::program::Statement;
@@ -77,7 +77,7 @@ impl<'c> Way<'c> {
 
     // The line of what comes next; `end` is the line of the text's end.
     pub(crate) fn line(&self, end: u32) -> u32
-        ensures { result ≡ line_of end (todo_of self.now.stretches.items) }
+        ensures { result ≡ next_line end (todo_of self.now.stretches.items) }
     {
         match self.stretches.last() {
             Some(stretch) => first_of(stretch.lines, end),

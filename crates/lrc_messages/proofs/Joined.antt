@@ -5,7 +5,7 @@ use Rattle.std.proofs.lemmas.Option.{get_or_from_slice_get, slice_get_within}
 use Rattle.lrc_show.specs.Each.{each}
 use Rattle.lrc_show.specs.Json.{entry_text, with_commas}
 use Rattle.lrc_show.proofs.Each.{each_more}
-use Rattle.lrc_messages.specs.Lists.{before, joined}
+use Rattle.lrc_messages.specs.Lists.{before, separated}
 
 each_next : {X : Type 0} (of : ℕ → X → List ℕ) (items : List X) (i : ℕ) (x : X) (start now next : List ℕ) → slice_get items i ≡ Some x
     → now ≡ start ++ each of (take i items) → next ≡ now ++ of i x → next ≡ start ++ each of (take (i + 1) items)
@@ -16,8 +16,8 @@ each_next of items i x start now next there so_far more =
 
 pub joined_next : {X : Type 0} (sign : List ℕ) (of : X → List ℕ) (items : List X) (i : ℕ) (x : X) (start now next : List ℕ)
     → slice_get items i ≡ Some x
-    → now ≡ start ++ joined sign of (take i items) → next ≡ now ++ before i sign ++ of x
-    → next ≡ start ++ joined sign of (take (i + 1) items)
+    → now ≡ start ++ separated sign of (take i items) → next ≡ now ++ before i sign ++ of x
+    → next ≡ start ++ separated sign of (take (i + 1) items)
 joined_next sign of items i x start now next there so_far more =
     each_next (λ place item. before place sign ++ of item) items i x start now next there so_far
     (more ∙ append_assoc now (before i sign) (of x))

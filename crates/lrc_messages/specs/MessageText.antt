@@ -11,7 +11,7 @@ use Rattle.lrc_envelope.specs.declared.message.Message.{Message}
 use Rattle.lrc_envelope.specs.declared.message.Message.TheVariants.{LockRequest, LockForward, LockGrant, Arrive, Depart, Clean, Discard}
 use Rattle.lrc_envelope.specs.declared.message.Message.TheVariants.{ChangesRequest, ChangesReply, PageRequest, PageReply}
 use Rattle.lrc_show.specs.Json.{with_commas}
-use Rattle.lrc_messages.specs.Lists.{joined, joined_or_dash}
+use Rattle.lrc_messages.specs.Lists.{separated, separated_or_dash}
 
 -- ---- parts of several kinds
 
@@ -26,7 +26,7 @@ interval_text interval =
 
 -- a time, and intervals
 abbrev pub news_text : List ℕ → List IntervalRecord → List ℕ
-news_text time intervals = time_text time ++ codes " news " ++ joined_or_dash (codes " ") interval_text intervals
+news_text time intervals = time_text time ++ codes " news " ++ separated_or_dash (codes " ") interval_text intervals
 
 -- that a collection is asked for, or that there is one
 abbrev pub collect_text : Bool → List ℕ
@@ -39,11 +39,11 @@ change_text change = decimal change.offset ++ codes "=" ++ decimal change.value
 
 -- what the interval of this index changed
 abbrev pub part_text : IndexedChangesRecord → List ℕ
-part_text part = decimal part.index ++ codes "[" ++ joined (codes ",") change_text part.changes ++ codes "]"
+part_text part = decimal part.index ++ codes "[" ++ separated (codes ",") change_text part.changes ++ codes "]"
 
 -- the words of a page that are not 0: what it changes in a page of zeros
-abbrev pub words_in : List ℕ → List Change
-words_in values = changes_between (replicate (length values) 0) values
+abbrev pub nonzero_words : List ℕ → List Change
+nonzero_words values = changes_between (replicate (length values) 0) values
 
 -- ---- the kinds
 
@@ -84,11 +84,11 @@ abbrev pub changes_request_text : ChangesRequestRecord → List ℕ
 changes_request_text m = named kinds.ChangesRequest (codes " page ") m.page ++ codes " intervals " ++ with_commas m.indices
 
 abbrev pub changes_reply_text : ChangesReplyRecord → List ℕ
-changes_reply_text m = named kinds.ChangesReply (codes " page ") m.page ++ codes " changes " ++ joined (codes " ") part_text m.parts
+changes_reply_text m = named kinds.ChangesReply (codes " page ") m.page ++ codes " changes " ++ separated (codes " ") part_text m.parts
 
 abbrev pub page_reply_text : PageReplyRecord → List ℕ
 page_reply_text m =
-    named kinds.PageReply (codes " page ") m.page ++ codes " words " ++ joined_or_dash (codes ",") change_text (words_in m.values)
+    named kinds.PageReply (codes " page ") m.page ++ codes " words " ++ separated_or_dash (codes ",") change_text (nonzero_words m.values)
 
 -- a message: its kind, and what it says
 abbrev pub message_text : Message → List ℕ

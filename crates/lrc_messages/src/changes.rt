@@ -2,8 +2,8 @@
 
 ghost use Rattle.std.specs.Prelude.{◌≡◌, ◌++◌, IfOk, OnErr, OnOk, codes};
 ghost use Rattle.lrc_text.specs.Front.{BeginsWith};
-ghost use Rattle.lrc_messages.specs.Lists.{before, joined, joined_or_dash};
-ghost use Rattle.lrc_messages.specs.MessageText.{change_text, part_text, words_in};
+ghost use Rattle.lrc_messages.specs.Lists.{before, separated, separated_or_dash};
+ghost use Rattle.lrc_messages.specs.MessageText.{change_text, nonzero_words, part_text};
 
 use crate::lists::push_before;
 use lrc_envelope::{IndexedChanges, Parts};
@@ -21,7 +21,7 @@ fn push_change(text: &mut Vec<u8>, place: usize, change: Change) -> Result<(), A
 }
 
 fn push_changes(text: &mut Vec<u8>, changes: &Changes) -> Result<(), AllocError>
-    ensures ok { OnOk result (text.new.items ≡ text.old.items ++ joined (codes ",") change_text changes.now) }
+    ensures ok { OnOk result (text.new.items ≡ text.old.items ++ separated (codes ",") change_text changes.now) }
     ensures err { OnErr result (BeginsWith text.new.items text.old.items) }
 {
     for place in 0..changes.len() {
@@ -31,7 +31,7 @@ fn push_changes(text: &mut Vec<u8>, changes: &Changes) -> Result<(), AllocError>
 }
 
 fn push_changes_or_dash(text: &mut Vec<u8>, changes: &Changes) -> Result<(), AllocError>
-    ensures ok { OnOk result (text.new.items ≡ text.old.items ++ joined_or_dash (codes ",") change_text changes.now) }
+    ensures ok { OnOk result (text.new.items ≡ text.old.items ++ separated_or_dash (codes ",") change_text changes.now) }
     ensures err { OnErr result (BeginsWith text.new.items text.old.items) }
 {
     if changes.is_empty() {
@@ -54,7 +54,7 @@ fn push_part(text: &mut Vec<u8>, place: usize, part: &IndexedChanges) -> Result<
 
 /// Adds what intervals changed, each with its index.
 pub(crate) fn push_parts(text: &mut Vec<u8>, parts: &Parts) -> Result<(), AllocError>
-    ensures ok { OnOk result (text.new.items ≡ text.old.items ++ joined (codes " ") part_text parts.now) }
+    ensures ok { OnOk result (text.new.items ≡ text.old.items ++ separated (codes " ") part_text parts.now) }
     ensures err { OnErr result (BeginsWith text.new.items text.old.items) }
 {
     for place in 0..parts.len() {
@@ -64,17 +64,17 @@ pub(crate) fn push_parts(text: &mut Vec<u8>, parts: &Parts) -> Result<(), AllocE
 }
 
 // The words of a page that are not 0.
-fn words_in(alloc: Global, page: &Page) -> Result<Changes, AllocError>
-    ensures { IfOk result (λ changes. changes ≡ words_in page.now) }
+fn nonzero_words(alloc: Global, page: &Page) -> Result<Changes, AllocError>
+    ensures { IfOk result (λ changes. changes ≡ nonzero_words page.now) }
 {
     Changes::between(alloc, &Page::zero(page.size()), page)
 }
 
 /// Adds the words of a page that are not 0.
 pub(crate) fn push_words(alloc: Global, text: &mut Vec<u8>, page: &Page) -> Result<(), AllocError>
-    ensures ok { OnOk result (text.new.items ≡ text.old.items ++ joined_or_dash (codes ",") change_text (words_in page.now)) }
+    ensures ok { OnOk result (text.new.items ≡ text.old.items ++ separated_or_dash (codes ",") change_text (nonzero_words page.now)) }
     ensures err { OnErr result (BeginsWith text.new.items text.old.items) }
 {
-    let words = words_in(alloc, page)?;
+    let words = nonzero_words(alloc, page)?;
     push_changes_or_dash(text, &words)
 }

@@ -2,7 +2,7 @@
 
 ghost use Rattle.std.specs.Prelude.{◌≡◌, ◌++◌, OnErr, OnOk, codes};
 ghost use Rattle.lrc_text.specs.Front.{BeginsWith};
-ghost use Rattle.lrc_messages.specs.Lists.{before, joined, joined_or_dash};
+ghost use Rattle.lrc_messages.specs.Lists.{before, separated, separated_or_dash};
 ghost use Rattle.lrc_messages.specs.MessageText.{collect_text, interval_text, news_text, time_text};
 
 use crate::lists::{push_before, push_pages};
@@ -35,7 +35,7 @@ fn push_interval(text: &mut Vec<u8>, place: usize, interval: &Interval) -> Resul
 }
 
 fn push_intervals(text: &mut Vec<u8>, intervals: &Intervals) -> Result<(), AllocError>
-    ensures ok { OnOk result (text.new.items ≡ text.old.items ++ joined (codes " ") interval_text intervals.now) }
+    ensures ok { OnOk result (text.new.items ≡ text.old.items ++ separated (codes " ") interval_text intervals.now) }
     ensures err { OnErr result (BeginsWith text.new.items text.old.items) }
 {
     for place in 0..intervals.len() {
@@ -45,7 +45,7 @@ fn push_intervals(text: &mut Vec<u8>, intervals: &Intervals) -> Result<(), Alloc
 }
 
 fn push_intervals_or_dash(text: &mut Vec<u8>, intervals: &Intervals) -> Result<(), AllocError>
-    ensures ok { OnOk result (text.new.items ≡ text.old.items ++ joined_or_dash (codes " ") interval_text intervals.now) }
+    ensures ok { OnOk result (text.new.items ≡ text.old.items ++ separated_or_dash (codes " ") interval_text intervals.now) }
     ensures err { OnErr result (BeginsWith text.new.items text.old.items) }
 {
     if intervals.is_empty() {

@@ -13,21 +13,21 @@ use Rattle.lrc_chart.specs.Arrows.{takers}
 use Rattle.lrc_chart.specs.declared.row.Row.{Row}
 use Rattle.lrc_portrait.specs.Seen.{SeenArrow, SeenLost}
 
-abbrev pub kind_of : Message → Kind
-kind_of (messages.LockRequest m) = kinds.LockRequest
-kind_of (messages.LockForward m) = kinds.LockForward
-kind_of (messages.LockGrant m) = kinds.LockGrant
-kind_of (messages.Arrive m) = kinds.Arrive
-kind_of (messages.Depart m) = kinds.Depart
-kind_of (messages.Clean m) = kinds.Clean
-kind_of (messages.Discard m) = kinds.Discard
-kind_of (messages.ChangesRequest m) = kinds.ChangesRequest
-kind_of (messages.ChangesReply m) = kinds.ChangesReply
-kind_of (messages.PageRequest m) = kinds.PageRequest
-kind_of (messages.PageReply m) = kinds.PageReply
+abbrev pub message_kind : Message → Kind
+message_kind (messages.LockRequest m) = kinds.LockRequest
+message_kind (messages.LockForward m) = kinds.LockForward
+message_kind (messages.LockGrant m) = kinds.LockGrant
+message_kind (messages.Arrive m) = kinds.Arrive
+message_kind (messages.Depart m) = kinds.Depart
+message_kind (messages.Clean m) = kinds.Clean
+message_kind (messages.Discard m) = kinds.Discard
+message_kind (messages.ChangesRequest m) = kinds.ChangesRequest
+message_kind (messages.ChangesReply m) = kinds.ChangesReply
+message_kind (messages.PageRequest m) = kinds.PageRequest
+message_kind (messages.PageReply m) = kinds.PageReply
 
 abbrev pub label_text : Message → List ℕ
-label_text message = kind_name (kind_of message)
+label_text message = kind_name (message_kind message)
 
 -- the place of the row of the turn at a position, if it is shown
 abbrev pub place_of_turn : List Row → (turn : ℕ) → Option ℕ
@@ -57,19 +57,19 @@ abbrev pub is_later : ℕ → Bool
 is_later place = not (place == 0)
 
 -- the arrows of a message to the turns that take it
-abbrev pub message_arrows : List Row → (from : ℕ) → EnvelopeRecord → List ℕ → List SeenArrow
-message_arrows rows from envelope turns = each (λ place turn. arrow_if from envelope (is_later place) (place_of_turn rows turn)) turns
+abbrev pub shown_message_arrows : List Row → (from : ℕ) → EnvelopeRecord → List ℕ → List SeenArrow
+shown_message_arrows rows from envelope turns = each (λ place turn. arrow_if from envelope (is_later place) (place_of_turn rows turn)) turns
 
 -- the messages that a turn sends, if there is the turn
-abbrev pub sent_by : Option Made → List EnvelopeRecord
-sent_by None = []
-sent_by (Some turn) = turn.entry.turn.out
+abbrev pub sent_in_turn : Option Made → List EnvelopeRecord
+sent_in_turn None = []
+sent_in_turn (Some turn) = turn.entry.turn.out
 
 -- An arrow for each message and each turn that takes it, from the row of the turn that sends it to the row of that turn, where both
 -- are shown; all but the first taking are repeats.
 abbrev pub shown_arrows : List Made → List Row → List SeenArrow
 shown_arrows turns rows =
-    each (λ from row. flat_map (λ envelope. message_arrows rows from envelope (takers turns envelope)) (sent_by (slice_get turns row.turn))) rows
+    each (λ from row. flat_map (λ envelope. shown_message_arrows rows from envelope (takers turns envelope)) (sent_in_turn (slice_get turns row.turn))) rows
 
 -- ---- messages that were never taken
 
@@ -90,4 +90,4 @@ lost_if from envelope (first ∷ more) = []
 -- each message that is shown to be sent, and that no turn of the run takes
 abbrev pub shown_lost : List Made → List Row → List SeenLost
 shown_lost turns rows =
-    each (λ from row. flat_map (λ envelope. lost_if from envelope (takers turns envelope)) (sent_by (slice_get turns row.turn))) rows
+    each (λ from row. flat_map (λ envelope. lost_if from envelope (takers turns envelope)) (sent_in_turn (slice_get turns row.turn))) rows

@@ -31,9 +31,9 @@ abbrev pub places_of : ℕ → List ℕ → List ℕ
 places_of number numbers = each (λ place other. if other == number then place ∷ [] else []) numbers
 
 -- the last of these numbers, or else another one
-abbrev pub last_of : ℕ → List ℕ → ℕ
-last_of other [] = other
-last_of other (number ∷ more) = last_of number more
+abbrev pub last_or : ℕ → List ℕ → ℕ
+last_or other [] = other
+last_or other (number ∷ more) = last_or number more
 
 abbrev pub band : (number from to : ℕ) → SeenBand
 band number from to = record { from = from; to = to; label = codes "barrier " ++ decimal number }
@@ -41,7 +41,7 @@ band number from to = record { from = from; to = to; label = codes "barrier " ++
 -- a band at its first place
 abbrev pub band_at : (number place : ℕ) → List ℕ → List SeenBand
 band_at number place [] = []
-band_at number place (first ∷ more) = if first == place then band number first (last_of first more) ∷ [] else []
+band_at number place (first ∷ more) = if first == place then band number first (last_or first more) ∷ [] else []
 
 -- the band of the number at a place, if it is a barrier's and this is its first place
 abbrev pub band_if : List ℕ → (place number : ℕ) → List SeenBand

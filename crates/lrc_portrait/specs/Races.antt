@@ -4,9 +4,10 @@ use Rattle.std.specs.List.{list_any}
 use Rattle.lrc_trace.specs.declared.act.Act.{Act}
 use Rattle.lrc_judge.specs.Races.{word_of}
 use Rattle.lrc_judge.specs.declared.lanes.Pair.{Pair}
+use Rattle.lrc_show.specs.Acts.{act_at}
 use Rattle.lrc_show.specs.Each.{each}
-use Rattle.lrc_explain.specs.Groups.{is_of, kind_text}
-use Rattle.lrc_explain.specs.Site.{act_at, site_of}
+use Rattle.lrc_explain.specs.Groups.{access_kind_text, is_of_site}
+use Rattle.lrc_explain.specs.Site.{site_of}
 use Rattle.lrc_explain.specs.declared.site.Site.{Site}
 use Rattle.lrc_chart.specs.declared.row.Row.{Row}
 use Rattle.lrc_portrait.specs.Course.{row_of_act}
@@ -14,12 +15,12 @@ use Rattle.lrc_portrait.specs.Seen.{SeenRace}
 
 -- whether none of the pairs before a place is of the group of the pair there
 abbrev pub comes_first : List Act → (lines : List ℕ) → List Pair → ℕ → Pair → Bool
-comes_first acts lines pairs at pair = not (list_any (is_of acts lines (site_of acts lines pair)) (take at pairs))
+comes_first acts lines pairs at pair = not (list_any (is_of_site acts lines (site_of acts lines pair)) (take at pairs))
 
 -- the lines and kinds of a group
 abbrev pub label_of : Site → List ℕ
 label_of site =
-    codes "race line " ++ decimal site.line ++ kind_text site.writes ++ codes ", line " ++ decimal site.later_line ++ kind_text site.later_writes
+    codes "race line " ++ decimal site.line ++ access_kind_text site.writes ++ codes ", line " ++ decimal site.later_line ++ access_kind_text site.later_writes
 
 -- the word of two acts, and their positions
 abbrev pub hint_of : List Act → Pair → List ℕ

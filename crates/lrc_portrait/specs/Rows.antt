@@ -5,7 +5,7 @@ use Rattle.lrc_turns.specs.Turns.{Made}
 use Rattle.lrc_chart.specs.declared.row.Row.{Row}
 use Rattle.lrc_portrait.specs.Course.{CourseRecord}
 use Rattle.lrc_portrait.specs.Seen.{SeenRow}
-use Rattle.lrc_portrait.specs.Words.{hint_text, invalid_text, place_text, time_text, turn_closes, turn_kind, turn_words}
+use Rattle.lrc_portrait.specs.Words.{act_place_text, hint_text, invalid_text, new_time_text, turn_closes, turn_kind, turn_words}
 
 -- a row, and the turn that it is of
 abbrev pub shown_row : CourseRecord → Row → Made → SeenRow
@@ -13,9 +13,9 @@ shown_row course row turn = record {
   column = turn.node;
   kind = turn_kind turn.entry.turn.act turn.entry.input;
   words = turn_words turn.entry.turn.act turn.entry.input;
-  time = time_text course turn.node row.act;
+  time = new_time_text course turn.node row.act;
   invalid = invalid_text course.turns row.turn turn.entry.input;
-  place = place_text course turn.node row.act;
+  place = act_place_text course turn.node row.act;
   hint = hint_text course row.act;
   closes = turn_closes turn.entry.turn.act;
 }

@@ -67,9 +67,9 @@ abbrev pub place_words : (line interval : ℕ) → List ℕ
 place_words line interval = codes "line " ++ decimal line ++ codes ", interval " ++ decimal interval
 
 -- the line and the interval of a node's act at a position
-abbrev pub place_text : CourseRecord → (node : ℕ) → Option ℕ → List ℕ
-place_text course node None = []
-place_text course node (Some position) = place_words (slice_index course.lines position) (interval_at course.acts node position)
+abbrev pub act_place_text : CourseRecord → (node : ℕ) → Option ℕ → List ℕ
+act_place_text course node None = []
+act_place_text course node (Some position) = place_words (slice_index course.lines position) (interval_at course.acts node position)
 
 -- ---- the time
 
@@ -93,9 +93,9 @@ changes_since times position None = true
 changes_since times position (Some before) = not (same_time (slice_get times before) (slice_get times position))
 
 -- the node's time just after its act at a position, at its first act and where it changes
-abbrev pub time_text : CourseRecord → (node : ℕ) → Option ℕ → List ℕ
-time_text course node None = []
-time_text course node (Some position) =
+abbrev pub new_time_text : CourseRecord → (node : ℕ) → Option ℕ → List ℕ
+new_time_text course node None = []
+new_time_text course node (Some position) =
     if changes_since course.times position (last_act course.acts node position) then entries_text (slice_get course.times position) else []
 
 -- ---- what an act's hint says: its position, its line, and its node's time just after it
@@ -127,11 +127,11 @@ invalid_words [] = []
 invalid_words (first ∷ more) = codes "invalid " ++ with_commas (first ∷ more)
 
 -- whether one of the turns before a position takes the message
-abbrev pub was_taken : List Made → (position : ℕ) → EnvelopeRecord → Bool
-was_taken turns position envelope = list_any (takes_it envelope) (take position turns)
+abbrev pub taken_before : List Made → (position : ℕ) → EnvelopeRecord → Bool
+taken_before turns position envelope = list_any (takes_it envelope) (take position turns)
 
 -- the pages that become invalid at a turn at this position: those of which it takes notice, if it takes no repeat
 abbrev pub invalid_text : List Made → (position : ℕ) → Input → List ℕ
 invalid_text turns position run = []
 invalid_text turns position (taken envelope) =
-    if was_taken turns position envelope then [] else invalid_words (each_once (named_in (told_by envelope.message)))
+    if taken_before turns position envelope then [] else invalid_words (each_once (named_in (told_by envelope.message)))

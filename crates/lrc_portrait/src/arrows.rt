@@ -3,8 +3,8 @@
 ghost use Rattle.std.specs.Prelude.{◌≡◌, ◌++◌, IfOk, OnOk, map, slice_get};
 ghost use Rattle.std.specs.List.{flat_map};
 ghost use Rattle.lrc_chart.specs.Arrows.{takers};
-ghost use Rattle.lrc_portrait.specs.Arrows.{arrow_if, arrow_to, is_later, lost_if, lost_one, message_arrows, place_of_turn};
-ghost use Rattle.lrc_portrait.specs.Arrows.{sent_by, shown_arrows, shown_lost};
+ghost use Rattle.lrc_portrait.specs.Arrows.{arrow_if, arrow_to, is_later, lost_if, lost_one, place_of_turn, shown_message_arrows};
+ghost use Rattle.lrc_portrait.specs.Arrows.{sent_in_turn, shown_arrows, shown_lost};
 ghost use Rattle.lrc_portrait.specs.Seen.{seen_arrow, seen_lost};
 
 use crate::message::{label_text, message_text};
@@ -15,8 +15,8 @@ use lrc_picture::{Arrow, Lost};
 use std::alloc::{AllocError, Global};
 
 // The messages that a turn at a position sends.
-fn sent_by<'a>(turns: &'a [TurnOf<'_>], position: usize) -> &'a [Envelope]
-    ensures { result.now ≡ sent_by (slice_get turns.now position) }
+fn sent_in_turn<'a>(turns: &'a [TurnOf<'_>], position: usize) -> &'a [Envelope]
+    ensures { result.now ≡ sent_in_turn (slice_get turns.now position) }
 {
     match turn_at(turns, position) {
         Some(turn) => {
@@ -89,7 +89,7 @@ fn push_arrows(
     turns: &[usize],
 ) -> Result<(), AllocError>
     ensures { OnOk result (map seen_arrow arrows.new.items
-        ≡ map seen_arrow arrows.old.items ++ message_arrows places.now from envelope.now turns.now) }
+        ≡ map seen_arrow arrows.old.items ++ shown_message_arrows places.now from envelope.now turns.now) }
 {
     for (count, turn) in turns.iter().enumerate() {
         let to = place_of_turn(places, *turn);
@@ -108,7 +108,7 @@ fn push_all_arrows(
     out: &[Envelope],
 ) -> Result<(), AllocError>
     ensures { OnOk result (map seen_arrow arrows.new.items ≡ map seen_arrow arrows.old.items
-        ++ flat_map (λ envelope. message_arrows places.now from envelope (takers turns.now envelope)) out.now) }
+        ++ flat_map (λ envelope. shown_message_arrows places.now from envelope (takers turns.now envelope)) out.now) }
 {
     for envelope in out {
         let takers = takers(alloc, turns, envelope)?;
@@ -127,7 +127,7 @@ pub(crate) fn arrows_of(
 {
     let mut arrows = Vec::new(alloc);
     for (from, place) in places.iter().enumerate() {
-        let out = sent_by(turns, place.turn);
+        let out = sent_in_turn(turns, place.turn);
         push_all_arrows(alloc, &mut arrows, turns, places, from, out)?;
     }
     Ok(arrows)
@@ -190,7 +190,7 @@ pub(crate) fn lost_of(
 {
     let mut all = Vec::new(alloc);
     for (from, place) in places.iter().enumerate() {
-        let out = sent_by(turns, place.turn);
+        let out = sent_in_turn(turns, place.turn);
         push_all_lost(alloc, &mut all, turns, from, out)?;
     }
     Ok(all)

@@ -3,7 +3,7 @@
 ghost use Rattle.std.specs.Prelude.{◌≡◌, ◌==◌, ◌∷◌, ◌++◌, [], IfOk, OnOk, if◌then◌else◌, map};
 ghost use Rattle.lrc_trace.specs.Run.{arrives_before, departs_before, is_arrive, is_depart};
 ghost use Rattle.lrc_portrait.specs.Bands.{band, band_at, band_if, barrier_at, barrier_of, barrier_of_act, barriers};
-ghost use Rattle.lrc_portrait.specs.Bands.{last_of, places_of, shown_bands};
+ghost use Rattle.lrc_portrait.specs.Bands.{last_or, places_of, shown_bands};
 ghost use Rattle.lrc_portrait.specs.Seen.{seen_band};
 ghost use Rattle.lrc_show.specs.Each.{each};
 
@@ -105,8 +105,8 @@ fn places_of(alloc: Global, number: u64, numbers: &[u64]) -> Result<Vec<usize>, 
     Ok(places)
 }
 
-fn last_of(other: usize, numbers: &[usize]) -> usize
-    ensures { result ≡ last_of other numbers.now }
+fn last_or(other: usize, numbers: &[usize]) -> usize
+    ensures { result ≡ last_or other numbers.now }
 {
     let mut last = other;
     for number in numbers {
@@ -136,7 +136,7 @@ fn push_band_at(
     match places {
         [first, more @ ..] => {
             if *first == place {
-                bands.push(band(alloc, number, *first, last_of(*first, more))?)?;
+                bands.push(band(alloc, number, *first, last_or(*first, more))?)?;
             }
         }
         [] => {}

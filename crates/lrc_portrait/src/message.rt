@@ -2,15 +2,15 @@
 
 ghost use Rattle.std.specs.Prelude.{◌≡◌, IfOk};
 ghost use Rattle.lrc_messages.specs.MessageText.{message_text};
-ghost use Rattle.lrc_portrait.specs.Arrows.{kind_of, label_text};
+ghost use Rattle.lrc_portrait.specs.Arrows.{label_text, message_kind};
 
 use lrc_envelope::Message;
 use lrc_messages::{kind_name, push_message};
 use lrc_wire::Kind;
 use std::alloc::{AllocError, Global};
 
-fn kind_of(message: &Message) -> Kind
-    ensures { result ≡ kind_of message.now }
+fn message_kind(message: &Message) -> Kind
+    ensures { result ≡ message_kind message.now }
 {
     match message {
         Message::LockRequest(_) => Kind::LockRequest,
@@ -31,7 +31,7 @@ fn kind_of(message: &Message) -> Kind
 pub(crate) fn label_text(alloc: Global, message: &Message) -> Result<Vec<u8>, AllocError>
     ensures { IfOk result (λ text. text.items ≡ label_text message.now) }
 {
-    Vec::from_slice(alloc, kind_name(kind_of(message)))
+    Vec::from_slice(alloc, kind_name(message_kind(message)))
 }
 
 /// What a message says.

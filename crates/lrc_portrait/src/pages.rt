@@ -4,7 +4,7 @@ ghost use Rattle.std.specs.Prelude.{◌≡◌, ◌==◌, ◌∷◌, ◌++◌, []
 ghost use Rattle.std.specs.List.{flat_map, list_any};
 ghost use Rattle.lrc_node.specs.Logged.{seen_input};
 ghost use Rattle.lrc_show.specs.Json.{entry_text, with_commas};
-ghost use Rattle.lrc_portrait.specs.Words.{each_once, invalid_text, invalid_words, named_in, told_by, was_taken};
+ghost use Rattle.lrc_portrait.specs.Words.{each_once, invalid_text, invalid_words, named_in, taken_before, told_by};
 
 use lrc_chart::{TurnOf, takes};
 use lrc_envelope::{Envelope, Message};
@@ -94,8 +94,8 @@ fn push_invalid(text: &mut Vec<u8>, pages: &[u16]) -> Result<(), AllocError>
 }
 
 // Whether one of the turns before a position takes the message.
-fn was_taken(turns: &[TurnOf<'_>], position: usize, envelope: &Envelope) -> bool
-    ensures { result ≡ was_taken turns.now position envelope.now }
+fn taken_before(turns: &[TurnOf<'_>], position: usize, envelope: &Envelope) -> bool
+    ensures { result ≡ taken_before turns.now position envelope.now }
 {
     turns
         .iter()
@@ -122,7 +122,7 @@ pub(crate) fn invalid_text(
 {
     let mut text = Vec::new(alloc);
     if let Input::Taken(envelope) = input {
-        if !was_taken(turns, position, envelope) {
+        if !taken_before(turns, position, envelope) {
             push_told(alloc, &mut text, &envelope.message)?;
         }
     }

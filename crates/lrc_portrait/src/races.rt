@@ -3,7 +3,7 @@
 ghost use Rattle.std.specs.Prelude.{◌≡◌, ◌++◌, [], IfOk, OnOk, if◌then◌else◌, map, take};
 ghost use Rattle.std.specs.List.{list_any};
 ghost use Rattle.lrc_judge.specs.Races.{word_of};
-ghost use Rattle.lrc_explain.specs.Groups.{is_of, kind_text};
+ghost use Rattle.lrc_explain.specs.Groups.{access_kind_text, is_of_site};
 ghost use Rattle.lrc_explain.specs.declared.site.Site.{Site as SiteRecord};
 ghost use Rattle.lrc_portrait.specs.Races.{comes_first, hint_of, label_of, race_at, race_between, race_if, shown_races};
 ghost use Rattle.lrc_portrait.specs.Seen.{seen_race};
@@ -17,20 +17,20 @@ use lrc_text::push_number;
 use lrc_trace::act::{Act, Deed};
 use std::alloc::{AllocError, Global};
 
-fn is_of(acts: &[Act], lines: &[u32], site: Site, pair: Pair) -> bool
-    ensures { result ≡ is_of acts.now lines.now site pair }
+fn is_of_site(acts: &[Act], lines: &[u32], site: Site, pair: Pair) -> bool
+    ensures { result ≡ is_of_site acts.now lines.now site pair }
 {
     site_of(acts, lines, pair).cmp(&site).is_eq()
 }
 
 // Whether one of the first pairs is of the group.
 fn is_among(acts: &[Act], lines: &[u32], site: Site, pairs: &[Pair], count: usize) -> bool
-    ensures { result ≡ list_any (is_of acts.now lines.now site) (take count pairs.now) }
+    ensures { result ≡ list_any (is_of_site acts.now lines.now site) (take count pairs.now) }
 {
     pairs
         .iter()
         .take(count)
-        .any(|other| is_of(acts, lines, site, *other))
+        .any(|other| is_of_site(acts, lines, site, *other))
 }
 
 // Whether none of the pairs before a place is of the group of the pair there.
@@ -41,7 +41,7 @@ fn comes_first(acts: &[Act], lines: &[u32], pairs: &[Pair], at: usize, pair: Pai
 }
 
 fn kind_of(writes: bool) -> &'static [u8]
-    ensures { result.now ≡ kind_text writes }
+    ensures { result.now ≡ access_kind_text writes }
 {
     if writes { b" write" } else { b" read" }
 }

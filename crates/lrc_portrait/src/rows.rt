@@ -7,8 +7,8 @@ ghost use Rattle.lrc_portrait.specs.Seen.{seen_row};
 
 use crate::course::Course;
 use crate::pages::invalid_text;
-use crate::times::{hint_text, time_text};
-use crate::words::{place_text, turn_closes, turn_kind, turn_words};
+use crate::times::{hint_text, new_time_text};
+use crate::words::{act_place_text, turn_closes, turn_kind, turn_words};
 use lrc_chart::{Row as Place, TurnOf};
 use lrc_picture::Row;
 use std::alloc::{AllocError, Global};
@@ -36,9 +36,9 @@ fn row_of(
         column: turn.node,
         kind: turn_kind(act, input),
         words: turn_words(alloc, act, input)?,
-        time: time_text(alloc, course, turn.node, place.act)?,
+        time: new_time_text(alloc, course, turn.node, place.act)?,
         invalid: invalid_text(alloc, course.turns, place.turn, input)?,
-        place: place_text(alloc, course, turn.node, place.act)?,
+        place: act_place_text(alloc, course, turn.node, place.act)?,
         hint: hint_text(alloc, course, place.act)?,
         closes: turn_closes(act),
     })

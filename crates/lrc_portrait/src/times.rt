@@ -2,7 +2,7 @@
 
 ghost use Rattle.std.specs.Prelude.{◌≡◌, ◌++◌, IfOk, OnOk, option_map, slice_get};
 ghost use Rattle.lrc_clock.specs.Times.{acts_at};
-ghost use Rattle.lrc_portrait.specs.Words.{changes_since, entries_text, hint_text, hint_words, last_act, same_time, time_text};
+ghost use Rattle.lrc_portrait.specs.Words.{changes_since, entries_text, hint_text, hint_words, last_act, new_time_text, same_time};
 
 use crate::course::Course;
 use crate::words::line_at;
@@ -70,13 +70,13 @@ fn push_entries_if(text: &mut Vec<u8>, time: Option<&Time>) -> Result<(), AllocE
 }
 
 /// The time that a node has just after its act at a position, at its first act and where it changes.
-pub(crate) fn time_text(
+pub(crate) fn new_time_text(
     alloc: Global,
     course: &Course<'_>,
     node: u8,
     act: Option<usize>,
 ) -> Result<Vec<u8>, AllocError>
-    ensures { IfOk result (λ text. text.items ≡ time_text course.now node act) }
+    ensures { IfOk result (λ text. text.items ≡ new_time_text course.now node act) }
 {
     let mut text = Vec::new(alloc);
     if let Some(position) = act {

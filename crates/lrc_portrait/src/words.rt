@@ -5,7 +5,7 @@ ghost use Rattle.lrc_node.specs.Logged.{seen_input};
 ghost use Rattle.lrc_trace.specs.Interval.{closes, interval_at};
 ghost use Rattle.lrc_trace.specs.Run.{count_of};
 ghost use Rattle.lrc_portrait.specs.Words.{access_words, deed_kind, deed_words, idle_kind, idle_words};
-ghost use Rattle.lrc_portrait.specs.Words.{place_text, place_words, turn_closes, turn_kind, turn_words};
+ghost use Rattle.lrc_portrait.specs.Words.{act_place_text, place_words, turn_closes, turn_kind, turn_words};
 
 use crate::course::Course;
 use lrc_node::Input;
@@ -137,13 +137,13 @@ fn push_place(text: &mut Vec<u8>, line: u32, interval: u64) -> Result<(), AllocE
 }
 
 /// The line and the interval of a node's act at a position.
-pub(crate) fn place_text(
+pub(crate) fn act_place_text(
     alloc: Global,
     course: &Course<'_>,
     node: u8,
     act: Option<usize>,
 ) -> Result<Vec<u8>, AllocError>
-    ensures { IfOk result (λ text. text.items ≡ place_text course.now node act) }
+    ensures { IfOk result (λ text. text.items ≡ act_place_text course.now node act) }
 {
     let mut text = Vec::new(alloc);
     if let Some(position) = act {

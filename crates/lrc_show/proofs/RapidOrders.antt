@@ -17,7 +17,7 @@ use Rattle.lrc_trace.proofs.Positions.{Does-deed, Does-node, Does-one_deed, Does
 use Rattle.lrc_show.specs.declared.rapid.Meeting.{Meeting}
 use Rattle.lrc_show.specs.declared.rapid.Operation.{Operation}
 use Rattle.lrc_show.specs.declared.rapid.Operation.TheVariants.{Reads, Writes, Acquires, Releases}
-use Rattle.lrc_show.specs.Rapid.{Step, lock_of_arrival, meeting_at, rapid_of, step}
+use Rattle.lrc_show.specs.Rapid.{RapidStep, lock_of_arrival, meeting_at, rapid_of, rapid_step}
 use Rattle.lrc_show.specs.RapidOrder as trace
 use Rattle.lrc_show.specs.RapidOrder.{IsOf, Orders, StepBefore, StepPrecedes}
 use Rattle.lrc_show.proofs.Steps.{Comes, act_of_step, acquiring, arrived, arriving, departed, departing, later, reading, releasing, step_of_act}
@@ -50,7 +50,7 @@ same_arrival locks nodes a b p q few_p few_q same =
     ]
 
 module _ (locks nodes : ℕ) (acts : List Act) (is_of : IsOf locks nodes acts) (well : IsWellSynchronized nodes acts) (waits : WaitsAtBarriers acts) where
-  abbrev steps : List Step
+  abbrev steps : List RapidStep
   steps = rapid_of locks nodes acts
 
   -- ---- what stands behind a lock's release and its acquire
@@ -61,7 +61,7 @@ module _ (locks nodes : ℕ) (acts : List Act) (is_of : IsOf locks nodes acts) (
     by_arrive : l ≡ locks + arrives_before acts node place * nodes + node → Behind l place node own Arrive
     by_depart : {q : ℕ} → q < nodes → l ≡ locks + departs_before acts node place * nodes + q → Behind l place node own Depart
 
-  release_behind : (l place node : ℕ) (deed : Deed) (s : Step) → Does acts place node deed
+  release_behind : (l place node : ℕ) (deed : Deed) (s : RapidStep) → Does acts place node deed
       → Comes (meeting_at locks nodes acts node place) place node deed s → s.operation ≡ Releases l → Behind l place node Release deed
   release_behind l place node deed s does reading e = absurd cc
   release_behind l place node deed s does writing e = absurd cc
@@ -74,7 +74,7 @@ module _ (locks nodes : ℕ) (acts : List Act) (is_of : IsOf locks nodes acts) (
   release_behind l place node deed s does (departing few) e = absurd cc
   release_behind l place node deed s does (departed few) e = by_depart few (sym (ap lock_in e))
 
-  acquire_behind : (l place node : ℕ) (deed : Deed) (s : Step) → Does acts place node deed
+  acquire_behind : (l place node : ℕ) (deed : Deed) (s : RapidStep) → Does acts place node deed
       → Comes (meeting_at locks nodes acts node place) place node deed s → s.operation ≡ Acquires l → Behind l place node Acquire deed
   acquire_behind l place node deed s does reading e = absurd cc
   acquire_behind l place node deed s does writing e = absurd cc
@@ -169,8 +169,8 @@ module _ (locks nodes : ℕ) (acts : List Act) (is_of : IsOf locks nodes acts) (
       let (s, on, to) = to_departs at_a at_b both.0 lt last in
       reach_then (reaches_on from on) to
 
-  link : {i k m : ℕ} → NoDepart i → ((s : Step) → slice_get steps k ≡ Some s → Reaches acts i s.position) → StepPrecedes steps k m
-      → (t : Step) → slice_get steps m ≡ Some t → Reaches acts i t.position
+  link : {i k m : ℕ} → NoDepart i → ((s : RapidStep) → slice_get steps k ≡ Some s → Reaches acts i s.position) → StepPrecedes steps k m
+      → (t : RapidStep) → slice_get steps m ≡ Some t → Reaches acts i t.position
   link {i} {k} {m} stays reach (trace.program {s = s} {t = u} lt hs hu same) t ht =
       let a = act_of_step locks nodes acts k s hs in
       let b = act_of_step locks nodes acts m u hu in
@@ -183,7 +183,7 @@ module _ (locks nodes : ℕ) (acts : List Act) (is_of : IsOf locks nodes acts) (
             subst (λ p. Reaches acts i p) (sym b.position) (inr (reach_then from (program less_places a.does (Does-node nodes_same b.does))))
         | inr not_less ↦ let equal : s.position ≡ u.position = omega arith in subst (λ p. Reaches acts i p) equal (reach s hs)
       ] in
-      subst (λ (z : Step). Reaches acts i z.position) (same_Some u t (sym hu ∙ ht)) to
+      subst (λ (z : RapidStep). Reaches acts i z.position) (same_Some u t (sym hu ∙ ht)) to
   link {i} {k} {m} stays reach (trace.lock {l = l} {s = s} {t = u} lt hs hu gives gets) t ht =
       let a = act_of_step locks nodes acts k s hs in
       let b = act_of_step locks nodes acts m u hu in
@@ -197,17 +197,17 @@ module _ (locks nodes : ℕ) (acts : List Act) (is_of : IsOf locks nodes acts) (
             subst (λ p. Reaches acts i p) (sym b.position) (inr (handed stays a.does b.does behind_a behind_b less_places from))
         | inr not_less ↦ let equal : s.position ≡ u.position = omega arith in subst (λ p. Reaches acts i p) equal (reach s hs)
       ] in
-      subst (λ (z : Step). Reaches acts i z.position) (same_Some u t (sym hu ∙ ht)) to
+      subst (λ (z : RapidStep). Reaches acts i z.position) (same_Some u t (sym hu ∙ ht)) to
 
-  back : {i k m : ℕ} → NoDepart i → ((s : Step) → slice_get steps k ≡ Some s → s.position ≡ i) → StepBefore steps k m
-      → (t : Step) → slice_get steps m ≡ Some t → Reaches acts i t.position
+  back : {i k m : ℕ} → NoDepart i → ((s : RapidStep) → slice_get steps k ≡ Some s → s.position ≡ i) → StepBefore steps k m
+      → (t : RapidStep) → slice_get steps m ≡ Some t → Reaches acts i t.position
   back stays is (trace.base p) t ht = link stays (λ s hs. inl (sym (is s hs))) p t ht
   back stays is (trace.further h p) t ht = link stays (λ s hs. back stays is h s hs) p t ht
 
   -- ---- from the run to the trace
 
   -- steps of later acts stand later
-  before : {k m : ℕ} (s t : Step) → slice_get steps k ≡ Some s → slice_get steps m ≡ Some t → s.position < t.position → k < m
+  before : {k m : ℕ} (s t : RapidStep) → slice_get steps k ≡ Some s → slice_get steps m ≡ Some t → s.position < t.position → k < m
   before {k} {m} s t hs ht lt =
       elim (cases_lt k m) [
         | inl less ↦ less
@@ -215,7 +215,7 @@ module _ (locks nodes : ℕ) (acts : List Act) (is_of : IsOf locks nodes acts) (
       ]
 
   -- the step of an acquire
-  gets_lock : {meeting : Meeting} {place node l : ℕ} {deed : Deed} {t : Step} → Comes meeting place node deed t → deed ≡ Acquire l → t.operation ≡ Acquires l
+  gets_lock : {meeting : Meeting} {place node l : ℕ} {deed : Deed} {t : RapidStep} → Comes meeting place node deed t → deed ≡ Acquire l → t.operation ≡ Acquires l
   gets_lock reading e = absurd cc
   gets_lock writing e = absurd cc
   gets_lock (acquiring {l = m}) e = ap Acquires (ap lock_of e)
@@ -226,7 +226,7 @@ module _ (locks nodes : ℕ) (acts : List Act) (is_of : IsOf locks nodes acts) (
   gets_lock (departed few) e = absurd cc
 
   -- an access of a node, and its step
-  record Start (i p k : ℕ) (s : Step) : Type 0 where
+  record Start (i p k : ℕ) (s : RapidStep) : Type 0 where
     deed : Deed
     does : Does acts i p deed
     plain : (l : ℕ) → deed ≢ Release l
@@ -235,7 +235,7 @@ module _ (locks nodes : ℕ) (acts : List Act) (is_of : IsOf locks nodes acts) (
     position : s.position ≡ i
     node : s.node ≡ p
 
-  forth : {i j p k : ℕ} {s : Step} → Start i p k s → HappensBefore acts i j → (q : ℕ) (e : Deed) → Does acts j q e → (m : ℕ) (t : Step)
+  forth : {i j p k : ℕ} {s : RapidStep} → Start i p k s → HappensBefore acts i j → (q : ℕ) (e : Deed) → Does acts j q e → (m : ℕ) (t : RapidStep)
       → slice_get steps m ≡ Some t → t.node ≡ q → (j < t.position) ⊎ ((t.position ≡ j) × (is_depart e ≡ false)) → StepBefore steps k m
   forth {i} {j} {p} {k} {s} start (base (program {node = n} lt at_i at_j)) q e does m t ht own where_t =
       let first : p ≡ n = Does-one_node start.does at_i in
@@ -250,8 +250,8 @@ module _ (locks nodes : ℕ) (acts : List Act) (is_of : IsOf locks nodes acts) (
       let less : c < t.position = elim where_t [ inl past ↦ omega arith | inr here ↦ let on : t.position ≡ j = here.0 in omega arith ] in
       forth start h n d at_c m t ht (own ∙ second) (inl less)
   forth {j = j} start (further {j = c} h (lock {p = x} {q = y} {l = l} lt at_c at_j)) q e does m t ht own where_t =
-      let gave = step x c (Releases l) in
-      let got = step y j (Acquires l) in
+      let gave = rapid_step x c (Releases l) in
+      let got = rapid_step y j (Acquires l) in
       let (mc, at_mc) = step_of_act locks nodes acts c x (Release l) 0 gave at_c refl in
       let (mj, at_mj) = step_of_act locks nodes acts j y (Acquire l) 0 got at_j refl in
       let to_c = forth start h x (Release l) at_c mc gave at_mc refl (inr (refl, refl)) in
@@ -271,8 +271,8 @@ module _ (locks nodes : ℕ) (acts : List Act) (is_of : IsOf locks nodes acts) (
   forth {j = j} start (further {j = c} h (barrier {p = x} {q = y} lt at_c at_j counts)) q e does m t ht own where_t =
       let at_x = meeting_at locks nodes acts x c in
       let at_y = meeting_at locks nodes acts y j in
-      let gave = step x c (Releases (lock_of_arrival at_x at_x.arrived x)) in
-      let got = step y j (Acquires (lock_of_arrival at_y at_y.departed x)) in
+      let gave = rapid_step x c (Releases (lock_of_arrival at_x at_x.arrived x)) in
+      let got = rapid_step y j (Acquires (lock_of_arrival at_y at_y.departed x)) in
       let (mc, at_mc) = step_of_act locks nodes acts c x Arrive 1 gave at_c refl in
       let (mj, at_mj) = step_of_depart locks nodes acts j y x at_j (is_of.node c x Arrive at_c) in
       let to_c = forth start h x Arrive at_c mc gave at_mc refl (inr (refl, refl)) in
@@ -290,9 +290,9 @@ module _ (locks nodes : ℕ) (acts : List Act) (is_of : IsOf locks nodes acts) (
 
   -- an access has one step, and is no release, arrive or depart
   access : (i p v : ℕ) → Accesses acts i p v
-      → (deed : Deed) × Does acts i p deed × (is_depart deed ≡ false) × ((k : ℕ) × (s : Step) × Start i p k s)
+      → (deed : Deed) × Does acts i p deed × (is_depart deed ≡ false) × ((k : ℕ) × (s : RapidStep) × Start i p k s)
   access i p v (inl (value, does)) =
-      let s = step p i (Reads v) in
+      let s = rapid_step p i (Reads v) in
       let (k, at) = step_of_act locks nodes acts i p (Read v value) 0 s does refl in (
         Read v value,
         does,
@@ -312,7 +312,7 @@ module _ (locks nodes : ℕ) (acts : List Act) (is_of : IsOf locks nodes acts) (
         ),
       )
   access i p v (inr (value, does)) =
-      let s = step p i (Writes v) in
+      let s = rapid_step p i (Writes v) in
       let (k, at) = step_of_act locks nodes acts i p (Write v value) 0 s does refl in (
         Write v value,
         does,
@@ -348,7 +348,7 @@ module _ (locks nodes : ℕ) (acts : List Act) (is_of : IsOf locks nodes acts) (
           of_j = start_j.position;
           before = forth start_i h q e at_j m t start_j.stands start_j.node (inr (start_j.position, stays_j));
         },
-        λ o. elim (back stays (λ s' hs. ap (λ (z : Step). z.position) (same_Some s' o.first (sym hs ∙ o.at_k)) ∙ o.of_i) o.before o.second o.at_m) [
+        λ o. elim (back stays (λ s' hs. ap (λ (z : RapidStep). z.position) (same_Some s' o.first (sym hs ∙ o.at_k)) ∙ o.of_i) o.before o.second o.at_m) [
           | inl same ↦ absurd (apart (same ∙ o.of_j))
           | inr h ↦ subst (λ z. HappensBefore acts i z) o.of_j h
         ],

@@ -8,60 +8,60 @@ use Rattle.lrc_trace.specs.declared.act.Deed.TheVariants.{Quiet, Print, Read, Wr
 use Rattle.lrc_trace.specs.Run.{Does}
 use Rattle.lrc_show.specs.declared.rapid.Meeting.{Meeting}
 use Rattle.lrc_show.specs.declared.rapid.Operation.TheVariants.{Reads, Writes, Acquires, Releases}
-use Rattle.lrc_show.specs.Rapid.{Step, lock_of_arrival, meeting_at, passes, rapid_of, step, steps_of}
+use Rattle.lrc_show.specs.Rapid.{RapidStep, lock_of_arrival, meeting_at, passes, rapid_of, rapid_step, rapid_steps}
 use Rattle.lrc_show.proofs.Pieces.{found, found_in_range, nowhere, rising, there, there_in_range}
 
 -- the step stands for this deed of a node at a position
-pub data Comes (meeting : Meeting) (position node : ℕ) : Deed → Step → Type 0 where
-  reading : {w value : ℕ} → Comes meeting position node (Read w value) (step node position (Reads w))
-  writing : {w value : ℕ} → Comes meeting position node (Write w value) (step node position (Writes w))
-  acquiring : {l : ℕ} → Comes meeting position node (Acquire l) (step node position (Acquires l))
-  releasing : {l : ℕ} → Comes meeting position node (Release l) (step node position (Releases l))
-  arriving : Comes meeting position node Arrive (step node position (Acquires (lock_of_arrival meeting meeting.arrived node)))
-  arrived : Comes meeting position node Arrive (step node position (Releases (lock_of_arrival meeting meeting.arrived node)))
+pub data Comes (meeting : Meeting) (position node : ℕ) : Deed → RapidStep → Type 0 where
+  reading : {w value : ℕ} → Comes meeting position node (Read w value) (rapid_step node position (Reads w))
+  writing : {w value : ℕ} → Comes meeting position node (Write w value) (rapid_step node position (Writes w))
+  acquiring : {l : ℕ} → Comes meeting position node (Acquire l) (rapid_step node position (Acquires l))
+  releasing : {l : ℕ} → Comes meeting position node (Release l) (rapid_step node position (Releases l))
+  arriving : Comes meeting position node Arrive (rapid_step node position (Acquires (lock_of_arrival meeting meeting.arrived node)))
+  arrived : Comes meeting position node Arrive (rapid_step node position (Releases (lock_of_arrival meeting meeting.arrived node)))
   departing : {q : ℕ} → q < meeting.nodes
-      → Comes meeting position node Depart (step node position (Acquires (lock_of_arrival meeting meeting.departed q)))
+      → Comes meeting position node Depart (rapid_step node position (Acquires (lock_of_arrival meeting meeting.departed q)))
   departed : {q : ℕ} → q < meeting.nodes
-      → Comes meeting position node Depart (step node position (Releases (lock_of_arrival meeting meeting.departed q)))
+      → Comes meeting position node Depart (rapid_step node position (Releases (lock_of_arrival meeting meeting.departed q)))
 
-one : (x s : Step) (o : ℕ) → slice_get (x ∷ []) o ≡ Some s → x ≡ s
+one : (x s : RapidStep) (o : ℕ) → slice_get (x ∷ []) o ≡ Some s → x ≡ s
 one x s zero h = same_Some x s h
 one x s (suc o) h = absurd (nowhere o s h)
 
-two : (x y s : Step) (o : ℕ) → slice_get (x ∷ y ∷ []) o ≡ Some s → (x ≡ s) ⊎ (y ≡ s)
+two : (x y s : RapidStep) (o : ℕ) → slice_get (x ∷ y ∷ []) o ≡ Some s → (x ≡ s) ⊎ (y ≡ s)
 two x y s zero h = inl (same_Some x s h)
 two x y s (suc o) h = inr (one y s o h)
 
-pub comes : (meeting : Meeting) (position node : ℕ) (deed : Deed) (o : ℕ) (s : Step) → slice_get (steps_of meeting position node deed) o ≡ Some s
+pub comes : (meeting : Meeting) (position node : ℕ) (deed : Deed) (o : ℕ) (s : RapidStep) → slice_get (rapid_steps meeting position node deed) o ≡ Some s
     → Comes meeting position node deed s
 comes meeting position node (Read w value) o s h =
-    subst (λ (t : Step). Comes meeting position node (Read w value) t) (one (step node position (Reads w)) s o h) reading
+    subst (λ (t : RapidStep). Comes meeting position node (Read w value) t) (one (rapid_step node position (Reads w)) s o h) reading
 comes meeting position node (Write w value) o s h =
-    subst (λ (t : Step). Comes meeting position node (Write w value) t) (one (step node position (Writes w)) s o h) writing
+    subst (λ (t : RapidStep). Comes meeting position node (Write w value) t) (one (rapid_step node position (Writes w)) s o h) writing
 comes meeting position node (Acquire l) o s h =
-    subst (λ (t : Step). Comes meeting position node (Acquire l) t) (one (step node position (Acquires l)) s o h) acquiring
+    subst (λ (t : RapidStep). Comes meeting position node (Acquire l) t) (one (rapid_step node position (Acquires l)) s o h) acquiring
 comes meeting position node (Release l) o s h =
-    subst (λ (t : Step). Comes meeting position node (Release l) t) (one (step node position (Releases l)) s o h) releasing
+    subst (λ (t : RapidStep). Comes meeting position node (Release l) t) (one (rapid_step node position (Releases l)) s o h) releasing
 comes meeting position node Arrive o s h =
     let l = lock_of_arrival meeting meeting.arrived node in
-    elim (two (step node position (Acquires l)) (step node position (Releases l)) s o h) [
-      | inl is ↦ subst (λ (t : Step). Comes meeting position node Arrive t) is arriving
-      | inr is ↦ subst (λ (t : Step). Comes meeting position node Arrive t) is arrived
+    elim (two (rapid_step node position (Acquires l)) (rapid_step node position (Releases l)) s o h) [
+      | inl is ↦ subst (λ (t : RapidStep). Comes meeting position node Arrive t) is arriving
+      | inr is ↦ subst (λ (t : RapidStep). Comes meeting position node Arrive t) is arrived
     ]
 comes meeting position node Depart o s h =
     let (q, few, (at, is)) = found_in_range (λ q. passes node position (lock_of_arrival meeting meeting.departed q)) 0 meeting.nodes o s h in
     let within : q < meeting.nodes = omega arith in
     let l = lock_of_arrival meeting meeting.departed q in
-    elim (two (step node position (Acquires l)) (step node position (Releases l)) s at is) [
-      | inl same ↦ subst (λ (t : Step). Comes meeting position node Depart t) same (departing within)
-      | inr same ↦ subst (λ (t : Step). Comes meeting position node Depart t) same (departed within)
+    elim (two (rapid_step node position (Acquires l)) (rapid_step node position (Releases l)) s at is) [
+      | inl same ↦ subst (λ (t : RapidStep). Comes meeting position node Depart t) same (departing within)
+      | inr same ↦ subst (λ (t : RapidStep). Comes meeting position node Depart t) same (departed within)
     ]
 comes meeting position node Quiet o s h = absurd (nowhere o s h)
 comes meeting position node (Print value) o s h = absurd (nowhere o s h)
 comes meeting position node (Trap cause) o s h = absurd (nowhere o s h)
 comes meeting position node End o s h = absurd (nowhere o s h)
 
-position_is : {meeting : Meeting} {position node : ℕ} {deed : Deed} {s : Step} → Comes meeting position node deed s → s.position ≡ position
+position_is : {meeting : Meeting} {position node : ℕ} {deed : Deed} {s : RapidStep} → Comes meeting position node deed s → s.position ≡ position
 position_is reading = refl
 position_is writing = refl
 position_is acquiring = refl
@@ -71,7 +71,7 @@ position_is arrived = refl
 position_is (departing few) = refl
 position_is (departed few) = refl
 
-pub node_is : {meeting : Meeting} {position node : ℕ} {deed : Deed} {s : Step} → Comes meeting position node deed s → s.node ≡ node
+pub node_is : {meeting : Meeting} {position node : ℕ} {deed : Deed} {s : RapidStep} → Comes meeting position node deed s → s.node ≡ node
 node_is reading = refl
 node_is writing = refl
 node_is acquiring = refl
@@ -82,7 +82,7 @@ node_is (departing few) = refl
 node_is (departed few) = refl
 
 -- the act that a step stands for
-pub record IsOfAct (locks nodes : ℕ) (acts : List Act) (s : Step) : Type 0 where
+pub record IsOfAct (locks nodes : ℕ) (acts : List Act) (s : RapidStep) : Type 0 where
   pub place : ℕ
   pub node : ℕ
   pub deed : Deed
@@ -92,10 +92,10 @@ pub record IsOfAct (locks nodes : ℕ) (acts : List Act) (s : Step) : Type 0 whe
   pub same_node : s.node ≡ node
 
 module _ (locks nodes : ℕ) (acts : List Act) where
-  abbrev of : ℕ → Act → List Step
-  of position act = steps_of (meeting_at locks nodes acts act.node position) position act.node act.deed
+  abbrev of : ℕ → Act → List RapidStep
+  of position act = rapid_steps (meeting_at locks nodes acts act.node position) position act.node act.deed
 
-  pub act_of_step : (k : ℕ) (s : Step) → slice_get (rapid_of locks nodes acts) k ≡ Some s → IsOfAct locks nodes acts s
+  pub act_of_step : (k : ℕ) (s : RapidStep) → slice_get (rapid_of locks nodes acts) k ≡ Some s → IsOfAct locks nodes acts s
   act_of_step k s h =
       let (i, act, at, (o, is)) = found of 0 acts k s h in
       let start : 0 + i ≡ i = omega arith in
@@ -112,8 +112,8 @@ module _ (locks nodes : ℕ) (acts : List Act) where
       }
 
   -- each step of an act stands in the trace
-  pub step_of_act : (i node : ℕ) (deed : Deed) (o : ℕ) (s : Step) → Does acts i node deed
-      → slice_get (steps_of (meeting_at locks nodes acts node i) i node deed) o ≡ Some s
+  pub step_of_act : (i node : ℕ) (deed : Deed) (o : ℕ) (s : RapidStep) → Does acts i node deed
+      → slice_get (rapid_steps (meeting_at locks nodes acts node i) i node deed) o ≡ Some s
       → (k : ℕ) × (slice_get (rapid_of locks nodes acts) k ≡ Some s)
   step_of_act i node deed o s does h =
       let start : i ≡ 0 + i = omega arith in
@@ -124,16 +124,16 @@ module _ (locks nodes : ℕ) (acts : List Act) where
   pub step_of_depart : (i node q : ℕ) → Does acts i node Depart → q < nodes
       → (k : ℕ)
       × (slice_get (rapid_of locks nodes acts) k
-      ≡ Some (step node i (Acquires (lock_of_arrival (meeting_at locks nodes acts node i) (meeting_at locks nodes acts node i).departed q))))
+      ≡ Some (rapid_step node i (Acquires (lock_of_arrival (meeting_at locks nodes acts node i) (meeting_at locks nodes acts node i).departed q))))
   step_of_depart i node q does few =
       let meeting = meeting_at locks nodes acts node i in
-      let wanted = step node i (Acquires (lock_of_arrival meeting meeting.departed q)) in
+      let wanted = rapid_step node i (Acquires (lock_of_arrival meeting meeting.departed q)) in
       let (o, is) = there_in_range (λ q. passes node i (lock_of_arrival meeting meeting.departed q)) 0 nodes q 0 wanted (omega arith) (omega arith) refl in
       step_of_act i node Depart o wanted does is
 
   -- steps of later acts stand later
-  pub later : (k m : ℕ) (s t : Step) → slice_get (rapid_of locks nodes acts) k ≡ Some s → slice_get (rapid_of locks nodes acts) m ≡ Some t → k ≤ m
+  pub later : (k m : ℕ) (s t : RapidStep) → slice_get (rapid_of locks nodes acts) k ≡ Some s → slice_get (rapid_of locks nodes acts) m ≡ Some t → k ≤ m
       → s.position ≤ t.position
   later k m s t hk hm le =
-      rising of (λ (s : Step). s.position)
+      rising of (λ (s : RapidStep). s.position)
       (λ i act o s h. position_is (comes (meeting_at locks nodes acts act.node i) i act.node act.deed o s h)) 0 acts k m s t hk hm le

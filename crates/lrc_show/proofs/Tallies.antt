@@ -8,7 +8,7 @@ use Rattle.lrc_trace.specs.declared.act.Deed.{Deed}
 use Rattle.lrc_trace.specs.Run.{count_of}
 use Rattle.lrc_trace.proofs.Counts.{counts_next, counts_same}
 use Rattle.lrc_trace.proofs.Positions.{Does-read}
-use Rattle.lrc_show.specs.Tally.{Tallies, noted}
+use Rattle.lrc_show.specs.Tally.{Tallies, tallied}
 
 -- nothing is counted before the first act
 pub tallies_none : (kind : Deed → Bool) (acts : List Act) (counts : List ℕ) → counts ≡ replicate 256 0 → Tallies kind acts 0 counts
@@ -21,7 +21,7 @@ module _ (kind : Deed → Bool) (acts : List Act) (n : ℕ) (d : Act) (within : 
   abbrev act : Act
   act = get_or acts n d
 
-  go : (counted : Bool) → kind act.deed ≡ counted → Tallies kind acts (n + 1) (noted counts act.node counted)
+  go : (counted : Bool) → kind act.deed ≡ counted → Tallies kind acts (n + 1) (tallied counts act.node counted)
   go true passes = record {
     many = length-set counts act.node (get_or counts act.node 0 + 1) ∙ tallies.many;
     counted = counts_next acts n act.node act.deed (Does-read acts n d within) kind counts passes (omega (arith, tallies.many)) tallies.counted;
@@ -31,7 +31,7 @@ module _ (kind : Deed → Bool) (acts : List Act) (n : ℕ) (d : Act) (within : 
     counted = counts_same acts n act.node act.deed (Does-read acts n d within) kind counts fails tallies.counted;
   }
 
-  pub tallies_next : Tallies kind acts (n + 1) (noted counts act.node (kind act.deed))
+  pub tallies_next : Tallies kind acts (n + 1) (tallied counts act.node (kind act.deed))
   tallies_next = go (kind act.deed) refl
 
   -- what is counted of a node, and that it stays below what a position can be

@@ -1,3 +1,4 @@
+pub mod Acts
 pub mod Each
 pub mod ActsText
 pub mod Json

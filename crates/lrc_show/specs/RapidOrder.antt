@@ -8,27 +8,27 @@ use Rattle.lrc_trace.specs.Conflict.{Accesses}
 use Rattle.lrc_trace.specs.Order.{HappensBefore}
 use Rattle.lrc_trace.specs.Synchronization.{IsWellSynchronized, WaitsAtBarriers}
 use Rattle.lrc_show.specs.declared.rapid.Operation.TheVariants.{Acquires, Releases}
-use Rattle.lrc_show.specs.Rapid.{Step, rapid_of}
+use Rattle.lrc_show.specs.Rapid.{RapidStep, rapid_of}
 
 -- A step comes before a later one, where
-pub data StepPrecedes (steps : List Step) : ℕ → ℕ → Type 0 where
+pub data StepPrecedes (steps : List RapidStep) : ℕ → ℕ → Type 0 where
   -- both are of one node,
-  program : {k m : ℕ} {s t : Step} → k < m → slice_get steps k ≡ Some s → slice_get steps m ≡ Some t → s.node ≡ t.node → StepPrecedes steps k m
+  program : {k m : ℕ} {s t : RapidStep} → k < m → slice_get steps k ≡ Some s → slice_get steps m ≡ Some t → s.node ≡ t.node → StepPrecedes steps k m
   -- or the first releases a lock that the other acquires;
-  lock : {k m l : ℕ} {s t : Step} → k < m → slice_get steps k ≡ Some s → slice_get steps m ≡ Some t → s.operation ≡ Releases l
+  lock : {k m l : ℕ} {s t : RapidStep} → k < m → slice_get steps k ≡ Some s → slice_get steps m ≡ Some t → s.operation ≡ Releases l
       → t.operation ≡ Acquires l → StepPrecedes steps k m
 
 -- and what follows from that.
-pub data StepBefore (steps : List Step) : ℕ → ℕ → Type 0 where
+pub data StepBefore (steps : List RapidStep) : ℕ → ℕ → Type 0 where
   base : {k m : ℕ} → StepPrecedes steps k m → StepBefore steps k m
   further : {k m n : ℕ} → StepBefore steps k m → StepPrecedes steps m n → StepBefore steps k n
 
 -- a step of the act at position i comes before one of the act at position j
-pub record Orders (steps : List Step) (i j : ℕ) : Type 0 where
+pub record Orders (steps : List RapidStep) (i j : ℕ) : Type 0 where
   pub k : ℕ
   pub m : ℕ
-  pub first : Step
-  pub second : Step
+  pub first : RapidStep
+  pub second : RapidStep
   pub at_k : slice_get steps k ≡ Some first
   pub at_m : slice_get steps m ≡ Some second
   pub of_i : first.position ≡ i

@@ -5,9 +5,9 @@ use Rattle.lrc_trace.specs.declared.act.Deed.{Deed}
 use Rattle.lrc_trace.specs.Run.{count_of}
 
 -- one more at the node, if its act is counted
-abbrev pub noted : List ℕ → ℕ → Bool → List ℕ
-noted counts node true = slice_set counts node (slice_index counts node + 1)
-noted counts node false = counts
+abbrev pub tallied : List ℕ → ℕ → Bool → List ℕ
+tallied counts node true = slice_set counts node (slice_index counts node + 1)
+tallied counts node false = counts
 
 -- for each node that can act, how many acts of this kind it made before the position
 pub record Tallies (kind : Deed → Bool) (acts : List Act) (position : ℕ) (counts : List ℕ) : Type 0 where

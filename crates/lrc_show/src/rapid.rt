@@ -2,7 +2,7 @@
 
 ghost use Rattle.std.specs.Prelude.{◌≡◌, ◌++◌, ◌<◌, ◌≤◌, IfOk, OnOk, codes, decimal, length};
 ghost use Rattle.std.specs.List.{flat_map};
-ghost use Rattle.lrc_show.specs.Rapid.{lock_of_arrival, operation_text, passes, rapid_text, step, step_line, steps_of};
+ghost use Rattle.lrc_show.specs.Rapid.{lock_of_arrival, operation_text, passes, rapid_step, rapid_steps, rapid_text, step_line};
 ghost use Rattle.lrc_trace.specs.Run.{is_arrive, is_depart};
 ghost use Rattle.lrc_trace.specs.declared.act.Deed.TheVariants.{Depart};
 
@@ -103,7 +103,7 @@ fn push_steps(
     deed: Deed,
 ) -> Result<(), AllocError>
     ensures { OnOk result (text.new.items
-        ≡ text.old.items ++ flat_map (step_line spot.line) (steps_of meeting spot.position spot.node deed)) }
+        ≡ text.old.items ++ flat_map (step_line spot.line) (rapid_steps meeting spot.position spot.node deed)) }
 {
     match deed {
         Deed::Read(word, _) => push_step(text, spot, Operation::Reads(word)),
@@ -118,7 +118,7 @@ fn push_steps(
 
 fn push_depart(text: &mut Vec<u8>, spot: Spot, meeting: Meeting) -> Result<(), AllocError>
     ensures { OnOk result (text.new.items
-        ≡ text.old.items ++ flat_map (step_line spot.line) (steps_of meeting spot.position spot.node Depart)) }
+        ≡ text.old.items ++ flat_map (step_line spot.line) (rapid_steps meeting spot.position spot.node Depart)) }
 {
     for node in 0..meeting.nodes {
         push_passes(text, spot, meeting.lock(meeting.departed, node))?;
@@ -137,7 +137,7 @@ fn push_passes(text: &mut Vec<u8>, spot: Spot, lock: u128) -> Result<(), AllocEr
 
 fn push_step(text: &mut Vec<u8>, spot: Spot, operation: Operation) -> Result<(), AllocError>
     ensures { OnOk result (text.new.items
-        ≡ text.old.items ++ step_line spot.line (step spot.node spot.position operation)) }
+        ≡ text.old.items ++ step_line spot.line (rapid_step spot.node spot.position operation)) }
 {
     push_number(text, b"T", u64::from(spot.node))?;
     push_operation(text, operation)?;

@@ -1,7 +1,7 @@
 // How often each node did something.
 
 ghost use Rattle.std.specs.Prelude.{◌≡◌, ◌<◌, replicate, slice_index};
-ghost use Rattle.lrc_show.specs.Tally.{noted};
+ghost use Rattle.lrc_show.specs.Tally.{tallied};
 
 /// For each node a count of its acts of one kind.
 #[derive(Drop)]
@@ -28,7 +28,7 @@ impl Tally {
     /// Counts an act of the node, if it is to be counted.
     pub(crate) fn note(&mut self, node: u8, is_counted: bool)
         requires { slice_index self.old.counts node < 18446744073709551615 }
-        ensures { self.new.counts ≡ noted self.old.counts node is_counted }
+        ensures { self.new.counts ≡ tallied self.old.counts node is_counted }
     {
         if is_counted {
             self.counts[usize::from(node)] += 1;

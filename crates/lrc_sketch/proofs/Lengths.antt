@@ -11,7 +11,7 @@ use Rattle.lrc_show.specs.Each.{each}
 use Rattle.lrc_sketch.specs.declared.columns.Shape.{Shape}
 use Rattle.lrc_sketch.specs.Columns.{band_margin, bar, bars, bars_margin, between_sign, cell}
 use Rattle.lrc_sketch.specs.Columns.{cells, name_margin, number_text, room_of, row_margin, width_of}
-use Rattle.lrc_sketch.specs.Lines.{cut, filled, headed, joined, paragraph, pieces_of, plain, plain_sign}
+use Rattle.lrc_sketch.specs.Lines.{cut_words, filled, headed, joined_line, paragraph, pieces_of, plain_sign, plain_signs}
 use Rattle.lrc_sketch.specs.Short.{AreShort}
 
 abbrev IsShort : (most : ℕ) → List ℕ → Type 0
@@ -45,20 +45,20 @@ short_each most of items each_is = short_from most 0 (length items) of items (om
 
 -- ---- phrases in lines
 
-cut_short : (most room : ℕ) (words : List ℕ) → AreShort room (cut most room words)
+cut_short : (most room : ℕ) (words : List ℕ) → AreShort room (cut_words most room words)
 cut_short zero room words = short_none room
 cut_short (suc most) room [] = short_none room
 cut_short (suc most) room (w ∷ words) =
     let taken = length-take room (w ∷ words) in
     let same = length-map (take room (w ∷ words)) plain_sign in
-    short_more room (plain (take room (w ∷ words))) (cut most room (drop room (w ∷ words))) (omega (arith, taken, same))
+    short_more room (plain_signs (take room (w ∷ words))) (cut_words most room (drop room (w ∷ words))) (omega (arith, taken, same))
     (cut_short most room (drop room (w ∷ words)))
 
 -- a line and a piece that is no longer than a line make lines that are no longer
-fill_one : (room : ℕ) (line piece : List ℕ) (more : List (List ℕ)) (fits : Bool) → fits ≡ nat_le (length (joined line piece)) room → length line ≤ room
-    → (length (joined line piece) ≤ room → AreShort room (filled room (joined line piece) more)) → AreShort room (filled room piece more)
-    → AreShort room (cond fits (filled room (joined line piece) more) (line ∷ filled room piece more))
-fill_one room line piece more true is short here there = here (leb-true (length (joined line piece)) room (sym is))
+fill_one : (room : ℕ) (line piece : List ℕ) (more : List (List ℕ)) (fits : Bool) → fits ≡ nat_le (length (joined_line line piece)) room → length line ≤ room
+    → (length (joined_line line piece) ≤ room → AreShort room (filled room (joined_line line piece) more)) → AreShort room (filled room piece more)
+    → AreShort room (cond fits (filled room (joined_line line piece) more) (line ∷ filled room piece more))
+fill_one room line piece more true is short here there = here (leb-true (length (joined_line line piece)) room (sym is))
 fill_one room line piece more false is short here there = short_more room line (filled room piece more) short there
 
 filled_short : (room : ℕ) (line : List ℕ) (pieces : List (List ℕ)) → length line ≤ room → AreShort room pieces → AreShort room (filled room line pieces)
@@ -66,8 +66,8 @@ filled_short room line [] short are = short_more room line [] short (short_none 
 filled_short room line (piece ∷ more) short are =
     let head : length piece ≤ room = All-head (IsShort room) piece more are in
     let tail : AreShort room more = All-tail (IsShort room) piece more are in
-    fill_one room line piece more (nat_le (length (joined line piece)) room) refl short
-    (λ fits. filled_short room (joined line piece) more fits tail) (filled_short room piece more head tail)
+    fill_one room line piece more (nat_le (length (joined_line line piece)) room) refl short
+    (λ fits. filled_short room (joined_line line piece) more fits tail) (filled_short room piece more head tail)
 
 pub paragraph_short : (room : ℕ) (phrases : List (List ℕ)) → AreShort room (paragraph room phrases)
 paragraph_short room phrases =

@@ -9,7 +9,7 @@ use Rattle.lrc_picture.specs.declared.picture.Row.{Row}
 use Rattle.lrc_show.specs.Each.{each}
 use Rattle.lrc_sketch.specs.Columns.{band_margin, bars_margin, name_margin, room_of, row_margin}
 use Rattle.lrc_sketch.specs.Lines.{paragraph}
-use Rattle.lrc_sketch.specs.Phrases.{row_phrases, words_of}
+use Rattle.lrc_sketch.specs.Phrases.{row_phrases, words_of_row}
 use Rattle.lrc_sketch.specs.Short.{AreShort, NoLineIsLonger}
 use Rattle.lrc_sketch.specs.Sketch.{all_race_lines, band_lines, begin_lines, end_lines, legend_lines, legend_messages, legend_others, legend_signs, lines_if}
 use Rattle.lrc_sketch.specs.Sketch.{loose_lines, name_lines, race_head, race_lines, row_lines, shape_of, title_lines, turn_lines}
@@ -34,7 +34,7 @@ races_short rows [] = short_none 100
 races_short rows (race ∷ races) =
     short_more 100 [] (each (race_lines rows) (race ∷ races)) (omega arith)
     (short_each 100 (race_lines rows) (race ∷ races)
-    (λ position one within. loose_short (race_head position one ∷ words_of rows one.from ∷ words_of rows one.to ∷ one.label.items ∷ one.hint.items ∷ [])))
+    (λ position one within. loose_short (race_head position one ∷ words_of_row rows one.from ∷ words_of_row rows one.to ∷ one.label.items ∷ one.hint.items ∷ [])))
 
 module _ (picture : Picture) (few : length picture.columns.items ≤ 16) where
   abbrev columns : ℕ

@@ -11,11 +11,11 @@ use Rattle.lrc_show.specs.Each.{each}
 use Rattle.lrc_text.specs.Parts.{texts_of}
 
 -- the name of a column, and the words of a row; none past the last one
-abbrev pub name_of : List (Vec ℕ Global) → (column : ℕ) → List ℕ
-name_of columns column = slice_index_or (texts_of columns) column []
+abbrev pub name_of_column : List (Vec ℕ Global) → (column : ℕ) → List ℕ
+name_of_column columns column = slice_index_or (texts_of columns) column []
 
-abbrev pub words_of : List Row → (number : ℕ) → List ℕ
-words_of rows number = slice_index_or (map (λ row. row.words.items) rows) number []
+abbrev pub words_of_row : List Row → (number : ℕ) → List ℕ
+words_of_row rows number = slice_index_or (map (λ row. row.words.items) rows) number []
 
 -- a phrase, if there is one
 abbrev pub only_if : Bool → List ℕ → List (List ℕ)
@@ -23,12 +23,12 @@ only_if true phrase = phrase ∷ []
 only_if false phrase = []
 
 -- the words of a row, wide enough that places stand below each other
-abbrev pub lead : (words place : List ℕ) → List ℕ
-lead words [] = words
-lead words (sign ∷ place) = words ++ replicate (16 - length words) 32
+abbrev pub padded_words : (words place : List ℕ) → List ℕ
+padded_words words [] = words
+padded_words words (sign ∷ place) = words ++ replicate (16 - length words) 32
 
 abbrev pub turn_phrases : Row → List (List ℕ)
-turn_phrases row = lead row.words.items row.place.items ∷ row.place.items ∷ row.time.items ∷ row.invalid.items ∷ []
+turn_phrases row = padded_words row.words.items row.place.items ∷ row.place.items ∷ row.time.items ∷ row.invalid.items ∷ []
 
 -- ---- messages, numbered from 1
 
@@ -36,17 +36,17 @@ abbrev pub again_text : Bool → List ℕ
 again_text true = codes " again"
 again_text false = []
 
-abbrev pub message_text : (sign : List ℕ) → (position : ℕ) → Arrow → List ℕ
-message_text sign position arrow = sign ++ decimal (position + 1) ++ codes " " ++ arrow.label.items ++ again_text arrow.again
+abbrev pub arrow_phrase : (sign : List ℕ) → (position : ℕ) → Arrow → List ℕ
+arrow_phrase sign position arrow = sign ++ decimal (position + 1) ++ codes " " ++ arrow.label.items ++ again_text arrow.again
 
 abbrev pub taken_phrase : (position : ℕ) → Arrow → List ℕ
-taken_phrase position arrow = message_text (codes "<") position arrow
+taken_phrase position arrow = arrow_phrase (codes "<") position arrow
 
 abbrev pub sent_phrase : List (Vec ℕ Global) → (position : ℕ) → Arrow → List ℕ
-sent_phrase columns position arrow = message_text (codes ">") position arrow ++ codes " to " ++ name_of columns arrow.receiver
+sent_phrase columns position arrow = arrow_phrase (codes ">") position arrow ++ codes " to " ++ name_of_column columns arrow.receiver
 
 abbrev pub lost_phrase : List (Vec ℕ Global) → Lost → List ℕ
-lost_phrase columns lost = codes ">x " ++ lost.label.items ++ codes " to " ++ name_of columns lost.receiver ++ codes ", never taken"
+lost_phrase columns lost = codes ">x " ++ lost.label.items ++ codes " to " ++ name_of_column columns lost.receiver ++ codes ", never taken"
 
 -- the messages that a row takes, that it sends, and those of them that are never taken
 abbrev pub taken_phrases : Picture → (number : ℕ) → List (List ℕ)

@@ -11,7 +11,7 @@ use Rattle.lrc_show.specs.Each.{each}
 use Rattle.lrc_sketch.specs.declared.columns.Shape.{Shape}
 use Rattle.lrc_sketch.specs.Columns.{band_margin, bars_margin, name_margin, room_of, row_margin}
 use Rattle.lrc_sketch.specs.Lines.{headed, lines_text, paragraph}
-use Rattle.lrc_sketch.specs.Phrases.{race_name, row_phrases, words_of}
+use Rattle.lrc_sketch.specs.Phrases.{race_name, row_phrases, words_of_row}
 
 -- words that stand beside no column, in lines of this room
 abbrev pub loose_lines : (room : ℕ) → (phrases : List (List ℕ)) → List (List ℕ)
@@ -80,7 +80,7 @@ race_head position race = race_name position ++ codes ": row " ++ decimal race.f
 
 abbrev pub race_lines : List Row → (position : ℕ) → Race → List (List ℕ)
 race_lines rows position race =
-    loose_lines 98 (race_head position race ∷ words_of rows race.from ∷ words_of rows race.to ∷ race.label.items ∷ race.hint.items ∷ [])
+    loose_lines 98 (race_head position race ∷ words_of_row rows race.from ∷ words_of_row rows race.to ∷ race.label.items ∷ race.hint.items ∷ [])
 
 abbrev pub all_race_lines : List Row → List Race → List (List ℕ)
 all_race_lines rows [] = []

@@ -2,8 +2,8 @@
 
 ghost use Rattle.std.specs.Prelude.{◌≡◌, ◌<◌, ◌≤◌, ◌++◌, IfOk, List, OnOk, codes, if◌then◌else◌, length, ℕ};
 ghost use Rattle.lrc_text.specs.Parts.{texts_of};
-ghost use Rattle.lrc_sketch.specs.Lines.{gap, headed, lines_text, paragraph, pieces_of, plain, plain_sign};
-ghost use Rattle.lrc_sketch.specs.Written.{joins, piece_text, used_behind, written};
+ghost use Rattle.lrc_sketch.specs.Lines.{gap, headed, lines_text, paragraph, pieces_of, plain_sign, plain_signs};
+ghost use Rattle.lrc_sketch.specs.Written.{piece_joins, piece_text, used_behind, written};
 
 use std::alloc::AllocError;
 
@@ -18,7 +18,7 @@ fn plain_sign(sign: u8) -> u8
 }
 
 fn push_plain(text: &mut Vec<u8>, words: &[u8]) -> Result<(), AllocError>
-    ensures { OnOk result (text.new.items ≡ text.old.items ++ plain words.now) }
+    ensures { OnOk result (text.new.items ≡ text.old.items ++ plain_signs words.now) }
 {
     for sign in words {
         text.push(plain_sign(*sign))?;
@@ -35,11 +35,11 @@ fn gap_of(used: usize) -> &'static [u8]
 }
 
 // Whether a piece of so many signs joins a line of so many.
-fn joins(room: usize, used: usize, size: usize) -> bool
+fn piece_joins(room: usize, used: usize, size: usize) -> bool
     requires small { room < 1000 }
     requires used { used ≤ room }
     requires size { size ≤ room }
-    ensures { result ≡ joins room used size }
+    ensures { result ≡ piece_joins room used size }
 {
     used + gap_of(used).len() + size <= room
 }
@@ -52,7 +52,7 @@ fn used_behind(room: usize, used: usize, size: usize) -> usize
     ensures is { result ≡ used_behind room used size }
     ensures short { result ≤ room }
 {
-    if joins(room, used, size) {
+    if piece_joins(room, used, size) {
         used + gap_of(used).len() + size
     } else {
         size
@@ -82,11 +82,11 @@ fn push_piece(
     requires small { room < 1000 }
     requires used { used ≤ room }
     requires size { length piece.now ≤ room }
-    ensures text { OnOk result (text.new.items ≡ text.old.items ++ piece_text room (codes "\n" ++ margin.now) used (plain piece.now)) }
+    ensures text { OnOk result (text.new.items ≡ text.old.items ++ piece_text room (codes "\n" ++ margin.now) used (plain_signs piece.now)) }
     ensures used { IfOk result (λ now. now ≡ used_behind room used (length piece.now)) }
     ensures short { IfOk result (λ now. now ≤ room) }
 {
-    push_break(text, margin, used, joins(room, used, piece.len()))?;
+    push_break(text, margin, used, piece_joins(room, used, piece.len()))?;
     push_plain(text, piece)?;
     Ok(used_behind(room, used, piece.len()))
 }

@@ -2,8 +2,8 @@
 
 ghost use Rattle.std.specs.Prelude.{◌≡◌, ◌<◌, ◌==◌, ◌||◌, ◌-◌, ◌∷◌, ◌++◌, [], IfOk, OnOk, codes, if◌then◌else◌, replicate};
 ghost use Rattle.lrc_text.specs.Parts.{texts_of};
-ghost use Rattle.lrc_sketch.specs.Phrases.{again_text, lead, lost_phrase, lost_phrases, message_text, name_of, only_if, race_name};
-ghost use Rattle.lrc_sketch.specs.Phrases.{race_phrases, row_phrases, sent_phrase, sent_phrases, taken_phrase, taken_phrases, turn_phrases, words_of};
+ghost use Rattle.lrc_sketch.specs.Phrases.{again_text, arrow_phrase, lost_phrase, lost_phrases, name_of_column, only_if, padded_words, race_name};
+ghost use Rattle.lrc_sketch.specs.Phrases.{race_phrases, row_phrases, sent_phrase, sent_phrases, taken_phrase, taken_phrases, turn_phrases, words_of_row};
 
 use crate::columns::push_times;
 use lrc_picture::{Arrow, Lost, Picture, Race, Row};
@@ -11,8 +11,8 @@ use lrc_text::push_number;
 use std::alloc::{AllocError, Global};
 
 // The name of a column; none past the last one.
-fn name_of(columns: &[Vec<u8>], column: u8) -> &[u8]
-    ensures { result.now ≡ name_of columns.now column }
+fn name_of_column(columns: &[Vec<u8>], column: u8) -> &[u8]
+    ensures { result.now ≡ name_of_column columns.now column }
 {
     match columns.get(usize::from(column)) {
         Some(name) => name.as_slice(),
@@ -21,8 +21,8 @@ fn name_of(columns: &[Vec<u8>], column: u8) -> &[u8]
 }
 
 /// The words of a row; none past the last one.
-pub(crate) fn words_of(rows: &[Row], number: usize) -> &[u8]
-    ensures { result.now ≡ words_of rows.now number }
+pub(crate) fn words_of_row(rows: &[Row], number: usize) -> &[u8]
+    ensures { result.now ≡ words_of_row rows.now number }
 {
     match rows.get(number) {
         Some(row) => row.words.as_slice(),
@@ -51,7 +51,7 @@ fn push_lead(
     words: &[u8],
     place: &[u8],
 ) -> Result<(), AllocError>
-    ensures { OnOk result (texts_of phrases.new.items ≡ texts_of phrases.old.items ++ lead words.now place.now ∷ []) }
+    ensures { OnOk result (texts_of phrases.new.items ≡ texts_of phrases.old.items ++ padded_words words.now place.now ∷ []) }
 {
     let mut phrase = Vec::from_slice(alloc, words)?;
     push_blanks(&mut phrase, words.len(), place.is_empty())?;
@@ -94,7 +94,7 @@ fn push_message(
     arrow: &Arrow,
 ) -> Result<(), AllocError>
     requires { position < 18446744073709551615 }
-    ensures { OnOk result (text.new.items ≡ text.old.items ++ message_text sign.now position arrow.now) }
+    ensures { OnOk result (text.new.items ≡ text.old.items ++ arrow_phrase sign.now position arrow.now) }
 {
     push_number(text, sign, position as u64 + 1)?;
     text.extend_from_slice(b" ")?;
@@ -138,10 +138,10 @@ fn push_all_taken(
 
 // Adds to whom a message is sent.
 fn push_receiver(text: &mut Vec<u8>, columns: &[Vec<u8>], receiver: u8) -> Result<(), AllocError>
-    ensures { OnOk result (text.new.items ≡ text.old.items ++ codes " to " ++ name_of columns.now receiver) }
+    ensures { OnOk result (text.new.items ≡ text.old.items ++ codes " to " ++ name_of_column columns.now receiver) }
 {
     text.extend_from_slice(b" to ")?;
-    text.extend_from_slice(name_of(columns, receiver))
+    text.extend_from_slice(name_of_column(columns, receiver))
 }
 
 fn push_sent(

@@ -10,7 +10,7 @@ ghost use Rattle.lrc_sketch.specs.Sketch.{race_head, race_lines, row_lines, shap
 
 use crate::columns::{Shape, band_margin, bars_margin, name_margin, room_of, row_margin};
 use crate::lines::push_paragraph;
-use crate::phrases::{push_copy, push_race_name, row_phrases, words_of};
+use crate::phrases::{push_copy, push_race_name, row_phrases, words_of_row};
 use lrc_picture::{Arrow, Band, Picture, Race, Row};
 use lrc_text::push_number;
 use std::alloc::{AllocError, Global};
@@ -241,8 +241,8 @@ fn push_race(
     push_race_head(&mut head, position, race)?;
     let mut phrases = Vec::new(alloc);
     phrases.push(head)?;
-    push_copy(alloc, &mut phrases, words_of(rows, race.from))?;
-    push_copy(alloc, &mut phrases, words_of(rows, race.to))?;
+    push_copy(alloc, &mut phrases, words_of_row(rows, race.from))?;
+    push_copy(alloc, &mut phrases, words_of_row(rows, race.to))?;
     push_copy(alloc, &mut phrases, race.label.as_slice())?;
     push_copy(alloc, &mut phrases, race.hint.as_slice())?;
     push_loose(text, &phrases)

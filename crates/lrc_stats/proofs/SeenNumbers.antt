@@ -9,7 +9,7 @@ use Rattle.std.proofs.lemmas.List.Folds.{list_any-append}
 use Rattle.lrc_store.specs.Order.{placed}
 use Rattle.lrc_envelope.specs.Envelope.{EnvelopeRecord}
 use Rattle.lrc_protocol.specs.Log.{EntryRecord, Input, run, taken}
-use Rattle.lrc_stats.specs.Learned.{is_taking, is_again, took}
+use Rattle.lrc_stats.specs.Learned.{is_taking, takes_repeat, took}
 use Rattle.lrc_stats.specs.Seen.{HasSeen, has_seen}
 use Rattle.lrc_stats.specs.declared.seen.Seen.{Seen}
 
@@ -46,7 +46,7 @@ took-more : (before : List EntryRecord) (entry : EntryRecord) (from number : ℕ
 took-more before entry from number = list_any-append (λ (e : EntryRecord). is_taking from number e.input) before (entry ∷ [])
 
 pub again-is-seen : (before : List EntryRecord) (seen : Seen) (input : Input) → HasSeen before seen
-    → has_seen seen input ≡ is_again before input
+    → has_seen seen input ≡ takes_repeat before input
 again-is-seen before seen run h = refl
 again-is-seen before seen (taken e) h = h.numbers e.from e.number
 

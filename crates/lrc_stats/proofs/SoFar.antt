@@ -6,7 +6,7 @@ use Rattle.std.proofs.lemmas.List.{length_push}
 use Rattle.std.proofs.lemmas.List.Sums.{fold_more, sum_by-append}
 use Rattle.lrc_protocol.specs.Log.{EntryRecord}
 use Rattle.lrc_stats.specs.Learned.{IsLearned, a_repeat, brought, brought_after, discards, first_takings, interval_count}
-use Rattle.lrc_stats.specs.Learned.{is_again, notice_count, nothing, together, with_entry}
+use Rattle.lrc_stats.specs.Learned.{takes_repeat, notice_count, nothing, together, with_entry}
 use Rattle.lrc_stats.specs.declared.learned.Learned.{Learned}
 
 -- of so many turns these are no repeats, and brought this
@@ -50,7 +50,7 @@ module _ (count : ℕ) (kept : List EntryRecord) (entry : EntryRecord) (learned 
       }
 
   pub so_far_more : IsSoFar (count + 1) (with_entry kept entry) (together learned (brought_after kept entry))
-  so_far_more = by_test (is_again kept entry.input)
+  so_far_more = by_test (takes_repeat kept entry.input)
 
 pub so_far_all : (log : List EntryRecord) (learned : Learned) → IsSoFar (length log) (first_takings log) learned → IsLearned log learned
 so_far_all log learned h =

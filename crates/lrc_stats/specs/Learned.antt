@@ -18,13 +18,13 @@ abbrev pub took : List EntryRecord → ℕ → ℕ → Bool
 took before from number = list_any (λ entry. is_taking from number entry.input) before
 
 -- one of these turns took the message already that makes a turn
-abbrev pub is_again : List EntryRecord → Input → Bool
-is_again before run = false
-is_again before (taken envelope) = took before envelope.from envelope.number
+abbrev pub takes_repeat : List EntryRecord → Input → Bool
+takes_repeat before run = false
+takes_repeat before (taken envelope) = took before envelope.from envelope.number
 
 -- the turns without repeats, and one more, unless it is a repeat
 abbrev pub with_entry : List EntryRecord → EntryRecord → List EntryRecord
-with_entry kept entry = if is_again kept entry.input then kept else kept ++ entry ∷ []
+with_entry kept entry = if takes_repeat kept entry.input then kept else kept ++ entry ∷ []
 
 -- the turns of a log without the repeats, which took a message that the node had taken before
 abbrev pub first_takings : List EntryRecord → List EntryRecord
@@ -33,14 +33,14 @@ first_takings log = fold with_entry [] log
 -- ---- what a message brings
 
 -- the intervals of a grant or a departure
-abbrev pub intervals_of : Message → List IntervalRecord
-intervals_of (LockGrant m) = m.intervals
-intervals_of (Depart m) = m.intervals
-intervals_of _ = []
+abbrev pub intervals_told : Message → List IntervalRecord
+intervals_told (LockGrant m) = m.intervals
+intervals_told (Depart m) = m.intervals
+intervals_told _ = []
 
 abbrev pub told : Input → List IntervalRecord
 told run = []
-told (taken envelope) = intervals_of envelope.message
+told (taken envelope) = intervals_told envelope.message
 
 abbrev pub is_discard : Message → Bool
 is_discard (Discard episode) = true
@@ -74,7 +74,7 @@ brought entry = record {
 
 -- by the turns before it,
 abbrev pub brought_after : List EntryRecord → EntryRecord → Learned
-brought_after before entry = if is_again before entry.input then a_repeat else brought entry
+brought_after before entry = if takes_repeat before entry.input then a_repeat else brought entry
 
 -- and what two bring together
 abbrev pub together : Learned → Learned → Learned
@@ -87,37 +87,37 @@ together a b = record {
 
 -- ---- in one log
 
-abbrev pub repeats_in : List EntryRecord → ℕ
-repeats_in log = length log - length (first_takings log)
+abbrev pub log_repeats : List EntryRecord → ℕ
+log_repeats log = length log - length (first_takings log)
 
-abbrev pub intervals_in : List EntryRecord → ℕ
-intervals_in log = sum_by interval_count (first_takings log)
+abbrev pub log_intervals : List EntryRecord → ℕ
+log_intervals log = sum_by interval_count (first_takings log)
 
-abbrev pub notices_in : List EntryRecord → ℕ
-notices_in log = sum_by notice_count (first_takings log)
+abbrev pub log_notices : List EntryRecord → ℕ
+log_notices log = sum_by notice_count (first_takings log)
 
-abbrev pub discards_in : List EntryRecord → ℕ
-discards_in log = count_by (λ entry. discards entry.input) (first_takings log)
+abbrev pub log_discards : List EntryRecord → ℕ
+log_discards log = count_by (λ entry. discards entry.input) (first_takings log)
 
 -- what a node's messages brought, by its log
 pub record IsLearned (log : List EntryRecord) (learned : Learned) : Type 0 where
-  pub repeats : learned.repeats ≡ repeats_in log
-  pub intervals : learned.intervals ≡ intervals_in log
-  pub notices : learned.notices ≡ notices_in log
-  pub discards : learned.discards ≡ discards_in log
+  pub repeats : learned.repeats ≡ log_repeats log
+  pub intervals : learned.intervals ≡ log_intervals log
+  pub notices : learned.notices ≡ log_notices log
+  pub discards : learned.discards ≡ log_discards log
 
 -- ---- in the logs of all nodes
 
 -- how many repeats were taken; how many intervals were learned of, and how many pages these name
 abbrev pub repeats : List (List EntryRecord) → ℕ
-repeats logs = sum_by repeats_in logs
+repeats logs = sum_by log_repeats logs
 
 abbrev pub learned_intervals : List (List EntryRecord) → ℕ
-learned_intervals logs = sum_by intervals_in logs
+learned_intervals logs = sum_by log_intervals logs
 
 abbrev pub learned_notices : List (List EntryRecord) → ℕ
-learned_notices logs = sum_by notices_in logs
+learned_notices logs = sum_by log_notices logs
 
 -- the episodes that collected: as many as node 0 took the word to discard
 abbrev pub collections : List (List EntryRecord) → ℕ
-collections logs = discards_in (slice_index_or logs 0 [])
+collections logs = log_discards (slice_index_or logs 0 [])

@@ -23,12 +23,12 @@ size_of envelope = if nat_lt MOST_BODY_BYTES (length (body Two runs_of envelope.
 abbrev pub sent_of : EnvelopeRecord → Sent
 sent_of envelope = record { kind = kind envelope.message; to_itself = envelope.from == envelope.to; bytes = size_of envelope }
 
-abbrev pub sent_in : EntryRecord → List Sent
-sent_in entry = map sent_of entry.turn.out
+abbrev pub sent_by_turn : EntryRecord → List Sent
+sent_by_turn entry = map sent_of entry.turn.out
 
 -- all messages that the nodes sent
-abbrev pub all_sent : List (List EntryRecord) → List Sent
-all_sent logs = flat_map (flat_map sent_in) logs
+abbrev pub sent_messages : List (List EntryRecord) → List Sent
+sent_messages logs = flat_map (flat_map sent_by_turn) logs
 
 abbrev pub is_wanted : Wanted → Sent → Bool
 is_wanted (Kind kind) sent = sent.kind == kind
@@ -36,8 +36,8 @@ is_wanted Each sent = true
 is_wanted ToItself sent = sent.to_itself
 
 -- how many of the messages are wanted, and their bytes
-abbrev pub count_of : Wanted → List Sent → ℕ
-count_of wanted sent = count_by (is_wanted wanted) sent
+abbrev pub wanted_count : Wanted → List Sent → ℕ
+wanted_count wanted sent = count_by (is_wanted wanted) sent
 
 abbrev pub bytes_in : Wanted → List Sent → ℕ
 bytes_in wanted sent = sum_by (λ (s : Sent). if is_wanted wanted s then s.bytes else 0) sent

@@ -6,8 +6,8 @@ use Rattle.lrc_stats.specs.declared.sent.Sent.{Sent}
 use Rattle.lrc_stats.specs.declared.sent.Wanted.{Wanted}
 use Rattle.lrc_stats.specs.declared.sent.Wanted.TheVariants.{Kind, Each, ToItself}
 use Rattle.lrc_stats.specs.Learned.{collections, learned_intervals, learned_notices, repeats}
-use Rattle.lrc_stats.specs.Sent.{all_sent, bytes_in, count_of}
-use Rattle.lrc_stats.specs.Turns.{is_miss, makes, turns, turns_with}
+use Rattle.lrc_stats.specs.Sent.{bytes_in, sent_messages, wanted_count}
+use Rattle.lrc_stats.specs.Turns.{is_miss, makes_of_kind, turn_count, turns_with}
 
 -- words, and a number behind them
 unfoldable pub count_line : List ℕ → ℕ → List ℕ
@@ -21,8 +21,8 @@ turns_lines events turns =
     count_line (codes "events") events ++ count_line (codes "skipped") (events - turns) ++ count_line (codes "turns") turns
 
 -- a kind of deeds in words
-abbrev pub deed_words : ℕ → List ℕ
-deed_words kind =
+abbrev pub deed_kind_words : ℕ → List ℕ
+deed_kind_words kind =
     if kind == 0 then codes "quiet"
     else if kind == 1 then codes "print"
     else if kind == 2 then codes "read"
@@ -36,10 +36,10 @@ deed_words kind =
 
 -- how many acts there are of a kind, and of each
 unfoldable pub acts_line : List (List EntryRecord) → ℕ → List ℕ
-acts_line logs kind = codes "acts " ++ count_line (deed_words kind) (turns_with (makes kind) logs)
+acts_line logs kind = codes "acts " ++ count_line (deed_kind_words kind) (turns_with (makes_of_kind kind) logs)
 
-abbrev pub acts_text : List (List EntryRecord) → List ℕ
-acts_text logs = flat_map (acts_line logs) (range_with_len 0 10)
+abbrev pub act_counts_text : List (List EntryRecord) → List ℕ
+act_counts_text logs = flat_map (acts_line logs) (range_with_len 0 10)
 
 -- how often a node missed
 unfoldable pub misses_line : List (List EntryRecord) → List ℕ
@@ -62,8 +62,8 @@ learned_text logs = learned_lines (repeats logs) (learned_intervals logs) (learn
 -- ---- messages
 
 -- a kind of messages in words, by its number
-abbrev pub kind_words : ℕ → List ℕ
-kind_words kind =
+abbrev pub message_kind_words : ℕ → List ℕ
+message_kind_words kind =
     if kind == 1 then codes "lock-request"
     else if kind == 2 then codes "lock-forward"
     else if kind == 3 then codes "lock-grant"
@@ -79,22 +79,22 @@ kind_words kind =
 -- how many messages of those that are wanted were sent, and their bytes
 unfoldable pub sent_line : List ℕ → Wanted → List Sent → List ℕ
 sent_line words wanted sent =
-    codes "messages " ++ words ++ codes " " ++ decimal (count_of wanted sent) ++ codes " " ++ decimal (bytes_in wanted sent) ++ codes "\n"
+    codes "messages " ++ words ++ codes " " ++ decimal (wanted_count wanted sent) ++ codes " " ++ decimal (bytes_in wanted sent) ++ codes "\n"
 
 abbrev pub kind_line : List Sent → ℕ → List ℕ
-kind_line sent kind = sent_line (kind_words kind) (Kind kind) sent
+kind_line sent kind = sent_line (message_kind_words kind) (Kind kind) sent
 
 -- of each kind
 unfoldable pub kinds_text : List Sent → List ℕ
 kinds_text sent = flat_map (kind_line sent) (range_with_len 1 11)
 
 -- of each kind, of all, and of those whose sender is their receiver
-unfoldable pub messages_text : List Sent → List ℕ
-messages_text sent = kinds_text sent ++ sent_line (codes "all") Each sent ++ sent_line (codes "to itself") ToItself sent
+unfoldable pub message_counts_text : List Sent → List ℕ
+message_counts_text sent = kinds_text sent ++ sent_line (codes "all") Each sent ++ sent_line (codes "to itself") ToItself sent
 
 -- ---- all
 
 -- the counts of a run of so many events, by the logs of its nodes
 abbrev pub stats_text : ℕ → List (List EntryRecord) → List ℕ
 stats_text events logs =
-    turns_lines events (turns logs) ++ acts_text logs ++ misses_line logs ++ learned_text logs ++ messages_text (all_sent logs)
+    turns_lines events (turn_count logs) ++ act_counts_text logs ++ misses_line logs ++ learned_text logs ++ message_counts_text (sent_messages logs)

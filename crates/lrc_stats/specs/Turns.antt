@@ -9,8 +9,8 @@ use Rattle.lrc_envelope.specs.declared.message.Message.TheVariants.{ChangesReque
 use Rattle.lrc_protocol.specs.Log.{EntryRecord, Input, run, taken}
 
 -- how many turns the nodes made, and how many of these pass a test
-abbrev pub turns : List (List EntryRecord) → ℕ
-turns logs = sum_by length logs
+abbrev pub turn_count : List (List EntryRecord) → ℕ
+turn_count logs = sum_by length logs
 
 abbrev pub turns_with : (EntryRecord → Bool) → List (List EntryRecord) → ℕ
 turns_with passes logs = sum_by (count_by passes) logs
@@ -18,38 +18,38 @@ turns_with passes logs = sum_by (count_by passes) logs
 -- ---- acts
 
 -- the kinds of deeds, counted from 0
-abbrev pub deed_kind : Deed → ℕ
-deed_kind Quiet = 0
-deed_kind (Print value) = 1
-deed_kind (Read word value) = 2
-deed_kind (Write word value) = 3
-deed_kind (Acquire lock) = 4
-deed_kind (Release lock) = 5
-deed_kind Arrive = 6
-deed_kind Depart = 7
-deed_kind (Trap cause) = 8
-deed_kind End = 9
+abbrev pub deed_number : Deed → ℕ
+deed_number Quiet = 0
+deed_number (Print value) = 1
+deed_number (Read word value) = 2
+deed_number (Write word value) = 3
+deed_number (Acquire lock) = 4
+deed_number (Release lock) = 5
+deed_number Arrive = 6
+deed_number Depart = 7
+deed_number (Trap cause) = 8
+deed_number End = 9
 
 abbrev pub is_of_kind : ℕ → Option Act → Bool
 is_of_kind kind None = false
-is_of_kind kind (Some act) = deed_kind act.deed == kind
+is_of_kind kind (Some act) = deed_number act.deed == kind
 
 -- a turn that makes an act of this kind
-abbrev pub makes : ℕ → EntryRecord → Bool
-makes kind entry = is_of_kind kind entry.turn.act
+abbrev pub makes_of_kind : ℕ → EntryRecord → Bool
+makes_of_kind kind entry = is_of_kind kind entry.turn.act
 
 -- ---- misses
 
-abbrev pub is_own : Input → Bool
-is_own run = true
-is_own (taken envelope) = false
+abbrev pub is_by_itself : Input → Bool
+is_by_itself run = true
+is_by_itself (taken envelope) = false
 
 -- changes of a page, or its base copy, are asked for
-abbrev pub asks : Message → Bool
-asks (ChangesRequest m) = true
-asks (PageRequest page) = true
-asks _ = false
+abbrev pub asks_for_page : Message → Bool
+asks_for_page (ChangesRequest m) = true
+asks_for_page (PageRequest page) = true
+asks_for_page _ = false
 
 -- a turn of a node by itself at which it asks for what a page needs
 unfoldable pub is_miss : EntryRecord → Bool
-is_miss entry = is_own entry.input && list_any (λ envelope. asks envelope.message) entry.turn.out
+is_miss entry = is_by_itself entry.input && list_any (λ envelope. asks_for_page envelope.message) entry.turn.out

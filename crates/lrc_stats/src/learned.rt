@@ -2,7 +2,7 @@
 
 ghost use Rattle.std.specs.Prelude.{◌≡◌, IfOk, List, length, map, sum_by};
 ghost use Rattle.lrc_protocol.specs.Log.{EntryRecord};
-ghost use Rattle.lrc_stats.specs.Learned.{IsLearned, brought, brought_after, collections, discards, intervals_of, is_discard};
+ghost use Rattle.lrc_stats.specs.Learned.{IsLearned, brought, brought_after, collections, discards, intervals_told, is_discard};
 ghost use Rattle.lrc_stats.specs.Learned.{learned_intervals, learned_notices, repeats, told, with_entry};
 ghost use Rattle.lrc_stats.specs.Seen.{HasSeen};
 
@@ -55,8 +55,8 @@ impl Learned {
 }
 
 // The intervals of a grant or a departure.
-fn intervals_of(message: &Message) -> &[Interval]
-    ensures { result.now ≡ intervals_of message.now }
+fn intervals_told(message: &Message) -> &[Interval]
+    ensures { result.now ≡ intervals_told message.now }
 {
     match message {
         Message::LockGrant(grant) => grant.news.intervals.as_slice(),
@@ -71,7 +71,7 @@ fn told(entry: &Entry) -> &[Interval]
 {
     match &entry.input {
         Input::Run => &[],
-        Input::Taken(envelope) => intervals_of(&envelope.message),
+        Input::Taken(envelope) => intervals_told(&envelope.message),
     }
 }
 

@@ -3,7 +3,7 @@
 ghost use Rattle.std.specs.Prelude.{◌≡◌, ◌++◌, IfOk, OnOk, map};
 ghost use Rattle.std.specs.List.{flat_map};
 ghost use Rattle.lrc_wire.specs.Spelling as spelling;
-ghost use Rattle.lrc_stats.specs.Sent.{all_sent, bytes_in, count_of, is_wanted, sent_in, sent_of, size_of};
+ghost use Rattle.lrc_stats.specs.Sent.{bytes_in, is_wanted, sent_by_turn, sent_messages, sent_of, size_of, wanted_count};
 
 use crate::turns::add;
 use lrc_envelope::{Envelope, Message};
@@ -83,8 +83,8 @@ fn sent_of(alloc: Global, envelope: &Envelope) -> Result<Sent, AllocError>
 
 /// All messages that the nodes sent.
 #[tactic(auto, using(crate::proofs::Logs::flat_more))]
-pub(crate) fn all_sent(alloc: Global, logs: &[Vec<Entry>]) -> Result<Vec<Sent>, AllocError>
-    ensures { IfOk result (λ sent. sent.items ≡ all_sent (map (λ log. log.items) logs.now)) }
+pub(crate) fn sent_messages(alloc: Global, logs: &[Vec<Entry>]) -> Result<Vec<Sent>, AllocError>
+    ensures { IfOk result (λ sent. sent.items ≡ sent_messages (map (λ log. log.items) logs.now)) }
 {
     let mut sent = Vec::new(alloc);
     for log in logs {
@@ -94,7 +94,7 @@ pub(crate) fn all_sent(alloc: Global, logs: &[Vec<Entry>]) -> Result<Vec<Sent>, 
 }
 
 fn add_log(alloc: Global, sent: &mut Vec<Sent>, log: &[Entry]) -> Result<(), AllocError>
-    ensures { OnOk result (sent.new.items ≡ sent.old.items ++ flat_map sent_in log.now) }
+    ensures { OnOk result (sent.new.items ≡ sent.old.items ++ flat_map sent_by_turn log.now) }
 {
     for entry in log {
         add_messages(alloc, sent, &entry.turn.out)?;
@@ -123,7 +123,7 @@ fn is_wanted(wanted: Wanted, sent: Sent) -> bool
 
 /// How many of the messages are wanted, and their bytes.
 pub(crate) fn total_of(wanted: Wanted, sent: &[Sent]) -> Result<Total, AllocError>
-    ensures count { IfOk result (λ total. total.count ≡ count_of wanted sent.now) }
+    ensures count { IfOk result (λ total. total.count ≡ wanted_count wanted sent.now) }
     ensures bytes { IfOk result (λ total. total.bytes ≡ bytes_in wanted sent.now) }
 {
     let count = sent.iter().filter(|one| is_wanted(wanted, **one)).count() as u64;

@@ -2,13 +2,13 @@
 
 ghost use Rattle.std.specs.Prelude.{◌≡◌, ◌++◌, IfOk, OnOk, map};
 ghost use Rattle.lrc_stats.specs.Learned.{learned_intervals, learned_notices, repeats};
-ghost use Rattle.lrc_stats.specs.Sent.{all_sent};
-ghost use Rattle.lrc_stats.specs.StatsText.{acts_line, acts_text, collections_line, count_line, deed_words, kind_line, kind_words, kinds_text};
-ghost use Rattle.lrc_stats.specs.StatsText.{learned_lines, learned_text, messages_text, misses_line, sent_line, stats_text, turns_lines};
-ghost use Rattle.lrc_stats.specs.Turns.{turns};
+ghost use Rattle.lrc_stats.specs.Sent.{sent_messages};
+ghost use Rattle.lrc_stats.specs.StatsText.{act_counts_text, acts_line, collections_line, count_line, deed_kind_words, kind_line, kinds_text, message_kind_words};
+ghost use Rattle.lrc_stats.specs.StatsText.{learned_lines, learned_text, message_counts_text, misses_line, sent_line, stats_text, turns_lines};
+ghost use Rattle.lrc_stats.specs.Turns.{turn_count};
 
 use crate::learned::{Learned, collections, learned_by_all};
-use crate::sent::{Sent, Wanted, all_sent, total_of};
+use crate::sent::{Sent, Wanted, sent_messages, total_of};
 use crate::turns::{misses, turns_made, turns_making};
 use lrc_node::Entry;
 use lrc_text::push_number;
@@ -38,7 +38,7 @@ fn push_count(text: &mut Vec<u8>, words: &[u8], count: u64) -> Result<(), AllocE
 }
 
 fn push_turns(text: &mut Vec<u8>, events: u64, logs: &[Vec<Entry>]) -> Result<(), AllocError>
-    ensures { OnOk result (text.new.items ≡ text.old.items ++ turns_lines events (turns (map (λ log. log.items) logs.now))) }
+    ensures { OnOk result (text.new.items ≡ text.old.items ++ turns_lines events (turn_count (map (λ log. log.items) logs.now))) }
 {
     let turns = turns_made(logs)?;
     push_turn_counts(text, events, turns)
@@ -53,8 +53,8 @@ fn push_turn_counts(text: &mut Vec<u8>, events: u64, turns: u64) -> Result<(), A
     push_count(text, b"turns", turns)
 }
 
-fn deed_words(kind: u8) -> &'static [u8]
-    ensures { result.now ≡ deed_words kind }
+fn deed_kind_words(kind: u8) -> &'static [u8]
+    ensures { result.now ≡ deed_kind_words kind }
 {
     match kind {
         0 => b"quiet",
@@ -71,7 +71,7 @@ fn deed_words(kind: u8) -> &'static [u8]
 }
 
 fn push_acts(text: &mut Vec<u8>, logs: &[Vec<Entry>]) -> Result<(), AllocError>
-    ensures { OnOk result (text.new.items ≡ text.old.items ++ acts_text (map (λ log. log.items) logs.now)) }
+    ensures { OnOk result (text.new.items ≡ text.old.items ++ act_counts_text (map (λ log. log.items) logs.now)) }
 {
     for kind in 0..10 {
         push_acts_of(text, kind, logs)?;
@@ -84,7 +84,7 @@ fn push_acts_of(text: &mut Vec<u8>, kind: u8, logs: &[Vec<Entry>]) -> Result<(),
     ensures { OnOk result (text.new.items ≡ text.old.items ++ acts_line (map (λ log. log.items) logs.now) kind) }
 {
     text.extend_from_slice(b"acts ")?;
-    push_count(text, deed_words(kind), turns_making(kind, logs)?)
+    push_count(text, deed_kind_words(kind), turns_making(kind, logs)?)
 }
 
 #[tactic(auto, unfolding(crate::specs::StatsText::misses_line))]
@@ -130,8 +130,8 @@ fn push_collections(
     push_count(text, b"collections", collections(alloc, logs)?)
 }
 
-fn kind_words(kind: u8) -> &'static [u8]
-    ensures { result.now ≡ kind_words kind }
+fn message_kind_words(kind: u8) -> &'static [u8]
+    ensures { result.now ≡ message_kind_words kind }
 {
     match kind {
         1 => b"lock-request",
@@ -149,15 +149,15 @@ fn kind_words(kind: u8) -> &'static [u8]
 }
 
 fn push_all_sent(alloc: Global, text: &mut Vec<u8>, logs: &[Vec<Entry>]) -> Result<(), AllocError>
-    ensures { OnOk result (text.new.items ≡ text.old.items ++ messages_text (all_sent (map (λ log. log.items) logs.now))) }
+    ensures { OnOk result (text.new.items ≡ text.old.items ++ message_counts_text (sent_messages (map (λ log. log.items) logs.now))) }
 {
-    let sent = all_sent(alloc, logs)?;
+    let sent = sent_messages(alloc, logs)?;
     push_messages(text, &sent)
 }
 
-#[tactic(auto, unfolding(crate::specs::StatsText::messages_text))]
+#[tactic(auto, unfolding(crate::specs::StatsText::message_counts_text))]
 fn push_messages(text: &mut Vec<u8>, sent: &[Sent]) -> Result<(), AllocError>
-    ensures { OnOk result (text.new.items ≡ text.old.items ++ messages_text sent.now) }
+    ensures { OnOk result (text.new.items ≡ text.old.items ++ message_counts_text sent.now) }
 {
     push_kinds(text, sent)?;
     push_sent(text, b"all", Wanted::Each, sent)?;
@@ -177,7 +177,7 @@ fn push_kinds(text: &mut Vec<u8>, sent: &[Sent]) -> Result<(), AllocError>
 fn push_kind(text: &mut Vec<u8>, kind: u8, sent: &[Sent]) -> Result<(), AllocError>
     ensures { OnOk result (text.new.items ≡ text.old.items ++ kind_line sent.now kind) }
 {
-    push_sent(text, kind_words(kind), Wanted::Kind(kind), sent)
+    push_sent(text, message_kind_words(kind), Wanted::Kind(kind), sent)
 }
 
 #[tactic(auto, unfolding(crate::specs::StatsText::sent_line))]

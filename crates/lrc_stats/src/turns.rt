@@ -2,7 +2,7 @@
 
 ghost use Rattle.std.specs.Prelude.{◌≡◌, ◌+◌, IfOk, count_by, length, map};
 ghost use Rattle.std.specs.List.{list_any};
-ghost use Rattle.lrc_stats.specs.Turns.{asks, deed_kind, is_miss, makes, turns, turns_with};
+ghost use Rattle.lrc_stats.specs.Turns.{asks_for_page, deed_number, is_miss, makes_of_kind, turn_count, turns_with};
 
 use lrc_envelope::{Envelope, Message};
 use lrc_node::{Entry, Input};
@@ -19,7 +19,7 @@ pub(crate) fn add(a: u64, b: u64) -> Result<u64, AllocError>
 /// How many turns the nodes made.
 #[tactic(auto, using(crate::proofs::Logs::sum_more))]
 pub fn turns_made(logs: &[Vec<Entry>]) -> Result<u64, AllocError>
-    ensures { IfOk result (λ count. count ≡ turns (map (λ log. log.items) logs.now)) }
+    ensures { IfOk result (λ count. count ≡ turn_count (map (λ log. log.items) logs.now)) }
 {
     let mut count = 0;
     for log in logs {
@@ -29,8 +29,8 @@ pub fn turns_made(logs: &[Vec<Entry>]) -> Result<u64, AllocError>
 }
 
 // The kinds of deeds, counted from 0.
-fn deed_kind(deed: Deed) -> u8
-    ensures { result ≡ deed_kind deed }
+fn deed_number(deed: Deed) -> u8
+    ensures { result ≡ deed_number deed }
 {
     match deed {
         Deed::Quiet => 0,
@@ -47,11 +47,11 @@ fn deed_kind(deed: Deed) -> u8
 }
 
 // Whether a turn makes an act of this kind.
-fn makes(kind: u8, entry: &Entry) -> bool
-    ensures { result ≡ makes kind entry.now }
+fn makes_of_kind(kind: u8, entry: &Entry) -> bool
+    ensures { result ≡ makes_of_kind kind entry.now }
 {
     match entry.turn.act {
-        Some(act) => deed_kind(act.deed) == kind,
+        Some(act) => deed_number(act.deed) == kind,
         None => false,
     }
 }
@@ -59,7 +59,7 @@ fn makes(kind: u8, entry: &Entry) -> bool
 /// How many turns make an act of this kind.
 #[tactic(auto, using(crate::proofs::Logs::sum_more))]
 pub(crate) fn turns_making(kind: u8, logs: &[Vec<Entry>]) -> Result<u64, AllocError>
-    ensures { IfOk result (λ count. count ≡ turns_with (makes kind) (map (λ log. log.items) logs.now)) }
+    ensures { IfOk result (λ count. count ≡ turns_with (makes_of_kind kind) (map (λ log. log.items) logs.now)) }
 {
     let mut count = 0;
     for log in logs {
@@ -69,14 +69,16 @@ pub(crate) fn turns_making(kind: u8, logs: &[Vec<Entry>]) -> Result<u64, AllocEr
 }
 
 fn making(kind: u8, log: &[Entry]) -> usize
-    ensures { result ≡ count_by (makes kind) log.now }
+    ensures { result ≡ count_by (makes_of_kind kind) log.now }
 {
-    log.iter().filter(|entry| makes(kind, *entry)).count()
+    log.iter()
+        .filter(|entry| makes_of_kind(kind, *entry))
+        .count()
 }
 
 // Whether changes of a page, or its base copy, are asked for.
-fn asks(message: &Message) -> bool
-    ensures { result ≡ asks message.now }
+fn asks_for_page(message: &Message) -> bool
+    ensures { result ≡ asks_for_page message.now }
 {
     matches!(
         message,
@@ -86,9 +88,9 @@ fn asks(message: &Message) -> bool
 
 // Whether one of the messages asks for what a page needs.
 fn some_asks(out: &[Envelope]) -> bool
-    ensures { result ≡ list_any (λ envelope. asks envelope.message) out.now }
+    ensures { result ≡ list_any (λ envelope. asks_for_page envelope.message) out.now }
 {
-    out.iter().any(|envelope| asks(&envelope.message))
+    out.iter().any(|envelope| asks_for_page(&envelope.message))
 }
 
 // Whether a turn is a miss.

@@ -11,14 +11,14 @@ use Rattle.std.proofs.lemmas.Map.Keys.{IsDistinct-cons, IsDistinct-from_apart, I
 use Rattle.std.proofs.lemmas.Map.Made.{length-le_from_is_member}
 use Rattle.std.proofs.lemmas.Map.Views.{Contains-from_any, list_any-from_Contains}
 use Rattle.std.proofs.lemmas.Option.{same_Some}
-use Rattle.lrc_stuck.specs.Circle.{IsCircle, IsCircleFromLowest, IsTold, Leads, straight, over, WaitsFor}
+use Rattle.lrc_stuck.specs.Circle.{IsCircle, IsCircleFromLowest, IsToldFromLowest, WaitingLeads, straight, over, WaitsFor}
 use Rattle.lrc_stuck.specs.Circles.{back_by, circle_of, way_back}
 
 -- ---- what is told is a circle
 
 -- waiting leads over higher nodes back to the first
 record Found (waits : List (Option ℕ)) (first node : ℕ) (way : List ℕ) : Type 0 where
-  leads : Leads waits node way first
+  leads : WaitingLeads waits node way first
   above : All (λ other. first < other) way
 
 module _ (waits : List (Option ℕ)) (first : ℕ) where
@@ -77,7 +77,7 @@ module _ (waits : List (Option ℕ)) (first : ℕ) where
   tail_above : (next : ℕ) (way : List ℕ) → All (λ other. first < other) (next ∷ way) → All (λ other. first < other) way
   tail_above next way = All-tail (λ other. first < other) next way
 
-  one_way : {node : ℕ} {way other : List ℕ} → Leads waits node way first → Leads waits node other first
+  one_way : {node : ℕ} {way other : List ℕ} → WaitingLeads waits node way first → WaitingLeads waits node other first
       → All (λ n. first < n) way → All (λ n. first < n) other → way ≡ other
   one_way (straight w) (straight v) a b = refl
   one_way {node} (straight w) (over {next = next} {way = way} v leads) a b =
@@ -91,23 +91,23 @@ module _ (waits : List (Option ℕ)) (first : ℕ) where
   one_way {node} (over {next = next} {way = way} w leads) (over {next = next'} {way = way'} v leads') a b =
       let same : next' ≡ next = same_next waits node next' next v w in
       let rest : way ≡ way' =
-      one_way leads (subst (λ n. Leads waits n way' first) same leads') (tail_above next way a) (tail_above next' way' b) in
+      one_way leads (subst (λ n. WaitingLeads waits n way' first) same leads') (tail_above next way a) (tail_above next' way' b) in
       cc
 
   -- so a node does not come again on the way behind it
-  differs : {at : ℕ} {way : List ℕ} (node : ℕ) (behind : List ℕ) → Leads waits node behind first → All (λ n. first < n) behind
-      → Leads waits at way first → All (λ n. first < n) way → length way ≤ length behind → All (λ n. nat_eq node n ≡ false) way
+  differs : {at : ℕ} {way : List ℕ} (node : ℕ) (behind : List ℕ) → WaitingLeads waits node behind first → All (λ n. first < n) behind
+      → WaitingLeads waits at way first → All (λ n. first < n) way → length way ≤ length behind → All (λ n. nat_eq node n ≡ false) way
   differs node behind leads above (straight w) a long = All-nil (λ n. nat_eq node n ≡ false)
   differs node behind leads above (over {next = next} {way = way} w more) a long =
       let other : node ≡ next → ⊥ = λ same.
       let rest : way ≡ behind =
-      one_way more (subst (λ n. Leads waits n behind first) same leads) (tail_above next way a) above in
+      one_way more (subst (λ n. WaitingLeads waits n behind first) same leads) (tail_above next way a) above in
       let long' : length way ≡ length behind = ap length rest in
       omega arith in
       All-cons (λ n. nat_eq node n ≡ false) next way (ne_eqb node next other)
       (differs node behind leads above more (tail_above next way a) (omega arith))
 
-  way_once : {node : ℕ} {way : List ℕ} → Leads waits node way first → All (λ n. first < n) way → IsDistinct nat_eq way
+  way_once : {node : ℕ} {way : List ℕ} → WaitingLeads waits node way first → All (λ n. first < n) way → IsDistinct nat_eq way
   way_once (straight w) a = IsDistinct-from_apart nat_eq [] (λ i j d earlier within. absurd (omega arith))
   way_once (over {next = next} {way = way} w more) a =
       let rest = tail_above next way a in
@@ -115,7 +115,7 @@ module _ (waits : List (Option ℕ)) (first : ℕ) where
       (recursion_from_All (λ n. nat_eq next n ≡ false) way (differs next way more rest more rest (omega arith)))
       (way_once more rest)
 
-  circle_once : {way : List ℕ} → Leads waits first way first → All (λ n. first < n) way → IsDistinct nat_eq (first ∷ way)
+  circle_once : {way : List ℕ} → WaitingLeads waits first way first → All (λ n. first < n) way → IsDistinct nat_eq (first ∷ way)
   circle_once {way} leads a =
       IsDistinct-cons nat_eq first way
       (recursion_from_All (λ n. nat_eq first n ≡ false) way
@@ -132,7 +132,7 @@ waits_within waits node next waiting =
       | inr le ↦ (let past : slice_index_or waits node None ≡ None = get_or_past waits node None le in let never : ⊥ = cc in absurd never)
     ]
 
-all_within : (waits : List (Option ℕ)) {node to : ℕ} {way : List ℕ} → Leads waits node way to → All (λ n. n < length waits) (node ∷ way)
+all_within : (waits : List (Option ℕ)) {node to : ℕ} {way : List ℕ} → WaitingLeads waits node way to → All (λ n. n < length waits) (node ∷ way)
 all_within waits {node} {to} (straight w) =
     All-cons (λ n. n < length waits) node [] (waits_within waits node to w) (All-nil (λ n. n < length waits))
 all_within waits {node} (over {next = next} {way = way} w more) =
@@ -162,7 +162,7 @@ module _ (waits : List (Option ℕ)) (first : ℕ) where
       let le : first ≤ next = omega arith in
       rw (ne_eqb next first other, le-ltb next first le) (ap (option_map (λ more. next ∷ more)) is)
 
-  told : {node : ℕ} {way : List ℕ} (most : ℕ) → Leads waits node way first → All (λ n. first < n) way → length way < most
+  told : {node : ℕ} {way : List ℕ} (most : ℕ) → WaitingLeads waits node way first → All (λ n. first < n) way → length way < most
       → way_back waits first most node ≡ Some way
   told zero leads a long = absurd (omega arith)
   told (suc most) (straight w) a long = ap (back_by first (way_back waits first most)) w ∙ back_at_once (way_back waits first most)
@@ -171,7 +171,7 @@ module _ (waits : List (Option ℕ)) (first : ℕ) where
       ap (back_by first on) w
       ∙ back_over on next way (head_above waits first next way a) (told most more (tail_above waits first next way a) (omega arith))
 
-  lowest_told : (way : List ℕ) → Leads waits first way first → All (λ n. first < n) way → circle_of waits first ≡ Some way
+  lowest_told : (way : List ℕ) → WaitingLeads waits first way first → All (λ n. first < n) way → circle_of waits first ≡ Some way
   lowest_told way leads a =
       let short : length (first ∷ way) ≤ length waits =
       few (length waits) (first ∷ way) (circle_once waits first leads a) (all_within waits leads) in
@@ -252,32 +252,32 @@ greater lowest (x ∷ xs) behind once least =
     (All-cons (λ n. lowest < n) x xs lt rest.0, rest.1)
 
 module _ (waits : List (Option ℕ)) where
-  first_part : {node to : ℕ} (before : List ℕ) (at : ℕ) (behind : List ℕ) → Leads waits node (before ++ at ∷ behind) to → Leads waits node before at
+  first_part : {node to : ℕ} (before : List ℕ) (at : ℕ) (behind : List ℕ) → WaitingLeads waits node (before ++ at ∷ behind) to → WaitingLeads waits node before at
   first_part [] at behind (over w more) = straight w
   first_part (x ∷ xs) at behind (over w more) = over w (first_part xs at behind more)
 
-  last_part : {node to : ℕ} (before : List ℕ) (at : ℕ) (behind : List ℕ) → Leads waits node (before ++ at ∷ behind) to → Leads waits at behind to
+  last_part : {node to : ℕ} (before : List ℕ) (at : ℕ) (behind : List ℕ) → WaitingLeads waits node (before ++ at ∷ behind) to → WaitingLeads waits at behind to
   last_part [] at behind (over w more) = more
   last_part (x ∷ xs) at behind (over w more) = last_part xs at behind more
 
-  joined : {node at to : ℕ} {way other : List ℕ} → Leads waits node way at → Leads waits at other to → Leads waits node (way ++ at ∷ other) to
+  joined : {node at to : ℕ} {way other : List ℕ} → WaitingLeads waits node way at → WaitingLeads waits at other to → WaitingLeads waits node (way ++ at ∷ other) to
   joined (straight w) leads = over w leads
   joined (over w more) leads = over w (joined more leads)
 
-  turned : (node lowest : ℕ) (others before behind : List ℕ) → node ∷ others ≡ before ++ lowest ∷ behind → Leads waits node others node
-      → Leads waits lowest (behind ++ before) lowest
+  turned : (node lowest : ℕ) (others before behind : List ℕ) → node ∷ others ≡ before ++ lowest ∷ behind → WaitingLeads waits node others node
+      → WaitingLeads waits lowest (behind ++ before) lowest
   turned node lowest others [] behind place leads =
       let same : node ≡ lowest = cc in
       let rest : others ≡ behind ++ [] = let is : others ≡ behind = cc in is ∙ sym (append-nil behind) in
-      subst (λ n. Leads waits n (behind ++ []) n) same (subst (λ way. Leads waits node way node) rest leads)
+      subst (λ n. WaitingLeads waits n (behind ++ []) n) same (subst (λ way. WaitingLeads waits node way node) rest leads)
   turned node lowest others (x ∷ xs) behind place leads =
       let same : node ≡ x = cc in
       let rest : others ≡ xs ++ lowest ∷ behind = cc in
-      let parts : Leads waits node (xs ++ lowest ∷ behind) node = subst (λ way. Leads waits node way node) rest leads in
-      subst (λ n. Leads waits lowest (behind ++ n ∷ xs) lowest) same
+      let parts : WaitingLeads waits node (xs ++ lowest ∷ behind) node = subst (λ way. WaitingLeads waits node way node) rest leads in
+      subst (λ n. WaitingLeads waits lowest (behind ++ n ∷ xs) lowest) same
       (joined (last_part xs lowest behind parts) (first_part xs lowest behind parts))
 
-pub told_wholly : (waits : List (Option ℕ)) (node : ℕ) (others : List ℕ) → IsCircle waits node others → IsTold waits (node ∷ others)
+pub told_wholly : (waits : List (Option ℕ)) (node : ℕ) (others : List ℕ) → IsCircle waits node others → IsToldFromLowest waits (node ∷ others)
 told_wholly waits node others circle =
     let at = parted node others in
     let once : IsDistinct nat_eq (at.before ++ at.lowest ∷ at.behind) = subst (IsDistinct nat_eq) at.place circle.once in

@@ -8,13 +8,13 @@ abbrev pub WaitsFor : List (Option ℕ) → (node other : ℕ) → Type 0
 WaitsFor waits node other = slice_index_or waits node None ≡ Some other
 
 -- waiting leads from a node over these ones, each of which waits for the next, to another node
-pub data Leads (waits : List (Option ℕ)) : (from : ℕ) → List ℕ → (to : ℕ) → Type 0 where
-  straight : {from to : ℕ} → WaitsFor waits from to → Leads waits from [] to
-  over : {from next to : ℕ} {way : List ℕ} → WaitsFor waits from next → Leads waits next way to → Leads waits from (next ∷ way) to
+pub data WaitingLeads (waits : List (Option ℕ)) : (from : ℕ) → List ℕ → (to : ℕ) → Type 0 where
+  straight : {from to : ℕ} → WaitsFor waits from to → WaitingLeads waits from [] to
+  over : {from next to : ℕ} {way : List ℕ} → WaitsFor waits from next → WaitingLeads waits next way to → WaitingLeads waits from (next ∷ way) to
 
 -- a circle, begun at one of its nodes: waiting leads from it over the others back to it, and none comes twice
 pub record IsCircle (waits : List (Option ℕ)) (node : ℕ) (others : List ℕ) : Type 0 where
-  pub leads : Leads waits node others node
+  pub leads : WaitingLeads waits node others node
   pub once : IsDistinct nat_eq (node ∷ others)
 
 -- a circle, begun at the lowest of its nodes
@@ -22,7 +22,7 @@ abbrev pub IsCircleFromLowest : List (Option ℕ) → (node : ℕ) → (others :
 IsCircleFromLowest waits node others = IsCircle waits node others × All (λ other. node < other) others
 
 -- these nodes of a circle are told from the lowest one on: those behind it come first, and then those before it
-pub record IsTold (waits : List (Option ℕ)) (circle : List ℕ) : Type 0 where
+pub record IsToldFromLowest (waits : List (Option ℕ)) (circle : List ℕ) : Type 0 where
   pub before : List ℕ
   pub lowest : ℕ
   pub behind : List ℕ

@@ -8,7 +8,7 @@ use Rattle.lrc_stuck.specs.declared.stand.Coming.TheVariants.{Acquire, Barrier}
 use Rattle.lrc_stuck.specs.declared.stand.Fate.{Fate}
 use Rattle.lrc_stuck.specs.declared.stand.Fate.TheVariants.{Unfinished}
 use Rattle.lrc_stuck.specs.declared.stand.Stand.{Stand}
-use Rattle.lrc_stuck.specs.Missing.{first_of, missing_of}
+use Rattle.lrc_stuck.specs.Missing.{first_of, missing_nodes}
 
 -- who is to acquire a lock waits for its holder
 abbrev pub waits_for : Option Holder → Option ℕ
@@ -19,7 +19,7 @@ waits_for (Some holder) = Some holder.node
 -- that has not come to the barrier.
 abbrev pub waits_next : List Stand → (me : ℕ) → Coming → Option ℕ
 waits_next stands me (Acquire lock holder) = waits_for holder
-waits_next stands me (Barrier number) = first_of (missing_of number me stands)
+waits_next stands me (Barrier number) = first_of (missing_nodes number me stands)
 waits_next stands me _ = None
 
 -- a node that ended or trapped waits for none

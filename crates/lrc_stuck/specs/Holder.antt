@@ -12,14 +12,14 @@ held_by lock taker held (Release l) = if l == lock then None else held
 held_by lock taker held _ = held
 
 -- the same once an act is done that is of this line
-abbrev pub held_after : (lock line : ℕ) → Option Holder → Act → Option Holder
-held_after lock line held act = held_by lock (record { node = act.node; line = line }) held act.deed
+abbrev pub holder_after : (lock line : ℕ) → Option Holder → Act → Option Holder
+holder_after lock line held act = held_by lock (record { node = act.node; line = line }) held act.deed
 
 -- the same once acts are done, of which the first stands at this position
 abbrev pub held_from : (lock : ℕ) → (lines : List ℕ) → (position : ℕ) → Option Holder → List Act → Option Holder
 held_from lock lines position held [] = held
 held_from lock lines position held (act ∷ acts) =
-    held_from lock lines (position + 1) (held_after lock (slice_index lines position) held act) acts
+    held_from lock lines (position + 1) (holder_after lock (slice_index lines position) held act) acts
 
 -- the holder of a lock after acts that are of these lines; before any act nobody holds it
 abbrev pub holder_of : (lock : ℕ) → List Act → (lines : List ℕ) → Option Holder

@@ -39,10 +39,10 @@ is_used_up None spent = false
 is_used_up (Some steps) spent = nat_le steps spent
 
 -- whether what is asked for takes a step: the end does not, nor does a barrier to which the node has come
-abbrev pub begins : (arrived : Bool) → Ask → Bool
-begins arrived asks.End = false
-begins arrived asks.Barrier = not arrived
-begins arrived _ = true
+abbrev pub takes_step : (arrived : Bool) → Ask → Bool
+takes_step arrived asks.End = false
+takes_step arrived asks.Barrier = not arrived
+takes_step arrived _ = true
 
 -- what comes next of a node that has steps left, and has departed from so many barriers
 abbrev pub coming_by : (departs : ℕ) → List Act → (lines : List ℕ) → Ask → Coming
@@ -61,7 +61,7 @@ abbrev pub coming_of : (steps : Option ℕ) → List Act → (lines : List ℕ) 
 coming_of steps acts lines node ask =
     let departs = count_of is_depart node acts in
     let arrived = nat_lt departs (count_of is_arrive node acts) in
-    if begins arrived ask && is_used_up steps (count_of costs node acts) then StepsUsedUp else coming_by departs acts lines ask
+    if takes_step arrived ask && is_used_up steps (count_of costs node acts) then StepsUsedUp else coming_by departs acts lines ask
 
 -- what a node's thread asks for after acts
 abbrev pub ask_behind : Program → (nodes : ℕ) → (lines : List ℕ) → List Act → (node : ℕ) → Ask

@@ -11,7 +11,7 @@ use Rattle.lrc_stuck.specs.declared.stand.Coming.TheVariants.{StepsUsedUp, Trap,
 use Rattle.lrc_stuck.specs.declared.stand.Fate.{Fate}
 use Rattle.lrc_stuck.specs.declared.stand.Fate.TheVariants.{Ended, Trapped, Unfinished}
 use Rattle.lrc_stuck.specs.declared.stand.Stand.{Stand}
-use Rattle.lrc_stuck.specs.Missing.{missing_of}
+use Rattle.lrc_stuck.specs.Missing.{missing_nodes}
 
 -- why a statement traps
 abbrev pub cause_words : Cause → List ℕ
@@ -63,7 +63,7 @@ abbrev pub coming_words : List Stand → (me : ℕ) → Coming → List ℕ
 coming_words stands me StepsUsedUp = codes "steps used up"
 coming_words stands me (Trap cause) = trap_words cause
 coming_words stands me (Acquire lock holder) = acquire_words lock holder
-coming_words stands me (Barrier number) = codes "barrier " ++ decimal number ++ barrier_words (missing_of number me stands)
+coming_words stands me (Barrier number) = codes "barrier " ++ decimal number ++ barrier_words (missing_nodes number me stands)
 coming_words stands me (Read word) = codes "read of word " ++ decimal word
 coming_words stands me (Write word) = codes "write of word " ++ decimal word
 coming_words stands me Print = codes "print"

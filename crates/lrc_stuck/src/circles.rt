@@ -5,7 +5,7 @@ ghost use Rattle.std.specs.List.{flat_map};
 ghost use Rattle.lrc_text.specs.Front.{BeginsWith};
 ghost use Rattle.lrc_stuck.specs.Circles.{circle_if, circle_of, circle_text, circles_text, deadlocks_text, first_text, waits_by, waits_next, waits_of, waits_text};
 
-use crate::missing::{first_of, missing_of};
+use crate::missing::{first_of, missing_nodes};
 use crate::stand::{Coming, Fate, Stand};
 use lrc_text::push_number;
 use std::alloc::{AllocError, Global};
@@ -38,7 +38,7 @@ fn waits_next(
     match coming {
         Coming::Acquire(_, Some(holder)) => Ok(Some(usize::from(holder.node))),
         Coming::Barrier(number) => {
-            let missing = missing_of(alloc, number, me, stands)?;
+            let missing = missing_nodes(alloc, number, me, stands)?;
             Ok(first_of(&missing))
         }
         _ => Ok(None),

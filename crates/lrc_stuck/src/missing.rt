@@ -1,7 +1,7 @@
 // Who has not come to a barrier.
 
 ghost use Rattle.std.specs.Prelude.{◌≡◌, IfOk};
-ghost use Rattle.lrc_stuck.specs.Missing.{first_of, is_missing, missing_of};
+ghost use Rattle.lrc_stuck.specs.Missing.{first_of, has_not_come, missing_nodes};
 
 use crate::stand::{Fate, Stand};
 use std::alloc::{AllocError, Global};
@@ -14,25 +14,25 @@ pub struct Missing {
 }
 
 // Whether a node has not come to the barrier of node `me`, another one, that has this number.
-fn is_missing(number: usize, me: usize, node: usize, stand: Stand) -> bool
-    ensures { result ≡ is_missing number me node stand }
+fn has_not_come(number: usize, me: usize, node: usize, stand: Stand) -> bool
+    ensures { result ≡ has_not_come number me node stand }
 {
     node != me && stand.arrives < number
 }
 
 // The nodes that have not come to the barrier of node `me` that has this number, ascending.
-pub(crate) fn missing_of(
+pub(crate) fn missing_nodes(
     alloc: Global,
     number: usize,
     me: usize,
     stands: &[Stand],
 ) -> Result<Vec<Missing>, AllocError>
-    ensures { IfOk result (λ missing. missing.items ≡ missing_of number me stands.now) }
+    ensures { IfOk result (λ missing. missing.items ≡ missing_nodes number me stands.now) }
 {
     let mut missing = Vec::new(alloc);
     for node in 0..stands.len() {
         let stand = stands[node];
-        if is_missing(number, me, node, stand) {
+        if has_not_come(number, me, node, stand) {
             missing.push(Missing {
                 node,
                 fate: stand.fate,

@@ -3,7 +3,7 @@
 ghost use Rattle.std.specs.Prelude.{◌≡◌, ◌<◌, ℕ, List, IfOk};
 ghost use Rattle.lrc_lang.specs.declared.program.Program.{Program};
 ghost use Rattle.lrc_stuck.specs.Followed.{AreFollowed};
-ghost use Rattle.lrc_stuck.specs.Stand.{begins, coming_by, coming_of, fate_after, fate_of, is_used_up, stand_of, stands_of};
+ghost use Rattle.lrc_stuck.specs.Stand.{coming_by, coming_of, fate_after, fate_of, is_used_up, stand_of, stands_of, takes_step};
 
 use crate::counts::{arrives_of, departs_of, spent_of};
 use crate::holder::{Holder, holder_of};
@@ -95,8 +95,8 @@ fn is_used_up(steps: Option<u32>, spent: usize) -> bool
 }
 
 // Whether what is asked for takes a step, by a node that has come to a barrier or not.
-fn begins(arrived: bool, ask: Ask) -> bool
-    ensures { result ≡ begins arrived ask }
+fn takes_step(arrived: bool, ask: Ask) -> bool
+    ensures { result ≡ takes_step arrived ask }
 {
     match ask {
         Ask::End => false,
@@ -129,7 +129,7 @@ fn coming_of(steps: Option<u32>, acts: &[Act], lines: &[u32], node: u8, ask: Ask
 {
     let departs = departs_of(node, acts);
     let arrived = departs < arrives_of(node, acts);
-    if begins(arrived, ask) && is_used_up(steps, spent_of(node, acts)) {
+    if takes_step(arrived, ask) && is_used_up(steps, spent_of(node, acts)) {
         Coming::StepsUsedUp
     } else {
         coming_by(departs, acts, lines, ask)

@@ -5,7 +5,7 @@ ghost use Rattle.lrc_text.specs.Front.{BeginsWith};
 ghost use Rattle.lrc_stuck.specs.Words.{acquire_words, barrier_words, by_words, cause_words, coming_words, fate_mark, held_words, holder_words, missing_words, others_words, since_words, trap_words};
 
 use crate::holder::Holder;
-use crate::missing::{Missing, missing_of};
+use crate::missing::{Missing, missing_nodes};
 use crate::stand::{Coming, Fate, Stand};
 use lrc_text::push_number;
 use lrc_trace::act::Cause;
@@ -144,7 +144,7 @@ pub(crate) fn push_coming(
         Coming::Trap(cause) => push_trap(text, cause),
         Coming::Acquire(lock, holder) => push_acquire(text, lock, holder),
         Coming::Barrier(number) => {
-            let missing = missing_of(alloc, number, me, stands)?;
+            let missing = missing_nodes(alloc, number, me, stands)?;
             push_number(text, b"barrier ", number as u64)?;
             push_barrier(text, &missing)
         }

@@ -12,7 +12,7 @@ use Rattle.lrc_svg.specs.declared.name.Tag.TheVariants as tags
 use Rattle.lrc_svg.specs.declared.name.Key.{Key}
 use Rattle.lrc_svg.specs.declared.name.Key.TheVariants as keys
 use Rattle.lrc_svg.specs.Names.{key_word, tag_word}
-use Rattle.lrc_svg.specs.Reading.{Reader, begun, broken, done, inside, is_text_byte, key, naming, reads, sign, start, step}
+use Rattle.lrc_svg.specs.Reading.{Reader, begun, broken, done, inside, is_text_byte, key, naming, reader_behind, reads, sign, start}
 use Rattle.lrc_svg.specs.Reading.{value, value_sign, valued}
 use Rattle.lrc_svg.specs.Texts.{attribute_text, attributes_text, byte_text, close_text, content_text, document_text, escaped}
 use Rattle.lrc_svg.specs.Texts.{open_text, row_text}
@@ -23,7 +23,7 @@ fold_append f from (x ∷ a) b = fold_append f (f from x) a b
 
 -- one text behind another
 after : (reader middle end : Reader) (a b : List ℕ) → reads reader a ≡ middle → reads middle b ≡ end → reads reader (a ++ b) ≡ end
-after reader middle end a b first second = fold_append step reader a b ∙ ap (λ r. reads r b) first ∙ second
+after reader middle end a b first second = fold_append reader_behind reader a b ∙ ap (λ r. reads r b) first ∙ second
 
 -- ---- texts and values
 
@@ -54,7 +54,7 @@ record Stays (reader : Reader) : Type 0 where
   greater : reads reader (codes "&gt;") ≡ reader
   quote : reads reader (codes "&quot;") ≡ reader
   question : reads reader (codes "?") ≡ reader
-  plain : (byte : ℕ) → (byte == 38) ≡ false → (byte == 60) ≡ false → (byte == 34) ≡ false → is_text_byte byte ≡ true → step reader byte ≡ reader
+  plain : (byte : ℕ) → (byte == 38) ≡ false → (byte == 60) ≡ false → (byte == 34) ≡ false → is_text_byte byte ≡ true → reader_behind reader byte ≡ reader
 
 module _ (reader : Reader) (stays : Stays reader) where
   stays_at : (byte : ℕ) → reads reader (byte_text byte) ≡ reader
@@ -174,8 +174,8 @@ closed_inside tags.Label next around = refl
 
 -- behind the name of an element, and behind a value of it, an attribute begins alike
 record Ready (around : List (List ℕ)) (name : List ℕ) (reader : Reader) : Type 0 where
-  blank : step reader 32 ≡ key around name []
-  end : step reader 62 ≡ inside (name ∷ around)
+  blank : reader_behind reader 32 ≡ key around name []
+  end : reader_behind reader 62 ≡ inside (name ∷ around)
 
 module _ (around : List (List ℕ)) (name : List ℕ) where
   attribute_read : (reader : Reader) → Ready around name reader → (a : Attribute) → reads reader (attribute_text a) ≡ valued around name

@@ -57,48 +57,48 @@ is_some_name [] = false
 is_some_name (first ∷ more) = true
 
 -- the element that is open innermost ends; behind the root nothing is open
-abbrev pub closed : (around : List (List ℕ)) → (name : List ℕ) → Reader
-closed [] name = broken
-closed (top ∷ []) name = if same_name top name then done else broken
-closed (top ∷ next ∷ around) name = if same_name top name then inside (next ∷ around) else broken
+abbrev pub reader_behind_end : (around : List (List ℕ)) → (name : List ℕ) → Reader
+reader_behind_end [] name = broken
+reader_behind_end (top ∷ []) name = if same_name top name then done else broken
+reader_behind_end (top ∷ next ∷ around) name = if same_name top name then inside (next ∷ around) else broken
 
 -- the reader behind one byte more: `<` is 60, `>` 62, `/` 47, `=` 61, `"` 34, `&` 38, `;` 59, a blank 32 and a line's end 10
-abbrev pub step : Reader → ℕ → Reader
-step start byte = if byte == 60 then begun [] else broken
-step (inside around) byte =
+abbrev pub reader_behind : Reader → ℕ → Reader
+reader_behind start byte = if byte == 60 then begun [] else broken
+reader_behind (inside around) byte =
     if byte == 60 then begun around else if byte == 38 then sign around [] else if is_text_byte byte then inside around else broken
-step (sign around name) byte =
+reader_behind (sign around name) byte =
     if is_name_byte byte then sign around (name ++ byte ∷ []) else if (byte == 59) && is_sign name then inside around else broken
-step (begun around) byte = if byte == 47 then ending around [] else if is_name_byte byte then naming around (byte ∷ []) else broken
-step (naming around name) byte =
+reader_behind (begun around) byte = if byte == 47 then ending around [] else if is_name_byte byte then naming around (byte ∷ []) else broken
+reader_behind (naming around name) byte =
     if is_name_byte byte then naming around (name ++ byte ∷ [])
     else if byte == 32 then key around name []
     else if byte == 62 then inside (name ∷ around)
     else broken
-step (key around name attribute) byte =
+reader_behind (key around name attribute) byte =
     if is_name_byte byte then key around name (attribute ++ byte ∷ [])
     else if (byte == 61) && is_some_name attribute then given around name
     else broken
-step (given around name) byte = if byte == 34 then value around name else broken
-step (value around name) byte =
+reader_behind (given around name) byte = if byte == 34 then value around name else broken
+reader_behind (value around name) byte =
     if byte == 34 then valued around name
     else if byte == 60 then broken
     else if byte == 38 then value_sign around name []
     else if is_text_byte byte then value around name
     else broken
-step (value_sign around name word) byte =
+reader_behind (value_sign around name word) byte =
     if is_name_byte byte then value_sign around name (word ++ byte ∷ [])
     else if (byte == 59) && is_sign word then value around name
     else broken
-step (valued around name) byte = if byte == 32 then key around name [] else if byte == 62 then inside (name ∷ around) else broken
-step (ending around name) byte =
-    if is_name_byte byte then ending around (name ++ byte ∷ []) else if byte == 62 then closed around name else broken
-step done byte = if byte == 10 then done else broken
-step broken byte = broken
+reader_behind (valued around name) byte = if byte == 32 then key around name [] else if byte == 62 then inside (name ∷ around) else broken
+reader_behind (ending around name) byte =
+    if is_name_byte byte then ending around (name ++ byte ∷ []) else if byte == 62 then reader_behind_end around name else broken
+reader_behind done byte = if byte == 10 then done else broken
+reader_behind broken byte = broken
 
 -- the reader behind these bytes
 abbrev pub reads : Reader → List ℕ → Reader
-reads reader bytes = fold step reader bytes
+reads reader bytes = fold reader_behind reader bytes
 
 abbrev pub IsWellFormed : List ℕ → Type 0
 IsWellFormed text = reads start text ≡ done

@@ -11,42 +11,42 @@ use Rattle.lrc_words.specs.declared.choice.Way.{Way}
 use Rattle.lrc_words.specs.declared.choice.Way.TheVariants.{Events, Rounds, Random, Threads}
 
 -- an option and its number, left out where the number is the one that it has without words
-abbrev pub number_text : List ℕ → ℕ → ℕ → List ℕ
-number_text option default number = if number == default then [] else option ++ decimal number
+abbrev pub option_text : List ℕ → ℕ → ℕ → List ℕ
+option_text option default number = if number == default then [] else option ++ decimal number
 
 -- an option and its number, left out where there is none
-abbrev pub some_number_text : List ℕ → Option ℕ → List ℕ
-some_number_text option None = []
-some_number_text option (Some number) = option ++ decimal number
+abbrev pub some_option_text : List ℕ → Option ℕ → List ℕ
+some_option_text option None = []
+some_option_text option (Some number) = option ++ decimal number
 
-abbrev pub size_text : Size → List ℕ
-size_text Words64 = []
-size_text Words256 = codes " --page 256"
+abbrev pub page_size_text : Size → List ℕ
+page_size_text Words64 = []
+page_size_text Words256 = codes " --page 256"
 
 -- the file, and the options that all runs of the nodes have in common
 abbrev pub options_text : RunOptions → List ℕ
 options_text options = options.file.now
-    ++ number_text (codes " --nodes ") 1 options.nodes.count
-    ++ number_text (codes " --steps ") 1000000 options.steps.count
-    ++ number_text (codes " --collect ") 0 options.collect.count
-    ++ size_text options.size
+    ++ option_text (codes " --nodes ") 1 options.nodes.count
+    ++ option_text (codes " --steps ") 1000000 options.steps.count
+    ++ option_text (codes " --collect ") 0 options.collect.count
+    ++ page_size_text options.size
 
-abbrev pub order_text : Picker → List ℕ
-order_text Oldest = []
-order_text Newest = codes " --order newest"
-order_text Twice = codes " --order twice"
+abbrev pub picker_text : Picker → List ℕ
+picker_text Oldest = []
+picker_text Newest = codes " --order newest"
+picker_text Twice = codes " --order twice"
 
 -- the options that say how a run goes on
 abbrev pub way_text : Way → List ℕ
 way_text (Events path) = codes " --events " ++ path.now
-way_text (Rounds picker) = order_text picker
-way_text (Random seed) = codes " --order random" ++ number_text (codes " --seed ") 0 seed
-way_text (Threads picker) = order_text picker ++ codes " --threads"
+way_text (Rounds picker) = picker_text picker
+way_text (Random seed) = codes " --order random" ++ option_text (codes " --seed ") 0 seed
+way_text (Threads picker) = picker_text picker ++ codes " --threads"
 
 -- the options that say which part of it is shown
-abbrev pub part_text : Charting → List ℕ
-part_text charting = some_number_text (codes " --from ") charting.from ++ some_number_text (codes " --to ") charting.to
+abbrev pub charting_text : Charting → List ℕ
+charting_text charting = some_option_text (codes " --from ") charting.from ++ some_option_text (codes " --to ") charting.to
 
 -- The words by which a chart is had, without those that change nothing. A chart for a terminal has the title of the document.
 abbrev pub title_text : RunChoice → Charting → List ℕ
-title_text run charting = codes "treadmarks chart " ++ options_text run.options ++ way_text run.way ++ part_text charting
+title_text run charting = codes "treadmarks chart " ++ options_text run.options ++ way_text run.way ++ charting_text charting

@@ -1,7 +1,7 @@
 // The title of a chart.
 
 ghost use Rattle.std.specs.Prelude.{◌≡◌, ◌++◌, IfOk, OnOk};
-ghost use Rattle.lrc_title.specs.Title.{number_text, options_text, order_text, part_text, size_text, some_number_text, title_text, way_text};
+ghost use Rattle.lrc_title.specs.Title.{charting_text, option_text, options_text, page_size_text, picker_text, some_option_text, title_text, way_text};
 
 use lrc_envelope::Picker;
 use lrc_page::Size;
@@ -62,7 +62,7 @@ fn push_options(text: &mut Vec<u8>, options: &RunOptions<'_>) -> Result<(), Allo
 }
 
 fn push_size(text: &mut Vec<u8>, size: Size) -> Result<(), AllocError>
-    ensures { OnOk result (text.new.items ≡ text.old.items ++ size_text size) }
+    ensures { OnOk result (text.new.items ≡ text.old.items ++ page_size_text size) }
 {
     match size {
         Size::Words64 => Ok(()),
@@ -89,7 +89,7 @@ fn push_way(text: &mut Vec<u8>, way: &Way<'_>) -> Result<(), AllocError>
 }
 
 fn push_order(text: &mut Vec<u8>, picker: Picker) -> Result<(), AllocError>
-    ensures { OnOk result (text.new.items ≡ text.old.items ++ order_text picker) }
+    ensures { OnOk result (text.new.items ≡ text.old.items ++ picker_text picker) }
 {
     match picker {
         Picker::Oldest => Ok(()),
@@ -112,7 +112,7 @@ fn push_unless(
     default: u64,
     number: u64,
 ) -> Result<(), AllocError>
-    ensures { OnOk result (text.new.items ≡ text.old.items ++ number_text option.now default number) }
+    ensures { OnOk result (text.new.items ≡ text.old.items ++ option_text option.now default number) }
 {
     if number == default {
         return Ok(());
@@ -126,7 +126,7 @@ fn push_some_number(
     option: &[u8],
     number: Option<u64>,
 ) -> Result<(), AllocError>
-    ensures { OnOk result (text.new.items ≡ text.old.items ++ some_number_text option.now number) }
+    ensures { OnOk result (text.new.items ≡ text.old.items ++ some_option_text option.now number) }
 {
     match number {
         Some(number) => push_number(text, option, number),

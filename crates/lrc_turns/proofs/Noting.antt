@@ -10,9 +10,9 @@ use Rattle.std.proofs.lemmas.List.{get_or-replicate}
 use Rattle.lrc_envelope.specs.Envelope.{EnvelopeRecord}
 use Rattle.lrc_protocol.specs.Log.{EntryRecord, Input, run, taken}
 use Rattle.lrc_turns.specs.declared.told.Told.{Told}
-use Rattle.lrc_turns.specs.Told.{Tells, has_key, is_noted}
+use Rattle.lrc_turns.specs.Told.{Tells, holds_input, holds_key}
 use Rattle.lrc_turns.specs.Turns.{Made, made_by}
-use Rattle.lrc_turns.specs.TurnsText.{acts_in, is_again, takes, was_taken}
+use Rattle.lrc_turns.specs.TurnsText.{acts_in, has_taken, takes_again, takes_message}
 
 abbrev once : Bool → ℕ
 once b = cond b 1 0
@@ -34,7 +34,7 @@ pub tells_none : (told : Told) → told.made ≡ replicate 256 0 → told.acts �
 tells_none told made acts none = record {
   made = λ node within. ap (λ l. slice_index l node) made ∙ get_or-replicate 256 node 0 0 within;
   acts = acts;
-  taken = λ node from number. ap (λ keys. has_key keys node from number) none;
+  taken = λ node from number. ap (λ keys. holds_key keys node from number) none;
 }
 
 noted_more : (b c : Bool) → cond b true c ≡ (b || c)
@@ -43,18 +43,18 @@ noted_more false c = refl
 
 -- a message more is noted, by its receiver, its sender and its number
 pub noted_one : (other from number node : ℕ) (envelope : EnvelopeRecord) (sender message : ℕ) (keys new : List (ℕ × (ℕ × ℕ)))
-    → has_key new other from number
-    ≡ cond ((node == other) && ((sender == from) && (message == number))) true (has_key keys other from number)
+    → holds_key new other from number
+    ≡ cond ((node == other) && ((sender == from) && (message == number))) true (holds_key keys other from number)
     → sender ≡ envelope.from → message ≡ envelope.number
-    → has_key new other from number ≡ (takes other from number node (taken envelope) || has_key keys other from number)
+    → holds_key new other from number ≡ (takes_message other from number node (taken envelope) || holds_key keys other from number)
 noted_one other from number node envelope sender message keys new is sender_is message_is =
-    is ∙ noted_more ((node == other) && ((sender == from) && (message == number))) (has_key keys other from number)
-    ∙ ap (λ s. ((node == other) && ((s == from) && (message == number))) || has_key keys other from number) sender_is
-    ∙ ap (λ m. ((node == other) && ((envelope.from == from) && (m == number))) || has_key keys other from number) message_is
+    is ∙ noted_more ((node == other) && ((sender == from) && (message == number))) (holds_key keys other from number)
+    ∙ ap (λ s. ((node == other) && ((s == from) && (message == number))) || holds_key keys other from number) sender_is
+    ∙ ap (λ m. ((node == other) && ((envelope.from == from) && (m == number))) || holds_key keys other from number) message_is
 
 -- what is noted was taken
 pub again_is : (turns : List Made) (told : Told) (node : ℕ) (input : Input) (again : Bool) → Tells turns told
-    → again ≡ is_noted told.taken.keys node input → again ≡ is_again turns node input
+    → again ≡ holds_input told.taken.keys node input → again ≡ takes_again turns node input
 again_is turns told node run again tells is = is
 again_is turns told node (taken envelope) again tells is = is ∙ tells.taken node envelope.from envelope.number
 
@@ -86,18 +86,18 @@ module _ (turns : List Made) (node : ℕ) (entry : EntryRecord) (old new : Told)
       let counted = count_push (λ (t : Made). is_some t.entry.turn.act) turns turn in
       omega (arith, is, tells.acts, counted)
 
-  taken_more : ((other from number : ℕ) → has_key new.taken.keys other from number
-      ≡ (takes other from number node entry.input || has_key old.taken.keys other from number))
-      → (other from number : ℕ) → has_key new.taken.keys other from number ≡ was_taken (turns ++ turn ∷ []) other from number
+  taken_more : ((other from number : ℕ) → holds_key new.taken.keys other from number
+      ≡ (takes_message other from number node entry.input || holds_key old.taken.keys other from number))
+      → (other from number : ℕ) → holds_key new.taken.keys other from number ≡ has_taken (turns ++ turn ∷ []) other from number
   taken_more is other from number =
-      let here = takes other from number node entry.input in
-      either here (was_taken turns other from number) (has_key new.taken.keys other from number)
+      let here = takes_message other from number node entry.input in
+      either here (has_taken turns other from number) (holds_key new.taken.keys other from number)
       (is other from number ∙ ap (λ b. here || b) (tells.taken other from number))
-      ∙ sym (list_any-append (λ (t : Made). takes other from number t.node t.entry.input) turns (turn ∷ []))
+      ∙ sym (list_any-append (λ (t : Made). takes_message other from number t.node t.entry.input) turns (turn ∷ []))
 
   pub tells_more : length old.made ≡ 256 → node < 256 → new.made ≡ slice_set old.made node (slice_index old.made node + 1)
       → new.acts ≡ old.acts + once (is_some entry.turn.act)
-      → ((other from number : ℕ) → has_key new.taken.keys other from number
-      ≡ (takes other from number node entry.input || has_key old.taken.keys other from number))
+      → ((other from number : ℕ) → holds_key new.taken.keys other from number
+      ≡ (takes_message other from number node entry.input || holds_key old.taken.keys other from number))
       → Tells (turns ++ turn ∷ []) new
   tells_more long few made acts more = record { made = made_more long few made; acts = acts_more acts; taken = taken_more more }

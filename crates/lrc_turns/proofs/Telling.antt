@@ -5,7 +5,7 @@ use Rattle.std.specs.Prelude.{Some, None, Result, Ok, Err, OnOk, slice_get}
 use Rattle.std.proofs.lemmas.Option.{same_Some}
 use Rattle.std.proofs.lemmas.List.{take_more}
 use Rattle.lrc_protocol.specs.Log.{EntryRecord}
-use Rattle.lrc_turns.specs.Turns.{Made, entry_at, made_by, next, turns_of}
+use Rattle.lrc_turns.specs.Turns.{Made, log_entry, made_by, next, turns_of}
 use Rattle.lrc_turns.specs.TurnsText.{text_behind, texts_behind}
 
 -- turns behind others are told behind those
@@ -30,22 +30,22 @@ turns_next logs order k d within =
     ∙ fold_append (λ turns node. turns ++ next logs turns node) [] (take k order) (get_or order k d ∷ [])
 
 pub next_some : (logs : List (List EntryRecord)) (turns : List Made) (node place : ℕ) (entry : EntryRecord) → place ≡ made_by node turns
-    → entry_at logs node place ≡ Some entry → next logs turns node ≡ record { node = node; entry = entry } ∷ []
+    → log_entry logs node place ≡ Some entry → next logs turns node ≡ record { node = node; entry = entry } ∷ []
 next_some logs turns node place entry is there = cc
 
 pub next_none : (logs : List (List EntryRecord)) (turns : List Made) (node place : ℕ) → place ≡ made_by node turns
-    → entry_at logs node place ≡ None → next logs turns node ≡ []
+    → log_entry logs node place ≡ None → next logs turns node ≡ []
 next_none logs turns node place is there = cc
 
 -- the turn at a place of one of the logs
 pub entry_in : {X : Type 0} (f : X → List EntryRecord) (logs : List X) (node place : ℕ) (log : X) → slice_get logs node ≡ Some log
-    → entry_at (map f logs) node place ≡ slice_get (f log) place
+    → log_entry (map f logs) node place ≡ slice_get (f log) place
 entry_in f [] node place log there = cc
 entry_in f (first ∷ logs) zero place log there = ap (λ l. slice_get (f l) place) (same_Some first log there)
 entry_in f (first ∷ logs) (suc node) place log there = entry_in f logs node place log there
 
 pub entry_past : {X : Type 0} (f : X → List EntryRecord) (logs : List X) (node place : ℕ) → slice_get logs node ≡ None
-    → entry_at (map f logs) node place ≡ None
+    → log_entry (map f logs) node place ≡ None
 entry_past f [] node place there = refl
 entry_past f (first ∷ logs) zero place there = cc
 entry_past f (first ∷ logs) (suc node) place there = entry_past f logs node place there

@@ -14,12 +14,12 @@ abbrev pub made_by : ℕ → List Made → ℕ
 made_by node turns = count_by (λ turn. turn.node == node) turns
 
 -- the turn at a place of a node's log, if there is one
-abbrev pub entry_at : List (List EntryRecord) → ℕ → ℕ → Option EntryRecord
-entry_at logs node place = slice_get (slice_index_or logs node []) place
+abbrev pub log_entry : List (List EntryRecord) → ℕ → ℕ → Option EntryRecord
+log_entry logs node place = slice_get (slice_index_or logs node []) place
 
 -- the turn that a node makes next, behind these turns: the next one of its log, if there is one
 abbrev pub next : List (List EntryRecord) → List Made → ℕ → List Made
-next logs turns node = map (λ entry. record { node = node; entry = entry }) (option_to_list (entry_at logs node (made_by node turns)))
+next logs turns node = map (λ entry. record { node = node; entry = entry }) (option_to_list (log_entry logs node (made_by node turns)))
 
 -- the turns that these nodes made, one after another
 abbrev pub turns_of : List (List EntryRecord) → (order : List ℕ) → List Made

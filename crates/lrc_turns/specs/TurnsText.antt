@@ -15,29 +15,29 @@ input_text node run again = []
 input_text node (taken envelope) again = taken_text node envelope again
 
 -- its act, with the line of the program's text that the act is of
-abbrev pub act_text : Option Act → ℕ → List ℕ
-act_text None line = []
-act_text (Some act) line = act_line act line
+abbrev pub turn_act_text : Option Act → ℕ → List ℕ
+turn_act_text None line = []
+turn_act_text (Some act) line = act_line act line
 
 abbrev pub turn_text : Made → (again : Bool) → (line : ℕ) → List ℕ
 turn_text turn again line =
-    input_text turn.node turn.entry.input again ++ act_text turn.entry.turn.act line ++ sent_texts turn.node turn.entry.turn.out
+    input_text turn.node turn.entry.input again ++ turn_act_text turn.entry.turn.act line ++ sent_texts turn.node turn.entry.turn.out
 
 -- ---- what the turns before it say of it
 
 -- by this input a node that made it takes the message of this number from that sender
-abbrev pub takes : (node from number : ℕ) → (maker : ℕ) → Input → Bool
-takes node from number maker run = false
-takes node from number maker (taken envelope) = (maker == node) && ((envelope.from == from) && (envelope.number == number))
+abbrev pub takes_message : (node from number : ℕ) → (maker : ℕ) → Input → Bool
+takes_message node from number maker run = false
+takes_message node from number maker (taken envelope) = (maker == node) && ((envelope.from == from) && (envelope.number == number))
 
 -- in one of these turns the node took that message
-abbrev pub was_taken : List Made → (node from number : ℕ) → Bool
-was_taken turns node from number = list_any (λ turn. takes node from number turn.node turn.entry.input) turns
+abbrev pub has_taken : List Made → (node from number : ℕ) → Bool
+has_taken turns node from number = list_any (λ turn. takes_message node from number turn.node turn.entry.input) turns
 
 -- the node takes a message that it took in one of these turns
-abbrev pub is_again : List Made → (node : ℕ) → Input → Bool
-is_again turns node run = false
-is_again turns node (taken envelope) = was_taken turns node envelope.from envelope.number
+abbrev pub takes_again : List Made → (node : ℕ) → Input → Bool
+takes_again turns node run = false
+takes_again turns node (taken envelope) = has_taken turns node envelope.from envelope.number
 
 -- how many of these turns made an act
 abbrev pub acts_in : List Made → ℕ
@@ -47,7 +47,7 @@ acts_in turns = count_by (λ turn. is_some turn.entry.turn.act) turns
 
 -- a turn behind others; `lines` are those of the acts of the run
 abbrev pub text_behind : (lines : List ℕ) → List Made → Made → List ℕ
-text_behind lines before turn = turn_text turn (is_again before turn.node turn.entry.input) (slice_index lines (acts_in before))
+text_behind lines before turn = turn_text turn (takes_again before turn.node turn.entry.input) (slice_index lines (acts_in before))
 
 -- turns behind others
 abbrev pub texts_behind : (lines : List ℕ) → (before turns : List Made) → List ℕ

@@ -2,7 +2,7 @@
 
 ghost use Rattle.std.specs.Prelude.{◌≡◌, ◌+◌, ◌<◌, ◌≤◌, [], ◌∷◌, ◌++◌, IfOk, List, MatchOption, None, OnOk, OnSome, Some, map, slice_index};
 ghost use Rattle.lrc_turns.specs.Told.{Tells};
-ghost use Rattle.lrc_turns.specs.Turns.{Made, entry_at, next};
+ghost use Rattle.lrc_turns.specs.Turns.{Made, log_entry, next};
 ghost use Rattle.lrc_turns.specs.TurnsText.{messages_text, text_behind, texts_behind};
 
 use crate::told::Told;
@@ -12,8 +12,8 @@ use std::alloc::{AllocError, Global};
 
 // The turn at a place of a node's log.
 fn entry_of(logs: &[Vec<Entry>], node: u8, place: usize) -> Option<&Entry>
-    ensures there { MatchOption result (entry_at (map (λ log. log.items) logs.now) node place ≡ None)
-        (λ entry. entry_at (map (λ log. log.items) logs.now) node place ≡ Some entry.now) }
+    ensures there { MatchOption result (log_entry (map (λ log. log.items) logs.now) node place ≡ None)
+        (λ entry. log_entry (map (λ log. log.items) logs.now) node place ≡ Some entry.now) }
     ensures bound { OnSome result (place < 18446744073709551615) }
 {
     logs.get(usize::from(node))?.get(place)

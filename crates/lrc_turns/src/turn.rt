@@ -2,7 +2,7 @@
 
 ghost use Rattle.std.specs.Prelude.{◌≡◌, ◌++◌, OnOk};
 ghost use Rattle.lrc_node.specs.Logged.{seen_input};
-ghost use Rattle.lrc_turns.specs.TurnsText.{act_text, input_text, turn_text};
+ghost use Rattle.lrc_turns.specs.TurnsText.{input_text, turn_act_text, turn_text};
 
 use lrc_messages::{push_all_sent, push_taken};
 use lrc_node::{Entry, Input};
@@ -28,7 +28,7 @@ fn push_input(
 
 // Adds the line of a turn's act, if it makes one.
 fn push_act(text: &mut Vec<u8>, act: Option<Act>, line: u32) -> Result<(), AllocError>
-    ensures { OnOk result (text.new.items ≡ text.old.items ++ act_text act line) }
+    ensures { OnOk result (text.new.items ≡ text.old.items ++ turn_act_text act line) }
 {
     match act {
         Some(act) => push_act_line(text, act, line),

@@ -14,42 +14,42 @@ use Rattle.clap.specs.Faults.{check_fault, defaults_fault, entered_fault, fault_
 use Rattle.clap.specs.declared.builder.value_parser.ValueParser.TheVariants.{Unsigned, Bool as BoolParser}
 use Rattle.clap.specs.declared.error.kind.ErrorKind.TheVariants.{InvalidValue, ValueValidation}
 use Rattle.clap.proofs.ValueTestLemmas.{accepts-Accepts}
-use Rattle.lrc_words.specs.CommandLine.{IsTaken}
-use Rattle.lrc_words.specs.Commands.{bare_number, chart, check, collect, explain, explore, flag, form, judge, nodes, number, order, page}
-use Rattle.lrc_words.specs.Commands.{plain, run, sim, stats, steps, trace, treadmarks, treadmarks_shape}
+use Rattle.lrc_words.specs.CommandLine.{IsCommandTaken}
+use Rattle.lrc_words.specs.Commands.{bare_number, chart_command, check_command, collect, explain_command, explore_command, flag_option, form, judge_command, nodes, number_option, order, page}
+use Rattle.lrc_words.specs.Commands.{plain_command, run_command, sim_command, stats_command, steps, trace_command, treadmarks, treadmarks_shape}
 use Rattle.lrc_words.specs.Options.{HasValue, IsBareNumber, IsChartTaken, IsExploreTaken, IsFlagOption, IsJudgeTaken, IsNumberOption, IsPlainTaken, IsRunTaken}
 use Rattle.lrc_words.specs.Options.{IsShowingTaken, IsSimTaken, IsTraceTaken}
 use Rattle.lrc_words.proofs.RowLemmas.{IsKeyed, IsLevel, first_passes, given_some, level_good, neither, required_given, same_bytes}
 
 abbrev check_built : Shape
-check_built = built_leaf (inherited treadmarks_shape check.top)
+check_built = built_leaf (inherited treadmarks_shape check_command.top)
 
 abbrev plain_built : Shape
-plain_built = built_leaf (inherited treadmarks_shape plain.top)
+plain_built = built_leaf (inherited treadmarks_shape plain_command.top)
 
 abbrev sim_built : Shape
-sim_built = built_leaf (inherited treadmarks_shape sim.top)
+sim_built = built_leaf (inherited treadmarks_shape sim_command.top)
 
 abbrev run_built : Shape
-run_built = built_leaf (inherited treadmarks_shape run.top)
+run_built = built_leaf (inherited treadmarks_shape run_command.top)
 
 abbrev trace_built : Shape
-trace_built = built_leaf (inherited treadmarks_shape trace.top)
+trace_built = built_leaf (inherited treadmarks_shape trace_command.top)
 
 abbrev explain_built : Shape
-explain_built = built_leaf (inherited treadmarks_shape explain.top)
+explain_built = built_leaf (inherited treadmarks_shape explain_command.top)
 
 abbrev stats_built : Shape
-stats_built = built_leaf (inherited treadmarks_shape stats.top)
+stats_built = built_leaf (inherited treadmarks_shape stats_command.top)
 
 abbrev chart_built : Shape
-chart_built = built_leaf (inherited treadmarks_shape chart.top)
+chart_built = built_leaf (inherited treadmarks_shape chart_command.top)
 
 abbrev judge_built : Shape
-judge_built = built_leaf (inherited treadmarks_shape judge.top)
+judge_built = built_leaf (inherited treadmarks_shape judge_command.top)
 
 abbrev explore_built : Shape
-explore_built = built_leaf (inherited treadmarks_shape explore.top)
+explore_built = built_leaf (inherited treadmarks_shape explore_command.top)
 
 check_keyed : AllByRecursion (IsKeyed check_built.rules) check_built.rules
 check_keyed = (
@@ -349,11 +349,11 @@ same_text (Some t) = refl
 
 -- what clap makes sure of in the rows of a level
 module _ (s : Shape) (rows : List Row) (level : IsLevel s rows) where
-  number_taken : (name value : Text) → arg_by_id s.rules name ≡ Some (filled (number name value)) → IsNumberOption name rows
+  number_taken : (name value : Text) → arg_by_id s.rules name ≡ Some (filled (number_option name value)) → IsNumberOption name rows
   number_taken name value own =
-      let first = first_passes s.rules (filled (number name value)) rows level.good own in
+      let first = first_passes s.rules (filled (number_option name value)) rows level.good own in
       record {
-        number = number_passed (first_of name rows) (level.there (filled (number name value)) own (lit< tt)) (bare_passed (first_of name rows) first.0);
+        number = number_passed (first_of name rows) (level.there (filled (number_option name value)) own (lit< tt)) (bare_passed (first_of name rows) first.0);
         as_written = first.1 ∙ same_text (first_of name rows);
       }
 
@@ -362,11 +362,11 @@ module _ (s : Shape) (rows : List Row) (level : IsLevel s rows) where
       let first = first_passes s.rules (filled (bare_number name)) rows level.good own in
       record { number = bare_passed (first_of name rows) first.0; as_written = first.1 ∙ same_text (first_of name rows) }
 
-  flag_taken : (name : Text) → arg_by_id s.rules name ≡ Some (filled (flag name)) → IsFlagOption name rows
+  flag_taken : (name : Text) → arg_by_id s.rules name ≡ Some (filled (flag_option name)) → IsFlagOption name rows
   flag_taken name own =
-      let first = first_passes s.rules (filled (flag name)) rows level.good own in
+      let first = first_passes s.rules (filled (flag_option name)) rows level.good own in
       record {
-        said = flag_passed (first_of name rows) (level.there (filled (flag name)) own (lit< tt)) first.0;
+        said = flag_passed (first_of name rows) (level.there (filled (flag_option name)) own (lit< tt)) first.0;
         as_written = first.1 ∙ same_text (first_of name rows);
       }
 
@@ -394,7 +394,7 @@ module _ (s : Shape) (rows : List Row) (level : IsLevel s rows) where
   all_sim_taken run seed_own = record { run = run; seed = bare_taken (codes "seed") seed_own }
 
   -- of one that has a flag for threads too
-  all_showing_taken : IsSimTaken rows → arg_by_id s.rules (codes "threads") ≡ Some (filled (flag (codes "threads"))) → IsShowingTaken rows
+  all_showing_taken : IsSimTaken rows → arg_by_id s.rules (codes "threads") ≡ Some (filled (flag_option (codes "threads"))) → IsShowingTaken rows
   all_showing_taken sim threads_own = record { sim = sim; threads = flag_taken (codes "threads") threads_own }
 
 check_taken : (words : List Text) → level_fault check_built [] nothing_held words false [] ≡ [] → HasValue (codes "FILE") (rows_after check_built.rules [] words)
@@ -498,7 +498,7 @@ top_built = record {
 
 one_named : (rows : List Row) (stop : Option (Text × List Text)) → entered_fault top_built stop ≡ []
     → check_fault top_built.top rows (is_some (entered top_built stop)) ≡ []
-    → IsTaken (entered top_built stop)
+    → IsCommandTaken (entered top_built stop)
 one_named rows None none checked = absurd cc
 one_named rows (Some p) none checked =
     go (answers_to p.0 (label_of check_built)) (answers_to p.0 (label_of plain_built)) (answers_to p.0 (label_of sim_built)) (answers_to p.0 (label_of run_built))
@@ -512,7 +512,7 @@ one_named rows (Some p) none checked =
 
     go : (a b d f h i k l m n : Bool) → option_map_or (λ s. level_fault s [] nothing_held p.1 false []) (shape a b d f h i k l m n) [] ≡ []
         → check_fault top_built.top rows (is_some (option_map (λ s. rows_at s p.1) (shape a b d f h i k l m n))) ≡ []
-        → IsTaken (option_map (λ s. rows_at s p.1) (shape a b d f h i k l m n))
+        → IsCommandTaken (option_map (λ s. rows_at s p.1) (shape a b d f h i k l m n))
     go true b d f h i k l m n e checked = inl (refl, check_taken p.1 e)
     go false true d f h i k l m n e checked = inr (inl (refl, plain_taken p.1 e))
     go false false true f h i k l m n e checked = inr (inr (inr (inr (inl (refl, sim_taken p.1 e)))))
@@ -525,7 +525,7 @@ one_named rows (Some p) none checked =
     go false false false false false false false false false true e checked = inr (inr (inr (inl (refl, explore_taken p.1 e))))
     go false false false false false false false false false false e checked = absurd cc
 
-pub taken : (words : List Text) → fault_of treadmarks words ≡ [] → IsTaken (subcommand_of treadmarks words)
+pub taken : (words : List Text) → fault_of treadmarks words ≡ [] → IsCommandTaken (subcommand_of treadmarks words)
 unfolding treadmarks
 taken words none =
     let stop = stop_after top_built.top.rules (names_of top_built) words in

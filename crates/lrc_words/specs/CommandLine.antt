@@ -47,9 +47,9 @@ IsShowTaken found = ((found.0 ≡ codes "sim") × IsSimTaken found.1)
     ⊎ IsAskTaken found
 
 -- the command that the words name, with what clap makes sure of in its matches
-abbrev pub IsTaken : Option (Text × List Row) → Type 0
-IsTaken None = ⊥
-IsTaken (Some found) = ((found.0 ≡ codes "check") × HasValue (codes "FILE") found.1)
+abbrev pub IsCommandTaken : Option (Text × List Row) → Type 0
+IsCommandTaken None = ⊥
+IsCommandTaken (Some found) = ((found.0 ≡ codes "check") × HasValue (codes "FILE") found.1)
     ⊎ ((found.0 ≡ codes "plain") × IsPlainTaken found.1)
     ⊎ ((found.0 ≡ codes "judge") × IsJudgeTaken found.1)
     ⊎ ((found.0 ≡ codes "explore") × IsExploreTaken found.1)
@@ -97,20 +97,20 @@ pub record IsExploring (rows : List Row) (exploring : Exploring) : Type 0 where
   pub outcomes : IsFlag (codes "outcomes") exploring.outcomes rows
 
 -- what is shown of a run is chosen by the command that clap found, with its matches
-abbrev pub IsShown : Text × List Row → RunChoice → Shape → Type 0
-IsShown found run Report = ((found.0 ≡ codes "sim") × IsRun false found.1 run) ⊎ ((found.0 ≡ codes "run") × IsThreadsRun found.1 run)
-IsShown found run (Trace form) = (found.0 ≡ codes "trace") × IsFormIn found.1 form × IsShowingRun found.1 run
-IsShown found run Explain = (found.0 ≡ codes "explain") × IsShowingRun found.1 run
-IsShown found run Stats = (found.0 ≡ codes "stats") × IsShowingRun found.1 run
-IsShown found run (Chart charting) = (found.0 ≡ codes "chart") × IsCharting found.1 charting × IsShowingRun found.1 run
+abbrev pub IsShowChoice : Text × List Row → RunChoice → Shape → Type 0
+IsShowChoice found run Report = ((found.0 ≡ codes "sim") × IsRun false found.1 run) ⊎ ((found.0 ≡ codes "run") × IsThreadsRun found.1 run)
+IsShowChoice found run (Trace form) = (found.0 ≡ codes "trace") × IsFormIn found.1 form × IsShowingRun found.1 run
+IsShowChoice found run Explain = (found.0 ≡ codes "explain") × IsShowingRun found.1 run
+IsShowChoice found run Stats = (found.0 ≡ codes "stats") × IsShowingRun found.1 run
+IsShowChoice found run (Chart charting) = (found.0 ≡ codes "chart") × IsCharting found.1 charting × IsShowingRun found.1 run
 
 -- the choice is the command that clap found, with its matches
-abbrev pub IsFound : Text × List Row → Choice → Type 0
-IsFound found (Check text) = (found.0 ≡ codes "check") × (first_of (codes "FILE") found.1 ≡ Some text.now)
-IsFound found (Plain run) = (found.0 ≡ codes "plain") × IsPlainRun found.1 run
-IsFound found (Show run shape) = IsShown found run shape
-IsFound found (Judge judging) = (found.0 ≡ codes "judge") × IsJudging found.1 judging
-IsFound found (Explore exploring) = (found.0 ≡ codes "explore") × IsExploring found.1 exploring
+abbrev pub IsChoice : Text × List Row → Choice → Type 0
+IsChoice found (Check text) = (found.0 ≡ codes "check") × (first_of (codes "FILE") found.1 ≡ Some text.now)
+IsChoice found (Plain run) = (found.0 ≡ codes "plain") × IsPlainRun found.1 run
+IsChoice found (Show run shape) = IsShowChoice found run shape
+IsChoice found (Judge judging) = (found.0 ≡ codes "judge") × IsJudging found.1 judging
+IsChoice found (Explore exploring) = (found.0 ≡ codes "explore") × IsExploring found.1 exploring
 
 -- ---- what does not fit
 
@@ -177,12 +177,12 @@ IsMisfitFault misfit BadNumber = misfit ≡ Number
 IsMisfitFault misfit NoMemory = misfit ≢ Number
 
 -- The fault that clap's error stands for: want of memory, or one of the words.
-abbrev pub fault_of_kind : ErrorKind → Error → ChooseFault
-fault_of_kind OutOfMemory error = NoMemory
-fault_of_kind _ error = Usage error
+abbrev pub choose_fault : ErrorKind → Error → ChooseFault
+choose_fault OutOfMemory error = NoMemory
+choose_fault _ error = Usage error
 
 abbrev pub fault_from : Error → ChooseFault
-fault_from error = fault_of_kind (kind_of error) error
+fault_from error = choose_fault (kind_of error) error
 
 -- Why clap finds no choice: a fault of the words, or want of memory.
 abbrev pub IsFoundFault : List Text → ChooseFault → Type 0
@@ -197,7 +197,7 @@ AreMisfits words misfit = (fault_of treadmarks words ≡ []) × IsSomeAnd (subco
 -- What the words come to: where clap finds no fault in them, the choice that it read, or words that do not fit, or a number
 -- that is out of range; where it finds one, that fault. Memory may run out at any words.
 abbrev pub Chooses : List Text → Result Choice ChooseFault → Type 0
-Chooses words (Ok choice) = (fault_of treadmarks words ≡ []) × IsSomeAnd (subcommand_of treadmarks words) (λ found. IsFound found choice)
+Chooses words (Ok choice) = (fault_of treadmarks words ≡ []) × IsSomeAnd (subcommand_of treadmarks words) (λ found. IsChoice found choice)
 Chooses words (Err BadNumber) = AreMisfits words Number
 Chooses words (Err (Usage error)) = IsAmong (kind_of error) (fault_of treadmarks words)
     ⊎ ((misfit : Misfit) × AreMisfits words misfit × IsUsageKind misfit (kind_of error))

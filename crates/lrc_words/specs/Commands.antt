@@ -21,24 +21,24 @@ abbrev pub bare_number : Text → Rule
 bare_number name = record (option name) { parser = Some (Unsigned 0 18446744073709551615) }
 
 -- one that is this number where the words give it none
-abbrev pub number : Text → Text → Rule
-number name value = record (bare_number name) { defaults = value ∷ [] }
+abbrev pub number_option : Text → Text → Rule
+number_option name value = record (bare_number name) { defaults = value ∷ [] }
 
 -- an option that takes no value: `true` where the words name it, else `false`
-abbrev pub flag : Text → Rule
-flag name = record (new_rule name) { long = Some name; action = Some SetTrue }
+abbrev pub flag_option : Text → Rule
+flag_option name = record (new_rule name) { long = Some name; action = Some SetTrue }
 
 abbrev pub nodes : Rule
-nodes = number (codes "nodes") (codes "1")
+nodes = number_option (codes "nodes") (codes "1")
 
 abbrev pub steps : Rule
-steps = number (codes "steps") (codes "1000000")
+steps = number_option (codes "steps") (codes "1000000")
 
 abbrev pub collect : Rule
-collect = number (codes "collect") (codes "0")
+collect = number_option (codes "collect") (codes "0")
 
 abbrev pub most : Rule
-most = number (codes "most") (codes "1000000")
+most = number_option (codes "most") (codes "1000000")
 
 -- `order`, `page` and `as` take one of few words, which are looked at once clap has read them
 abbrev pub order : Rule
@@ -50,50 +50,50 @@ page = defaulted (codes "page") (codes "64")
 abbrev pub form : Rule
 form = defaulted (codes "as") (codes "acts")
 
-abbrev pub check : App
-check = with_rule (new_app (codes "check")) file
+abbrev pub check_command : App
+check_command = with_rule (new_app (codes "check")) file
 
-abbrev pub plain : App
-plain = with_rule (with_rule (with_rule (new_app (codes "plain")) file) nodes) steps
+abbrev pub plain_command : App
+plain_command = with_rule (with_rule (with_rule (new_app (codes "plain")) file) nodes) steps
 
 -- what all runs of the nodes have in common
 abbrev pub with_run_options : App → App
 with_run_options command = with_rule (with_rule (with_rule (with_rule (with_rule (with_rule command file) nodes) steps) collect) order) page
 
-abbrev pub run : App
-run = with_run_options (new_app (codes "run"))
+abbrev pub run_command : App
+run_command = with_run_options (new_app (codes "run"))
 
 -- what those have beside it that may go on by events, or at random
 abbrev pub with_way_options : App → App
 with_way_options command = with_rule (with_rule (with_run_options command) (option (codes "events"))) (bare_number (codes "seed"))
 
-abbrev pub sim : App
-sim = with_way_options (new_app (codes "sim"))
+abbrev pub sim_command : App
+sim_command = with_way_options (new_app (codes "sim"))
 
 -- and those that show something of a run in any way
 abbrev pub with_showing_options : App → App
-with_showing_options command = with_rule (with_way_options command) (flag (codes "threads"))
+with_showing_options command = with_rule (with_way_options command) (flag_option (codes "threads"))
 
-abbrev pub trace : App
-trace = with_rule (with_rule (with_showing_options (new_app (codes "trace"))) form) (flag (codes "messages"))
+abbrev pub trace_command : App
+trace_command = with_rule (with_rule (with_showing_options (new_app (codes "trace"))) form) (flag_option (codes "messages"))
 
-abbrev pub explain : App
-explain = with_showing_options (new_app (codes "explain"))
+abbrev pub explain_command : App
+explain_command = with_showing_options (new_app (codes "explain"))
 
-abbrev pub stats : App
-stats = with_showing_options (new_app (codes "stats"))
+abbrev pub stats_command : App
+stats_command = with_showing_options (new_app (codes "stats"))
 
 -- the first and the last act that are shown need not be given
-abbrev pub chart : App
-chart = with_rule (with_rule (with_rule (with_showing_options (new_app (codes "chart"))) (flag (codes "text")))
+abbrev pub chart_command : App
+chart_command = with_rule (with_rule (with_rule (with_showing_options (new_app (codes "chart"))) (flag_option (codes "text")))
     (bare_number (codes "from"))) (bare_number (codes "to"))
 
 -- the number of nodes need not be given
-abbrev pub judge : App
-judge = with_rule (with_rule (with_rule (new_app (codes "judge")) file) (bare_number (codes "nodes"))) (flag (codes "pairs"))
+abbrev pub judge_command : App
+judge_command = with_rule (with_rule (with_rule (new_app (codes "judge")) file) (bare_number (codes "nodes"))) (flag_option (codes "pairs"))
 
-abbrev pub explore : App
-explore = with_rule (with_rule (with_rule (with_rule (new_app (codes "explore")) file) nodes) most) (flag (codes "outcomes"))
+abbrev pub explore_command : App
+explore_command = with_rule (with_rule (with_rule (with_rule (new_app (codes "explore")) file) nodes) most) (flag_option (codes "outcomes"))
 
 -- The words begin with no program's name, and name one of the commands; the program has a version.
 abbrev pub treadmarks_shape : Shape
@@ -105,11 +105,11 @@ treadmarks_shape = record (new_app (codes "treadmarks")).top {
 }
 
 abbrev pub with_reports : App → App
-with_reports command = with_subcommand (with_subcommand (with_subcommand (with_subcommand command check.top) plain.top) sim.top) run.top
+with_reports command = with_subcommand (with_subcommand (with_subcommand (with_subcommand command check_command.top) plain_command.top) sim_command.top) run_command.top
 
 abbrev pub with_questions : App → App
 with_questions command = with_subcommand (with_subcommand (with_subcommand (with_subcommand
-    (with_subcommand (with_subcommand command trace.top) explain.top) stats.top) chart.top) judge.top) explore.top
+    (with_subcommand (with_subcommand command trace_command.top) explain_command.top) stats_command.top) chart_command.top) judge_command.top) explore_command.top
 
 unfoldable pub treadmarks : App
 treadmarks = with_questions (with_reports (record { top = treadmarks_shape; subs = [] }))

@@ -26,24 +26,24 @@ abbrev pub HasValue : Text → List Row → Type 0
 HasValue name rows = IsSome (first_of name rows)
 
 -- the number that an option has among these matches; clap makes sure that there is one
-abbrev pub number_in : Text → List Row → ℕ
-number_in name rows = option_map_or (λ text. digits_value 10 (without_leading_plus text)) (first_of name rows) 0
+abbrev pub option_number : Text → List Row → ℕ
+option_number name rows = option_map_or (λ text. digits_value 10 (without_leading_plus text)) (first_of name rows) 0
 
 -- the number that an option has that need not be there
 abbrev pub some_number_in : Text → List Row → Option ℕ
 some_number_in name rows = option_map (λ text. digits_value 10 (without_leading_plus text)) (first_of name rows)
 
 abbrev pub nodes_in : List Row → ℕ
-nodes_in = number_in (codes "nodes")
+nodes_in = option_number (codes "nodes")
 
 abbrev pub steps_in : List Row → ℕ
-steps_in = number_in (codes "steps")
+steps_in = option_number (codes "steps")
 
 abbrev pub collect_in : List Row → ℕ
-collect_in = number_in (codes "collect")
+collect_in = option_number (codes "collect")
 
 abbrev pub most_in : List Row → ℕ
-most_in = number_in (codes "most")
+most_in = option_number (codes "most")
 
 -- whether the words name this flag
 abbrev pub IsFlag : Text → Bool → List Row → Type 0
@@ -129,9 +129,9 @@ IsOrder word (Picked picker) = IsPicker word picker
 IsOrder word Random = word ≡ Some (codes "random")
 
 -- the size of a page that a word names
-abbrev pub IsSize : Option Text → Size → Type 0
-IsSize word Words64 = word ≡ Some (codes "64")
-IsSize word Words256 = word ≡ Some (codes "256")
+abbrev pub IsPageSize : Option Text → Size → Type 0
+IsPageSize word Words64 = word ≡ Some (codes "64")
+IsPageSize word Words256 = word ≡ Some (codes "256")
 
 -- the form that a word names, where messages are asked for or not
 abbrev pub IsForm : Option Text → Bool → Form → Type 0
@@ -178,7 +178,7 @@ pub record AreOptions (path : Text) (node_count step_count : ℕ) (rows : List R
 pub record AreRunOptions (run : RunOptions) (rows : List Row) : Type 0 where
   pub plain : AreOptions run.file.now run.nodes.count run.steps.count rows
   pub collect : collect_in rows ≡ run.collect.count
-  pub size : IsSize (first_of (codes "page") rows) run.size
+  pub size : IsPageSize (first_of (codes "page") rows) run.size
 
 -- what these matches say of a run's order, its seed and its events
 pub record AreAsked (rows : List Row) (order : Order) (seed : Option ℕ) (events : Option Text) : Type 0 where
@@ -219,12 +219,12 @@ HasBadNumber rows = HasBadCount rows ⊎ IsOutOfRange 0 1000000 (collect_in rows
 
 -- no size has the word of the option
 abbrev pub HasBadPage : List Row → Type 0
-HasBadPage rows = (size : Size) → ¬ IsSize (first_of (codes "page") rows) size
+HasBadPage rows = (size : Size) → ¬ IsPageSize (first_of (codes "page") rows) size
 
 -- what does not fit in the options that all runs have: words are looked at before numbers
 abbrev pub HasOptionsMisfit : List Row → Misfit → Type 0
 HasOptionsMisfit rows misfit = ((misfit ≡ unfit.Page) × HasBadPage rows)
-    ⊎ ((misfit ≡ unfit.Number) × ((size : Size) × IsSize (first_of (codes "page") rows) size) × HasBadNumber rows)
+    ⊎ ((misfit ≡ unfit.Number) × ((size : Size) × IsPageSize (first_of (codes "page") rows) size) × HasBadNumber rows)
 
 -- what does not fit in how a run goes on
 abbrev pub HasWayMisfitIn : Bool → List Row → Misfit → Type 0

@@ -5,8 +5,8 @@ ghost use Rattle.std.specs.Int.{IsOutOfRange};
 ghost use Rattle.clap.specs.Words.{fault_of, found_of, rows_of, subcommand_of, subcommand_rows_of};
 ghost use Rattle.lrc_words.specs.Commands.{treadmarks};
 ghost use Rattle.lrc_words.specs.CommandLine.{Chooses, HasExploreMisfit, HasJudgeMisfit, HasMisfit, HasPlainMisfit, HasShowMisfit};
-ghost use Rattle.lrc_words.specs.CommandLine.{IsAskTaken, IsExploring, IsFound, IsFoundFault, IsJudging, IsPlainRun, IsShowTaken};
-ghost use Rattle.lrc_words.specs.CommandLine.{IsTaken, fault_from, words_meant};
+ghost use Rattle.lrc_words.specs.CommandLine.{IsAskTaken, IsChoice, IsExploring, IsFoundFault, IsJudging, IsPlainRun, IsShowTaken};
+ghost use Rattle.lrc_words.specs.CommandLine.{IsCommandTaken, fault_from, words_meant};
 ghost use Rattle.lrc_words.specs.Options.{IsExploreTaken, IsJudgeTaken, IsPlainTaken};
 ghost use Rattle.lrc_words.specs.declared.choice.ChooseFault.TheVariants.{NoMemory};
 ghost use Rattle.lrc_words.specs.declared.misfit.Misfit.TheVariants.{Number};
@@ -55,8 +55,8 @@ fn matches_of<'w, S: AsStr>(alloc: Global, words: &'w [S]) -> Result<ArgMatches<
 }
 
 fn choice_from<'w>(matches: &ArgMatches<'w>) -> Result<Choice<'w>, Misfit>
-    requires { IsTaken (subcommand_rows_of matches.now) }
-    ensures ok { IfOk result (λ choice. IsSomeAnd (subcommand_rows_of matches.now) (λ found. IsFound found choice)) }
+    requires { IsCommandTaken (subcommand_rows_of matches.now) }
+    ensures ok { IfOk result (λ choice. IsSomeAnd (subcommand_rows_of matches.now) (λ found. IsChoice found choice)) }
     ensures err { IfErr result (λ misfit. IsSomeAnd (subcommand_rows_of matches.now) (λ found. HasMisfit found misfit)) }
 {
     if let Some(options) = matches.subcommand_matches("check") {
@@ -77,7 +77,7 @@ fn choice_from<'w>(matches: &ArgMatches<'w>) -> Result<Choice<'w>, Misfit>
 // What a command asks for that shows something of a run.
 fn shown_from<'w>(matches: &ArgMatches<'w>) -> Result<Choice<'w>, Misfit>
     requires { IsSomeAnd (subcommand_rows_of matches.now) IsShowTaken }
-    ensures ok { IfOk result (λ choice. IsSomeAnd (subcommand_rows_of matches.now) (λ found. IsFound found choice)) }
+    ensures ok { IfOk result (λ choice. IsSomeAnd (subcommand_rows_of matches.now) (λ found. IsChoice found choice)) }
     ensures err { IfErr result (λ misfit. IsSomeAnd (subcommand_rows_of matches.now) (λ found. HasShowMisfit found misfit)) }
 {
     if let Some(options) = matches.subcommand_matches("sim") {
@@ -92,7 +92,7 @@ fn shown_from<'w>(matches: &ArgMatches<'w>) -> Result<Choice<'w>, Misfit>
 // What a command asks for that asks more of a run.
 fn asked_from<'w>(matches: &ArgMatches<'w>) -> Result<Choice<'w>, Misfit>
     requires { IsSomeAnd (subcommand_rows_of matches.now) IsAskTaken }
-    ensures ok { IfOk result (λ choice. IsSomeAnd (subcommand_rows_of matches.now) (λ found. IsFound found choice)) }
+    ensures ok { IfOk result (λ choice. IsSomeAnd (subcommand_rows_of matches.now) (λ found. IsChoice found choice)) }
     ensures err { IfErr result (λ misfit. IsSomeAnd (subcommand_rows_of matches.now) (λ found. HasShowMisfit found misfit)) }
 {
     if let Some(options) = matches.subcommand_matches("trace") {

@@ -3,8 +3,8 @@
 ghost use Rattle.std.specs.Prelude.{◌≡◌, [], IfOk, false};
 ghost use Rattle.clap.specs.Words.{app_of, rule_of};
 ghost use Rattle.clap.specs.declared.builder.command.Command.TheViews.{out-Command as fields_of};
-ghost use Rattle.lrc_words.specs.Commands.{bare_number, chart, check, collect, explain, explore, file, flag, form, judge, most, nodes, number, option, order};
-ghost use Rattle.lrc_words.specs.Commands.{page, plain, run, sim, stats, steps, trace, treadmarks, treadmarks_shape};
+ghost use Rattle.lrc_words.specs.Commands.{bare_number, chart_command, check_command, collect, explain_command, explore_command, file, flag_option, form, judge_command, most, nodes, number_option, option, order};
+ghost use Rattle.lrc_words.specs.Commands.{page, plain_command, run_command, sim_command, stats_command, steps, trace_command, treadmarks, treadmarks_shape};
 ghost use Rattle.lrc_words.specs.Commands.{with_questions, with_reports, with_run_options, with_showing_options, with_way_options};
 
 use clap::{Arg, ArgAction, Command, value_parser};
@@ -120,7 +120,7 @@ fn taking_questions<'w>(alloc: Global, command: Command<'w>) -> Result<Command<'
 }
 
 fn check_command<'w>(alloc: Global) -> Result<Command<'w>, AllocError>
-    ensures app { IfOk result (λ command. app_of command ≡ check) }
+    ensures app { IfOk result (λ command. app_of command ≡ check_command) }
     ensures local { IfOk result (λ command. (fields_of command).has_globals ≡ false) }
 {
     Command::new(alloc, "check")
@@ -129,7 +129,7 @@ fn check_command<'w>(alloc: Global) -> Result<Command<'w>, AllocError>
 }
 
 fn plain_command<'w>(alloc: Global) -> Result<Command<'w>, AllocError>
-    ensures app { IfOk result (λ command. app_of command ≡ plain) }
+    ensures app { IfOk result (λ command. app_of command ≡ plain_command) }
     ensures local { IfOk result (λ command. (fields_of command).has_globals ≡ false) }
 {
     Command::new(alloc, "plain")
@@ -142,7 +142,7 @@ fn plain_command<'w>(alloc: Global) -> Result<Command<'w>, AllocError>
 }
 
 fn sim_command<'w>(alloc: Global) -> Result<Command<'w>, AllocError>
-    ensures app { IfOk result (λ command. app_of command ≡ sim) }
+    ensures app { IfOk result (λ command. app_of command ≡ sim_command) }
     ensures local { IfOk result (λ command. (fields_of command).has_globals ≡ false) }
 {
     let command = Command::new(alloc, "sim").about(
@@ -152,7 +152,7 @@ fn sim_command<'w>(alloc: Global) -> Result<Command<'w>, AllocError>
 }
 
 fn run_command<'w>(alloc: Global) -> Result<Command<'w>, AllocError>
-    ensures app { IfOk result (λ command. app_of command ≡ run) }
+    ensures app { IfOk result (λ command. app_of command ≡ run_command) }
     ensures local { IfOk result (λ command. (fields_of command).has_globals ≡ false) }
 {
     let command = Command::new(alloc, "run").about(
@@ -162,17 +162,17 @@ fn run_command<'w>(alloc: Global) -> Result<Command<'w>, AllocError>
 }
 
 fn trace_command<'w>(alloc: Global) -> Result<Command<'w>, AllocError>
-    ensures app { IfOk result (λ command. app_of command ≡ trace) }
+    ensures app { IfOk result (λ command. app_of command ≡ trace_command) }
     ensures local { IfOk result (λ command. (fields_of command).has_globals ≡ false) }
 {
     let command = Command::new(alloc, "trace").about("Shows the acts of a run, one on each line");
     taking_showing_options(alloc, command)?
         .arg(form(alloc))?
-        .arg(flag(alloc, "messages", MESSAGES_HELP))
+        .arg(flag_option(alloc, "messages", MESSAGES_HELP))
 }
 
 fn explain_command<'w>(alloc: Global) -> Result<Command<'w>, AllocError>
-    ensures app { IfOk result (λ command. app_of command ≡ explain) }
+    ensures app { IfOk result (λ command. app_of command ≡ explain_command) }
     ensures local { IfOk result (λ command. (fields_of command).has_globals ≡ false) }
 {
     let command = Command::new(alloc, "explain").about(
@@ -182,7 +182,7 @@ fn explain_command<'w>(alloc: Global) -> Result<Command<'w>, AllocError>
 }
 
 fn stats_command<'w>(alloc: Global) -> Result<Command<'w>, AllocError>
-    ensures app { IfOk result (λ command. app_of command ≡ stats) }
+    ensures app { IfOk result (λ command. app_of command ≡ stats_command) }
     ensures local { IfOk result (λ command. (fields_of command).has_globals ≡ false) }
 {
     let command = Command::new(alloc, "stats").about(
@@ -192,18 +192,18 @@ fn stats_command<'w>(alloc: Global) -> Result<Command<'w>, AllocError>
 }
 
 fn chart_command<'w>(alloc: Global) -> Result<Command<'w>, AllocError>
-    ensures app { IfOk result (λ command. app_of command ≡ chart) }
+    ensures app { IfOk result (λ command. app_of command ≡ chart_command) }
     ensures local { IfOk result (λ command. (fields_of command).has_globals ≡ false) }
 {
     let command = Command::new(alloc, "chart").about("Draws a run as a picture, an SVG document");
     taking_showing_options(alloc, command)?
-        .arg(flag(alloc, "text", TEXT_HELP))?
+        .arg(flag_option(alloc, "text", TEXT_HELP))?
         .arg(bare_number(alloc, "from", "P", FROM_HELP))?
         .arg(bare_number(alloc, "to", "Q", TO_HELP))
 }
 
 fn judge_command<'w>(alloc: Global) -> Result<Command<'w>, AllocError>
-    ensures app { IfOk result (λ command. app_of command ≡ judge) }
+    ensures app { IfOk result (λ command. app_of command ≡ judge_command) }
     ensures local { IfOk result (λ command. (fields_of command).has_globals ≡ false) }
 {
     Command::new(alloc, "judge")
@@ -212,11 +212,11 @@ fn judge_command<'w>(alloc: Global) -> Result<Command<'w>, AllocError>
         )
         .arg(file(alloc, ACTS_FILE_HELP))?
         .arg(bare_number(alloc, "nodes", "N", ACTS_NODES_HELP))?
-        .arg(flag(alloc, "pairs", PAIRS_HELP))
+        .arg(flag_option(alloc, "pairs", PAIRS_HELP))
 }
 
 fn explore_command<'w>(alloc: Global) -> Result<Command<'w>, AllocError>
-    ensures app { IfOk result (λ command. app_of command ≡ explore) }
+    ensures app { IfOk result (λ command. app_of command ≡ explore_command) }
     ensures local { IfOk result (λ command. (fields_of command).has_globals ≡ false) }
 {
     Command::new(alloc, "explore")
@@ -225,8 +225,8 @@ fn explore_command<'w>(alloc: Global) -> Result<Command<'w>, AllocError>
         )
         .arg(file(alloc, FILE_HELP))?
         .arg(nodes(alloc))?
-        .arg(number(alloc, "most", "1000000", MOST_HELP))?
-        .arg(flag(alloc, "outcomes", OUTCOMES_HELP))
+        .arg(number_option(alloc, "most", "1000000", MOST_HELP))?
+        .arg(flag_option(alloc, "outcomes", OUTCOMES_HELP))
 }
 
 // Adds what the commands have in common that show something of a run in any way.
@@ -238,7 +238,7 @@ fn taking_showing_options<'w>(
     ensures app { IfOk result (λ given. app_of given ≡ with_showing_options (app_of command.entry)) }
     ensures local { IfOk result (λ given. (fields_of given).has_globals ≡ false) }
 {
-    taking_way_options(alloc, command)?.arg(flag(alloc, "threads", THREADS_HELP))
+    taking_way_options(alloc, command)?.arg(flag_option(alloc, "threads", THREADS_HELP))
 }
 
 // Adds what they have in common with `sim`.
@@ -292,21 +292,21 @@ fn nodes<'w>(alloc: Global) -> Arg<'w>
     ensures rule { rule_of result ≡ nodes }
     ensures local { result.global ≡ false }
 {
-    number(alloc, "nodes", "1", NODES_HELP)
+    number_option(alloc, "nodes", "1", NODES_HELP)
 }
 
 fn steps<'w>(alloc: Global) -> Arg<'w>
     ensures rule { rule_of result ≡ steps }
     ensures local { result.global ≡ false }
 {
-    number(alloc, "steps", "1000000", STEPS_HELP)
+    number_option(alloc, "steps", "1000000", STEPS_HELP)
 }
 
 fn collect<'w>(alloc: Global) -> Arg<'w>
     ensures rule { rule_of result ≡ collect }
     ensures local { result.global ≡ false }
 {
-    number(alloc, "collect", "0", COLLECT_HELP)
+    number_option(alloc, "collect", "0", COLLECT_HELP)
 }
 
 fn order<'w>(alloc: Global, help: &'w str) -> Arg<'w>
@@ -323,8 +323,8 @@ fn page<'w>(alloc: Global) -> Arg<'w>
     text(alloc, "page", "WORDS", PAGE_HELP).default_value("64")
 }
 
-fn number<'w>(alloc: Global, name: &'w str, default: &'w str, help: &'w str) -> Arg<'w>
-    ensures rule { rule_of result ≡ number name.entry.now default.entry.now }
+fn number_option<'w>(alloc: Global, name: &'w str, default: &'w str, help: &'w str) -> Arg<'w>
+    ensures rule { rule_of result ≡ number_option name.entry.now default.entry.now }
     ensures local { result.global ≡ false }
 {
     bare_number(alloc, name, "N", help).default_value(default)
@@ -345,8 +345,8 @@ fn form<'w>(alloc: Global) -> Arg<'w>
     text(alloc, "as", "FORM", FORM_HELP).default_value("acts")
 }
 
-fn flag<'w>(alloc: Global, name: &'w str, help: &'w str) -> Arg<'w>
-    ensures rule { rule_of result ≡ flag name.entry.now }
+fn flag_option<'w>(alloc: Global, name: &'w str, help: &'w str) -> Arg<'w>
+    ensures rule { rule_of result ≡ flag_option name.entry.now }
     ensures local { result.global ≡ false }
 {
     Arg::new(alloc, name)

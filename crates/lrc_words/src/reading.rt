@@ -3,8 +3,8 @@
 ghost use Rattle.std.specs.Prelude.{◌≡◌, IfErr, IfOk, Some, codes, option_map};
 ghost use Rattle.std.specs.Int.{IsOutOfRange};
 ghost use Rattle.clap.specs.Words.{first_of, found_of, rows_of};
-ghost use Rattle.lrc_words.specs.Options.{HasBadPage, HasValue, IsBareNumber, IsFlag, IsFlagOption, IsNumberOption, IsSize};
-ghost use Rattle.lrc_words.specs.Options.{collect_in, most_in, nodes_in, number_in, some_number_in, steps_in};
+ghost use Rattle.lrc_words.specs.Options.{HasBadPage, HasValue, IsBareNumber, IsFlag, IsFlagOption, IsNumberOption, IsPageSize};
+ghost use Rattle.lrc_words.specs.Options.{collect_in, most_in, nodes_in, option_number, some_number_in, steps_in};
 ghost use Rattle.lrc_words.specs.declared.misfit.Misfit.TheVariants as unfit;
 ghost use Rattle.lrc_page.specs.declared.size.Size.{Size};
 
@@ -32,7 +32,7 @@ pub(crate) fn is_named(options: &ArgMatches<'_>, name: &str) -> bool
 /// The number of an option that has one.
 pub(crate) fn number_of(options: &ArgMatches<'_>, name: &str) -> u64
     requires { IsNumberOption name.now (rows_of (found_of options.now)) }
-    ensures { result ≡ number_in name.now (rows_of (found_of options.now)) }
+    ensures { result ≡ option_number name.now (rows_of (found_of options.now)) }
 {
     options.get_one::<u64>(name).unwrap()
 }
@@ -106,15 +106,15 @@ pub(crate) fn most_of(options: &ArgMatches<'_>) -> Result<Most, Misfit>
 
 pub(crate) fn size_of(options: &ArgMatches<'_>) -> Result<Size, Misfit>
     requires { HasValue (codes "page") (rows_of (found_of options.now)) }
-    ensures ok { IfOk result (IsSize (first_of (codes "page") (rows_of (found_of options.now)))) }
+    ensures ok { IfOk result (IsPageSize (first_of (codes "page") (rows_of (found_of options.now)))) }
     ensures err { IfErr result (λ misfit. (misfit ≡ unfit.Page) × HasBadPage (rows_of (found_of options.now))) }
 {
     size_named(text_of(options, "page"))
 }
 
 fn size_named(word: &str) -> Result<Size, Misfit>
-    ensures ok { IfOk result (IsSize (Some word.now)) }
-    ensures err { IfErr result (λ misfit. (misfit ≡ unfit.Page) × ((size : Size) → ¬ IsSize (Some word.now) size)) }
+    ensures ok { IfOk result (IsPageSize (Some word.now)) }
+    ensures err { IfErr result (λ misfit. (misfit ≡ unfit.Page) × ((size : Size) → ¬ IsPageSize (Some word.now) size)) }
 {
     if word == "64" {
         Ok(Size::Words64)

@@ -5,7 +5,7 @@ use Rattle.lrc_trace.specs.declared.act.Act.{Act}
 use Rattle.lrc_trace.specs.declared.act.Deed.TheVariants.{Quiet}
 use Rattle.lrc_trace.specs.Interval.{interval_at}
 use Rattle.lrc_trace.proofs.Positions.{Does-read}
-use Rattle.lrc_explain.specs.Access.{access_text, access_words, interval_words, node_words, place_words}
+use Rattle.lrc_explain.specs.Access.{access_text, act_words, effect_words, interval_words, node_words}
 use Rattle.lrc_explain.proofs.access.push_access.Goals as goal
 
 abbrev no_act : Act
@@ -24,8 +24,8 @@ returns c =
     let text = c.args.text.now.items in
     let node = node_words act.node in
     let interval = interval_words (interval_at acts act.node position) in
-    let place = place_words position in
-    let words = access_words (take position acts) act.deed in
+    let place = act_words position in
+    let words = effect_words (take position acts) act.deed in
     let within : position < length acts = c.requires.within in
     let intervals = c.args.before.now.intervals.items in
     let lefts = c.args.before.now.lefts.items in

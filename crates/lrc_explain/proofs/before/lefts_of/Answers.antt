@@ -6,8 +6,8 @@ use Rattle.std.specs.Ordering.{nat_cmp}
 use Rattle.lrc_trace.specs.declared.act.Act.{Act}
 use Rattle.lrc_trace.specs.declared.act.Deed.TheVariants.{Quiet}
 use Rattle.lrc_judge.specs.Races.{word_of}
+use Rattle.lrc_show.specs.Acts.{act_at}
 use Rattle.lrc_explain.specs.Access.{left_in}
-use Rattle.lrc_explain.specs.Site.{act_at}
 use Rattle.lrc_explain.proofs.Earlier.{lefts-more, remembers-next, remembers-same}
 use Rattle.lrc_explain.proofs.before.lefts_of.Goals as goal
 use Rattle.lrc_explain.proofs.before.lefts_of.Goals.{in-Write+in_ok-insert-in-Write, in_default}

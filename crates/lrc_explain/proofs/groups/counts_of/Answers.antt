@@ -4,7 +4,7 @@ use Rattle.std.specs.BTreeMap.{get, Updates}
 use Rattle.std.proofs.lemmas.List.{length-take-le}
 use Rattle.std.proofs.lemmas.List.Sums.{count_by-le-length}
 use Rattle.lrc_judge.specs.declared.lanes.Pair.{Pair}
-use Rattle.lrc_explain.specs.Groups.{is_of}
+use Rattle.lrc_explain.specs.Groups.{is_of_site}
 use Rattle.lrc_explain.specs.Site.{site_cmp}
 use Rattle.lrc_explain.proofs.Counting.{counted_more}
 use Rattle.lrc_explain.proofs.groups.counts_of.Goals as goal
@@ -14,7 +14,7 @@ no_pair = record { later = 0; earlier = 0 }
 
 pub overflow_add-next : goal.overflow_add-next
 overflow_add-next c =
-    let of = is_of c.args.acts.now c.args.lines.now c.site_of-site.result in
+    let of = is_of_site c.args.acts.now c.args.lines.now c.site_of-site.result in
     let front = take c.loop-at.at c.args.pairs.now in
     let is = c.count_at-count.ensures ∙ c.loop-at.invariant c.site_of-site.result in
     let le : count_by of front ≤ length front = count_by-le-length of front in

@@ -5,7 +5,7 @@ use Rattle.std.specs.List.{list_any}
 use Rattle.lrc_judge.specs.declared.lanes.Pair.{Pair}
 use Rattle.lrc_show.specs.Each.{each}
 use Rattle.lrc_show.proofs.Each.{each_more}
-use Rattle.lrc_explain.specs.Groups.{group_at, group_if, is_of}
+use Rattle.lrc_explain.specs.Groups.{group_at, group_if, is_of_site}
 use Rattle.lrc_explain.specs.Site.{site_cmp, site_of}
 use Rattle.lrc_explain.proofs.Counting.{group_is, left_more}
 use Rattle.lrc_explain.proofs.groups.groups_part.Goals as goal
@@ -24,7 +24,7 @@ loop-at-preserved c =
     let old = c.loop-at.counts in
     let of : ℕ → Pair → List ℕ = λ at pair. group_at acts lines pairs at pair in
     let updates = subst (λ k. Updates site_cmp old c.remove-count.new.self k None) c.site_of-site.ensures c.remove-count.ensures.updates in
-    let found : c.remove-count.result ≡ (if list_any (is_of acts lines (site_of acts lines here)) (take i pairs) then None else get site_cmp start (site_of acts lines here)) =
+    let found : c.remove-count.result ≡ (if list_any (is_of_site acts lines (site_of acts lines here)) (take i pairs) then None else get site_cmp start (site_of acts lines here)) =
     c.remove-count.ensures.value ∙ ap (λ k. get site_cmp old k) c.site_of-site.ensures ∙ c.loop-at.invariant.left (site_of acts lines here) in
     record {
       text = c.in_ok-push_group_if.ensures

@@ -1,7 +1,7 @@
 use Rattle.std.proofs.Common.{◌≡◌, ◌∙◌, ℕ, Bool, ap}
 use Rattle.lrc_trace.specs.declared.act.Act.{Act}
 use Rattle.lrc_explain.specs.declared.site.Site.{Site}
-use Rattle.lrc_explain.specs.Site.{writes}
+use Rattle.lrc_explain.specs.Site.{deed_writes}
 use Rattle.lrc_explain.proofs.site.site_of.Goals as goal
 
 same_site : {a a' c c' : ℕ} {b b' d d' : Bool} → a ≡ a' → b ≡ b' → c ≡ c' → d ≡ d'
@@ -11,5 +11,5 @@ same_site p q r s = cc
 
 pub returns : goal.returns
 returns c =
-    same_site c.line_at.ensures (c.writes.ensures ∙ ap (λ (act : Act). writes act.deed) c.act_at.ensures) c.line_at-2.ensures
-    (c.writes-2.ensures ∙ ap (λ (act : Act). writes act.deed) c.act_at-2.ensures)
+    same_site c.line_at.ensures (c.deed_writes.ensures ∙ ap (λ (act : Act). deed_writes act.deed) c.act_at.ensures) c.line_at-2.ensures
+    (c.deed_writes-2.ensures ∙ ap (λ (act : Act). deed_writes act.deed) c.act_at-2.ensures)

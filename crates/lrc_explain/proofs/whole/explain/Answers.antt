@@ -7,7 +7,7 @@ use Rattle.lrc_stuck.specs.Circles.{deadlocks_text}
 use Rattle.lrc_stuck.specs.Followed.{AreFollowed}
 use Rattle.lrc_stuck.specs.Stand.{stands_of}
 use Rattle.lrc_text.specs.RaceText.{first_race_text}
-use Rattle.lrc_explain.specs.Explain.{nodes_text}
+use Rattle.lrc_explain.specs.Explain.{fates_text}
 use Rattle.lrc_explain.specs.Groups.{groups_text, IsWithin}
 use Rattle.lrc_explain.proofs.Earlier.{pairs_within}
 use Rattle.lrc_explain.proofs.whole.explain.Goals as goal
@@ -35,8 +35,8 @@ returns c =
     } in
     let stands = stands_of program nodes lines (Some c.args.steps) acts in
     let stands_are : c.in_ok-stands.stands.items ≡ stands = c.in_ok-stands.ensures program lines are in
-    let told_is : told ≡ nodes_text acts stands =
-    c.in_ok-told.ensures ∙ ap (λ (s : List Stand). nodes_text acts s) (c.deref.ensures.value ∙ stands_are) in
+    let told_is : told ≡ fates_text acts stands =
+    c.in_ok-told.ensures ∙ ap (λ (s : List Stand). fates_text acts s) (c.deref.ensures.value ∙ stands_are) in
     let deadlocks_are : deadlocks ≡ deadlocks_text stands =
     c.in_ok-deadlocks.ensures ∙ ap (λ (s : List Stand). deadlocks_text s) (c.deref-2.ensures.value ∙ stands_are) in
     let groups_are : c.in_ok-groups.groups.items ≡ groups_text acts (lines_of program nodes lines acts) pairs =
@@ -45,6 +45,6 @@ returns c =
       pairs,
       c.in_ok-pairs.ensures,
       c.in_ok-parts.ensures ∙ ap (λ t. t ++ deadlocks ++ c.in_ok-groups.groups.items ++ first) told_is
-          ∙ ap (λ t. nodes_text acts stands ++ t ++ c.in_ok-groups.groups.items ++ first) deadlocks_are
-          ∙ ap (λ t. nodes_text acts stands ++ deadlocks_text stands ++ t ++ first) groups_are,
+          ∙ ap (λ t. fates_text acts stands ++ t ++ c.in_ok-groups.groups.items ++ first) deadlocks_are
+          ∙ ap (λ t. fates_text acts stands ++ deadlocks_text stands ++ t ++ first) groups_are,
     )

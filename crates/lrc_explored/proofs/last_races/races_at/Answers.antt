@@ -5,7 +5,7 @@ use Rattle.std.proofs.lemmas.List.Filters.{dedup_is}
 use Rattle.lrc_trace.specs.declared.race.Race.{Race}
 use Rattle.lrc_judge.specs.declared.lanes.Pair.{Pair}
 use Rattle.lrc_judge.proofs.Ascending.{race_eq, unique-ascending, unique-contains}
-use Rattle.lrc_explored.specs.LastRaces.{race_if}
+use Rattle.lrc_explored.specs.LastRaces.{race_ending_at}
 use Rattle.lrc_explored.proofs.Naming.{pairs_within, races_at_are}
 use Rattle.lrc_explored.proofs.last_races.races_at.Goals as goal
 
@@ -34,8 +34,8 @@ returns c =
     let permutation = c.sort_unstable.ensures.permutation in
     let in_order = c.sort_unstable.ensures.sorted in
     let is = dedup_is race_eq sorted unique c.dedup.ensures.filtered in
-    let are : found ≡ flat_map (race_if run position) pairs =
-    c.in_ok-races.ensures ∙ ap (λ (ps : List Pair). flat_map (race_if run position) ps) c.deref.ensures.value in
+    let are : found ≡ flat_map (race_ending_at run position) pairs =
+    c.in_ok-races.ensures ∙ ap (λ (ps : List Pair). flat_map (race_ending_at run position) ps) c.deref.ensures.value in
     record {
       ascending = unique-ascending found sorted unique permutation in_order is;
       exact = λ race.

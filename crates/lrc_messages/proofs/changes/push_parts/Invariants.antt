@@ -1,9 +1,9 @@
 use Rattle.std.proofs.Common.{◌≡◌, ◌++◌, take}
 use Rattle.std.specs.Prelude.{codes}
-use Rattle.lrc_messages.specs.Lists.{joined}
+use Rattle.lrc_messages.specs.Lists.{separated}
 use Rattle.lrc_messages.specs.MessageText.{part_text}
 use Rattle.lrc_messages.proofs.changes.push_parts.Given as goal
 
 -- the items so far
 abbrev pub invariant-loop-place : goal.invariant-loop-place
-invariant-loop-place l = l.text.items ≡ l.initial.text.items ++ joined (codes " ") part_text (take l.place l.parts)
+invariant-loop-place l = l.text.items ≡ l.initial.text.items ++ separated (codes " ") part_text (take l.place l.parts)

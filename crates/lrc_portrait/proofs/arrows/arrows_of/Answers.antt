@@ -4,7 +4,7 @@ use Rattle.std.specs.List.{flat_map}
 use Rattle.lrc_envelope.specs.Envelope.{EnvelopeRecord}
 use Rattle.lrc_chart.specs.Arrows.{takers}
 use Rattle.lrc_chart.specs.declared.row.Row.{Row}
-use Rattle.lrc_portrait.specs.Arrows.{message_arrows, sent_by}
+use Rattle.lrc_portrait.specs.Arrows.{sent_in_turn, shown_message_arrows}
 use Rattle.lrc_portrait.specs.Seen.{SeenArrow, seen_arrow}
 use Rattle.lrc_portrait.proofs.Steps.{each_step, no_row}
 use Rattle.lrc_portrait.proofs.arrows.arrows_of.Goals as goal
@@ -15,9 +15,9 @@ loop-from-preserved c =
     let places = c.args.places.now in
     let from = c.loop-from.from in
     let sent : ℕ → List EnvelopeRecord → List SeenArrow =
-    λ from out. flat_map (λ envelope. message_arrows places from envelope (takers turns envelope)) out in
-    let of : ℕ → Row → List SeenArrow = λ from row. sent from (sent_by (slice_get turns row.turn)) in
+    λ from out. flat_map (λ envelope. shown_message_arrows places from envelope (takers turns envelope)) out in
+    let of : ℕ → Row → List SeenArrow = λ from row. sent from (sent_in_turn (slice_get turns row.turn)) in
     let old = map seen_arrow c.loop-from.arrows.items in
     each_step of places from no_row (get_or places from no_row) [] old (map seen_arrow c.push_all_arrows.new.arrows.items)
     c.loop-from-test.true refl c.loop-from.invariant
-    (c.in_ok-push_all_arrows.ensures ∙ ap (λ (out : List EnvelopeRecord). old ++ sent from out) c.sent_by-out.ensures)
+    (c.in_ok-push_all_arrows.ensures ∙ ap (λ (out : List EnvelopeRecord). old ++ sent from out) c.sent_in_turn-out.ensures)

@@ -3,7 +3,7 @@ use Rattle.std.specs.Prelude.{slice_get}
 use Rattle.std.specs.List.{flat_map}
 use Rattle.lrc_show.specs.Each.{each}
 use Rattle.lrc_chart.specs.Arrows.{takers}
-use Rattle.lrc_portrait.specs.Arrows.{message_arrows, sent_by}
+use Rattle.lrc_portrait.specs.Arrows.{sent_in_turn, shown_message_arrows}
 use Rattle.lrc_portrait.specs.Seen.{seen_arrow}
 use Rattle.lrc_portrait.proofs.arrows.arrows_of.Given as goal
 
@@ -12,5 +12,5 @@ abbrev pub invariant-loop-from : goal.invariant-loop-from
 invariant-loop-from l =
     map seen_arrow l.arrows.items
     ≡ each
-    (λ from row. flat_map (λ envelope. message_arrows l.places from envelope (takers l.turns envelope)) (sent_by (slice_get l.turns row.turn)))
+    (λ from row. flat_map (λ envelope. shown_message_arrows l.places from envelope (takers l.turns envelope)) (sent_in_turn (slice_get l.turns row.turn)))
     (take l.from l.places)

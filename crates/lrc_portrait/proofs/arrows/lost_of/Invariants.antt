@@ -3,7 +3,7 @@ use Rattle.std.specs.Prelude.{slice_get}
 use Rattle.std.specs.List.{flat_map}
 use Rattle.lrc_show.specs.Each.{each}
 use Rattle.lrc_chart.specs.Arrows.{takers}
-use Rattle.lrc_portrait.specs.Arrows.{lost_if, sent_by}
+use Rattle.lrc_portrait.specs.Arrows.{lost_if, sent_in_turn}
 use Rattle.lrc_portrait.specs.Seen.{seen_lost}
 use Rattle.lrc_portrait.proofs.arrows.lost_of.Given as goal
 
@@ -11,5 +11,5 @@ use Rattle.lrc_portrait.proofs.arrows.lost_of.Given as goal
 abbrev pub invariant-loop-from : goal.invariant-loop-from
 invariant-loop-from l =
     map seen_lost l.all.items
-    ≡ each (λ from row. flat_map (λ envelope. lost_if from envelope (takers l.turns envelope)) (sent_by (slice_get l.turns row.turn)))
+    ≡ each (λ from row. flat_map (λ envelope. lost_if from envelope (takers l.turns envelope)) (sent_in_turn (slice_get l.turns row.turn)))
     (take l.from l.places)

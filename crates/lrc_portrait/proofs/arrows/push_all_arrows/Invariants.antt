@@ -1,7 +1,7 @@
 use Rattle.std.proofs.Common.{◌≡◌, ◌++◌, map, take}
 use Rattle.std.specs.List.{flat_map}
 use Rattle.lrc_chart.specs.Arrows.{takers}
-use Rattle.lrc_portrait.specs.Arrows.{message_arrows}
+use Rattle.lrc_portrait.specs.Arrows.{shown_message_arrows}
 use Rattle.lrc_portrait.specs.Seen.{seen_arrow}
 use Rattle.lrc_portrait.proofs.arrows.push_all_arrows.Given as goal
 
@@ -10,4 +10,4 @@ abbrev pub invariant-loop-envelope : goal.invariant-loop-envelope
 invariant-loop-envelope l =
     map seen_arrow l.arrows.items
     ≡ map seen_arrow l.initial.arrows.items
-    ++ flat_map (λ envelope. message_arrows l.places l.from envelope (takers l.turns envelope)) (take l.envelope-index l.out)
+    ++ flat_map (λ envelope. shown_message_arrows l.places l.from envelope (takers l.turns envelope)) (take l.envelope-index l.out)

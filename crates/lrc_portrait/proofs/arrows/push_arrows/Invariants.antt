@@ -1,5 +1,5 @@
 use Rattle.std.proofs.Common.{◌≡◌, ◌++◌, map, take}
-use Rattle.lrc_portrait.specs.Arrows.{message_arrows}
+use Rattle.lrc_portrait.specs.Arrows.{shown_message_arrows}
 use Rattle.lrc_portrait.specs.Seen.{seen_arrow}
 use Rattle.lrc_portrait.proofs.arrows.push_arrows.Given as goal
 
@@ -7,4 +7,4 @@ use Rattle.lrc_portrait.proofs.arrows.push_arrows.Given as goal
 abbrev pub invariant-loop-count : goal.invariant-loop-count
 invariant-loop-count l =
     map seen_arrow l.arrows.items
-    ≡ map seen_arrow l.initial.arrows.items ++ message_arrows l.places l.from l.envelope (take l.count l.turns)
+    ≡ map seen_arrow l.initial.arrows.items ++ shown_message_arrows l.places l.from l.envelope (take l.count l.turns)

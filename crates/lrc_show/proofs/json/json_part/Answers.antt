@@ -5,7 +5,7 @@ use Rattle.lrc_trace.specs.declared.act.Act.{Act}
 use Rattle.lrc_trace.specs.declared.act.Deed.TheVariants.{Quiet}
 use Rattle.lrc_trace.specs.Interval.{closes, interval_at}
 use Rattle.lrc_show.specs.Json.{json_line}
-use Rattle.lrc_show.specs.Tally.{Tallies, noted}
+use Rattle.lrc_show.specs.Tally.{Tallies, tallied}
 use Rattle.lrc_show.proofs.Each.{each_more}
 use Rattle.lrc_show.proofs.Tallies.{tallies_next, tallies_none, tally_is, tally_small}
 use Rattle.lrc_show.proofs.json.json_part.Goals as goal
@@ -43,7 +43,7 @@ loop-position-preserved c =
     let interval : 1 + c.of.result ≡ interval_at acts act.node n =
     ap (λ m. 1 + m) (c.of.ensures.value ∙ tally_is closes acts n no_act within counts c.of.ensures.in_range closed) in
     let time = c.index-times-position.is ∙ get_or_default times n c.index-times-position.result [] timed in
-    let counts_is = c.note.ensures ∙ ap (noted counts act.node) c.closes_interval.ensures in
+    let counts_is = c.note.ensures ∙ ap (tallied counts act.node) c.closes_interval.ensures in
     record {
       lines = c.in_ok-push_json_line.ensures
           ∙ ap₂ ◌++◌ c.loop-position.invariant.lines

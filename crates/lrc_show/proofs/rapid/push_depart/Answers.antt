@@ -1,7 +1,7 @@
 use Rattle.std.proofs.Common.{◌∙◌, ◌++◌, ℕ, List, ap, sym, append_assoc}
 use Rattle.std.specs.List.{flat_map, range_with_len}
 use Rattle.std.proofs.lemmas.List.Concat.{flat_map-append}
-use Rattle.lrc_show.specs.Rapid.{Step, lock_of_arrival, passes, step_line}
+use Rattle.lrc_show.specs.Rapid.{RapidStep, lock_of_arrival, passes, step_line}
 use Rattle.lrc_show.proofs.Each.{range_more}
 use Rattle.lrc_show.proofs.rapid.push_depart.Goals as goal
 
@@ -10,8 +10,8 @@ loop-node-preserved c =
     let spot = c.args.spot in
     let meeting = c.args.meeting in
     let n = c.loop-node.node in
-    let of : ℕ → List Step = λ q. passes spot.node spot.position (lock_of_arrival meeting meeting.departed q) in
-    let line : Step → List ℕ = step_line spot.line in
+    let of : ℕ → List RapidStep = λ q. passes spot.node spot.position (lock_of_arrival meeting meeting.departed q) in
+    let line : RapidStep → List ℕ = step_line spot.line in
     let front = flat_map of (range_with_len 0 n) in
     c.in_ok-push_passes.ensures
     ∙ ap (λ (m : ℕ). c.loop-node.text.items ++ flat_map line (passes spot.node spot.position m)) c.lock.ensures ∙ ap (λ l. l ++ flat_map line (of n)) c.loop-node.invariant

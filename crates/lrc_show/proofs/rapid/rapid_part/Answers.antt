@@ -7,8 +7,8 @@ use Rattle.lrc_trace.specs.declared.act.Deed.TheVariants.{Quiet}
 use Rattle.lrc_trace.specs.Run.{is_arrive, is_depart}
 use Rattle.lrc_show.specs.declared.rapid.Meeting.{Meeting}
 use Rattle.lrc_show.specs.Each.{each}
-use Rattle.lrc_show.specs.Rapid.{Step, meeting_at, step_line, steps_of}
-use Rattle.lrc_show.specs.Tally.{Tallies, noted}
+use Rattle.lrc_show.specs.Rapid.{RapidStep, meeting_at, rapid_steps, step_line}
+use Rattle.lrc_show.specs.Tally.{Tallies, tallied}
 use Rattle.lrc_show.proofs.Each.{each_more}
 use Rattle.lrc_show.proofs.StepLines.{steps_lines}
 use Rattle.lrc_show.proofs.Tallies.{tallies_next, tallies_none, tally_is, tally_small}
@@ -48,20 +48,20 @@ loop-position-preserved c =
     let within : n < length acts = c.loop-position-test.true in
     let arrives = c.loop-position.arrives.counts in
     let departs = c.loop-position.departs.counts in
-    let own : Step → List ℕ = λ s. step_line (slice_index lines s.position) s in
-    let of : ℕ → Act → List Step = λ position act. steps_of (meeting_at c.args.locks c.args.nodes acts act.node position) position act.node act.deed in
+    let own : RapidStep → List ℕ = λ s. step_line (slice_index lines s.position) s in
+    let of : ℕ → Act → List RapidStep = λ position act. rapid_steps (meeting_at c.args.locks c.args.nodes acts act.node position) position act.node act.deed in
     let arrived = c.of-arrived.ensures.value
     ∙ tally_is is_arrive acts n no_act within arrives c.of-arrived.ensures.in_range c.loop-position.invariant.arrived in
     let departed = c.of-departed.ensures.value
     ∙ tally_is is_depart acts n no_act within departs c.of-departed.ensures.in_range c.loop-position.invariant.departed in
     let meeting = ap₂ (meeting_of c.args.locks c.args.nodes) arrived departed in
-    let piece = ap (λ (m : Meeting). flat_map (step_line (slice_index lines n)) (steps_of m n act.node act.deed)) meeting
+    let piece = ap (λ (m : Meeting). flat_map (step_line (slice_index lines n)) (rapid_steps m n act.node act.deed)) meeting
     ∙ sym (steps_lines lines (meeting_at c.args.locks c.args.nodes acts act.node n) n act.node act.deed) in
     record {
       lines = c.in_ok-push_steps.ensures ∙ ap₂ ◌++◌ c.loop-position.invariant.lines piece
           ∙ sym (flat_map-append own (each of (take n acts)) (of n act)) ∙ ap (flat_map own) (sym (each_more of acts n no_act within));
-      arrived = subst (λ (l : List ℕ). Tallies is_arrive acts (n + 1) l) (sym (c.note.ensures ∙ ap (noted arrives act.node) c.comes_to_barrier.ensures))
+      arrived = subst (λ (l : List ℕ). Tallies is_arrive acts (n + 1) l) (sym (c.note.ensures ∙ ap (tallied arrives act.node) c.comes_to_barrier.ensures))
           (tallies_next is_arrive acts n no_act within arrives c.of-arrived.ensures.in_range c.loop-position.invariant.arrived);
-      departed = subst (λ (l : List ℕ). Tallies is_depart acts (n + 1) l) (sym (c.note-in-loop-position.ensures ∙ ap (noted departs act.node) c.leaves_barrier.ensures))
+      departed = subst (λ (l : List ℕ). Tallies is_depart acts (n + 1) l) (sym (c.note-in-loop-position.ensures ∙ ap (tallied departs act.node) c.leaves_barrier.ensures))
           (tallies_next is_depart acts n no_act within departs c.of-departed.ensures.in_range c.loop-position.invariant.departed);
     }

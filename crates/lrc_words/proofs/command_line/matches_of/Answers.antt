@@ -5,7 +5,7 @@ use Rattle.clap.specs.declared.error.kind.ErrorKind.{ErrorKind}
 use Rattle.clap.specs.declared.error.kind.ErrorKind.TheVariants.{OutOfMemory}
 use Rattle.clap.proofs.OnLiterals.{clap_on_literals}
 use Rattle.lrc_words.specs.declared.choice.ChooseFault.{ChooseFault}
-use Rattle.lrc_words.specs.CommandLine.{IsFoundFault, fault_from, fault_of_kind}
+use Rattle.lrc_words.specs.CommandLine.{IsFoundFault, choose_fault, fault_from}
 use Rattle.lrc_words.specs.Commands.{treadmarks}
 use Rattle.lrc_words.proofs.command_line.matches_of.Goals as goal
 
@@ -20,7 +20,7 @@ free = refl
 refused : (words : List Text) (error : Error) → HasKind (fault_of treadmarks words) error → IsFoundFault words (fault_from error)
 refused words error has = go (kind_of error) refl
   where
-    go : (kind : ErrorKind) → kind_of error ≡ kind → IsFoundFault words (fault_of_kind kind error)
+    go : (kind : ErrorKind) → kind_of error ≡ kind → IsFoundFault words (choose_fault kind error)
     go OutOfMemory is = tt
     go _ is = elim has [ inl memory ↦ absurd cc | inr among ↦ among ]
 

@@ -12,12 +12,12 @@ pub returns-clause-app : goal.returns-clause-app
 returns-clause-app c =
     let about_is : app_of c.about-command.result ≡ new_app (codes "chart") = ap app_of_fields c.about-command.ensures ∙ c.new.ensures.app in
     let one = c.in_ok-taking_showing_options.ensures.app ∙ ap with_showing_options about_is in
-    let two = c.in_ok-arg.ensures.shape c.flag.ensures.local ∙ ap₂ with_rule one c.flag.ensures.rule in
+    let two = c.in_ok-arg.ensures.shape c.flag_option.ensures.local ∙ ap₂ with_rule one c.flag_option.ensures.rule in
     let three = c.in_ok-arg-2.ensures.shape c.bare_number.ensures.local ∙ ap₂ with_rule two c.bare_number.ensures.rule in
     IfOk-weaker c.arg-3.result _ _ (λ r h. h.shape c.bare_number-2.ensures.local ∙ ap₂ with_rule three c.bare_number-2.ensures.rule) c.arg-3.ensures
 
 pub returns-clause-local : goal.returns-clause-local
 returns-clause-local c =
-    let one = c.in_ok-arg.ensures.globals ∙ ap₂ ◌||◌ c.in_ok-taking_showing_options.ensures.local c.flag.ensures.local in
+    let one = c.in_ok-arg.ensures.globals ∙ ap₂ ◌||◌ c.in_ok-taking_showing_options.ensures.local c.flag_option.ensures.local in
     let two = c.in_ok-arg-2.ensures.globals ∙ ap₂ ◌||◌ one c.bare_number.ensures.local in
     IfOk-weaker c.arg-3.result _ _ (λ r h. h.globals ∙ ap₂ ◌||◌ two c.bare_number-2.ensures.local) c.arg-3.ensures

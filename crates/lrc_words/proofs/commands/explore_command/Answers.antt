@@ -9,13 +9,13 @@ returns-clause-app c =
     let about_is : app_of c.about.result ≡ new_app (codes "explore") = ap app_of_fields c.about.ensures ∙ c.new.ensures.app in
     let one = c.in_ok-arg.ensures.shape c.file.ensures.local ∙ ap₂ with_rule about_is c.file.ensures.rule in
     let two = c.in_ok-arg-2.ensures.shape c.nodes.ensures.local ∙ ap₂ with_rule one c.nodes.ensures.rule in
-    let three = c.in_ok-arg-3.ensures.shape c.number.ensures.local ∙ ap₂ with_rule two c.number.ensures.rule in
-    IfOk-weaker c.arg-4.result _ _ (λ r h. h.shape c.flag.ensures.local ∙ ap₂ with_rule three c.flag.ensures.rule) c.arg-4.ensures
+    let three = c.in_ok-arg-3.ensures.shape c.number_option.ensures.local ∙ ap₂ with_rule two c.number_option.ensures.rule in
+    IfOk-weaker c.arg-4.result _ _ (λ r h. h.shape c.flag_option.ensures.local ∙ ap₂ with_rule three c.flag_option.ensures.rule) c.arg-4.ensures
 
 pub returns-clause-local : goal.returns-clause-local
 returns-clause-local c =
     let about_is = ap (λ f. f.has_globals) c.about.ensures ∙ c.new.ensures.local in
     let one = c.in_ok-arg.ensures.globals ∙ ap₂ ◌||◌ about_is c.file.ensures.local in
     let two = c.in_ok-arg-2.ensures.globals ∙ ap₂ ◌||◌ one c.nodes.ensures.local in
-    let three = c.in_ok-arg-3.ensures.globals ∙ ap₂ ◌||◌ two c.number.ensures.local in
-    IfOk-weaker c.arg-4.result _ _ (λ r h. h.globals ∙ ap₂ ◌||◌ three c.flag.ensures.local) c.arg-4.ensures
+    let three = c.in_ok-arg-3.ensures.globals ∙ ap₂ ◌||◌ two c.number_option.ensures.local in
+    IfOk-weaker c.arg-4.result _ _ (λ r h. h.globals ∙ ap₂ ◌||◌ three c.flag_option.ensures.local) c.arg-4.ensures

@@ -13,9 +13,9 @@ returns-clause-app c =
     let about_is : app_of c.about-command.result ≡ new_app (codes "trace") = ap app_of_fields c.about-command.ensures ∙ c.new.ensures.app in
     let one = c.in_ok-taking_showing_options.ensures.app ∙ ap with_showing_options about_is in
     let two = c.in_ok-arg.ensures.shape c.form.ensures.local ∙ ap₂ with_rule one c.form.ensures.rule in
-    IfOk-weaker c.arg-2.result _ _ (λ r h. h.shape c.flag.ensures.local ∙ ap₂ with_rule two c.flag.ensures.rule) c.arg-2.ensures
+    IfOk-weaker c.arg-2.result _ _ (λ r h. h.shape c.flag_option.ensures.local ∙ ap₂ with_rule two c.flag_option.ensures.rule) c.arg-2.ensures
 
 pub returns-clause-local : goal.returns-clause-local
 returns-clause-local c =
     let one = c.in_ok-arg.ensures.globals ∙ ap₂ ◌||◌ c.in_ok-taking_showing_options.ensures.local c.form.ensures.local in
-    IfOk-weaker c.arg-2.result _ _ (λ r h. h.globals ∙ ap₂ ◌||◌ one c.flag.ensures.local) c.arg-2.ensures
+    IfOk-weaker c.arg-2.result _ _ (λ r h. h.globals ∙ ap₂ ◌||◌ one c.flag_option.ensures.local) c.arg-2.ensures

@@ -4,7 +4,7 @@ use Rattle.std.specs.Str.Parse.{ExplainsUnsignedError, HasUnsignedDigitsIfOk, Pa
 use Rattle.clap.specs.Words.{IsUnsignedIn, Text, first_of, found_of, rows_of}
 use Rattle.clap.specs.Matches.{ReadsOne}
 use Rattle.clap.proofs.WalkLemmas.{one_text-rows}
-use Rattle.lrc_words.specs.Options.{number_in}
+use Rattle.lrc_words.specs.Options.{option_number}
 use Rattle.lrc_words.proofs.reading.number_of.Goals as goal
 
 abbrev value_of : Option Text → ℕ
@@ -39,5 +39,5 @@ returns c =
     let read = number_read (λ bs r. ParsesUnsigned 64 10 bs r × ExplainsUnsignedError 10 bs r × HasUnsignedDigitsIfOk bs r)
     (first_of c.args.name.now (rows_of (found_of c.args.options.now))) c.get_one.result (λ t r g. g.0)
     (λ t e. c.get_one.ensures.value t (text_is ∙ e)) c.requires.number in
-    let same : Some c.unwrap.result ≡ Some (number_in c.args.name.now (rows_of (found_of c.args.options.now))) = sym c.unwrap.ensures ∙ read in
+    let same : Some c.unwrap.result ≡ Some (option_number c.args.name.now (rows_of (found_of c.args.options.now))) = sym c.unwrap.ensures ∙ read in
     cc

@@ -1,5 +1,5 @@
 use Rattle.std.proofs.Common.{◌∙◌, arith}
-use Rattle.lrc_explore.specs.States.{begun, plain_at}
+use Rattle.lrc_explore.specs.States.{machine_begun, plain_at}
 use Rattle.lrc_explore.proofs.Counting.{step_counts}
 use Rattle.lrc_explore.proofs.Gathering.{count_grows, led_next, next_more}
 use Rattle.lrc_explore.proofs.Ways.{noted_within, widens_further}
@@ -14,7 +14,7 @@ after-requires-clause-room c =
 pub add-requires-clause-led_to : goal.add-requires-clause-led_to
 add-requires-clause-led_to c =
     let key = c.args.key.now in
-    led_next c.args.flat.now (begun c.args.flat.now c.args.start) key c.in_ok-after.after c.loop-node.node c.in-Some.deed
+    led_next c.args.flat.now (machine_begun c.args.flat.now c.args.start) key c.in_ok-after.after c.loop-node.node c.in-Some.deed
     (c.requires.led.each c.args.place key c.requires.there).led c.in_ok-after.ensures.made c.in_ok-after.ensures.notes
     (omega (arith, c.loop-node-test.true, c.loop-node.auto.node-end, c.len-node-end.ensures, key.state.spots.ok.0, c.requires.state.spots))
 

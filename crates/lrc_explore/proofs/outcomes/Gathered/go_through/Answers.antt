@@ -1,6 +1,6 @@
 use Rattle.std.proofs.Common.{◌<◌, arith}
-use Rattle.lrc_explore.specs.Noted.{count}
-use Rattle.lrc_explore.specs.States.{begun}
+use Rattle.lrc_explore.specs.Noted.{noted_count}
+use Rattle.lrc_explore.specs.States.{machine_begun}
 use Rattle.lrc_explore.proofs.Gathering.{done_more, meets_more}
 use Rattle.lrc_explore.proofs.Ways.{widens_further}
 use Rattle.lrc_explore.proofs.outcomes.Gathered.go_through.Goals as goal
@@ -12,7 +12,7 @@ loop-place-preserved c =
     let new = c.visit.new.self in
     let place = c.loop-place.place in
     let e = c.in_ok-visit.ensures in
-    let lt : place < count old.states = omega (arith, c.loop-place-test.true, c.len.ensures.len) in (
+    let lt : place < noted_count old.states = omega (arith, c.loop-place-test.true, c.len.ensures.len) in (
       record {
         led = e.led;
         widens = widens_further i.widens e.widens;
@@ -25,7 +25,7 @@ loop-place-preserved c =
 pub returns-then-len-most-clause-faults : goal.returns-then-len-most-clause-faults
 returns-then-len-most-clause-faults c = λ e.
     let flat = c.args.flat.now in
-    meets_more flat (begun flat c.args.start) c.args.most c.loop-place.self.states c.loop-place.invariant.0.led
+    meets_more flat (machine_begun flat c.args.start) c.args.most c.loop-place.self.states c.loop-place.invariant.0.led
     (omega (arith, c.if-len-most.true, c.len-in-loop-place.ensures.len))
 
 pub returns-clause-fits : goal.returns-clause-fits

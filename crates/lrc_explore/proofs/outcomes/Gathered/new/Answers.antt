@@ -1,14 +1,14 @@
 use Rattle.std.proofs.Common.{sym, subst}
 use Rattle.lrc_explore.specs.declared.noted.Noted.{Noted}
 use Rattle.lrc_explore.specs.Outcome.{IsGathered}
-use Rattle.lrc_explore.specs.States.{begun}
+use Rattle.lrc_explore.specs.States.{machine_begun}
 use Rattle.lrc_explore.proofs.Gathering.{first_gathered, gathered_none, gathered_put}
 use Rattle.lrc_explore.proofs.outcomes.Gathered.new.Goals as goal
 
 pub returns-clause-led : goal.returns-clause-led
 returns-clause-led c =
     let flat = c.args.flat.now in
-    let start = begun flat c.args.place in
+    let start = machine_begun flat c.args.place in
     let e = c.in_ok-_place.ensures in
     let old = c.new-states.result in
     let none = c.new-states.ensures.empty in

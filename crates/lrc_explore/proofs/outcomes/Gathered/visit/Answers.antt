@@ -1,5 +1,5 @@
 use Rattle.std.proofs.Common.{◌≡◌, ◌∙◌, sym, subst, true, false}
-use Rattle.lrc_explore.specs.States.{begun}
+use Rattle.lrc_explore.specs.States.{machine_begun}
 use Rattle.lrc_explore.specs.Kept.{Grows}
 use Rattle.lrc_explore.specs.Outcome.{AreSound, EndsWith}
 use Rattle.lrc_explore.proofs.Alike.{acts_same}
@@ -25,7 +25,7 @@ pub returns-in_ok-insert_full-clause-sound : goal.returns-in_ok-insert_full-clau
 returns-in_ok-insert_full-clause-sound c =
     let flat = c.args.flat.now in
     let key = c.in_ok-key.key in
-    let start = begun flat c.args.start in
+    let start = machine_begun flat c.args.start in
     put_all (λ k o. EndsWith start flat.nodes o.notes.items) _ c.expand.new.self.outcomes.keys c.insert_full.new.self.keys _
     c.in_ok-insert_full.ensures.keys (subst (AreSound flat start) (sym c.in_ok-expand.ensures.same) c.requires.sound)
     (ends_there flat start key (c.requires.led.each c.args.place key c.in_ok-key.ensures).led (c.is_still.ensures.0 c.if-is_still.true))

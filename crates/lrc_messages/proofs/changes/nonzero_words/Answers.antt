@@ -3,7 +3,7 @@ use Rattle.std.specs.Prelude.{IfOk}
 use Rattle.std.proofs.lemmas.List.{length-replicate}
 use Rattle.lrc_page.specs.Changes.{changes_between}
 use Rattle.lrc_messages.proofs.Zeros.{zeros_are}
-use Rattle.lrc_messages.proofs.changes.words_in.Goals as goal
+use Rattle.lrc_messages.proofs.changes.nonzero_words.Goals as goal
 
 pub between-requires : goal.between-requires
 between-requires c =

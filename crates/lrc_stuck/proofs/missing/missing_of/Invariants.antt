@@ -1,7 +1,0 @@
-use Rattle.std.proofs.Common.{◌≡◌, take}
-use Rattle.lrc_stuck.specs.Missing.{missing_of}
-use Rattle.lrc_stuck.proofs.missing.missing_of.Given as goal
-
--- those among the nodes so far
-abbrev pub invariant-loop-node : goal.invariant-loop-node
-invariant-loop-node l = l.missing.items ≡ missing_of l.number l.me (take l.node l.stands)
