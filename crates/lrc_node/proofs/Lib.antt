@@ -3,7 +3,7 @@ pub mod Runs
 pub mod Effects
 pub mod States
 pub mod CanRun
-pub mod Turns
+pub mod Outcomes
 pub mod InRange
 pub mod Episodes
 pub mod Misses

@@ -8,8 +8,8 @@ use Rattle.lrc_exec.specs.Meaning.{Thread, Next, next_of}
 use Rattle.lrc_protocol.specs.Course.{Course, going, trapped, ended, deed_of, course_of, cost_of}
 use Rattle.lrc_protocol.specs.Node.{begins_of}
 use Rattle.lrc_invariants.specs.Waiting.{next_in}
-use Rattle.lrc_node.specs.declared.text.TextStanding.{TextStanding}
-use Rattle.lrc_node.specs.declared.text.TextStanding.TheVariants.{Running, Arrived, Trapped, Ended}
+use Rattle.lrc_node.specs.declared.turns.text.TextStanding.{TextStanding}
+use Rattle.lrc_node.specs.declared.turns.text.TextStanding.TheVariants.{Running, Arrived, Trapped, Ended}
 use Rattle.lrc_node.specs.declared.end.End.{End as Ending}
 use Rattle.lrc_node.specs.declared.end.End.TheVariants.{Ended as End_Ended, Trapped as End_Trapped, Unfinished}
 

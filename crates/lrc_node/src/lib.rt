@@ -3,34 +3,34 @@
 //! machine in `lrc_protocol`.
 #![tactic(auto)]
 
-mod act;
-mod barrier;
-mod clock;
-mod collect;
+// A node, alone and with its log, and what its calls are given and give.
 mod end;
-mod expected;
 mod fault;
 pub mod laws;
-mod letters;
 mod logged;
-mod news;
 mod node;
 mod note;
 mod options;
-mod ranges;
-mod reach;
-mod run;
-mod send;
 mod state;
-mod syncs;
-mod take;
-mod take_barrier;
-mod take_locks;
-mod take_message;
-mod take_pages;
-mod take_requests;
-mod text;
 mod turn;
+
+// What it does in a turn.
+mod turns;
+
+// Its own intervals, and news of those of others.
+mod intervals;
+
+// Acquires and releases.
+mod locks;
+
+// Arrivals and departures.
+mod barriers;
+
+// What is kept at a barrier, and what is discarded.
+mod collections;
+
+// Accesses, and what is fetched for them.
+mod pages;
 
 pub use end::End;
 pub use fault::NodeFault;

@@ -1,15 +1,17 @@
 // A node and its parts.
 
-ghost use Rattle.std.specs.Prelude.{◌≡◌, ◌<◌, ◌≤◌, IfOk};
+ghost use Rattle.std.specs.Prelude.{◌≡◌, ◌<◌, ◌≤◌, IfOk, length};
+ghost use Rattle.lrc_page.specs.Place.{pages_of};
 ghost use Rattle.lrc_protocol.specs.Node.{fresh_node};
 
-use crate::barrier::Barrier;
-use crate::clock::Clock;
+use crate::barriers::part::Barrier;
+use crate::locks::clock::Clock;
 use crate::options::Options;
-use crate::text::Text;
+use crate::turns::text::Text;
 use lrc_exec::code::Code;
 use lrc_mail::Mail;
 use lrc_memory::Memory;
+use lrc_page::pages_of;
 use std::alloc::{AllocError, Global};
 use std::marker::Model;
 
@@ -75,5 +77,13 @@ impl<'c> NodeState<'c> {
             memory,
             mail,
         })
+    }
+
+    /// How many pages there are.
+    pub(crate) fn pages(&self) -> u16
+        ensures exact { result ≡ pages_of self.now.setting.words self.now.options.size }
+        ensures copies { result ≡ length self.now.memory.copies }
+    {
+        pages_of(self.words, self.options.size)
     }
 }

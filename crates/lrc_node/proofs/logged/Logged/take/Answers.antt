@@ -3,7 +3,7 @@ use Rattle.lrc_protocol.specs.Turn.{take_turn}
 use Rattle.lrc_protocol.specs.Log.{taken, outcome_of}
 use Rattle.lrc_node.specs.Logged.{LoggedNode, TracedLog, NotesFault, sound}
 use Rattle.lrc_node.proofs.Logging.{logs_settled, fails_settled, notes_settled, seen_made, some_of, may_settle, failing_settled, failing_roomless}
-use Rattle.lrc_node.proofs.Turns.{fault_up}
+use Rattle.lrc_node.proofs.Outcomes.{fault_up}
 use Rattle.lrc_node.proofs.logged.Logged.take.Goals as goal
 
 pub returns-clause-logs : goal.returns-clause-logs

@@ -5,7 +5,7 @@ use Rattle.lrc_local.specs.Traced.{IsTraced}
 use Rattle.lrc_local.proofs.Noting.{traced_turn}
 use Rattle.lrc_node.specs.Fault.{is_final}
 use Rattle.lrc_node.specs.Node.{Answers}
-use Rattle.lrc_node.proofs.Turns.{answers_run, may_run, traced_run, seen_there, seen_turn}
+use Rattle.lrc_node.proofs.Outcomes.{answers_run, may_run, traced_run, seen_there, seen_turn}
 use Rattle.lrc_node.proofs.node.Node.run.Goals as goal
 
 pub invariant_of-self : goal.invariant_of-self

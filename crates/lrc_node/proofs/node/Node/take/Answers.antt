@@ -6,7 +6,7 @@ use Rattle.lrc_local.proofs.Noting.{traced_turn}
 use Rattle.lrc_node.specs.Fault.{is_final}
 use Rattle.lrc_node.specs.Node.{Answers}
 use Rattle.lrc_node.proofs.Takes.{answers_take, may_take, traced_take}
-use Rattle.lrc_node.proofs.Turns.{seen_there, seen_turn}
+use Rattle.lrc_node.proofs.Outcomes.{seen_there, seen_turn}
 use Rattle.lrc_node.proofs.node.Node.take.Goals as goal
 
 pub invariant_of-self : goal.invariant_of-self

@@ -9,7 +9,7 @@ use Rattle.lrc_node.specs.Effects.{effect_asked, CanBegin, RefusesRun, unready}
 use Rattle.lrc_node.specs.State.{seen_effect}
 use Rattle.lrc_node.specs.Text.{asked_in}
 use Rattle.lrc_node.proofs.Effects.{run_asked, run_none, begins_asked, begun_ready, can_begun, refuses_begun, refuses_sent}
-use Rattle.lrc_node.proofs.Turns.{fault_up}
+use Rattle.lrc_node.proofs.Outcomes.{fault_up}
 use Rattle.lrc_node.proofs.state.NodeState.run.Goals as goal
 
 pub returns-in_default-clause-refused : goal.returns-in_default-clause-refused

@@ -6,7 +6,7 @@ use Rattle.lrc_local.proofs.Noting.{can_note_turn, traced_reached}
 use Rattle.lrc_node.specs.declared.fault.NodeFault.TheVariants.{NoMemory}
 use Rattle.lrc_node.specs.Effects.{RefusesRun, without_memory}
 use Rattle.lrc_node.proofs.CanRun.{can_run}
-use Rattle.lrc_node.proofs.Turns.{fault_up}
+use Rattle.lrc_node.proofs.Outcomes.{fault_up}
 use Rattle.lrc_node.proofs.state.NodeState.run_noting.Goals as goal
 
 pub run-requires : goal.run-requires

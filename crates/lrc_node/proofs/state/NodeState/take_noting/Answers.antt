@@ -5,7 +5,7 @@ use Rattle.lrc_local.specs.Traced.{CanNoteAct}
 use Rattle.lrc_local.proofs.Noting.{can_note_turn}
 use Rattle.lrc_node.specs.declared.fault.NodeFault.TheVariants.{NoMemory}
 use Rattle.lrc_node.specs.Taken.{RefusesTake, without_memory}
-use Rattle.lrc_node.proofs.Turns.{fault_up}
+use Rattle.lrc_node.proofs.Outcomes.{fault_up}
 use Rattle.lrc_node.proofs.state.NodeState.take_noting.Goals as goal
 
 pub note-requires : goal.note-requires

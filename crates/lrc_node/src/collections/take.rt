@@ -1,0 +1,85 @@
+// Cleans, and the word to discard: when a node expects them, and what it does with them.
+
+ghost use Rattle.std.specs.Prelude.{◌≡◌, ◌<◌, ◌≤◌, IfOk, IsTrue, Some, false, length, option_map, unwrap_or};
+ghost use Rattle.std.specs.List.{range_with_len};
+ghost use Rattle.lrc_time.specs.Time.{entry};
+ghost use Rattle.lrc_envelope.specs.declared.message.Message.TheVariants as messages;
+ghost use Rattle.lrc_exec.specs.declared.machine.Ask.TheVariants.{Barrier};
+ghost use Rattle.lrc_memory.specs.Turns.{IsClosed};
+ghost use Rattle.lrc_protocol.specs.Barrier.{clean_step};
+ghost use Rattle.lrc_protocol.specs.Expected.{is_clean, is_expected};
+ghost use Rattle.lrc_protocol.specs.Letters.{discards_to};
+ghost use Rattle.lrc_protocol.specs.Mail.{Collection as CollectionRecord, awaits_discard, collection_of, discard};
+ghost use Rattle.lrc_protocol.specs.Take.{clean_by, discard_by};
+ghost use Rattle.lrc_node.specs.State.{seen_effect, AreFor};
+ghost use Rattle.lrc_node.specs.Text.{asked_in};
+
+use crate::state::NodeState;
+use crate::turn::Effect;
+use lrc_envelope::{Clean, Discard, Message};
+use lrc_mail::{Letter, Wait};
+use std::alloc::{AllocError, Global};
+
+// One word to discard for each node.
+fn discards(alloc: Global, nodes: u8, episode: u32) -> Result<Vec<Letter>, AllocError>
+    requires { 1 ≤ episode }
+    ensures letters { IfOk result (λ letters. letters.items ≡ discards_to (range_with_len 0 nodes) episode) }
+    ensures to { IfOk result (λ letters. AreFor nodes letters.items) }
+{
+    let mut letters = Vec::new(alloc);
+    for to in 0..nodes {
+        let message = Message::Discard(Discard { episode });
+        letters.push(Letter { to, message })?;
+    }
+    Ok(letters)
+}
+
+impl NodeState<'_> {
+    /// Whether a Clean is expected: the manager is here and accepts it.
+    pub(crate) fn expects_clean(&self, from: u8, m: &Clean) -> bool
+        requires { from < self.now.setting.nodes }
+        ensures { result ≡ is_expected self.now from (messages.Clean m.now) }
+    {
+        self.barrier.accepts_clean(from, m.episode)
+    }
+
+    /// A node's copies are clean. With the last Clean each node is told to discard.
+    pub(crate) fn take_clean(&mut self, from: u8, episode: u32) -> Result<Effect, AllocError>
+        requires from { from < self.old.setting.nodes }
+        requires accepted { IsTrue (unwrap_or (option_map is_clean (clean_step self.old.barrier from episode)) false) }
+        requires episode { 1 ≤ episode }
+        ensures effect { IfOk result (λ effect. clean_by self.old (clean_step self.old.barrier from episode) ≡ seen_effect effect self.new) }
+        ensures to { IfOk result (λ effect. AreFor self.new.setting.nodes effect.letters.items) }
+    {
+        let letters = match self.barrier.take_clean(from, episode) {
+            Some(episode) => discards(self.alloc, self.nodes, episode)?,
+            None => Vec::new(self.alloc),
+        };
+        Ok(Effect::sending(letters))
+    }
+
+    /// Whether the word to discard is expected: it is from node 0, for the collection for which this node has sent its Clean.
+    pub(crate) fn expects_discard(&self, from: u8, m: &Discard) -> bool
+        ensures { result ≡ is_expected self.now from (messages.Discard m.now) }
+    {
+        from == 0 && self.mail.wait().awaits_discard() && m.episode == self.barrier.episode()
+    }
+
+    /// The collection is done: the node drops what it covers, and the depart is made.
+    pub(crate) fn take_discard(&mut self) -> Result<Effect, AllocError>
+        requires next { asked_in self.old.course ≡ Some Barrier }
+        requires waits { IsTrue (awaits_discard self.old.mail.wait) }
+        requires closed { IsClosed self.old.memory }
+        requires time { (collection : CollectionRecord) → self.old.mail.wait ≡ discard collection
+            → (length collection.time ≡ self.old.setting.nodes)
+            × (entry self.old.memory.store.last self.old.setting.me ≤ entry collection.time self.old.setting.me) }
+        ensures effect { IfOk result (λ effect. discard_by self.old (collection_of self.old.mail.wait) ≡ seen_effect effect self.new) }
+        ensures to { IfOk result (λ effect. AreFor self.new.setting.nodes effect.letters.items) }
+    {
+        let Wait::Discard(collection) = self.mail.stop_waiting() else {
+            unreachable!()
+        };
+        self.memory.collect(&collection.time);
+        self.act(Vec::new(self.alloc))
+    }
+}

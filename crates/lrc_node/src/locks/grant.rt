@@ -1,0 +1,39 @@
+// The grant of a lock.
+
+ghost use Rattle.std.specs.Prelude.{◌≡◌, ◌<◌, IfOk, IfSome};
+ghost use Rattle.lrc_envelope.specs.declared.limits.TheConstants.{MOST_LOCKS};
+ghost use Rattle.lrc_lock.specs.Lock.{IsPass};
+ghost use Rattle.lrc_protocol.specs.Letters.{grants_of};
+ghost use Rattle.lrc_node.specs.State.{AreFor};
+
+use crate::state::NodeState;
+use crate::turns::letter::one;
+use lrc_envelope::{LockGrant, Message, News};
+use lrc_lock::Pass;
+use lrc_mail::Letter;
+use std::alloc::AllocError;
+
+impl NodeState<'_> {
+    /// The grant of a pass, if there is one.
+    pub(crate) fn grants(&self, pass: Option<Pass>) -> Result<Vec<Letter>, AllocError>
+        requires pass { IfSome pass (IsPass self.now.setting.me self.now.setting.nodes) }
+        requires lock { IfSome pass (λ pass. pass.lock < MOST_LOCKS) }
+        ensures letters { IfOk result (λ letters. letters.items ≡ grants_of self.now pass) }
+        ensures to { IfOk result (λ letters. AreFor self.now.setting.nodes letters.items) }
+    {
+        let Some(pass) = pass else {
+            return Ok(Vec::new(self.alloc));
+        };
+        let intervals = self.memory.newer(&pass.since, &pass.upto)?;
+        let news = News {
+            time: pass.upto,
+            intervals,
+        };
+        let lock = pass.lock;
+        one(
+            self.alloc,
+            pass.to,
+            Message::LockGrant(LockGrant { lock, news }),
+        )
+    }
+}

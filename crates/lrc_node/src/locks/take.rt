@@ -1,0 +1,105 @@
+// Messages about locks: when a node expects them, and what it does with them.
+
+ghost use Rattle.std.specs.Prelude.{◌≡◌, ℕ, ◌<◌, IfOk, IsTrue, Some, length};
+ghost use Rattle.lrc_envelope.specs.declared.message.Message.TheVariants as messages;
+ghost use Rattle.lrc_exec.specs.declared.machine.Ask.TheVariants.{Acquire};
+ghost use Rattle.lrc_invariants.specs.Tokens.{is_awaited};
+ghost use Rattle.lrc_lock.specs.Held.{forwarded, lock_at};
+ghost use Rattle.lrc_lock.specs.Lock.{manager_of};
+ghost use Rattle.lrc_lock.specs.Managed.{requested};
+ghost use Rattle.lrc_memory.specs.Turns.{CanBeAdded};
+ghost use Rattle.lrc_protocol.specs.Expected.{is_expected, is_taken};
+ghost use Rattle.lrc_protocol.specs.Take.{forward_by, request_by, take_grant};
+ghost use Rattle.lrc_node.specs.State.{seen_effect, AreFor};
+ghost use Rattle.lrc_node.specs.Text.{asked_in};
+
+use crate::state::NodeState;
+use crate::turn::Effect;
+use crate::turns::letter::one;
+use lrc_envelope::{LockForward, LockGrant, LockRequest, Message};
+use lrc_mail::Wait;
+use std::alloc::AllocError;
+
+impl NodeState<'_> {
+    /// Whether a request of a lock is expected: this node manages it.
+    pub(crate) fn expects_request(&self, m: &LockRequest) -> bool
+        ensures { (from : ℕ) → result ≡ is_expected self.now from (messages.LockRequest m.now) }
+    {
+        m.lock < self.locks && m.time.nodes() == self.nodes && m.lock % self.nodes == self.me
+    }
+
+    /// A node asks for a lock that this one manages: its request goes on to who asked last.
+    pub(crate) fn take_request(
+        &mut self,
+        from: u8,
+        request: &LockRequest,
+    ) -> Result<Effect, AllocError>
+        requires from { from < self.old.setting.nodes }
+        requires lock { request.now.lock < self.old.setting.locks }
+        requires managed { manager_of self.old.locks.managed.nodes request.now.lock ≡ self.old.locks.managed.me }
+        ensures effect { IfOk result (λ effect. request_by self.old from request.now.lock request.now.time
+            (requested self.old.locks.managed request.now.lock from) ≡ seen_effect effect self.new) }
+        ensures to { IfOk result (λ effect. AreFor self.new.setting.nodes effect.letters.items) }
+    {
+        let lock = request.lock;
+        let to = self.clock.request(lock, from);
+        let forward = LockForward {
+            lock,
+            asker: from,
+            time: request.time.copy(),
+        };
+        let letters = one(self.alloc, to, Message::LockForward(forward))?;
+        Ok(Effect::sending(letters))
+    }
+
+    /// Whether a forwarded request is expected: its sender manages the lock, and the token is here or awaited, with no
+    /// successor yet.
+    pub(crate) fn expects_forward(&self, from: u8, m: &LockForward) -> bool
+        ensures { result ≡ is_expected self.now from (messages.LockForward m.now) }
+    {
+        m.lock < self.locks
+            && m.asker < self.nodes
+            && m.time.nodes() == self.nodes
+            && m.lock % self.nodes == from
+            && self.clock.accepts(m.lock, m.asker)
+    }
+
+    /// A request is forwarded to this node: it is granted at once, or its asker is kept as successor.
+    pub(crate) fn take_forward(&mut self, forward: &LockForward) -> Result<Effect, AllocError>
+        requires lock { forward.now.lock < self.old.setting.locks }
+        requires asker { forward.now.asker < self.old.setting.nodes }
+        requires counted { length forward.now.time ≡ self.old.setting.nodes }
+        requires taken { IsTrue (is_taken (forwarded self.old.locks.held forward.now.lock forward.now.asker forward.now.time)) }
+        ensures effect { IfOk result (λ effect. forward_by self.old forward.now.lock
+            (forwarded self.old.locks.held forward.now.lock forward.now.asker forward.now.time) ≡ seen_effect effect self.new) }
+        ensures to { IfOk result (λ effect. AreFor self.new.setting.nodes effect.letters.items) }
+    {
+        let time = forward.time.copy();
+        let pass = self.clock.forward(forward.lock, forward.asker, time);
+        let letters = self.grants(pass)?;
+        Ok(Effect::sending(letters))
+    }
+
+    /// Whether a grant is expected: this node awaits it, and can learn the news.
+    pub(crate) fn expects_grant(&self, m: &LockGrant) -> bool
+        ensures { (from : ℕ) → result ≡ is_expected self.now from (messages.LockGrant m.now) }
+    {
+        m.lock < self.locks && self.mail.wait().awaits_grant(m.lock) && self.can_learn(&m.news)
+    }
+
+    /// The token comes with news, and the acquire is made.
+    pub(crate) fn take_grant(&mut self, grant: &LockGrant) -> Result<Effect, AllocError>
+        requires lock { grant.now.lock < self.old.setting.locks }
+        requires awaited { IsTrue (is_awaited (lock_at self.old.locks.held grant.now.lock)) }
+        requires next { asked_in self.old.course ≡ Some (Acquire grant.now.lock) }
+        requires counted { length grant.now.time ≡ self.old.setting.nodes }
+        requires intervals { CanBeAdded self.old.memory.store grant.now.intervals }
+        ensures effect { IfOk result (λ effect. take_grant self.old grant.now.lock grant.now.time grant.now.intervals ≡ seen_effect effect self.new) }
+        ensures to { IfOk result (λ effect. AreFor self.new.setting.nodes effect.letters.items) }
+    {
+        self.clock.granted(grant.lock);
+        self.learn(&grant.news)?;
+        self.mail.wait_for(Wait::Nothing);
+        self.act(Vec::new(self.alloc))
+    }
+}

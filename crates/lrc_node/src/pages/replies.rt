@@ -1,0 +1,122 @@
+// Changes and base copies that a node awaits: when it expects them, and what it does with them.
+
+ghost use Rattle.std.specs.Prelude.{◌≡◌, ◌≢◌, AllPairs, IfOk, [], nat_lt};
+ghost use Rattle.std.specs.List.{list_all};
+ghost use Rattle.lrc_envelope.specs.declared.message.Message.TheVariants as messages;
+ghost use Rattle.lrc_mail.specs.Wait.{seen_wait};
+ghost use Rattle.lrc_memory.specs.Turns.{AreAwaited};
+ghost use Rattle.lrc_protocol.specs.Expected.{is_expected};
+ghost use Rattle.lrc_protocol.specs.Fetch.{with_changes, with_page};
+ghost use Rattle.lrc_protocol.specs.Mail.{access, needs_of};
+ghost use Rattle.lrc_protocol.specs.Take.{take_changes, take_page};
+ghost use Rattle.lrc_protocol.specs.Waits.{waits_or_goes_on, with_needs};
+ghost use Rattle.lrc_node.specs.Effects.{CanGoOn, with_parts};
+ghost use Rattle.lrc_node.specs.State.{seen_effect, AreFor};
+
+use crate::state::NodeState;
+use crate::turn::Effect;
+use lrc_envelope::{ChangesReply, IndexedChanges, PageReply};
+use lrc_mail::{Need, Wait};
+use lrc_page::Changes;
+use std::alloc::AllocError;
+
+// Whether the offsets of all changes are below so many words.
+fn are_on_page(words: u16, changes: &Changes) -> bool
+    ensures { result ≡ list_all (λ change. nat_lt change.offset words) changes.now }
+{
+    for place in 0..changes.len() {
+        if u16::from(changes.at(place).offset) >= words {
+            return false;
+        }
+    }
+    true
+}
+
+// Whether the offsets of the changes of all parts are below so many words.
+fn all_on_page(words: u16, parts: &[IndexedChanges]) -> bool
+    ensures { result ≡ list_all (λ part. list_all (λ change. nat_lt change.offset words) part.changes) parts.now }
+{
+    parts.iter().all(|part| are_on_page(words, &part.changes))
+}
+
+impl NodeState<'_> {
+    /// Makes the access that is awaited, once all has come that its page needs; else goes on waiting.
+    pub(crate) fn go_on_with(&mut self, need: Need) -> Result<Effect, AllocError>
+        requires { CanGoOn self.old (access need) }
+        ensures effect { IfOk result (λ effect. waits_or_goes_on [] self.old (access need) ≡ seen_effect effect self.new) }
+        ensures to { IfOk result (λ effect. AreFor self.new.setting.nodes effect.letters.items) }
+    {
+        let letters = Vec::new(self.alloc);
+        if need.is_met() {
+            self.repair(&need, letters)
+        } else {
+            Ok(self.await_access(need, letters))
+        }
+    }
+
+    // Goes on with what is awaited of pages, after something came for it.
+    fn go_on(&mut self, wait: Wait) -> Result<Effect, AllocError>
+        requires { CanGoOn self.old (seen_wait wait) }
+        ensures effect { IfOk result (λ effect. waits_or_goes_on [] self.old (seen_wait wait) ≡ seen_effect effect self.new) }
+        ensures to { IfOk result (λ effect. AreFor self.new.setting.nodes effect.letters.items) }
+    {
+        match wait {
+            Wait::Access(need) => self.go_on_with(need),
+            Wait::Upkeep(collection, needs) => self.go_on_keeping(collection, needs),
+            wait => {
+                self.mail.wait_for(wait);
+                let letters = Vec::new(self.alloc);
+                Ok(Effect::sending(letters))
+            }
+        }
+    }
+
+    /// Whether changes are expected: just these of that page are awaited from their sender.
+    pub(crate) fn expects_changes(&self, from: u8, m: &ChangesReply) -> bool
+        ensures { result ≡ is_expected self.now from (messages.ChangesReply m.now) }
+    {
+        let parts = m.parts.as_slice();
+        m.page < self.pages()
+            && all_on_page(self.options.size.words(), parts)
+            && self.mail.wait().awaits_changes(m.page, from, parts)
+    }
+
+    /// Changes come that were asked of a maker.
+    pub(crate) fn take_changes(
+        &mut self,
+        from: u8,
+        reply: &ChangesReply,
+    ) -> Result<Effect, AllocError>
+        requires awaited { AreAwaited self.old.options.size self.old.memory.store from reply.now.page reply.now.parts }
+        requires ready { CanGoOn (with_parts from reply.now self.old) (with_needs (with_changes reply.now.page from) self.old.mail.wait) }
+        ensures effect { IfOk result (λ effect. take_changes self.old from reply.now ≡ seen_effect effect self.new) }
+        ensures to { IfOk result (λ effect. AreFor self.new.setting.nodes effect.letters.items) }
+    {
+        self.memory.attach(from, reply.page, &reply.parts)?;
+        let mut wait = self.mail.stop_waiting();
+        wait.take_changes(reply.page, from);
+        self.go_on(wait)
+    }
+
+    /// Whether a base copy is expected: it is awaited from its sender, and has a value for each word of a page.
+    pub(crate) fn expects_page(&self, from: u8, m: &PageReply) -> bool
+        ensures { result ≡ is_expected self.now from (messages.PageReply m.now) }
+    {
+        m.page < self.pages()
+            && m.copy.words().len() == usize::from(self.options.size.words())
+            && self.mail.wait().awaits_page(m.page, from)
+    }
+
+    /// A base copy comes that was asked of its keeper.
+    pub(crate) fn take_page(&mut self, reply: &PageReply) -> Result<Effect, AllocError>
+        requires apart { AllPairs (λ a b. a.page ≢ b.page) (needs_of self.old.mail.wait) }
+        requires ready { CanGoOn self.old (with_needs (with_page reply.now.page reply.now.values) self.old.mail.wait) }
+        ensures effect { IfOk result (λ effect. take_page self.old reply.now.page reply.now.values ≡ seen_effect effect self.new) }
+        ensures to { IfOk result (λ effect. AreFor self.new.setting.nodes effect.letters.items) }
+    {
+        let copy = Box::new(self.alloc, reply.copy.copy())?;
+        let mut wait = self.mail.stop_waiting();
+        wait.take_page(reply.page, copy);
+        self.go_on(wait)
+    }
+}
