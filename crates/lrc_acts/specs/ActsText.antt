@@ -97,6 +97,15 @@ pub record IsFirstBad (nodes : Option ℕ) (lines : List (List ℕ)) (number : �
   pub good : (acts : List Act) × (numbers : List ℕ) × SayActs nodes 1 before acts numbers
   pub bad : IsBad nodes line
 
+-- One of the lines says an act, and no line before it is bad. So there is an act to be kept.
+pub record SaysSome (nodes : Option ℕ) (lines : List (List ℕ)) : Type 0 where
+  pub before : List (List ℕ)
+  pub line : List ℕ
+  pub after : List (List ℕ)
+  pub whole : lines ≡ before ++ line ∷ after
+  pub good : (acts : List Act) × (numbers : List ℕ) × SayActs nodes 1 before acts numbers
+  pub says : (act : Act) × SaysAct nodes (words_of line) act
+
 -- the longest text, in bytes
 abbrev pub most_bytes : ℕ
 most_bytes = 67108864

@@ -1,8 +1,8 @@
 // Reading a text of acts.
 
-ghost use Rattle.std.specs.Prelude.{◌≡◌, ◌++◌, ◌∷◌, [], IfErr, IfOk, MatchBool, MatchOption, OnOk, Err, Ok};
+ghost use Rattle.std.specs.Prelude.{◌≡◌, ◌≤◌, ◌++◌, ◌∷◌, [], IfErr, IfOk, MatchBool, MatchOption, OnOk, Err, Ok, length};
 ghost use Rattle.lrc_trace.specs.declared.act.Act.{Act as AnyAct};
-ghost use Rattle.lrc_acts.specs.ActsText.{IsAmong, Reads, SaysAct, words_of};
+ghost use Rattle.lrc_acts.specs.ActsText.{IsAmong, Reads, SaysAct, SaysSome, lines_of, most_bytes, words_of};
 ghost use Rattle.lrc_acts.specs.declared.reading.ActsFault.TheVariants.{NoMemory};
 
 use crate::deeds::deed_in;
@@ -52,10 +52,11 @@ impl From<AllocError> for ActsFault {
 
 /// The acts that a text says, one on each line: a node from 0 to 15, and below the number of nodes where that is given, and what it
 /// does. Words are parted by blanks (spaces, tabs, carriage returns), the sign # begins a comment, and a line without a word
-/// says no act. A text of more than 67,108,864 bytes is wrong in its first line.
+/// says no act. A text of more than 67,108,864 bytes is wrong in its first line. Memory runs out only where there is an act to be kept.
 pub fn acts_of(alloc: Global, text: &[u8], nodes: Option<u32>) -> Result<LinedActs, ActsFault>
     ensures ok { IfOk result (λ lined. Reads nodes text.now (Ok lined)) }
     ensures err { IfErr result (λ fault. Reads nodes text.now (Err fault)) }
+    ensures memory { IfErr result (λ fault. fault ≡ NoMemory → (length text.now ≤ most_bytes) × SaysSome nodes (lines_of text.now)) }
 {
     if text.len() > MOST_BYTES {
         return Err(ActsFault::BadAct(1));

@@ -51,6 +51,15 @@ pub record IsFirstBad (lines : List (List ℕ)) (number : ℕ) : Type 0 where
   pub good : (events : List Event) × NameAll before events
   pub bad : IsBad line
 
+-- One of the lines names an event, and no line before it is bad. So there is an event to be kept.
+pub record NamesSome (lines : List (List ℕ)) : Type 0 where
+  pub before : List (List ℕ)
+  pub line : List ℕ
+  pub after : List (List ℕ)
+  pub whole : lines ≡ before ++ line ∷ after
+  pub good : (events : List Event) × NameAll before events
+  pub names : (event : Event) × Names line event
+
 -- the longest text, in bytes
 abbrev pub most_bytes : ℕ
 most_bytes = 16777216

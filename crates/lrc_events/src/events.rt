@@ -1,8 +1,8 @@
 // The text of a list of events.
 
-ghost use Rattle.std.specs.Prelude.{◌≡◌, ℕ, IfErr, IfOk, MatchOption, Err, Ok};
+ghost use Rattle.std.specs.Prelude.{◌≡◌, ◌≤◌, ℕ, IfErr, IfOk, MatchOption, Err, Ok, length};
 ghost use Rattle.lrc_protocol.specs.declared.event.Event.{Event};
-ghost use Rattle.lrc_events.specs.EventsText.{IsPlace, Names, Reads};
+ghost use Rattle.lrc_events.specs.EventsText.{IsPlace, Names, NamesSome, Reads, lines_of, most_bytes};
 ghost use Rattle.lrc_events.specs.declared.events.EventsFault.TheVariants.{NoMemory};
 
 use lrc_protocol::Event;
@@ -29,10 +29,12 @@ impl<T: Drop> From<AllocFailed<T>> for EventsFault {
 }
 
 /// The events that a text names, one on each line: `run N`, `deliver N` or `repeat N` with a number of up to 4294967295 in
-/// decimal digits. An empty line names none. A text of more than 16,777,216 bytes is wrong in its first line.
+/// decimal digits. An empty line names none. A text of more than 16,777,216 bytes is wrong in its first line. Memory runs out only where
+/// there is an event to be kept.
 pub fn events_of(alloc: Global, text: &[u8]) -> Result<Vec<Event>, EventsFault>
     ensures ok { IfOk result (λ events. Reads text.now (Ok events.items)) }
     ensures err { IfErr result (λ fault. Reads text.now (Err fault)) }
+    ensures memory { IfErr result (λ fault. fault ≡ NoMemory → (length text.now ≤ most_bytes) × NamesSome (lines_of text.now)) }
 {
     if text.len() > MOST_BYTES {
         return Err(EventsFault::BadEvent(1));

@@ -1,5 +1,6 @@
 -- The barriers of a picture.
-use Rattle.std.specs.Prelude.{ℕ, ◌+◌, ◌==◌, Option, None, Some, List, [], ◌∷◌, ◌++◌, codes, decimal, if◌then◌else◌, map, slice_get}
+use Rattle.std.specs.Prelude.{◌≡◌, ◌≢◌, ◌<◌, ◌≤◌, ℕ, ◌+◌, ◌==◌, Option, None, Some, List, [], ◌∷◌, ◌++◌, AllPairs, Contains, codes, decimal}
+use Rattle.std.specs.Prelude.{if◌then◌else◌, map, slice_get}
 use Rattle.lrc_trace.specs.declared.act.Act.{Act}
 use Rattle.lrc_trace.specs.declared.act.Deed.{Deed}
 use Rattle.lrc_trace.specs.declared.act.Deed.TheVariants.{Arrive, Depart}
@@ -51,3 +52,19 @@ band_if numbers place number = if number == 0 then [] else band_at number place 
 -- ones.
 abbrev pub shown_bands : List Act → List Row → List SeenBand
 shown_bands acts rows = let numbers = barriers acts rows in each (band_if numbers) numbers
+
+-- ---- what that comes to
+
+-- a band is of the barrier with this number: it goes from the first row of that barrier to the last
+pub record IsBandOf (numbers : List ℕ) (number : ℕ) (shown : SeenBand) : Type 0 where
+  pub begins : slice_get numbers shown.from ≡ Some number
+  pub ends : slice_get numbers shown.to ≡ Some number
+  pub around : (place : ℕ) → slice_get numbers place ≡ Some number → (shown.from ≤ place) × (place ≤ shown.to)
+  pub named : shown.label ≡ codes "barrier " ++ decimal number
+
+-- each band is of a barrier, each barrier that has a row has a band, and no two bands begin at one row, so it has no other
+pub record AreBandsOf (numbers : List ℕ) (bands : List SeenBand) : Type 0 where
+  pub sound : (shown : SeenBand) → Contains bands shown → (number : ℕ) × (number ≢ 0) × IsBandOf numbers number shown
+  pub complete : (place number : ℕ) → slice_get numbers place ≡ Some number → number ≢ 0
+      → (shown : SeenBand) × Contains bands shown × IsBandOf numbers number shown
+  pub once : AllPairs (λ (a b : SeenBand). a.from < b.from) bands

@@ -4,6 +4,7 @@
 mod arrows;
 mod bands;
 mod course;
+pub mod laws;
 mod message;
 mod pages;
 mod part;

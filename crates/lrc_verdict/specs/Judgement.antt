@@ -1,5 +1,5 @@
 -- What a judge says of acts: by the definitions on acts, for any list of them.
-use Rattle.std.specs.Prelude.{◌≡◌, ◌<◌, ◌≤◌, ◌&&◌, ℕ, Bool, true, false, All, List, ◌++◌}
+use Rattle.std.specs.Prelude.{◌≡◌, ◌<◌, ◌≤◌, ◌&&◌, ◌⊎◌, ℕ, Bool, true, false, All, List, ◌++◌, length}
 use Rattle.std.specs.Prelude.{Option, Some, None, MatchOption, Ok, if◌then◌else◌, is_some, slice_index, slice_index_or}
 use Rattle.std.specs.List.{flat_map}
 use Rattle.lrc_trace.specs.declared.act.Act.{Act}
@@ -19,7 +19,7 @@ use Rattle.lrc_judge.specs.Pairs.{AreRacingPairs}
 use Rattle.lrc_judge.specs.declared.lanes.Pair.{Pair}
 use Rattle.lrc_judge.specs.declared.in_order.OutOfOrder.{OutOfOrder}
 use Rattle.lrc_text.specs.RaceText.{first_race_text, races_text}
-use Rattle.lrc_acts.specs.ActsText.{Reads}
+use Rattle.lrc_acts.specs.ActsText.{Reads, SaysSome, lines_of, most_bytes}
 use Rattle.lrc_acts.specs.JudgeLines.{lazy_line, ordered_line, pair_line, synchronized_line, unlazy_line, unordered_line, unsynchronized_line}
 use Rattle.lrc_acts.specs.declared.judge_lines.Place.{Place}
 use Rattle.lrc_acts.specs.declared.judge_lines.RacingAccesses.{RacingAccesses}
@@ -128,3 +128,8 @@ pub record Judges (nodes : Option ℕ) (pairs : Bool) (text out : List ℕ) (sta
   pub says : Reads nodes text (Ok lined)
   pub counted : AreNodes nodes lined.acts.items count
   pub judgement : IsJudgement count lined.acts.items lined.lines.items pairs out status
+
+-- where memory may run out: the text is not too long, and a line says an act before any is bad, or none is bad
+abbrev pub MayRunOut : Option ℕ → List ℕ → Type 0
+MayRunOut nodes text =
+    (length text ≤ most_bytes) × (SaysSome nodes (lines_of text) ⊎ ((lined : LinedActs) × Reads nodes text (Ok lined)))

@@ -5,7 +5,8 @@ ghost use Rattle.lrc_judge.specs.declared.TheConstants.{NODES};
 ghost use Rattle.lrc_text.specs.Parts.{whole_text};
 ghost use Rattle.lrc_text.specs.RaceText.{first_race_text};
 ghost use Rattle.lrc_acts.specs.ActsText.{Reads};
-ghost use Rattle.lrc_verdict.specs.Judgement.{AreNodes, IsHead, IsJudgement, IsNodeCount, Judges, judge_status};
+ghost use Rattle.lrc_acts.specs.declared.reading.ActsFault.TheVariants.{NoMemory};
+ghost use Rattle.lrc_verdict.specs.Judgement.{AreNodes, IsHead, IsJudgement, IsNodeCount, Judges, MayRunOut, judge_status};
 
 use crate::tell::{races_told, tell_lazy_reading, tell_order, tell_synchronization};
 use lrc_acts::reading::{ActsFault, acts_of};
@@ -34,6 +35,7 @@ pub fn judge(
     requires nodes { IfSome nodes (λ count. count ≤ NODES) }
     ensures ok { IfOk result (λ printout. Judges nodes pairs text.now (whole_text printout.parts.items) printout.status) }
     ensures err { IfErr result (λ fault. Reads nodes text.now (Err fault)) }
+    ensures memory { IfErr result (λ fault. fault ≡ NoMemory → MayRunOut nodes text.now) }
 {
     let lined = acts_of(alloc, text, nodes)?;
     let printout = judgement(

@@ -4,7 +4,7 @@ ghost use Rattle.std.specs.Prelude.{◌≡◌};
 
 use bytes::Bytes;
 use lrc_envelope::Picker;
-use lrc_post::{Mailbox, Parcel, Post, PostFault, Unput};
+use lrc_post::{Mailbox, Parcel, Post, PostFault, Unput, Wire};
 use std::alloc::{AllocError, Global};
 use std::process::Abort;
 use std::sync::Wait;
@@ -104,11 +104,12 @@ fn polled<R: Wait>(rt: &R, post: &Post) -> Result<u64, PostFault> {
     })
 }
 
-/// Node 0 puts parcels for node 1, with these stamps. Where that is refused: why, and how many came back.
+/// A node puts parcels for node 1, with these stamps. Where that is refused: why, and how many came back.
 fn put_stamps<R: Wait>(
     rt: &R,
     alloc: Global,
     post: &Post,
+    me: u8,
     stamps: &[u64],
 ) -> Result<Option<(PostFault, usize)>, AllocError> {
     let mut parcels = Vec::new(alloc);
@@ -119,7 +120,7 @@ fn put_stamps<R: Wait>(
             bytes: Bytes::new(),
         })?;
     }
-    Ok(match post.put_all(rt, 0, parcels) {
+    Ok(match post.put_all(rt, me, parcels) {
         Ok(()) => None,
         Err(unput) => Some((unput.fault, unput.parcels.len())),
     })
@@ -132,7 +133,7 @@ fn post_stamps_by<R: Wait + Abort>(
     picker: Picker,
 ) -> Result<([u64; 5], usize, usize), Fail> {
     let post = Post::new(alloc, 2, picker)?;
-    let refused = put_stamps(rt, alloc, &post, &[1, 2])?;
+    let refused = put_stamps(rt, alloc, &post, 0, &[1, 2])?;
     assert!(rt; refused.is_none());
     let mut stamps = [0; 5];
     for place in 0..5usize {
@@ -162,9 +163,9 @@ fn post_gives_by_the_picker(rt: HostRuntime) -> Result<(), Fail> {
 #[test]
 fn post_refuses_once_closed(rt: HostRuntime) -> Result<(), Fail> {
     let post = Post::new(rt.alloc(), 2, Picker::Oldest)?;
-    let first = put_stamps(&rt, rt.alloc(), &post, &[1, 2])?;
+    let first = put_stamps(&rt, rt.alloc(), &post, 0, &[1, 2])?;
     post.close(&rt);
-    let second = put_stamps(&rt, rt.alloc(), &post, &[3, 4, 5])?;
+    let second = put_stamps(&rt, rt.alloc(), &post, 0, &[3, 4, 5])?;
     let given = polled(&rt, &post)?;
     assert!(rt; (first, second, given) == (None, Some((PostFault::Closed, 3)), 0));
     let taken = post.take(&rt, 1)?;
@@ -247,7 +248,7 @@ fn stamps_upto(alloc: Global, count: u64) -> Result<Vec<u64>, AllocError> {
 fn post_keeps_three_thousand_parcels(rt: HostRuntime) -> Result<(), Fail> {
     let post = Post::new(rt.alloc(), 16, Picker::Oldest)?;
     let stamps = stamps_upto(rt.alloc(), 3_000)?;
-    let refused = put_stamps(&rt, rt.alloc(), &post, &stamps)?;
+    let refused = put_stamps(&rt, rt.alloc(), &post, 0, &stamps)?;
     let given = polled_in_order(&rt, &post)?;
     assert!(rt; (refused, given) == (None, 3_000));
     let wires = post.into_wires();
@@ -257,10 +258,11 @@ fn post_keeps_three_thousand_parcels(rt: HostRuntime) -> Result<(), Fail> {
     Ok(())
 }
 
-/// A node puts five hundred parcels for node 1, one in each call, and then waits for a parcel of its own, which never comes.
+/// A node puts five hundred parcels for node 1, one in each call, each with its own number as the stamp, and then waits for a
+/// parcel of its own, which never comes.
 fn put_many<R: Wait>(rt: &R, alloc: Global, post: &Post, me: u8) -> Result<bool, AllocError> {
     for _ in 0..500u64 {
-        if put_stamps(rt, alloc, post, &[u64::from(me)])?.is_some() {
+        if put_stamps(rt, alloc, post, me, &[u64::from(me)])?.is_some() {
             return Ok(false);
         }
     }
@@ -278,6 +280,14 @@ fn take_many<R: Wait>(rt: &R, post: &Post) -> Option<u64> {
         }
     }
     Some(taken)
+}
+
+/// Whether each parcel of a history was put by the node that its stamp names.
+fn are_put_by_their_stamps(history: &[Wire]) -> bool {
+    history.iter().all(|wire| match wire {
+        Wire::Put { from, stamp, .. } => u64::from(*from) == *stamp,
+        Wire::Took { .. } => true,
+    })
 }
 
 #[test]
@@ -300,7 +310,9 @@ fn two_threads_put_a_thousand_and_one_takes_them(rt: HostRuntime) -> Result<(), 
     assert!(rt; taken == Some(1000));
     let wires = post.into_wires();
     assert!(rt; wires.mailboxes().len() == 3);
-    assert!(rt; wires.mailboxes()[1].history().len() == 2000);
+    let history = wires.mailboxes()[1].history();
+    assert!(rt; history.len() == 2000);
+    assert!(rt; are_put_by_their_stamps(history));
     Ok(())
 }
 

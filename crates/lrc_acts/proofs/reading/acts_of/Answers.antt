@@ -1,10 +1,13 @@
-use Rattle.std.proofs.Common.{◌≡◌, ◌∙◌, ◌<◌, ◌+◌, ◌==◌, ℕ, List, [], ◌∷◌, ◌++◌, Option, length, take}
+use Rattle.std.proofs.Common.{◌≡◌, ◌∙◌, ◌<◌, ◌≤◌, ◌+◌, ◌==◌, ℕ, List, [], ◌∷◌, ◌++◌, Option, length, take}
 use Rattle.std.proofs.Common.{drop, get_or, inr, refl, sym, ap, subst, arith, rules, tests}
 use Rattle.std.proofs.lemmas.List.{append_assoc, length-take-le, length_push, take_all, take_more, take-append-drop}
 use Rattle.std.proofs.lemmas.Iterator.Consumers.{YieldsList-turn, YieldsList-end}
 use Rattle.std.proofs.lemmas.Iterator.Splits.{YieldsList-from_slice_split}
+use Rattle.std.specs.Prelude.{IfErr, Result, Ok, Err}
 use Rattle.lrc_trace.specs.declared.act.Act.{Act}
-use Rattle.lrc_acts.specs.ActsText.{IsBad, IsFirstBad, SayActs, lines_of, none}
+use Rattle.lrc_acts.specs.ActsText.{IsBad, IsFirstBad, SayActs, SaysAct, SaysSome, lines_of, most_bytes, none, words_of}
+use Rattle.lrc_acts.specs.declared.reading.ActsFault.{ActsFault}
+use Rattle.lrc_acts.specs.declared.reading.ActsFault.TheVariants.{NoMemory}
 use Rattle.lrc_acts.proofs.LineLemmas.{say_empty, say_more}
 use Rattle.lrc_acts.proofs.reading.acts_of.Goals as goal
 
@@ -15,18 +18,41 @@ lines_more lines n m line same turn =
     let at : line ≡ get_or lines n line = turn.1 ∙ ap (λ i. get_or lines i line) (sym same) in
     take_more lines n line (omega arith) ∙ ap (λ x. take n lines ++ x ∷ []) (sym at)
 
+-- the lines before one, that line, and those after it
+split_at : (lines : List (List ℕ)) (n m : ℕ) (line : List ℕ) → n ≡ m → (m < length lines) × (line ≡ get_or lines m line)
+    → lines ≡ take n lines ++ line ∷ drop (n + 1) lines
+split_at lines n m line same turn =
+    sym (take-append-drop (n + 1) lines) ∙ ap (λ l. l ++ drop (n + 1) lines) (lines_more lines n m line same turn)
+    ∙ append_assoc (take n lines) (line ∷ []) (drop (n + 1) lines)
+
 first_bad : (nodes : Option ℕ) (lines : List (List ℕ)) (n m : ℕ) (line : List ℕ) (acts : List Act) (numbers : List ℕ) → n ≡ m
     → (m < length lines) × (line ≡ get_or lines m line) → SayActs nodes 1 (take n lines) acts numbers → IsBad nodes line → IsFirstBad nodes lines (n + 1)
 first_bad nodes lines n m line acts numbers same turn said bad = record {
   before = take n lines;
   line = line;
   after = drop (n + 1) lines;
-  whole = sym (take-append-drop (n + 1) lines) ∙ ap (λ l. l ++ drop (n + 1) lines) (lines_more lines n m line same turn)
-      ∙ append_assoc (take n lines) (line ∷ []) (drop (n + 1) lines);
+  whole = split_at lines n m line same turn;
   counted = omega (arith, length-take-le n lines (omega arith));
   good = (acts, numbers, said);
   bad = bad;
 }
+
+says_some : (nodes : Option ℕ) (lines : List (List ℕ)) (n m : ℕ) (line : List ℕ) (acts : List Act) (numbers : List ℕ) (act : Act) → n ≡ m
+    → (m < length lines) × (line ≡ get_or lines m line) → SayActs nodes 1 (take n lines) acts numbers → SaysAct nodes (words_of line) act
+    → SaysSome nodes lines
+says_some nodes lines n m line acts numbers act same turn said says = record {
+  before = take n lines;
+  line = line;
+  after = drop (n + 1) lines;
+  whole = split_at lines n m line same turn;
+  good = (acts, numbers, said);
+  says = (act, says);
+}
+
+told : {A : Type 0} (r : Result A ActsFault) (nodes : Option ℕ) (text : List ℕ) → (length text ≤ most_bytes) × SaysSome nodes (lines_of text)
+    → IfErr r (λ fault. fault ≡ NoMemory → (length text ≤ most_bytes) × SaysSome nodes (lines_of text))
+told (Ok a) nodes text h = tt
+told (Err fault) nodes text h = λ _. h
 
 pub loop-line-init : goal.loop-line-init
 loop-line-init c = record {
@@ -79,4 +105,14 @@ returns-clause-ok c =
       c.if-text-gt-MOST_BYTES.false,
       subst (λ (l : List (List ℕ)). SayActs c.args.nodes 1 l c.loop-line.lined.acts.items c.loop-line.lined.lines.items)
           (take_all c.loop-line.number (lines_of c.args.text.now) (omega (arith, end.1, c.loop-line.invariant.counted))) c.loop-line.invariant.said,
+    )
+
+pub returns-in_err-push_act-in-Some-act_on-clause-memory : goal.returns-in_err-push_act-in-Some-act_on-clause-memory
+returns-in_err-push_act-in-Some-act_on-clause-memory c =
+    let turn = YieldsList-turn (YieldsList-from_slice_split _ (λ byte. byte == 10) c.args.text.now (cc) (cc) (cc) (λ x b q k. search (rules, tests)))
+    c.loop-line.yielded _ c.loop-line.yielded_by _ _ c.in-Some.line c.in-Some.is c.next.ensures.steps in
+    told c.from_residual.result c.args.nodes c.args.text.now (
+      c.if-text-gt-MOST_BYTES.false,
+      says_some c.args.nodes (lines_of c.args.text.now) c.loop-line.number _ c.in-Some.line.now c.loop-line.lined.acts.items
+          c.loop-line.lined.lines.items c.in-Some-act_on.act c.loop-line.invariant.counted turn c.loop-line.invariant.said c.in-Some-act_on.ensures,
     )

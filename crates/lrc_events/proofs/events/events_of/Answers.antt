@@ -1,10 +1,13 @@
-use Rattle.std.proofs.Common.{◌≡◌, ◌∙◌, ◌<◌, ◌+◌, ◌==◌, ◌≢◌, ℕ, false, List, [], ◌∷◌, ◌++◌, length, take}
+use Rattle.std.proofs.Common.{◌≡◌, ◌∙◌, ◌<◌, ◌≤◌, ◌+◌, ◌==◌, ◌≢◌, ℕ, false, List, [], ◌∷◌, ◌++◌, length, take}
 use Rattle.std.proofs.Common.{drop, get_or, inr, refl, sym, ap, subst, arith, rules, tests}
 use Rattle.std.proofs.lemmas.List.{append_assoc, length-take-le, length_push, take_all, take_more, take-append-drop}
 use Rattle.std.proofs.lemmas.Iterator.Consumers.{YieldsList-turn, YieldsList-end}
 use Rattle.std.proofs.lemmas.Iterator.Splits.{YieldsList-from_slice_split}
+use Rattle.std.specs.Prelude.{IfErr, Result, Ok, Err}
 use Rattle.lrc_protocol.specs.declared.event.Event.{Event}
-use Rattle.lrc_events.specs.EventsText.{IsBad, IsFirstBad, NameAll, Names, empty, lines_of, more, none}
+use Rattle.lrc_events.specs.EventsText.{IsBad, IsFirstBad, NameAll, Names, NamesSome, empty, lines_of, more, most_bytes, none}
+use Rattle.lrc_events.specs.declared.events.EventsFault.{EventsFault}
+use Rattle.lrc_events.specs.declared.events.EventsFault.TheVariants.{NoMemory}
 use Rattle.lrc_events.proofs.Lines.{nil_of}
 use Rattle.lrc_events.proofs.events.events_of.Goals as goal
 
@@ -30,18 +33,40 @@ lines_more lines n m line same turn =
     let at : line ≡ get_or lines n line = turn.1 ∙ ap (λ i. get_or lines i line) (sym same) in
     take_more lines n line (omega arith) ∙ ap (λ x. take n lines ++ x ∷ []) (sym at)
 
+-- the lines before one, that line, and those after it
+split_at : (lines : List (List ℕ)) (n m : ℕ) (line : List ℕ) → n ≡ m → (m < length lines) × (line ≡ get_or lines m line)
+    → lines ≡ take n lines ++ line ∷ drop (n + 1) lines
+split_at lines n m line same turn =
+    sym (take-append-drop (n + 1) lines) ∙ ap (λ l. l ++ drop (n + 1) lines) (lines_more lines n m line same turn)
+    ∙ append_assoc (take n lines) (line ∷ []) (drop (n + 1) lines)
+
 first_bad : (lines : List (List ℕ)) (n m : ℕ) (line : List ℕ) (events : List Event) → n ≡ m → (m < length lines) × (line ≡ get_or lines m line)
     → NameAll (take n lines) events → IsBad line → IsFirstBad lines (n + 1)
 first_bad lines n m line events same turn named bad = record {
   before = take n lines;
   line = line;
   after = drop (n + 1) lines;
-  whole = sym (take-append-drop (n + 1) lines) ∙ ap (λ l. l ++ drop (n + 1) lines) (lines_more lines n m line same turn)
-      ∙ append_assoc (take n lines) (line ∷ []) (drop (n + 1) lines);
+  whole = split_at lines n m line same turn;
   counted = omega (arith, length-take-le n lines (omega arith));
   good = (events, named);
   bad = bad;
 }
+
+names_some : (lines : List (List ℕ)) (n m : ℕ) (line : List ℕ) (events : List Event) (event : Event) → n ≡ m
+    → (m < length lines) × (line ≡ get_or lines m line) → NameAll (take n lines) events → Names line event → NamesSome lines
+names_some lines n m line events event same turn named names = record {
+  before = take n lines;
+  line = line;
+  after = drop (n + 1) lines;
+  whole = split_at lines n m line same turn;
+  good = (events, named);
+  names = (event, names);
+}
+
+told : {A : Type 0} (r : Result A EventsFault) (text : List ℕ) → (length text ≤ most_bytes) × NamesSome (lines_of text)
+    → IfErr r (λ fault. fault ≡ NoMemory → (length text ≤ most_bytes) × NamesSome (lines_of text))
+told (Ok a) text h = tt
+told (Err fault) text h = λ _. h
 
 pub loop-line-init : goal.loop-line-init
 loop-line-init c = record { counted = refl; named = subst (NameAll []) (sym c.new-events.ensures.items) none }
@@ -87,4 +112,14 @@ returns-clause-ok c =
       c.if-text-gt-MOST_BYTES.false,
       subst (λ (l : List (List ℕ)). NameAll l c.loop-line.events.items)
           (take_all c.loop-line.number (lines_of c.args.text.now) (omega (arith, end.1, c.loop-line.invariant.counted))) c.loop-line.invariant.named,
+    )
+
+pub returns-in_err-push-in-Some-event_on-clause-memory : goal.returns-in_err-push-in-Some-event_on-clause-memory
+returns-in_err-push-in-Some-event_on-clause-memory c =
+    let turn = YieldsList-turn (YieldsList-from_slice_split _ (λ byte. byte == 10) c.args.text.now (cc) (cc) (cc) (λ x b q k. search (rules, tests)))
+    c.loop-line.yielded _ c.loop-line.yielded_by _ _ c.in-Some.line c.in-Some.is c.next.ensures.steps in
+    told c.from_residual.result c.args.text.now (
+      c.if-text-gt-MOST_BYTES.false,
+      names_some (lines_of c.args.text.now) c.loop-line.number _ c.in-Some.line.now c.loop-line.events.items c.in-Some-event_on.event
+          c.loop-line.invariant.counted turn c.loop-line.invariant.named c.in-Some-event_on.ensures,
     )

@@ -1,7 +1,10 @@
-use Rattle.std.proofs.Common.{◌∙◌, ◌<◌, ℕ, List, All, length, ap, subst, sym}
+use Rattle.std.proofs.Common.{◌≡◌, ◌∙◌, ◌<◌, ℕ, List, All, length, ap, inl, inr, subst, sym}
+use Rattle.std.specs.Prelude.{IfErr, IsErrAnd, Result, Ok, Err}
 use Rattle.lrc_trace.specs.declared.act.Act.{Act}
 use Rattle.lrc_text.specs.Parts.{whole_text}
-use Rattle.lrc_verdict.specs.Judgement.{AreNodes, IsJudgement}
+use Rattle.lrc_acts.specs.declared.reading.ActsFault.{ActsFault}
+use Rattle.lrc_acts.specs.declared.reading.ActsFault.TheVariants.{NoMemory}
+use Rattle.lrc_verdict.specs.Judgement.{AreNodes, IsJudgement, MayRunOut}
 use Rattle.lrc_verdict.proofs.Within.{acts_ranged, as_many}
 use Rattle.lrc_verdict.proofs.judge.judge.Goals as goal
 
@@ -33,3 +36,18 @@ returns-clause-ok c =
           (subst (λ (lines : List ℕ). IsJudgement count c.deref.result.now lines c.args.pairs out status) c.deref-2.ensures.value
           c.in_ok-printout.ensures);
     }
+
+fault_up : {T : Type 0} (r : Result T ActsFault) (fault : ActsFault) (P : ActsFault → Type 0) → IsErrAnd r (λ f. f ≡ fault) → P fault → IfErr r P
+fault_up (Ok x) fault P is h = tt
+fault_up (Err f) fault P is h = subst P (sym is) h
+
+pub returns-in_err-lined-clause-memory : goal.returns-in_err-lined-clause-memory
+returns-in_err-lined-clause-memory c =
+    fault_up c.from_residual.result c.in_err-lined.field-0.0 (λ f. f ≡ NoMemory → MayRunOut c.args.nodes c.args.text.now) c.from_residual.ensures.1
+    (λ is. let some = c.in_err-lined.ensures.memory is in (some.0, inl some.1))
+
+pub returns-in_err-printout-clause-memory : goal.returns-in_err-printout-clause-memory
+returns-in_err-printout-clause-memory c =
+    let lined = c.in_ok-lined.lined in
+    fault_up c.from_residual-in_err-printout.result NoMemory (λ f. f ≡ NoMemory → MayRunOut c.args.nodes c.args.text.now)
+    c.from_residual-in_err-printout.ensures.1 (λ _. (c.in_ok-lined.ensures.ok.0, inr (lined, c.in_ok-lined.ensures.ok)))
