@@ -6,7 +6,7 @@ use Rattle.std.specs.List.{enumerate_from, flat_map}
 use Rattle.std.proofs.lemmas.Bool.{eq-eqb, ne_eqb, true≢false}
 use Rattle.std.proofs.lemmas.List.Elements.{All-cons, All-nil, All-weaker}
 use Rattle.std.proofs.lemmas.List.Kept.{AllPairs-cons}
-use Rattle.lrc_portrait.specs.Bands.{AreBandsOf, IsBandOf, band, band_at, band_if, last_of}
+use Rattle.lrc_portrait.specs.Bands.{AreBandsOf, IsBandOf, band, band_at, band_if, last_or}
 use Rattle.lrc_portrait.specs.Seen.{SeenBand}
 
 -- ---- elements
@@ -99,11 +99,11 @@ at_least low [] place r h = absurd h
 at_least low (x ∷ xs) place r (inl same) = omega (arith, same, r.0)
 at_least low (x ∷ xs) place r (inr later) = omega (arith, r.0, at_least (x + 1) xs place r.1 later)
 
-last_in : (first : ℕ) (more : List ℕ) → In (last_of first more) (first ∷ more)
+last_in : (first : ℕ) (more : List ℕ) → In (last_or first more) (first ∷ more)
 last_in first [] = inl refl
 last_in first (next ∷ more) = inr (last_in next more)
 
-at_most : (low first : ℕ) (more : List ℕ) (place : ℕ) → RisesFrom low (first ∷ more) → In place (first ∷ more) → place ≤ last_of first more
+at_most : (low first : ℕ) (more : List ℕ) (place : ℕ) → RisesFrom low (first ∷ more) → In place (first ∷ more) → place ≤ last_or first more
 at_most low first [] place r (inl same) = omega (arith, same)
 at_most low first [] place r (inr none) = absurd none
 at_most low first (next ∷ more) place r (inl same) =
@@ -114,7 +114,7 @@ at_most low first (next ∷ more) place r (inr later) = at_most (first + 1) next
 
 module _ (numbers : List ℕ) (number first : ℕ) (more : List ℕ) (found : places number 0 numbers ≡ first ∷ more) where
   abbrev the_band : SeenBand
-  the_band = band number first (last_of first more)
+  the_band = band number first (last_or first more)
 
   found_at : (place : ℕ) → In place (first ∷ more) → slice_get numbers place ≡ Some number
   found_at place h =
@@ -133,7 +133,7 @@ module _ (numbers : List ℕ) (number first : ℕ) (more : List ℕ) (found : pl
   is_band : IsBandOf numbers number the_band
   is_band = record {
     begins = found_at first (inl refl);
-    ends = found_at (last_of first more) (last_in first more);
+    ends = found_at (last_or first more) (last_in first more);
     around = λ place is.
         let low : first ≤ first = omega arith in
         (at_least first (first ∷ more) place (low, rises_so.1) (held place is), at_most 0 first more place rises_so (held place is));
@@ -161,7 +161,7 @@ module _ (numbers : List ℕ) where
   one place number shown false is [] f h = absurd h
   one place number shown false is (first ∷ more) f h = at_first (first == place) h
     where
-      at_first : (c : Bool) → In shown (cond c (band number first (last_of first more) ∷ []) []) → IsSound shown
+      at_first : (c : Bool) → In shown (cond c (band number first (last_or first more) ∷ []) []) → IsSound shown
       at_first true (inl same) =
           (number, λ none. true≢false (sym (eq-eqb number 0 none) ∙ is), subst (IsBandOf numbers number) same (is_band numbers number first more f))
       at_first true (inr none) = absurd none
@@ -198,7 +198,7 @@ module _ (numbers : List ℕ) where
       by_places (first ∷ more) f =
           let whole = is_band numbers number first more f in
           let same : first ≡ 0 + first = omega arith in
-          let shown = band number first (last_of first more) in
+          let shown = band number first (last_or first more) in
           (shown, in_bands 0 numbers first number shown whole.begins (shown_here numbers number first more f (0 + first) same some), whole)
 
   -- they begin one below the other
@@ -221,7 +221,7 @@ module _ (numbers : List ℕ) where
       later rest = lower start (start + 1) others (omega arith) rest
 
       by_first : BandsRise (start + 1) others → (first : ℕ) (more : List ℕ) (c : Bool) → (first == start) ≡ c
-          → BandsRise start (cond c (band x first (last_of first more) ∷ []) [] ++ others)
+          → BandsRise start (cond c (band x first (last_or first more) ∷ []) [] ++ others)
       by_first rest first more true is =
           let same : first ≡ start = eqb-true first start is in
           (omega (arith, same), subst (λ n. BandsRise (n + 1) others) (sym same) rest)
