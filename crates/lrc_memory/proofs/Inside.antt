@@ -1,5 +1,6 @@
 -- What is kept, by the fields of the type.
 use Rattle.lrc_memory.specs.declared.memory.Memory.TheInside.{Inside}
+use Rattle.lrc_memory.specs.Notes.{keepers_of, named_of, since_of}
 use Rattle.lrc_memory.specs.View.{Kept}
 
 abbrev pub kept : Inside → Kept
@@ -7,9 +8,9 @@ kept m = record {
   me = m.me;
   store = m.store;
   table = m.table;
-  since = m.since.items;
-  named = m.named.items;
-  keepers = m.keepers.items;
+  since = since_of m.notes.items;
+  named = named_of m.notes.items;
+  keepers = keepers_of m.notes.items;
   collected = m.collected;
   in_step = m.in_step;
 }

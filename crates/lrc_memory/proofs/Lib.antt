@@ -14,5 +14,6 @@ pub mod Learns
 pub mod Attaches
 pub mod Needs
 pub mod Keepers
+pub mod Noting
 pub mod Lowest
 pub mod Renewed

@@ -1,3 +1,4 @@
+pub mod Notes
 pub mod View
 pub mod Turns
 pub mod Steps

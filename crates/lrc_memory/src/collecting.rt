@@ -7,12 +7,13 @@ ghost use Rattle.lrc_protocol.specs.Copy.{is_readable, changes_of};
 ghost use Rattle.lrc_protocol.specs.Memory.{copy_at, with_base, base_at, kept_pages, with_keepers, collected_at, is_named, least, namers_of};
 ghost use Rattle.std.specs.List.{enumerate_from, range_with_len};
 ghost use Rattle.lrc_store.specs.Store.{intervals_of};
+ghost use Rattle.lrc_memory.specs.Notes.{keepers_of, named_of, since_of};
 ghost use Rattle.lrc_memory.specs.Steps.{without_bases};
 ghost use Rattle.lrc_memory.specs.View.{SameMemory, with_memory};
 ghost use Rattle.lrc_memory.specs.Turns.{IsClosed};
 
 use crate::learning::is_last;
-use crate::memory::Memory;
+use crate::memory::{Memory, PageNote};
 use lrc_page::{MOST_PAGES, Page, Pages};
 use lrc_store::Store;
 use lrc_table::PageTable;
@@ -35,7 +36,7 @@ impl Memory {
     {
         // For the proof: there are at most `MOST_PAGES` pages.
         let _few = self.table.size();
-        take_keepers(&self.store, &mut self.keepers);
+        take_keepers(&self.store, &mut self.notes);
     }
 
     /// The pages that this node keeps and that were named since the last collection, ascending.
@@ -44,7 +45,7 @@ impl Memory {
     {
         // For the proof: there are at most `MOST_PAGES` pages.
         let _few = self.table.size();
-        kept_pages(*self.named.allocator(), &self.store, self.me, &self.keepers)
+        kept_pages(*self.notes.allocator(), &self.store, self.me, &self.notes)
     }
 
     /// Keeps the values of a valid copy as the base copy of its page. An error changes nothing.
@@ -72,35 +73,37 @@ impl Memory {
         self.store.discard(time);
         self.table.drop_twins();
         self.table.drop_invalid();
-        drop_bases(&mut self.table, self.me, &self.keepers);
+        drop_bases(&mut self.table, self.me, &self.notes);
         self.collected = time.copy();
         self.in_step &= in_step;
     }
 }
 
 // Drops the base copies of the pages that other nodes keep.
-fn drop_bases(table: &mut PageTable, me: u8, keepers: &[u8])
-    requires { length keepers.now ≡ length table.old.copies }
-    ensures { table.new ≡ without_bases me keepers.now table.old }
+fn drop_bases(table: &mut PageTable, me: u8, notes: &[PageNote])
+    requires { length notes.now ≡ length table.old.copies }
+    ensures { table.new ≡ without_bases me (keepers_of notes.now) table.old }
 {
     // For the proof: there are at most `MOST_PAGES` pages.
     let _few = table.size();
-    for (page, keeper) in keepers.iter().enumerate() {
-        if *keeper != me {
+    for (page, note) in notes.iter().enumerate() {
+        if note.keeper != me {
             table.drop_base(page as u16);
         }
     }
 }
 
 // Each page that an interval names gets the lowest node of those that name it as its keeper.
-fn take_keepers(store: &Store, keepers: &mut Vec<u8>)
-    requires { length keepers.old.items ≤ MOST_PAGES }
-    ensures { keepers.new.items
-        ≡ map (λ place. unwrap_or (least (namers_of store.now place.0)) place.1) (enumerate_from 0 keepers.old.items) }
+fn take_keepers(store: &Store, notes: &mut Vec<PageNote>)
+    requires { length notes.old.items ≤ MOST_PAGES }
+    ensures keepers { keepers_of notes.new.items
+        ≡ map (λ place. unwrap_or (least (namers_of store.now place.0)) place.1) (enumerate_from 0 (keepers_of notes.old.items)) }
+    ensures since { since_of notes.new.items ≡ since_of notes.old.items }
+    ensures named { named_of notes.new.items ≡ named_of notes.old.items }
 {
-    for page in 0..keepers.len() as u16 {
+    for page in 0..notes.len() as u16 {
         if let Some(node) = lowest_namer(store, page) {
-            keepers[usize::from(page)] = node;
+            notes[usize::from(page)].keeper = node;
         }
     }
 }
@@ -131,14 +134,14 @@ fn lower(first: Option<u8>, second: u8) -> u8
 }
 
 // The pages that this node keeps and that an interval names, ascending.
-fn kept_pages(alloc: Global, store: &Store, me: u8, keepers: &[u8]) -> Result<Pages, AllocError>
-    requires { length keepers.now ≤ MOST_PAGES }
-    ensures { IfOk result (λ pages. pages ≡ filter (λ page. is_named (intervals_of store.now) page && (slice_index keepers.now page == me))
-        (range_with_len 0 (length keepers.now))) }
+fn kept_pages(alloc: Global, store: &Store, me: u8, notes: &[PageNote]) -> Result<Pages, AllocError>
+    requires { length notes.now ≤ MOST_PAGES }
+    ensures { IfOk result (λ pages. pages ≡ filter (λ page. is_named (intervals_of store.now) page && (slice_index (keepers_of notes.now) page == me))
+        (range_with_len 0 (length notes.now))) }
 {
     let mut pages = Pages::empty(alloc);
-    for page in 0..keepers.len() as u16 {
-        if is_kept(store, me, keepers, page) {
+    for page in 0..notes.len() as u16 {
+        if is_kept(store, me, notes, page) {
             pages.push(page)?;
         }
     }
@@ -146,9 +149,9 @@ fn kept_pages(alloc: Global, store: &Store, me: u8, keepers: &[u8]) -> Result<Pa
 }
 
 // Whether this node keeps the page and an interval names it.
-fn is_kept(store: &Store, me: u8, keepers: &[u8], page: u16) -> bool
-    requires { page < length keepers.now }
-    ensures { result ≡ (is_named (intervals_of store.now) page && (slice_index keepers.now page == me)) }
+fn is_kept(store: &Store, me: u8, notes: &[PageNote], page: u16) -> bool
+    requires { page < length notes.now }
+    ensures { result ≡ (is_named (intervals_of store.now) page && (slice_index (keepers_of notes.now) page == me)) }
 {
-    store.first_on_page(page).is_some() && keepers[usize::from(page)] == me
+    store.first_on_page(page).is_some() && notes[usize::from(page)].keeper == me
 }

@@ -34,8 +34,8 @@ impl Memory {
         ensures ok { OnOk result (self.new ≡ self.old) }
         ensures same { SameMemory self.old self.new }
     {
-        settle_page(&mut self.table, &mut self.store, self.me, &self.named, page)?;
-        let alloc = *self.named.allocator();
+        settle_page(&mut self.table, &mut self.store, self.me, &self.notes, page)?;
+        let alloc = *self.notes.allocator();
         let node = self.me;
         changes_or_none(alloc, &self.store, Key { node, index, page })
     }
@@ -72,12 +72,12 @@ impl Memory {
         ensures need { IfOk result (λ need. need ≡ need_of (length self.now.memory.store.last) self.now.memory page) }
         ensures keeper { keeper_at self.now.memory page < length self.now.memory.store.last }
     {
-        let alloc = *self.named.allocator();
+        let alloc = *self.notes.allocator();
         let missing = self.lacking(page)?;
         let unknown = unknown_of(alloc, &self.store, &missing)?;
         // For the proof: there are at most `MOST_PAGES` pages.
         let _few = self.table.size();
-        let keeper = self.keepers[usize::from(page)];
+        let keeper = self.notes[usize::from(page)].keeper;
         let base = base_due(self.table.state(page), keeper);
         Need::new(alloc, self.collected.nodes(), page, base, missing, &unknown)
     }
@@ -90,11 +90,11 @@ impl Memory {
     {
         match self.table.state(page) {
             State::Invalid => {
-                let since = &self.since[usize::from(page)];
+                let since = &self.notes[usize::from(page)].since;
                 missing(&self.store, page, since, self.in_step)
             }
             State::Absent => missing(&self.store, page, &self.collected, self.in_step),
-            _ => Ok(Vec::new(*self.named.allocator())),
+            _ => Ok(Vec::new(*self.notes.allocator())),
         }
     }
 

@@ -64,9 +64,9 @@ impl Memory {
         ensures same { SameMemory self.old self.new }
     {
         if let State::Valid = self.table.state(page) {
-            settle_page(&mut self.table, &mut self.store, self.me, &self.named, page)?;
+            settle_page(&mut self.table, &mut self.store, self.me, &self.notes, page)?;
             self.table.invalidate(page);
-            self.since[usize::from(page)] = before.copy();
+            self.notes[usize::from(page)].since = before.copy();
             self.in_step &= in_step;
         }
         Ok(())

@@ -5,6 +5,7 @@ ghost use Rattle.lrc_time.specs.Time.{entry};
 ghost use Rattle.lrc_page.specs.Place.{page_of, pages_of};
 ghost use Rattle.lrc_protocol.specs.Copy.{is_readable};
 ghost use Rattle.lrc_protocol.specs.Memory.{fresh_memory, copy_at, value_at, with_word, with_interval};
+ghost use Rattle.lrc_memory.specs.Notes.{keepers_of, named_of, since_of};
 ghost use Rattle.lrc_memory.specs.View.{SameMemory, with_memory};
 
 use crate::settle::settle_page;
@@ -15,19 +16,29 @@ use lrc_time::Time;
 use std::alloc::{AllocError, Global};
 use std::marker::Model;
 
+/// What a node remembers of a page beside its copy.
+#[derive(Drop)]
+pub(crate) struct PageNote {
+    /// The time from before the copy became invalid.
+    pub(crate) since: Time,
+    /// The index of the own interval that named the page last.
+    pub(crate) named: u32,
+    /// The node that keeps the base copy.
+    pub(crate) keeper: u8,
+}
+
 /// What a node knows of the shared memory. The changes of its closed intervals are made when they are needed.
 #[derive(Drop)]
 pub struct Memory {
     pub(crate) me: u8,
     pub(crate) store: Store,
     pub(crate) table: PageTable,
-    // For each page the time from before its copy became invalid, the index of the own interval that named it last, and
-    // its keeper.
-    pub(crate) since: Vec<Time>,
-    pub(crate) named: Vec<u32>,
-    pub(crate) keepers: Vec<u8>,
+    // A note for each page.
+    pub(crate) notes: Vec<PageNote>,
+    // The time up to which intervals were collected.
     pub(crate) collected: Time,
-    // Whether each of these times was the store's when it was noted, so that it knows the notices that were added first.
+    // Whether this time and those of the notes were the store's when they were noted, so that each knows the notices that
+    // were added first.
     pub(crate) in_step: bool,
 }
 
@@ -36,13 +47,15 @@ impl Model for Memory {
 
     ghost Value = { NodeMemory };
 
+    ghost use Rattle.lrc_memory.specs.Notes.{keepers_of, named_of, since_of};
+
     ghost view = { λ m. node_seen (record {
       me = m.me;
       store = m.store;
       table = m.table;
-      since = m.since.items;
-      named = m.named.items;
-      keepers = m.keepers.items;
+      since = since_of m.notes.items;
+      named = named_of m.notes.items;
+      keepers = keepers_of m.notes.items;
       collected = m.collected;
       in_step = m.in_step;
     }) };
@@ -51,9 +64,9 @@ impl Model for Memory {
       me = m.me;
       store = m.store;
       table = m.table;
-      since = m.since.items;
-      named = m.named.items;
-      keepers = m.keepers.items;
+      since = since_of m.notes.items;
+      named = named_of m.notes.items;
+      keepers = keepers_of m.notes.items;
       collected = m.collected;
       in_step = m.in_step;
     }) };
@@ -76,9 +89,7 @@ impl Memory {
             me,
             store: Store::new(alloc, nodes, pages)?,
             table: PageTable::new(alloc, words, size)?,
-            since: copies_of(alloc, &start, count)?,
-            named: vec![in alloc; 0; count]?,
-            keepers: vec![in alloc; 0; count]?,
+            notes: first_notes(alloc, &start, count)?,
             collected: start,
             in_step: true,
         })
@@ -122,7 +133,7 @@ impl Memory {
         ensures same { SameMemory self.old self.new }
     {
         let page = page_of(word, self.table.size());
-        settle_page(&mut self.table, &mut self.store, self.me, &self.named, page)?;
+        settle_page(&mut self.table, &mut self.store, self.me, &self.notes, page)?;
         self.table.write(word, value)
     }
 
@@ -141,28 +152,34 @@ impl Memory {
             self.table.drop_twins();
             return Err(AllocError);
         }
-        name_pages(&mut self.named, interval.pages.as_slice(), interval.index());
+        name_pages(&mut self.notes, interval.pages.as_slice(), interval.index());
         Ok(())
     }
 }
 
 // Sets the index for each of these pages.
-fn name_pages(named: &mut Vec<u32>, pages: &[u16], index: u32)
-    requires { All (λ page. page < length named.old.items) pages.now }
-    ensures { named.new.items ≡ fold (λ named page. slice_set named page index) named.old.items pages.now }
+fn name_pages(notes: &mut Vec<PageNote>, pages: &[u16], index: u32)
+    requires { All (λ page. page < length notes.old.items) pages.now }
+    ensures named { named_of notes.new.items ≡ fold (λ named page. slice_set named page index) (named_of notes.old.items) pages.now }
+    ensures since { since_of notes.new.items ≡ since_of notes.old.items }
+    ensures keepers { keepers_of notes.new.items ≡ keepers_of notes.old.items }
 {
     for page in pages {
-        named[usize::from(*page)] = index;
+        notes[usize::from(*page)].named = index;
     }
 }
 
-// This many equal times.
-fn copies_of(alloc: Global, time: &Time, count: usize) -> Result<Vec<Time>, AllocError>
-    ensures { IfOk result (λ times. times.items ≡ replicate count time.now) }
+// This many notes of pages that no interval has named, with node 0 as the keeper.
+fn first_notes(alloc: Global, start: &Time, count: usize) -> Result<Vec<PageNote>, AllocError>
+    ensures { IfOk result (λ notes. notes.items ≡ replicate count (record { since = start.now; named = 0; keeper = 0 })) }
 {
-    let mut times = Vec::with_capacity(alloc, count)?;
+    let mut notes = Vec::with_capacity(alloc, count)?;
     for _ in 0..count {
-        times.push(time.copy())?;
+        notes.push(PageNote {
+            since: start.copy(),
+            named: 0,
+            keeper: 0,
+        })?;
     }
-    Ok(times)
+    Ok(notes)
 }

@@ -1,8 +1,10 @@
 use Rattle.std.proofs.Common.{◌≡◌, ◌∙◌, ap, length, sym, subst, arith}
+use Rattle.lrc_memory.specs.Notes.{named_of}
 use Rattle.lrc_memory.specs.View.{Kept, IsKept, node_seen}
 use Rattle.lrc_memory.proofs.Inside.{kept}
 use Rattle.lrc_memory.proofs.Copies.{within-seen}
 use Rattle.lrc_memory.proofs.Settling.{after-settle, kept-settled, seen-settled}
+use Rattle.lrc_memory.proofs.Noting.{long-named, noticed}
 use Rattle.lrc_memory.proofs.Attaches.{known-settled, part_key, ok_then, on_ok}
 use Rattle.lrc_protocol.specs.Memory.{changes_or_none}
 use Rattle.lrc_memory.proofs.memory.Memory.changes_of.Goals as goal
@@ -10,22 +12,26 @@ use Rattle.lrc_memory.proofs.memory.Memory.changes_of.Goals as goal
 pub settle_page-requires-clause-page : goal.settle_page-requires-clause-page
 settle_page-requires-clause-page c = within-seen (kept c.self.inside) _ _ c.self.view_is c.requires
 
-pub settle_page-requires-clause-named : goal.settle_page-requires-clause-named
-settle_page-requires-clause-named c =
-    omega (arith, ap length c.deref.ensures.value, c.self.invariant.named, within-seen (kept c.self.inside) _ _ c.self.view_is c.requires)
+pub settle_page-requires-clause-noticed : goal.settle_page-requires-clause-noticed
+settle_page-requires-clause-noticed c =
+    noticed (kept c.self.inside) (named_of c.deref.result.now) c.args.page c.self.invariant (ap named_of c.deref.ensures.value)
+
+pub settle_page-requires-clause-noted : goal.settle_page-requires-clause-noted
+settle_page-requires-clause-noted c =
+    omega (arith, ap length c.deref.ensures.value, c.self.invariant.named, long-named c.self.inside.notes.items, within-seen (kept c.self.inside) _ _ c.self.view_is c.requires)
 
 pub invariant_of-self-2 : goal.invariant_of-self-2
 invariant_of-self-2 c =
     let k = kept c.self.inside in
     subst IsKept
-    (sym (after-settle k c.args.page c.deref.result.now c.settle_page.new.store c.settle_page.new.table c.deref.ensures.value
+    (sym (after-settle k c.args.page (named_of c.deref.result.now) c.settle_page.new.store c.settle_page.new.table (ap named_of c.deref.ensures.value)
     c.in_ok-settle_page.ensures.table c.in_ok-settle_page.ensures.store))
     (kept-settled k c.args.page (within-seen k _ _ c.self.view_is c.requires) c.self.invariant c.settle_page.ensures.sized)
 
 pub returns-clause-changes : goal.returns-clause-changes
 returns-clause-changes c =
     let k = kept c.self.inside in
-    let parts = after-settle k c.args.page c.deref.result.now c.settle_page.new.store c.settle_page.new.table c.deref.ensures.value
+    let parts = after-settle k c.args.page (named_of c.deref.result.now) c.settle_page.new.store c.settle_page.new.table (ap named_of c.deref.ensures.value)
     c.in_ok-settle_page.ensures.table c.in_ok-settle_page.ensures.store in
     let same : changes_or_none c.settle_page.new.store (part_key k.me c.args.page c.args.index)
     ≡ changes_or_none c.args.self.now.memory.store (part_key c.args.self.now.me c.args.page c.args.index) =
@@ -36,6 +42,6 @@ returns-clause-changes c =
 pub returns-clause-ok : goal.returns-clause-ok
 returns-clause-ok c =
     let k = kept c.self.inside in
-    let parts = after-settle k c.args.page c.deref.result.now c.settle_page.new.store c.settle_page.new.table c.deref.ensures.value
+    let parts = after-settle k c.args.page (named_of c.deref.result.now) c.settle_page.new.store c.settle_page.new.table (ap named_of c.deref.ensures.value)
     c.in_ok-settle_page.ensures.table c.in_ok-settle_page.ensures.store in
     on_ok c.changes_or_none.result (ap node_seen parts ∙ seen-settled k c.args.page (within-seen k _ _ c.self.view_is c.requires) ∙ c.self.view_is)

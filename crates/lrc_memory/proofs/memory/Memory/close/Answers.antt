@@ -7,8 +7,10 @@ use Rattle.lrc_store.specs.Store.{StoreRecord, IsStore, added}
 use Rattle.lrc_table.specs.PageCopy.{PageCopy, closed, fresh, without_twin}
 use Rattle.lrc_table.specs.Table.{Table, with_each}
 use Rattle.lrc_table.proofs.Tables.{closed-none}
+use Rattle.lrc_memory.specs.Notes.{named_of}
 use Rattle.lrc_memory.specs.View.{NodeMemory, IsKept, node_seen}
 use Rattle.lrc_memory.proofs.Inside.{kept}
+use Rattle.lrc_memory.proofs.Noting.{long-named, noting, only-named}
 use Rattle.lrc_memory.proofs.Closes.{closed_at, told_ok, told_err, interval-is, closed-is, written-below, kept-dropped, kept-closed, seen-closed}
 use Rattle.lrc_memory.proofs.memory.Memory.close.Goals as goal
 
@@ -35,22 +37,25 @@ invariant_of-self-then-is_err c =
 
 pub name_pages-requires : goal.name_pages-requires
 name_pages-requires c =
-    subst (All (λ page. page < length c.self.inside.named.items))
+    subst (All (λ page. page < length c.self.inside.notes.items))
     (sym (c.as_slice.ensures ∙ ap (λ (i : IntervalRecord). i.pages) (c.interval.view_is ∙ c.new-interval.ensures)))
-    (written-below c.self.inside.table (length c.self.inside.named.items) c.in_ok-pages.pages c.in_ok-pages.ensures.pages (sym c.self.invariant.named))
+    (written-below c.self.inside.table (length c.self.inside.notes.items) c.in_ok-pages.pages c.in_ok-pages.ensures.pages
+    (sym c.self.invariant.named ∙ long-named c.self.inside.notes.items))
 
 done : (c : goal.After-drop-interval-inside-2)
-    → record (kept c.self.inside) { store = c.add.new.self; table = c.close.new.self; named = c.name_pages.new.named.items }
+    → noting (record (kept c.self.inside) { store = c.add.new.self; table = c.close.new.self }) c.name_pages.new.notes.items
     ≡ closed_at (kept c.self.inside) c.args.stamp.now
 done c =
     let k = kept c.self.inside in
-    closed-is k c.args.stamp.now c.name_pages.new.named.items c.as_slice.result.now c.index.result c.new-interval.result c.add.new.self c.close.new.self
+    only-named (record k { store = c.add.new.self; table = c.close.new.self }) c.self.inside.notes.items c.name_pages.new.notes.items
+    c.name_pages.ensures.since c.name_pages.ensures.keepers
+    ∙ closed-is k c.args.stamp.now (named_of c.name_pages.new.notes.items) c.as_slice.result.now c.index.result c.new-interval.result c.add.new.self c.close.new.self
     (interval-is k c.args.stamp.now c.copy.result c.in_ok-pages.pages c.new-interval.result c.new-interval.ensures c.copy.ensures c.in_ok-pages.ensures.pages)
     (told_ok c.add.result c.add.ensures.ok (sym c.is_err.ensures.value ∙ c.if-is_err.false))
     c.in_ok-pages.ensures.ok
     (c.as_slice.ensures ∙ ap (λ (i : IntervalRecord). i.pages) c.interval.view_is)
     c.index.ensures.index
-    c.name_pages.ensures
+    c.name_pages.ensures.named
 
 next : (c : goal.After-drop-interval-inside-2)
     → entry c.args.stamp.now c.self.inside.me ≡ entry c.self.inside.store.last c.self.inside.me + 1

@@ -2,8 +2,10 @@ use Rattle.std.proofs.Common.{◌≡◌, ◌∙◌, ◌&&◌, [], refl, ap, leng
 use Rattle.std.proofs.lemmas.List.{length-map, get_or_default}
 use Rattle.lrc_table.specs.PageCopy.{PageCopy, without_twin, dropped, fresh}
 use Rattle.lrc_table.specs.Table.{Table}
+use Rattle.lrc_memory.specs.Notes.{keepers_of}
 use Rattle.lrc_memory.specs.View.{Kept, NodeMemory, IsKept, SameMemory, node_seen}
 use Rattle.lrc_memory.proofs.Inside.{kept}
+use Rattle.lrc_memory.proofs.Noting.{long-keepers}
 use Rattle.lrc_memory.proofs.Discards.{collected, collected-is, not-written, length-swept, kept-collected, seen-collected, same-seen}
 use Rattle.lrc_memory.proofs.memory.Memory.collect.Goals as goal
 
@@ -20,7 +22,7 @@ drop_twins-requires c = λ k d within written.
 
 pub drop_bases-requires : goal.drop_bases-requires
 drop_bases-requires c =
-    ap length c.deref.ensures.value ∙ c.self.invariant.keepers
+    ap length c.deref.ensures.value ∙ sym (long-keepers c.self.inside.notes.items) ∙ c.self.invariant.keepers
     ∙ sym (ap (λ (t : Table). length t.copies) c.drop_invalid.ensures ∙ length-map c.drop_twins.new.self.copies dropped
     ∙ ap (λ (t : Table). length t.copies) c.drop_twins.ensures ∙ length-map c.self.inside.table.copies without_twin)
 
@@ -34,9 +36,9 @@ done : (c : goal.After-self-2-1)
     }
     ≡ collected (kept c.self.inside) c.args.time.now (c.self.inside.in_step && c.is_last-in_step.result)
 done c =
-    collected-is (kept c.self.inside) c.args.time.now c.copy-self-inside.result c.deref.result.now
+    collected-is (kept c.self.inside) c.args.time.now c.copy-self-inside.result (keepers_of c.deref.result.now)
     (c.self.inside.in_step && c.is_last-in_step.result) c.discard.new.self c.drop_twins.new.self
-    c.drop_invalid.new.self c.drop_bases.new.table c.discard.ensures c.drop_twins.ensures c.drop_invalid.ensures c.deref.ensures.value
+    c.drop_invalid.new.self c.drop_bases.new.table c.discard.ensures c.drop_twins.ensures c.drop_invalid.ensures (ap keepers_of c.deref.ensures.value)
     c.drop_bases.ensures c.copy-self-inside.ensures
 
 pub invariant_of-self : goal.invariant_of-self

@@ -1,8 +1,10 @@
 use Rattle.std.proofs.Common.{◌≡◌, ◌<◌, ◌∙◌, ap, length, subst, sym, arith}
 use Rattle.lrc_page.specs.Place.{page_of}
+use Rattle.lrc_memory.specs.Notes.{named_of}
 use Rattle.lrc_memory.specs.View.{IsKept}
 use Rattle.lrc_memory.proofs.Inside.{kept}
 use Rattle.lrc_memory.proofs.Copies.{word-seen}
+use Rattle.lrc_memory.proofs.Noting.{long-named, noticed}
 use Rattle.lrc_memory.proofs.Settling.{same-parts}
 use Rattle.lrc_memory.proofs.Writes.{mid-within, mid-quiet, kept-write, seen-write, readable-write}
 use Rattle.lrc_memory.proofs.memory.Memory.write.Goals as goal
@@ -16,11 +18,16 @@ settle_page-requires-clause-page c =
       word-seen (kept c.self.inside) _ _ c.self.view_is c.requires.on_a_page,
     )
 
-pub settle_page-requires-clause-named : goal.settle_page-requires-clause-named
-settle_page-requires-clause-named c =
+pub settle_page-requires-clause-noticed : goal.settle_page-requires-clause-noticed
+settle_page-requires-clause-noticed c =
+    noticed (kept c.self.inside) (named_of c.deref.result.now) c.page_of-page.result c.self.invariant (ap named_of c.deref.ensures.value)
+
+pub settle_page-requires-clause-noted : goal.settle_page-requires-clause-noted
+settle_page-requires-clause-noted c =
     omega (
       arith,
       c.self.invariant.named,
+      long-named c.self.inside.notes.items,
       ap length c.deref.ensures.value,
       c.page_of-page.ensures.page,
       ap (page_of c.args.word) c.size.ensures.size,
@@ -41,12 +48,12 @@ within c = omega (arith, page_is c, word-seen (kept c.self.inside) _ _ c.self.vi
 pub write-requires-clause-on_a_page : goal.write-requires-clause-on_a_page
 write-requires-clause-on_a_page c =
     mid-within (kept c.self.inside) c.args.word c.args.value _ _ _ c.settle_page.new.table c.settle_page.new.table (page_is c) (within c)
-    c.deref.ensures.value c.in_ok-settle_page.ensures.table c.in_ok-settle_page.ensures.store
+    (ap named_of c.deref.ensures.value) c.in_ok-settle_page.ensures.table c.in_ok-settle_page.ensures.store
 
 pub write-requires-clause-settled : goal.write-requires-clause-settled
 write-requires-clause-settled c =
     mid-quiet (kept c.self.inside) c.args.word c.args.value _ _ _ c.settle_page.new.table c.settle_page.new.table (page_is c) (within c)
-    c.deref.ensures.value c.in_ok-settle_page.ensures.table c.in_ok-settle_page.ensures.store
+    (ap named_of c.deref.ensures.value) c.in_ok-settle_page.ensures.table c.in_ok-settle_page.ensures.store
 
 pub invariant_of-self-2 : goal.invariant_of-self-2
 invariant_of-self-2 c =
@@ -54,7 +61,7 @@ invariant_of-self-2 c =
     let page_is : c.page_of-page.result ≡ page_of c.args.word k.table.size = c.page_of-page.ensures.page ∙ ap (page_of c.args.word) c.size.ensures.size in
     kept-write k c.args.word c.args.value _ _ _ c.settle_page.new.table c.write.new.self page_is
     (omega (arith, page_is, word-seen k _ _ c.self.view_is c.requires.on_a_page))
-    c.deref.ensures.value c.in_ok-settle_page.ensures.table c.in_ok-settle_page.ensures.store
+    (ap named_of c.deref.ensures.value) c.in_ok-settle_page.ensures.table c.in_ok-settle_page.ensures.store
     c.write.result c.self.invariant c.settle_page.ensures.sized c.write.ensures.ok c.write.ensures.err
 
 pub returns-clause-done : goal.returns-clause-done
@@ -63,7 +70,7 @@ returns-clause-done c =
     let page_is : c.page_of-page.result ≡ page_of c.args.word k.table.size = c.page_of-page.ensures.page ∙ ap (page_of c.args.word) c.size.ensures.size in
     readable-write k c.args.word c.args.value _ _ _ c.settle_page.new.table c.write.new.self page_is
     (omega (arith, page_is, word-seen k _ _ c.self.view_is c.requires.on_a_page))
-    c.deref.ensures.value c.in_ok-settle_page.ensures.table c.in_ok-settle_page.ensures.store
+    (ap named_of c.deref.ensures.value) c.in_ok-settle_page.ensures.table c.in_ok-settle_page.ensures.store
     c.write.result _ c.self.view_is c.write.ensures.done
 
 pub returns-clause-ok : goal.returns-clause-ok
@@ -72,5 +79,5 @@ returns-clause-ok c =
     let page_is : c.page_of-page.result ≡ page_of c.args.word k.table.size = c.page_of-page.ensures.page ∙ ap (page_of c.args.word) c.size.ensures.size in
     seen-write k c.args.word c.args.value _ _ _ c.settle_page.new.table c.write.new.self page_is
     (omega (arith, page_is, word-seen k _ _ c.self.view_is c.requires.on_a_page))
-    c.deref.ensures.value c.in_ok-settle_page.ensures.table c.in_ok-settle_page.ensures.store
+    (ap named_of c.deref.ensures.value) c.in_ok-settle_page.ensures.table c.in_ok-settle_page.ensures.store
     c.write.result _ c.self.view_is c.write.ensures.ok
