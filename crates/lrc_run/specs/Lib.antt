@@ -1,3 +1,4 @@
 pub mod Worker
 pub mod Threads
 pub mod Run
+pub mod Unfinished

@@ -1,9 +1,11 @@
 // The fault of a run in which a node failed.
 
-ghost use Rattle.std.specs.Prelude.{◌≡◌, ◌≤◌, ◌<◌, ◌^◌, List, length};
+ghost use Rattle.std.specs.Prelude.{◌≡◌, ◌≤◌, ◌<◌, ◌^◌, IfOk, List, MatchOption, None, Some, count_by, length};
 ghost use Rattle.lrc_protocol.specs.declared.event.Event.{Event as AnyEvent};
+ghost use Rattle.lrc_node.specs.Logged.{seen_input};
 ghost use Rattle.lrc_world.specs.Report.{IsWornBy};
 ghost use Rattle.lrc_run.specs.Run.{AnswersStop, IsLate, WearsOutSoon};
+ghost use Rattle.lrc_run.specs.Unfinished.{input_of, is_take, next_taken, put_at, unfinished};
 
 use crate::fault::RunFault;
 use crate::life::Failure;
@@ -100,7 +102,9 @@ fn events_until(alloc: Global, remains: Remains<'_>, node: usize) -> Result<Vec<
 }
 
 // The turn that a node did not finish. It stands behind all others.
-fn unfinished(alloc: Global, log: &[Entry], mailbox: &Mailbox) -> Result<Entry, AllocError> {
+fn unfinished(alloc: Global, log: &[Entry], mailbox: &Mailbox) -> Result<Entry, AllocError>
+    ensures { IfOk result (λ entry. entry ≡ unfinished log.now mailbox.now.history) }
+{
     Ok(Entry {
         input: input_behind(alloc, log, mailbox.history())?,
         stamp: u64::MAX,
@@ -112,7 +116,9 @@ fn unfinished(alloc: Global, log: &[Entry], mailbox: &Mailbox) -> Result<Entry, 
 }
 
 // The input of that turn: the next message that the node took, or else it went on by itself.
-fn input_behind(alloc: Global, log: &[Entry], history: &[Wire]) -> Result<Input, AllocError> {
+fn input_behind(alloc: Global, log: &[Entry], history: &[Wire]) -> Result<Input, AllocError>
+    ensures { IfOk result (λ input. seen_input input ≡ input_of (next_taken log.now history.now)) }
+{
     let Some(bytes) = next_taken(log, history) else {
         return Ok(Input::Run);
     };
@@ -124,21 +130,41 @@ fn input_behind(alloc: Global, log: &[Entry], history: &[Wire]) -> Result<Input,
 }
 
 // The bytes of the first message that was taken according to a mailbox and not according to its owner's log.
-fn next_taken<'h>(log: &[Entry], history: &'h [Wire]) -> Option<&'h Bytes> {
-    let mut left = log.iter().filter(|entry| is_take(entry)).count();
+fn next_taken<'h>(log: &[Entry], history: &'h [Wire]) -> Option<&'h Bytes>
+    ensures { MatchOption result (next_taken log.now history.now ≡ None)
+        (λ bytes. next_taken log.now history.now ≡ Some bytes.now) }
+{
+    let mut left = takes_of(log);
     for wire in history {
-        if let Wire::Took { place, .. } = wire {
-            if left == 0 {
-                return bytes_at(history, *place);
-            }
-            left -= 1;
+        let Wire::Took { place, .. } = wire else {
+            continue;
+        };
+        if left == 0 {
+            return bytes_at(history, *place);
         }
+        left -= 1;
     }
     None
 }
 
+// How many messages a log takes.
+fn takes_of(log: &[Entry]) -> usize
+    ensures { result ≡ count_by is_take log.now }
+{
+    let mut count = 0;
+    for entry in log {
+        if is_take(entry) {
+            count += 1;
+        }
+    }
+    count
+}
+
 // Whether a message was taken in a turn.
-fn is_take(entry: &Entry) -> bool {
+#[tactic(auto, unfolding(crate::specs::Unfinished::is_take))]
+fn is_take(entry: &Entry) -> bool
+    ensures { result ≡ is_take entry.now }
+{
     match entry.input {
         Input::Run => false,
         Input::Taken(_) => true,
@@ -146,7 +172,9 @@ fn is_take(entry: &Entry) -> bool {
 }
 
 // The bytes of what was put at a place of a history.
-fn bytes_at(history: &[Wire], place: usize) -> Option<&Bytes> {
+fn bytes_at(history: &[Wire], place: usize) -> Option<&Bytes>
+    ensures { MatchOption result (put_at history.now place ≡ None) (λ bytes. put_at history.now place ≡ Some bytes.now) }
+{
     match history.get(place) {
         Some(Wire::Put { bytes, .. }) => Some(bytes),
         Some(Wire::Took { .. }) | None => None,

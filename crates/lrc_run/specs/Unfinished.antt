@@ -1,0 +1,51 @@
+-- The turn that a node did not finish, as its log and what its mailbox kept tell.
+use Rattle.std.specs.Prelude.{ℕ, Bool, true, false, Option, Some, None, option_and_then, Result, Ok, Err, List, [], count_by, filter_map, slice_get}
+use Rattle.lrc_wire.specs.declared.fault.WireFault.{WireFault}
+use Rattle.lrc_envelope.specs.Envelope.{EnvelopeRecord}
+use Rattle.lrc_wire.specs.Reading.{envelope_of}
+use Rattle.lrc_post.specs.declared.parcel.Wire.{Wire}
+use Rattle.lrc_post.specs.declared.parcel.Wire.TheVariants.{Put, Took}
+use Rattle.lrc_protocol.specs.Log.{Input, run, taken, EntryRecord}
+use Rattle.lrc_weave.specs.Matched.{place_taken}
+
+-- a message was taken in a turn
+abbrev pub is_taken : Input → Bool
+is_taken run = false
+is_taken (taken envelope) = true
+
+unfoldable pub is_take : EntryRecord → Bool
+is_take entry = is_taken entry.input
+
+-- the bytes of a put
+abbrev pub put_bytes : Wire → Option (List ℕ)
+put_bytes (Put from to stamp bytes) = Some bytes
+put_bytes (Took me place) = None
+
+-- the bytes of what was put at a place of a history
+abbrev pub put_at : List Wire → ℕ → Option (List ℕ)
+put_at history place = option_and_then put_bytes (slice_get history place)
+
+-- The bytes of the message that was taken next: of the puts that the history's takes name, in order, that behind as many as the log
+-- takes.
+abbrev pub next_taken : List EntryRecord → List Wire → Option (List ℕ)
+next_taken log history =
+    option_and_then (put_at history) (slice_get (filter_map place_taken history) (count_by is_take log))
+
+-- what a node does with bytes that were read: it takes their message, or goes on by itself where they spell none
+abbrev pub input_read : Result EnvelopeRecord WireFault → Input
+input_read (Ok envelope) = taken envelope
+input_read (Err fault) = run
+
+-- the same with the bytes of a message, if there is one
+abbrev pub input_of : Option (List ℕ) → Input
+input_of None = run
+input_of (Some bytes) = input_read (envelope_of bytes)
+
+-- The turn that the node did not finish: by the message that was taken next, or by itself. It stands behind all others, and neither
+-- acts nor sends.
+abbrev pub unfinished : List EntryRecord → List Wire → EntryRecord
+unfinished log history = record {
+  input = input_of (next_taken log history);
+  stamp = 18446744073709551615;
+  turn = record { act = None; out = [] };
+}
