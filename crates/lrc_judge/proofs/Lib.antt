@@ -11,7 +11,7 @@ mod Firstness
 pub mod Ascending
 mod Touching
 mod LastWritten
-mod Additions
+pub mod Additions
 mod Entering
 mod Crossing
 mod Representing
