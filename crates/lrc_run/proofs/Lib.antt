@@ -4,3 +4,5 @@ mod Threads
 mod Logs
 mod Joined
 mod Told
+mod Behind
+mod Worn

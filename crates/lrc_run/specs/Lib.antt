@@ -2,3 +2,4 @@ pub mod Worker
 pub mod Threads
 pub mod Run
 pub mod Unfinished
+pub mod Faults

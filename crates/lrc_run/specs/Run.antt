@@ -14,8 +14,6 @@ use Rattle.lrc_weave.specs.Matched.{AreMatched}
 use Rattle.lrc_weave.specs.Woven.{AreWoven}
 use Rattle.lrc_world.specs.declared.report.Report.{Report}
 use Rattle.lrc_world.specs.Report.{AreAll, IsReportOf, IsWornBy}
-use Rattle.lrc_run.specs.declared.stop.Stop.{Stop}
-use Rattle.lrc_run.specs.declared.stop.Stop.TheVariants as stops
 use Rattle.lrc_run.specs.declared.fault.RunFault.{RunFault}
 use Rattle.lrc_run.specs.declared.fault.RunFault.TheVariants.{BadNodes, BadSteps, Worn, Mismatch, NoMemory}
 
@@ -58,9 +56,3 @@ IsLate BadSteps = ⊥
 IsLate Worn = Unit {0}
 IsLate Mismatch = Unit {0}
 IsLate NoMemory = Unit {0}
-
--- what may be answered where a node stopped so, and its run is made once more where it wore out
-abbrev pub AnswersStop : Stop → RunFault → Type 0
-AnswersStop stops.Worn fault = IsLate fault
-AnswersStop stops.Closed fault = fault ≡ NoMemory
-AnswersStop stops.NoMemory fault = fault ≡ NoMemory

@@ -1,10 +1,11 @@
 -- The turn that a node did not finish, as its log and what its mailbox kept tell.
-use Rattle.std.specs.Prelude.{ℕ, Bool, true, false, Option, Some, None, option_and_then, Result, Ok, Err, List, [], count_by, filter_map, slice_get}
+use Rattle.std.specs.Prelude.{ℕ, Bool, true, false, Option, Some, None, option_and_then, Result, Ok, Err, List, [], ◌∷◌, ◌++◌, count_by, filter_map, slice_get, slice_set}
 use Rattle.lrc_wire.specs.declared.fault.WireFault.{WireFault}
 use Rattle.lrc_envelope.specs.Envelope.{EnvelopeRecord}
 use Rattle.lrc_wire.specs.Reading.{envelope_of}
 use Rattle.lrc_post.specs.declared.parcel.Wire.{Wire}
 use Rattle.lrc_post.specs.declared.parcel.Wire.TheVariants.{Put, Took}
+use Rattle.lrc_post.specs.Mailbox.{MailboxRecord}
 use Rattle.lrc_protocol.specs.Log.{Input, run, taken, EntryRecord}
 use Rattle.lrc_weave.specs.Matched.{place_taken}
 
@@ -49,3 +50,13 @@ unfinished log history = record {
   stamp = 18446744073709551615;
   turn = record { act = None; out = [] };
 }
+
+-- the logs with that turn behind those of a node, where the node has a mailbox and a log
+abbrev pub with_unfinished : List (List EntryRecord) → ℕ → Option MailboxRecord → Option (List EntryRecord) → List (List EntryRecord)
+with_unfinished logs node None log = logs
+with_unfinished logs node (Some mailbox) None = logs
+with_unfinished logs node (Some mailbox) (Some log) = slice_set logs node (log ++ unfinished log mailbox.history ∷ [])
+
+-- the logs and mailboxes of nodes of which one stopped in a turn: the logs, with that turn behind the others of its node
+abbrev pub left_behind : List (List EntryRecord) → List MailboxRecord → ℕ → List (List EntryRecord)
+left_behind logs wires node = with_unfinished logs node (slice_get wires node) (slice_get logs node)

@@ -1,11 +1,14 @@
 // The fault of a run in which a node failed.
 
-ghost use Rattle.std.specs.Prelude.{◌≡◌, ◌≤◌, ◌<◌, ◌^◌, IfOk, List, MatchOption, None, Some, count_by, length};
+ghost use Rattle.std.specs.Prelude.{◌≡◌, ◌≤◌, ◌<◌, ◌^◌, Err, IfOk, List, MatchOption, None, Some, count_by, length, map};
 ghost use Rattle.lrc_protocol.specs.declared.event.Event.{Event as AnyEvent};
 ghost use Rattle.lrc_node.specs.Logged.{seen_input};
+ghost use Rattle.lrc_weave.specs.declared.fault.WeaveFault.TheVariants as weaving;
+ghost use Rattle.lrc_world.specs.Range.{AreNodes, AreSteps};
 ghost use Rattle.lrc_world.specs.Report.{IsWornBy};
-ghost use Rattle.lrc_run.specs.Run.{AnswersStop, IsLate, WearsOutSoon};
-ghost use Rattle.lrc_run.specs.Unfinished.{input_of, is_take, next_taken, put_at, unfinished};
+ghost use Rattle.lrc_run.specs.Faults.{AnswersEvents, AnswersStop, AnswersWorn, AreEventsOf, AreUnmatched, of_playing};
+ghost use Rattle.lrc_run.specs.Run.{IsLate, WearsOutSoon};
+ghost use Rattle.lrc_run.specs.Unfinished.{input_of, is_take, left_behind, next_taken, put_at, unfinished};
 
 use crate::fault::RunFault;
 use crate::life::Failure;
@@ -29,7 +32,8 @@ pub(crate) struct Remains<'w> {
 }
 
 /// The fault of a run whose first failure is this one. Where the node wore out, all turns are made once more as one run, with what
-/// wore it out behind them: the fault is `Worn` only where that run wears out too. It does, since the nodes made these turns.
+/// wore it out behind them: the fault is `Worn` only where that run wears out too, and `Mismatch` only where it does not. It does,
+/// since the nodes made these turns.
 pub(crate) fn fault_of(
     alloc: Global,
     program: &Program,
@@ -39,10 +43,12 @@ pub(crate) fn fault_of(
     failure: Failure,
 ) -> RunFault
     requires few { length remains.logs.items ≤ 16 }
+    requires range { AreNodes nodes × AreSteps options.now.steps }
     ensures worn { result ≡ RunFault.Worn → (events : List AnyEvent) × IsWornBy program.now nodes options.now events }
     ensures soon { result ≡ RunFault.Worn → WearsOutSoon program.now nodes options.now }
     ensures late { IsLate result }
-    ensures stop { AnswersStop failure.stop result }
+    ensures stop { AnswersStop program.now nodes options.now
+        (left_behind (map (λ log. log.items) remains.entry.logs.items) remains.entry.wires.now failure.node) failure.stop result }
 {
     match failure.stop {
         Stop::Worn => worn_out(alloc, program, nodes, options, remains, failure.node),
@@ -60,9 +66,9 @@ fn worn_out(
     node: usize,
 ) -> RunFault
     requires few { length remains.logs.items ≤ 16 }
-    ensures worn { result ≡ RunFault.Worn → (events : List AnyEvent) × IsWornBy program.now nodes options.now events }
-    ensures soon { result ≡ RunFault.Worn → WearsOutSoon program.now nodes options.now }
-    ensures late { IsLate result }
+    requires range { AreNodes nodes × AreSteps options.now.steps }
+    ensures { AnswersWorn program.now nodes options.now
+        (left_behind (map (λ log. log.items) remains.entry.logs.items) remains.entry.wires.now node) result }
 {
     let events = match events_until(alloc, remains, node) {
         Ok(events) => events,
@@ -71,11 +77,36 @@ fn worn_out(
     let turns = events.as_slice();
     // For the proof: there are fewer than 2^64.
     let _count = count_of(turns);
-    match replay(alloc, program, u32::from(nodes), options, turns) {
-        Err(SimFault::Worn) => RunFault::Worn,
-        Err(SimFault::NoMemory) => RunFault::NoMemory,
-        // The nodes made these turns on their threads, so nothing else comes.
-        Ok(_) | Err(_) => RunFault::Mismatch,
+    fault_of_events(alloc, program, nodes, options, turns)
+}
+
+// The fault of a run in which a node wore out at one of these events.
+fn fault_of_events(
+    alloc: Global,
+    program: &Program,
+    nodes: u8,
+    options: &Options,
+    events: &[Event],
+) -> RunFault
+    requires range { AreNodes nodes × AreSteps options.now.steps }
+    ensures { AnswersEvents program.now nodes options.now events.now result }
+{
+    let fault = match replay(alloc, program, u32::from(nodes), options, events) {
+        // The nodes made these turns on their threads, so this does not come.
+        Ok(_) => return RunFault::Mismatch,
+        Err(fault) => fault,
+    };
+    fault_of_play(fault)
+}
+
+// What is said of a run of events that was refused.
+fn fault_of_play(fault: SimFault) -> RunFault
+    ensures { result ≡ of_playing fault }
+{
+    match fault {
+        SimFault::Worn => RunFault::Worn,
+        SimFault::NoMemory => RunFault::NoMemory,
+        SimFault::BadNodes | SimFault::BadSteps => RunFault::Mismatch,
     }
 }
 
@@ -90,15 +121,35 @@ pub(crate) fn count_of(events: &[Event]) -> usize
 // The events that make all turns, and behind them the one at which the node wore out.
 fn events_until(alloc: Global, remains: Remains<'_>, node: usize) -> Result<Vec<Event>, WeaveFault>
     requires few { length remains.logs.items ≤ 16 }
+    ensures events { IfOk result (λ events. AreEventsOf
+        (left_behind (map (λ log. log.items) remains.entry.logs.items) remains.entry.wires.now node) events.items) }
+    ensures mismatch { result ≡ Err weaving.Mismatch → AreUnmatched
+        (left_behind (map (λ log. log.items) remains.entry.logs.items) remains.entry.wires.now node) }
+{
+    let logs = left_behind(alloc, remains, node)?;
+    events_of(alloc, logs.as_slice())
+}
+
+// The logs, with the turn behind its own that the node did not finish.
+fn left_behind(
+    alloc: Global,
+    remains: Remains<'_>,
+    node: usize,
+) -> Result<Vec<Vec<Entry>>, AllocError>
+    ensures logs { IfOk result (λ logs. map (λ log. log.items) logs.items
+        ≡ left_behind (map (λ log. log.items) remains.entry.logs.items) remains.entry.wires.now node) }
+    ensures count { IfOk result (λ logs. length logs.items ≡ length remains.entry.logs.items) }
 {
     let Remains { mut logs, wires } = remains;
-    if let Some(log) = logs.get_mut(node)
-        && let Some(mailbox) = wires.get(node)
-    {
-        let last = unfinished(alloc, log.as_slice(), mailbox)?;
-        log.push(last)?;
-    }
-    events_of(alloc, logs.as_slice())
+    let Some(mailbox) = wires.get(node) else {
+        return Ok(logs);
+    };
+    let Some(log) = logs.get_mut(node) else {
+        return Ok(logs);
+    };
+    let last = unfinished(alloc, log.as_slice(), mailbox)?;
+    log.push(last)?;
+    Ok(logs)
 }
 
 // The turn that a node did not finish. It stands behind all others.

@@ -143,7 +143,7 @@ fn live<G: Gate + Sync, R: Threads + Wait + Sync>(
     picker: Picker,
     gate: &G,
 ) -> Result<(Vec<Vec<Entry>>, Wires), RunFault>
-    requires few { nodes ≤ 16 }
+    requires range { AreNodes nodes × AreSteps options.now.steps }
     ensures logs { IfOk result (λ lived. AreLogs program.now nodes options.now (map (λ log. log.items) lived.0.items)) }
     ensures wires { IfOk result (λ lived. length lived.1 ≡ nodes) }
     ensures picker { IfOk result (λ lived. AreOf picker lived.1) }
