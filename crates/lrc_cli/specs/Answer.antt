@@ -13,9 +13,8 @@ use Rattle.lrc_explored.specs.Explored.{Explores, MeetsTooMany}
 use Rattle.lrc_protocol.specs.declared.event.Event.{Event}
 use Rattle.lrc_verdict.specs.Judgement.{Judges}
 use Rattle.lrc_world.specs.Ends.{ends_of}
-use Rattle.lrc_world.specs.declared.report.Report.{Report}
 use Rattle.lrc_report.specs.ReportText.{report_text, status_of}
-use Rattle.lrc_cli.specs.Runs.{IsRunFault, IsRunOf}
+use Rattle.lrc_cli.specs.Runs.{Account, IsRunFault, IsRunOf}
 use Rattle.lrc_cli.specs.Shown.{IsShowFault, IsShown, shown_status}
 use Rattle.lrc_cli.specs.declared.answer.Printout.{Printout}
 use Rattle.lrc_words.specs.declared.choice.Choice.{Choice}
@@ -49,10 +48,10 @@ IsPrintoutOfRounds program nodes steps out status =
 pub record IsShowing (run : RunChoice) (shape : Shape) (text : List ℕ) (events_text : Option (List ℕ)) (program : Program)
     (out : List ℕ) (status : ℕ) : Type 0 where
   pub events : List Event
-  pub report : Report
-  pub ran : IsRunOf run.way program run.options events_text events report
-  pub shown : IsShown shape run text program events report out
-  pub ended : status ≡ shown_status shape report
+  pub account : Account
+  pub ran : IsRunOf run.way program run.options events_text events account
+  pub shown : IsShown shape run text program events account out
+  pub ended : status ≡ shown_status shape account.first_race account.ends
 
 -- how many nodes the acts are of, where that is said
 abbrev pub nodes_of : Judging → Option ℕ
@@ -99,9 +98,9 @@ IsSearchFault exploring program _ = ⊥
 pub record IsUnshown (run : RunChoice) (shape : Shape) (text : List ℕ) (events_text : Option (List ℕ)) (program : Program)
     (fault : Fault) : Type 0 where
   pub events : List Event
-  pub report : Report
-  pub ran : IsRunOf run.way program run.options events_text events report
-  pub unshown : IsShowFault shape run text program events report fault
+  pub account : Account
+  pub ran : IsRunOf run.way program run.options events_text events account
+  pub unshown : IsShowFault shape run text program events account fault
 
 -- The first fault: of the text, then of the events, then of the run or the search, then of what is shown of the run. Memory may run out at any time.
 abbrev pub IsFault : Choice → List ℕ → Option (List ℕ) → Fault → Type 0

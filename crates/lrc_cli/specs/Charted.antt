@@ -10,7 +10,6 @@ use Rattle.lrc_portrait.specs.Course.{CourseRecord}
 use Rattle.lrc_portrait.specs.Portrait.{IsPortrait, MOST_SHOWN, rows_shown}
 use Rattle.lrc_portrait.specs.declared.part.Part.{Part}
 use Rattle.lrc_protocol.specs.declared.event.Event.{Event}
-use Rattle.lrc_run.specs.Run.{turns_of as logs_of}
 use Rattle.lrc_sketch.specs.Sketch.{sketch_text}
 use Rattle.lrc_svg.specs.Texts.{document_text}
 use Rattle.lrc_svg.specs.declared.element.Document.{Document}
@@ -19,21 +18,20 @@ use Rattle.lrc_turns.specs.Turns.{turns_of}
 use Rattle.lrc_words.specs.declared.choice.Charting.{Charting}
 use Rattle.lrc_words.specs.declared.choice.RunChoice.{RunChoice}
 use Rattle.lrc_words.specs.declared.choice.RunOptions.{RunOptions}
-use Rattle.lrc_world.specs.declared.report.Report.{Report}
 use Rattle.lrc_cli.specs.Lines.{AreLinesIn}
-use Rattle.lrc_cli.specs.Runs.{turns_in}
+use Rattle.lrc_cli.specs.Runs.{Account, turns_in}
 use Rattle.lrc_cli.specs.declared.fault.Fault.{Fault}
 use Rattle.lrc_cli.specs.declared.fault.Fault.TheVariants.{NoMemory, TooLong}
 
 -- What is known of a run of the program that this text is of: the turns that its nodes made, one after another, its acts with their lines
 -- and their times, and the first pairs of its races.
-pub record IsCourse (text : List ℕ) (program : Program) (options : RunOptions) (events : List Event) (report : Report)
+pub record IsCourse (text : List ℕ) (program : Program) (options : RunOptions) (events : List Event) (account : Account)
     (course : CourseRecord) : Type 0 where
-  pub turns : course.turns ≡ turns_of (logs_of report) (map (λ turn. turn.node) (turns_in program options events))
-  pub acts : course.acts ≡ report.acts.items
-  pub lines : AreLinesIn text program options.nodes.count report.acts.items course.lines
-  pub times : KeepsTime options.nodes.count report.acts.items course.times
-  pub pairs : AreFirstPairs report.acts.items course.pairs
+  pub turns : course.turns ≡ turns_of account.logs (map (λ turn. turn.node) (turns_in program options events))
+  pub acts : course.acts ≡ account.acts
+  pub lines : AreLinesIn text program options.nodes.count account.acts course.lines
+  pub times : KeepsTime options.nodes.count account.acts course.times
+  pub pairs : AreFirstPairs account.acts course.pairs
 
 -- which part of it a chart shows
 abbrev pub part_of : Charting → Part
@@ -58,8 +56,8 @@ pub record IsChart (charting : Charting) (title : List ℕ) (nodes : ℕ) (cours
   pub drawn : IsDrawn charting.text picture out
 
 -- a chart of a run of the program that this text is of, under the words by which it is had
-abbrev pub IsCharted : Charting → RunChoice → List ℕ → Program → List Event → Report → List ℕ → Type 0
-IsCharted charting run text program events report out = (course : CourseRecord) × IsCourse text program run.options events report course
+abbrev pub IsCharted : Charting → RunChoice → List ℕ → Program → List Event → Account → List ℕ → Type 0
+IsCharted charting run text program events account out = (course : CourseRecord) × IsCourse text program run.options events account course
     × IsChart charting (title_text run charting) run.options.nodes.count course out
 
 -- why there is no chart of a run: it would have more rows than a chart may have
@@ -69,6 +67,6 @@ IsChartFault charting course NoMemory = Unit {0}
 IsChartFault charting course fault = ⊥
 
 -- a chart of the run of the program that this text is of would have more rows than a chart may have
-abbrev pub IsTooLong : Charting → RunOptions → List ℕ → Program → List Event → Report → Type 0
-IsTooLong charting options text program events report =
-    (course : CourseRecord) × IsCourse text program options events report course × IsChartFault charting course TooLong
+abbrev pub IsTooLong : Charting → RunOptions → List ℕ → Program → List Event → Account → Type 0
+IsTooLong charting options text program events account =
+    (course : CourseRecord) × IsCourse text program options events account course × IsChartFault charting course TooLong

@@ -1,18 +1,25 @@
--- The run that a choice asks for: the events that it is made of and its report, or why there is none.
-use Rattle.std.specs.Prelude.{◌<◌, ◌≤◌, ℕ, List, length, Option, None, Some, Ok, Err}
+-- The run that a choice asks for: the events that it is made of and what came of it, or why there is none.
+use Rattle.std.specs.Prelude.{◌≡◌, ◌<◌, ◌≤◌, ℕ, Bool, false, true, List, length, map, MatchOption, Option, None, Some, Ok, Err}
 use Rattle.lrc_lang.specs.declared.program.Program.{Program}
 use Rattle.lrc_judge.specs.Races.{AreNamedRaces}
+use Rattle.lrc_trace.specs.Conflict.{IsFirstRace, IsRaceFree}
+use Rattle.lrc_trace.specs.declared.act.Act.{Act}
+use Rattle.lrc_trace.specs.declared.race.Race.{Race}
+use Rattle.lrc_node.specs.declared.end.End.{End}
 use Rattle.lrc_envelope.specs.declared.picker.Picker.{Picker}
 use Rattle.lrc_post.specs.Mailbox.{MailboxRecord}
 use Rattle.lrc_protocol.specs.declared.event.Event.{Event}
+use Rattle.lrc_protocol.specs.Log.{EntryRecord}
 use Rattle.lrc_protocol.specs.Node.{OptionsRecord}
+use Rattle.lrc_protocol.specs.World.{World as Run, run_of}
 use Rattle.lrc_world.specs.Random.{IsWandering, WanderingWearsOut}
-use Rattle.lrc_world.specs.Report.{AreAll, IsReportOf, IsWornBy}
+use Rattle.lrc_world.specs.Report.{AreAll, IsWornBy, end_of_logged}
 use Rattle.lrc_world.specs.Rounds.{AreRounds, RoundsWearOut}
 use Rattle.lrc_world.specs.Turned.{turned_of}
+use Rattle.lrc_world.specs.declared.report.Brief.{Brief}
 use Rattle.lrc_world.specs.declared.report.Report.{Report}
 use Rattle.lrc_world.specs.declared.turned.Turned.{Turned}
-use Rattle.lrc_run.specs.Run.{AreWiresOf, IsWovenReport, WearsOutSoon}
+use Rattle.lrc_run.specs.Run.{AreWiresOf, IsWovenReport, WearsOutSoon, turns_of}
 use Rattle.lrc_events.specs.EventsText.{Reads}
 use Rattle.lrc_events.specs.declared.events.EventsFault.TheVariants.{BadEvent}
 use Rattle.lrc_words.specs.declared.choice.RunOptions.{RunOptions}
@@ -25,10 +32,47 @@ use Rattle.lrc_cli.specs.declared.fault.Fault.TheVariants.{Events, Worn, Mismatc
 abbrev pub options_of : RunOptions → OptionsRecord
 options_of options = record { steps = options.steps.count; collect = options.collect.count; first = 0; size = options.size }
 
--- the program's run of these events
-abbrev pub IsReported : Program → RunOptions → List Event → Report → Type 0
-IsReported program options events report =
-    IsReportOf program options.nodes.count (options_of options) events report × AreNamedRaces report.acts.items report.races.items
+-- What came of a run: its acts in order, and for each node from 0 up how it ended and its turns; the races that the acts name; and the
+-- first act that races with an earlier one.
+pub record Account : Type 0 where
+  pub acts : List Act
+  pub ends : List End
+  pub races : List Race
+  pub logs : List (List EntryRecord)
+  pub first_race : Option ℕ
+
+-- what a report says
+abbrev pub account_of : Report → Account
+account_of report = record {
+  acts = report.acts.items;
+  ends = report.ends.items;
+  races = report.races.items;
+  logs = turns_of report;
+  first_race = report.first_race;
+}
+
+-- what a report without the turns of the nodes says, where they are these
+abbrev pub account_with : Brief → List (List EntryRecord) → Account
+account_with brief logs = record {
+  acts = brief.acts.items;
+  ends = brief.ends.items;
+  races = brief.races.items;
+  logs = logs;
+  first_race = brief.first_race;
+}
+
+-- this came of the run
+pub record IsAccount (account : Account) (run : Run) : Type 0 where
+  pub acts : account.acts ≡ run.acts
+  pub ends : account.ends ≡ map end_of_logged run.nodes
+  pub logs : account.logs ≡ map (λ l. l.log) run.nodes
+  pub first : MatchOption account.first_race (IsRaceFree run.acts) (IsFirstRace run.acts)
+  pub races : AreNamedRaces account.acts account.races
+
+-- what came of the program's run of these events
+abbrev pub IsReported : Program → RunOptions → List Event → Account → Type 0
+IsReported program options events account =
+    (run : Run) × (run_of program options.nodes.count (options_of options) events ≡ Some run) × IsAccount account run
 
 -- the events of a run that are not skipped, each with the node whose turn it makes
 abbrev pub turns_in : Program → RunOptions → List Event → List Turned
@@ -48,19 +92,34 @@ pub record AreThreaded (program : Program) (options : RunOptions) (order : Picke
 
 -- The events of a run that goes on in some way: those that a text names, those of its rounds, those of its random order, or those that
 -- its nodes on threads made.
-abbrev pub AreEventsOf : Way → Program → RunOptions → Option (List ℕ) → Report → List Event → Type 0
-AreEventsOf (ways.Events file) program options None report events = ⊥
-AreEventsOf (ways.Events file) program options (Some events_text) report events = Reads events_text (Ok events)
-AreEventsOf (ways.Rounds order) program options events_text report events =
+abbrev pub AreEventsOf : Way → Program → RunOptions → Option (List ℕ) → Account → List Event → Type 0
+AreEventsOf (ways.Events file) program options None account events = ⊥
+AreEventsOf (ways.Events file) program options (Some events_text) account events = Reads events_text (Ok events)
+AreEventsOf (ways.Rounds order) program options events_text account events =
     AreRounds program options.nodes.count (options_of options) order events × AreToEnd program options events
-AreEventsOf (ways.Random seed) program options events_text report events =
+AreEventsOf (ways.Random seed) program options events_text account events =
     IsWandering program options.nodes.count (options_of options) seed events × AreToEnd program options events
-AreEventsOf (ways.Threads order) program options events_text report events = AreThreaded program options order report events
+AreEventsOf (ways.Threads order) program options events_text account events =
+    (report : Report) × (account ≡ account_of report) × AreThreaded program options order report events
 
--- what a run of the program answers: the report of its events, with the races that its acts name
-abbrev pub IsRunOf : Way → Program → RunOptions → Option (List ℕ) → List Event → Report → Type 0
-IsRunOf way program options events_text events report =
-    AreEventsOf way program options events_text report events × IsReported program options events report
+-- what came of a run of the program that goes on in some way, and the events that it is made of
+abbrev pub IsRunOf : Way → Program → RunOptions → Option (List ℕ) → List Event → Account → Type 0
+IsRunOf way program options events_text events account =
+    AreEventsOf way program options events_text account events × IsReported program options events account
+
+-- the run goes on in rounds or in a random order
+abbrev pub is_led : Way → Bool
+is_led (ways.Events file) = false
+is_led (ways.Rounds order) = true
+is_led (ways.Random seed) = true
+is_led (ways.Threads order) = false
+
+-- what came of such a run, without the turns of its nodes
+pub record IsBriefRun (way : Way) (program : Program) (options : RunOptions) (events_text : Option (List ℕ)) (brief : Brief) : Type 0 where
+  pub events : List Event
+  pub logs : List (List EntryRecord)
+  pub come : AreEventsOf way program options events_text (account_with brief logs) events
+  pub reported : IsReported program options events (account_with brief logs)
 
 -- ---- faults
 

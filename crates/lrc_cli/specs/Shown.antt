@@ -1,5 +1,5 @@
 -- What is shown of a run.
-use Rattle.std.specs.Prelude.{◌≡◌, ℕ, List, length, map}
+use Rattle.std.specs.Prelude.{◌≡◌, ℕ, Bool, false, List, Option, length, map}
 use Rattle.lrc_clock.specs.Keeping.{KeepsTime}
 use Rattle.lrc_lang.specs.Lines.{HasLines}
 use Rattle.lrc_lang.specs.Tree.{program_of}
@@ -9,8 +9,8 @@ use Rattle.lrc_show.specs.ActsText.{acts_text}
 use Rattle.lrc_show.specs.Json.{json_of_acts}
 use Rattle.lrc_show.specs.Rapid.{rapid_text}
 use Rattle.lrc_protocol.specs.declared.event.Event.{Event}
-use Rattle.lrc_world.specs.declared.report.Report.{Report}
-use Rattle.lrc_run.specs.Run.{turns_of}
+use Rattle.lrc_node.specs.declared.end.End.{End}
+use Rattle.lrc_trace.specs.declared.act.Act.{Act}
 use Rattle.lrc_explain.specs.Explain.{explain_text}
 use Rattle.lrc_judge.specs.FirstPairs.{AreFirstPairs}
 use Rattle.lrc_judge.specs.declared.lanes.Pair.{Pair}
@@ -24,51 +24,60 @@ use Rattle.lrc_words.specs.declared.choice.RunOptions.{RunOptions}
 use Rattle.lrc_words.specs.declared.choice.Shape.{Shape}
 use Rattle.lrc_words.specs.declared.choice.Shape.TheVariants as shapes
 use Rattle.lrc_words.specs.declared.choice.Shape.TheVariants.{Chart, Explain, Stats, Trace}
+use Rattle.lrc_words.specs.declared.choice.Way.{Way}
 use Rattle.lrc_cli.specs.Charted.{IsCharted, IsTooLong}
 use Rattle.lrc_cli.specs.Lines.{AreLinesIn}
-use Rattle.lrc_cli.specs.Runs.{turns_in}
+use Rattle.lrc_cli.specs.Runs.{Account, is_led, turns_in}
 use Rattle.lrc_cli.specs.declared.fault.Fault.{Fault}
 use Rattle.lrc_cli.specs.declared.fault.Fault.TheVariants.{NoMemory, TooLong}
 
 -- A run in one of the forms, where the acts are of these lines: its acts, also with the messages among them, or as JSON with the time
 -- that its node has just after each, or as accesses and their order; or its events that are not skipped.
-abbrev pub IsWrittenAs : Form → Program → RunOptions → List Event → Report → (lines out : List ℕ) → Type 0
-IsWrittenAs Acts program options events report lines out = out ≡ acts_text report.acts.items lines
-IsWrittenAs Messages program options events report lines out =
-    out ≡ messages_text (turns_of report) (map (λ turn. turn.node) (turns_in program options events)) lines
-IsWrittenAs Events program options events report lines out = out ≡ events_text (map (λ turn. turn.event) (turns_in program options events))
-IsWrittenAs Json program options events report lines out =
-    (times : List (List ℕ)) × KeepsTime options.nodes.count report.acts.items times × (out ≡ json_of_acts report.acts.items lines times)
-IsWrittenAs Rapid program options events report lines out =
-    out ≡ rapid_text program.locks options.nodes.count report.acts.items lines
+abbrev pub IsWrittenAs : Form → Program → RunOptions → List Event → Account → (lines out : List ℕ) → Type 0
+IsWrittenAs Acts program options events account lines out = out ≡ acts_text account.acts lines
+IsWrittenAs Messages program options events account lines out =
+    out ≡ messages_text account.logs (map (λ turn. turn.node) (turns_in program options events)) lines
+IsWrittenAs Events program options events account lines out = out ≡ events_text (map (λ turn. turn.event) (turns_in program options events))
+IsWrittenAs Json program options events account lines out =
+    (times : List (List ℕ)) × KeepsTime options.nodes.count account.acts times × (out ≡ json_of_acts account.acts lines times)
+IsWrittenAs Rapid program options events account lines out =
+    out ≡ rapid_text program.locks options.nodes.count account.acts lines
 
 -- a trace of a run of the program that this text is of
-abbrev pub IsTraced : Form → List ℕ → Program → RunOptions → List Event → Report → List ℕ → Type 0
-IsTraced form text program options events report out =
-    (lines : List ℕ) × AreLinesIn text program options.nodes.count report.acts.items lines
-    × IsWrittenAs form program options events report lines out
+abbrev pub IsTraced : Form → List ℕ → Program → RunOptions → List Event → Account → List ℕ → Type 0
+IsTraced form text program options events account out =
+    (lines : List ℕ) × AreLinesIn text program options.nodes.count account.acts lines
+    × IsWrittenAs form program options events account lines out
 
 -- the report of such a run with reasons
-abbrev pub IsExplained : List ℕ → Program → RunOptions → Report → List ℕ → Type 0
-IsExplained text program options report out = (places : List ℕ) × HasLines text (program_of program) places
-    × ((pairs : List Pair) × AreFirstPairs report.acts.items pairs
-    × (out ≡ explain_text program options.nodes.count places options.steps.count report.acts.items pairs report.first_race))
+abbrev pub IsExplained : List ℕ → Program → RunOptions → List Act → Option ℕ → List ℕ → Type 0
+IsExplained text program options acts first_race out = (places : List ℕ) × HasLines text (program_of program) places
+    × ((pairs : List Pair) × AreFirstPairs acts pairs
+    × (out ≡ explain_text program options.nodes.count places options.steps.count acts pairs first_race))
 
 -- what is shown of a run of that program
-abbrev pub IsShown : Shape → RunChoice → List ℕ → Program → List Event → Report → List ℕ → Type 0
-IsShown shapes.Report run text program events report out = out ≡ run_text report
-IsShown (Trace form) run text program events report out = IsTraced form text program run.options events report out
-IsShown Explain run text program events report out = IsExplained text program run.options report out
-IsShown Stats run text program events report out = out ≡ stats_text (length events) (turns_of report)
-IsShown (Chart charting) run text program events report out = IsCharted charting run text program events report out
+abbrev pub IsShown : Shape → RunChoice → List ℕ → Program → List Event → Account → List ℕ → Type 0
+IsShown shapes.Report run text program events account out = out ≡ run_text account.acts account.ends account.races account.first_race
+IsShown (Trace form) run text program events account out = IsTraced form text program run.options events account out
+IsShown Explain run text program events account out = IsExplained text program run.options account.acts account.first_race out
+IsShown Stats run text program events account out = out ≡ stats_text (length events) account.logs
+IsShown (Chart charting) run text program events account out = IsCharted charting run text program events account out
 
 -- why a run that was made is not shown so: a chart of it would be too long
-abbrev pub IsShowFault : Shape → RunChoice → List ℕ → Program → List Event → Report → Fault → Type 0
-IsShowFault shape run text program events report NoMemory = Unit {0}
-IsShowFault (Chart charting) run text program events report TooLong = IsTooLong charting run.options text program events report
-IsShowFault shape run text program events report fault = ⊥
+abbrev pub IsShowFault : Shape → RunChoice → List ℕ → Program → List Event → Account → Fault → Type 0
+IsShowFault shape run text program events account NoMemory = Unit {0}
+IsShowFault (Chart charting) run text program events account TooLong = IsTooLong charting run.options text program events account
+IsShowFault shape run text program events account fault = ⊥
+
+-- the run is led, and what is shown of it says nothing of the turns of the nodes
+abbrev pub is_brief : Way → Shape → Bool
+is_brief way shapes.Report = is_led way
+is_brief way (Trace form) = false
+is_brief way Explain = is_led way
+is_brief way Stats = false
+is_brief way (Chart charting) = false
 
 -- The status behind what is shown: that of the run. A chart says nothing for or against a run, and its status is 0.
-abbrev pub shown_status : Shape → Report → ℕ
-shown_status (Chart charting) report = 0
-shown_status shape report = run_status_of report.first_race report.ends.items
+abbrev pub shown_status : Shape → Option ℕ → List End → ℕ
+shown_status (Chart charting) first_race ends = 0
+shown_status shape first_race ends = run_status_of first_race ends

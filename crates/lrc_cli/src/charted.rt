@@ -3,7 +3,7 @@
 ghost use Rattle.std.specs.Prelude.{◌≡◌, IfErr, IfOk, map};
 ghost use Rattle.lrc_cli.specs.Answer.{IsTextOf};
 ghost use Rattle.lrc_cli.specs.Charted.{IsChart, IsCharted, IsChartFault, IsDrawn, part_of};
-ghost use Rattle.lrc_cli.specs.Runs.{IsReported, turns_in};
+ghost use Rattle.lrc_cli.specs.Runs.{IsReported, account_of, turns_in};
 ghost use Rattle.lrc_cli.specs.Shown.{IsShowFault};
 ghost use Rattle.lrc_lang.specs.declared.program.Program.{Program as AnyProgram};
 ghost use Rattle.lrc_text.specs.Parts.{whole_text};
@@ -38,10 +38,10 @@ pub(crate) fn charted(
     run: &Run,
 ) -> Result<Vec<Vec<u8>>, Fault>
     requires text { IsTextOf text.now program.now }
-    requires reported { IsReported program.now choice.now.options run.now.events.items run.now.report }
-    ensures ok { IfOk result (λ parts. IsCharted charting choice.now text.now program.now run.now.events.items run.now.report
+    requires reported { IsReported program.now choice.now.options run.now.events.items (account_of run.now.report) }
+    ensures ok { IfOk result (λ parts. IsCharted charting choice.now text.now program.now run.now.events.items (account_of run.now.report)
         (whole_text parts.items)) }
-    ensures err { IfErr result (IsShowFault (Chart charting) choice.now text.now program.now run.now.events.items run.now.report) }
+    ensures err { IfErr result (IsShowFault (Chart charting) choice.now text.now program.now run.now.events.items (account_of run.now.report)) }
 {
     let nodes = choice.options.nodes.count as u8;
     let acts = run.report.acts.as_slice();
@@ -65,7 +65,7 @@ pub(crate) fn charted(
 // The nodes in the order in which they made the turns of a run.
 fn order_of(alloc: Global, run: &Run) -> Result<Vec<u8>, AllocError>
     ensures { IfOk result (λ order. (program : AnyProgram) (options : AnyOptions)
-        → IsReported program options run.now.events.items run.now.report
+        → IsReported program options run.now.events.items (account_of run.now.report)
         → order.items ≡ map (λ turn. turn.node) (turns_in program options run.now.events.items)) }
 {
     let turns = turned_events(alloc, &run.report.logs, &run.events)?;

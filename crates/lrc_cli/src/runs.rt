@@ -1,9 +1,10 @@
 // The run that a choice asks for, by the way in which it goes on.
 
-ghost use Rattle.std.specs.Prelude.{◌≡◌, IfErr, IfOk, Ok as Was, false, is_some, option_map};
-ghost use Rattle.lrc_cli.specs.Runs.{AreToEnd, IsLedFault, IsPlayedFault, IsReported, IsRunFault, IsRunOf, options_of};
+ghost use Rattle.std.specs.Prelude.{◌≡◌, ℕ, IfErr, IfOk, List, Ok as Was, Option, false, is_some, option_map, true};
+ghost use Rattle.lrc_cli.specs.Runs.{AreToEnd, IsBriefRun, IsLedFault, IsPlayedFault, IsReported, IsRunFault, IsRunOf, account_of, is_led, options_of};
 ghost use Rattle.lrc_events.specs.EventsText.{Reads};
 ghost use Rattle.lrc_words.specs.Files.{events_along, is_on_threads};
+ghost use Rattle.lrc_words.specs.declared.choice.Way.TheVariants.{Random as AtRandom, Rounds as InRounds};
 ghost use Rattle.lrc_world.specs.Random.{IsWandering, WanderingWearsOut};
 ghost use Rattle.lrc_world.specs.Rounds.{AreRounds, RoundsWearOut};
 
@@ -14,8 +15,8 @@ use lrc_lang::program::Program;
 use lrc_node::Options;
 use lrc_protocol::Event;
 use lrc_words::choice::{RunChoice, RunOptions, Way};
-use lrc_world::report::Report;
-use lrc_world::simulate::{drive, simulate, wander};
+use lrc_world::report::{Brief, Report};
+use lrc_world::simulate::{drive, drive_briefly, simulate, wander, wander_briefly};
 use std::alloc::Global;
 
 /// A run.
@@ -36,7 +37,7 @@ pub(crate) fn run_of(
     requires threadless { is_on_threads choice.now.way ≡ false }
     requires events { is_some events ≡ is_some (events_along choice.now.way) }
     ensures ok { IfOk result (λ run. IsRunOf choice.now.way program.now choice.now.options (option_map (λ e. e.now) events.entry)
-        run.events.items run.report) }
+        run.events.items (account_of run.report)) }
     ensures err { IfErr result (IsRunFault choice.now.way program.now choice.now.options (option_map (λ e. e.now) events.entry)) }
 {
     let options = &choice.options;
@@ -51,6 +52,36 @@ pub(crate) fn run_of(
     }
 }
 
+/// Whether a run goes on in rounds or in a random order.
+pub(crate) fn is_led(choice: &RunChoice<'_>) -> bool
+    ensures { result ≡ is_led choice.now.way }
+{
+    match choice.way {
+        Way::Rounds(_) | Way::Random(_) => true,
+        Way::Events(_) | Way::Threads(_) => false,
+    }
+}
+
+/// What came of a run that is led, without the turns of its nodes, which are not kept while it goes on.
+pub(crate) fn brief_of(
+    alloc: Global,
+    choice: &RunChoice<'_>,
+    program: &Program,
+) -> Result<Brief, Fault>
+    requires { is_led choice.now.way ≡ true }
+    ensures ok { IfOk result (λ brief. (events_text : Option (List ℕ))
+        → IsBriefRun choice.now.way program.now choice.now.options events_text brief) }
+    ensures err { IfErr result (λ fault. (events_text : Option (List ℕ))
+        → IsRunFault choice.now.way program.now choice.now.options events_text fault) }
+{
+    let options = &choice.options;
+    match choice.way {
+        Way::Rounds(order) => driven_briefly(alloc, options, program, order),
+        Way::Random(seed) => wandered_briefly(alloc, options, program, seed),
+        Way::Events(_) | Way::Threads(_) => unreachable!(),
+    }
+}
+
 // The run of the events that a text names.
 fn played(
     alloc: Global,
@@ -59,7 +90,7 @@ fn played(
     text: &[u8],
 ) -> Result<Run, Fault>
     ensures events { IfOk result (λ run. Reads text.now (Was run.events.items)) }
-    ensures reported { IfOk result (λ run. IsReported program.now options.now run.events.items run.report) }
+    ensures reported { IfOk result (λ run. IsReported program.now options.now run.events.items (account_of run.report)) }
     ensures err { IfErr result (IsPlayedFault program.now options.now text.now) }
 {
     let events = events_of(alloc, text)?;
@@ -78,7 +109,7 @@ fn driven(
 ) -> Result<Run, Fault>
     ensures events { IfOk result (λ run. AreRounds program.now options.now.nodes.count (options_of options.now) order run.events.items) }
     ensures to_end { IfOk result (λ run. AreToEnd program.now options.now run.events.items) }
-    ensures reported { IfOk result (λ run. IsReported program.now options.now run.events.items run.report) }
+    ensures reported { IfOk result (λ run. IsReported program.now options.now run.events.items (account_of run.report)) }
     ensures err { IfErr result (IsLedFault
         (RoundsWearOut program.now options.now.nodes.count (options_of options.now) order)) }
 {
@@ -97,7 +128,7 @@ fn wandered(
 ) -> Result<Run, Fault>
     ensures events { IfOk result (λ run. IsWandering program.now options.now.nodes.count (options_of options.now) seed run.events.items) }
     ensures to_end { IfOk result (λ run. AreToEnd program.now options.now run.events.items) }
-    ensures reported { IfOk result (λ run. IsReported program.now options.now run.events.items run.report) }
+    ensures reported { IfOk result (λ run. IsReported program.now options.now run.events.items (account_of run.report)) }
     ensures err { IfErr result (IsLedFault
         (WanderingWearsOut program.now options.now.nodes.count (options_of options.now) seed)) }
 {
@@ -105,6 +136,42 @@ fn wandered(
     let wandered = wander(alloc, program, nodes, &options_of(options), seed);
     let (events, report) = wandered.map_err(fault_of_run)?;
     Ok(Run { events, report })
+}
+
+// What came of the run in rounds.
+fn driven_briefly(
+    alloc: Global,
+    options: &RunOptions<'_>,
+    program: &Program,
+    order: Picker,
+) -> Result<Brief, Fault>
+    ensures ok { IfOk result (λ brief. (events_text : Option (List ℕ))
+        → IsBriefRun (InRounds order) program.now options.now events_text brief) }
+    ensures err { IfErr result (IsLedFault
+        (RoundsWearOut program.now options.now.nodes.count (options_of options.now) order)) }
+{
+    let nodes = options.nodes.count;
+    let driven = drive_briefly(alloc, program, nodes, &options_of(options), order);
+    let (_events, brief) = driven.map_err(fault_of_run)?;
+    Ok(brief)
+}
+
+// What came of the run in a random order.
+fn wandered_briefly(
+    alloc: Global,
+    options: &RunOptions<'_>,
+    program: &Program,
+    seed: u64,
+) -> Result<Brief, Fault>
+    ensures ok { IfOk result (λ brief. (events_text : Option (List ℕ))
+        → IsBriefRun (AtRandom seed) program.now options.now events_text brief) }
+    ensures err { IfErr result (IsLedFault
+        (WanderingWearsOut program.now options.now.nodes.count (options_of options.now) seed)) }
+{
+    let nodes = options.nodes.count;
+    let wandered = wander_briefly(alloc, program, nodes, &options_of(options), seed);
+    let (_events, brief) = wandered.map_err(fault_of_run)?;
+    Ok(brief)
 }
 
 pub(crate) fn options_of(options: &RunOptions<'_>) -> Options

@@ -2,7 +2,7 @@
 
 ghost use Rattle.std.specs.Prelude.{◌≡◌, IfErr, IfOk, None};
 ghost use Rattle.lrc_cli.specs.Answer.{IsFault, Prints};
-ghost use Rattle.lrc_cli.specs.Runs.{AreThreaded, IsReported, IsThreadedFault};
+ghost use Rattle.lrc_cli.specs.Runs.{AreThreaded, IsReported, IsThreadedFault, account_of};
 ghost use Rattle.lrc_text.specs.Parts.{whole_text};
 ghost use Rattle.lrc_words.specs.declared.choice.Choice.TheVariants.{Show};
 ghost use Rattle.lrc_words.specs.declared.choice.Way.TheVariants.{Threads as OnThreads};
@@ -48,7 +48,7 @@ fn run_on_threads<R: Threads + Wait + Sync>(
     program: &Program,
 ) -> Result<Run, Fault>
     ensures threaded { IfOk result (λ run. AreThreaded program.now options.now order run.report run.events.items) }
-    ensures reported { IfOk result (λ run. IsReported program.now options.now run.events.items run.report) }
+    ensures reported { IfOk result (λ run. IsReported program.now options.now run.events.items (account_of run.report)) }
     ensures err { IfErr result (IsThreadedFault program.now options.now) }
 {
     let nodes = options.nodes.count;

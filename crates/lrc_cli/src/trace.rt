@@ -3,7 +3,7 @@
 ghost use Rattle.std.specs.Prelude.{◌≡◌, ◌≤◌, ◌<◌, ℕ, All, IfOk, List, length, map};
 ghost use Rattle.lrc_cli.specs.Answer.{IsTextOf};
 ghost use Rattle.lrc_cli.specs.Lines.{AreLinesIn};
-ghost use Rattle.lrc_cli.specs.Runs.{IsReported};
+ghost use Rattle.lrc_cli.specs.Runs.{IsReported, account_of};
 ghost use Rattle.lrc_cli.specs.Shown.{IsTraced, IsWrittenAs};
 ghost use Rattle.lrc_clock.specs.Keeping.{KeepsTime};
 ghost use Rattle.lrc_events.specs.Writing.{events_text};
@@ -38,8 +38,8 @@ pub(crate) fn trace_parts(
     run: &Run,
 ) -> Result<Vec<Vec<u8>>, AllocError>
     requires text { IsTextOf text.now program.now }
-    requires reported { IsReported program.now options.now run.now.events.items run.now.report }
-    ensures { IfOk result (λ parts. IsTraced form text.now program.now options.now run.now.events.items run.now.report
+    requires reported { IsReported program.now options.now run.now.events.items (account_of run.now.report) }
+    ensures { IfOk result (λ parts. IsTraced form text.now program.now options.now run.now.events.items (account_of run.now.report)
         (whole_text parts.items)) }
 {
     let nodes = options.nodes.count as u8;
@@ -57,9 +57,9 @@ fn form_part(
     run: &Run,
     lines: &[u32],
 ) -> Result<Vec<u8>, AllocError>
-    requires reported { IsReported program.now options.now run.now.events.items run.now.report }
+    requires reported { IsReported program.now options.now run.now.events.items (account_of run.now.report) }
     requires each { length lines.now ≡ length run.now.report.acts.items }
-    ensures { IfOk result (λ part. IsWrittenAs form program.now options.now run.now.events.items run.now.report lines.now part.items) }
+    ensures { IfOk result (λ part. IsWrittenAs form program.now options.now run.now.events.items (account_of run.now.report) lines.now part.items) }
 {
     let acts = run.report.acts.as_slice();
     let logs = run.report.logs.as_slice();

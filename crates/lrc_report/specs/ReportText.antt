@@ -4,11 +4,11 @@ use Rattle.std.specs.List.{flat_map, list_all}
 use Rattle.lrc_trace.specs.declared.act.Act.{Act}
 use Rattle.lrc_trace.specs.declared.act.Deed.{Deed}
 use Rattle.lrc_trace.specs.declared.act.Deed.TheVariants.{Print}
+use Rattle.lrc_trace.specs.declared.race.Race.{Race}
 use Rattle.lrc_text.specs.ActText.{cause_number}
 use Rattle.lrc_text.specs.RaceText.{first_race_text, races_text}
 use Rattle.lrc_node.specs.declared.end.End.{End}
 use Rattle.lrc_node.specs.declared.end.End.TheVariants.{Ended, Trapped, Unfinished}
-use Rattle.lrc_world.specs.declared.report.Report.{Report}
 
 -- a line on a node
 abbrev pub line_on : ℕ → List ℕ → List ℕ
@@ -51,8 +51,8 @@ abbrev pub status_of : List End → ℕ
 status_of ends = if list_all is_ended ends then 0 else 4
 
 -- what is printed of a run: the lines of its nodes, its races, and the first of its acts that races with an earlier one
-abbrev pub run_text : Report → List ℕ
-run_text report = report_text report.acts.items report.ends.items ++ races_text report.races.items ++ first_race_text report.first_race
+abbrev pub run_text : List Act → List End → List Race → Option ℕ → List ℕ
+run_text acts ends races first_race = report_text acts ends ++ races_text races ++ first_race_text first_race
 
 -- the status after a run: 3 where there is a race
 abbrev pub run_status_of : Option ℕ → List End → ℕ

@@ -8,7 +8,7 @@ ghost use Rattle.lrc_report.specs.ReportText.{deed_line, end_words, line_on, rep
 use lrc_node::End;
 use lrc_text::{first_race_part, push_number, races_part};
 use lrc_trace::act::{Act, Deed};
-use lrc_world::report::Report;
+use lrc_trace::race::Race;
 use std::alloc::{AllocError, Global};
 
 /// What a run prints: for each node a line for each value that it printed, in order, and one on how it ended. The text
@@ -43,22 +43,28 @@ fn empty_parts(alloc: Global, count: usize) -> Result<Vec<Vec<u8>>, AllocError>
 
 /// What is printed of a run: the lines of its nodes, those of its races, and the last line, which names the first act that
 /// races with an earlier one.
-pub fn run_parts(alloc: Global, report: &Report) -> Result<Vec<Vec<u8>>, AllocError>
-    ensures { IfOk result (λ parts. whole_text parts.items ≡ run_text report.now) }
+pub fn run_parts(
+    alloc: Global,
+    acts: &[Act],
+    ends: &[End],
+    races: &[Race],
+    first_race: Option<usize>,
+) -> Result<Vec<Vec<u8>>, AllocError>
+    ensures { IfOk result (λ parts. whole_text parts.items ≡ run_text acts.now ends.now races.now first_race) }
 {
-    let mut parts = report_parts(alloc, &report.acts, &report.ends)?;
-    parts.push(races_part(alloc, &report.races)?)?;
-    parts.push(first_race_part(alloc, report.first_race)?)?;
+    let mut parts = report_parts(alloc, acts, ends)?;
+    parts.push(races_part(alloc, races)?)?;
+    parts.push(first_race_part(alloc, first_race)?)?;
     Ok(parts)
 }
 
 /// The status with which the program ends after a run: 3 where there is a race.
-pub fn status_after_run(report: &Report) -> u8
-    ensures { result ≡ run_status_of report.now.first_race report.now.ends.items }
+pub fn status_after_run(ends: &[End], first_race: Option<usize>) -> u8
+    ensures { result ≡ run_status_of first_race ends.now }
 {
-    match report.first_race {
+    match first_race {
         Some(_) => 3,
-        None => status_after(&report.ends),
+        None => status_after(ends),
     }
 }
 

@@ -9,6 +9,7 @@ use Rattle.lrc_words.specs.declared.choice.Shape.TheVariants.{Chart}
 use Rattle.lrc_title.specs.Title.{title_text}
 use Rattle.lrc_cli.specs.Charted.{IsChart, IsCourse}
 use Rattle.lrc_cli.specs.Lines.{AreLinesIn}
+use Rattle.lrc_cli.specs.Runs.{account_of}
 use Rattle.lrc_cli.specs.Shown.{IsShowFault}
 use Rattle.lrc_cli.proofs.AnswerLemmas.{fault_up}
 use Rattle.lrc_cli.proofs.CourseLemmas.{chart_unshown, course_of_run}
@@ -18,18 +19,18 @@ use Rattle.lrc_cli.proofs.charted.charted.Goals as goal
 pub times_of_acts-requires-clause-in_range : goal.times_of_acts-requires-clause-in_range
 times_of_acts-requires-clause-in_range c =
     subst (λ (acts : List Act). All (λ act. act.node < c.args.choice.now.options.nodes.count) acts) (sym c.as_slice-acts.ensures.value)
-    (acts_in_range c.args.program.now c.args.choice.now.options c.args.run.now.events.items c.args.run.now.report c.requires.reported)
+    (acts_in_range c.args.program.now c.args.choice.now.options c.args.run.now.events.items (account_of c.args.run.now.report) c.requires.reported)
 
 pub first_pairs-requires : goal.first_pairs-requires
 first_pairs-requires c =
     subst (λ (acts : List Act). All (λ act. act.node < 16) acts) (sym c.as_slice-acts.ensures.value)
-    (acts_of_few c.args.program.now c.args.choice.now.options c.args.run.now.events.items c.args.run.now.report c.requires.reported)
+    (acts_of_few c.args.program.now c.args.choice.now.options c.args.run.now.events.items (account_of c.args.run.now.report) c.requires.reported)
 
 pub returns-in_err-part-clause-err : goal.returns-in_err-part-clause-err
 returns-in_err-part-clause-err c =
     let options = c.args.choice.now.options in
     let acts = c.as_slice-acts.result.now in
-    let known = course_of_run c.args.text.now c.args.program.now options c.args.run.now.events.items c.args.run.now.report
+    let known = course_of_run c.args.text.now c.args.program.now options c.args.run.now.events.items (account_of c.args.run.now.report)
     c.deref-3.result.now acts c.deref-4.result.now c.deref-5.result.now c.deref-6.result.now
     (c.deref-3.ensures.value ∙ c.in_ok-turns.ensures ∙ ap (λ logs. turns_of (map (λ log. log.items) logs) c.deref-2.result.now) c.deref.ensures.value
     ∙ ap (turns_of (map (λ log. log.items) c.args.run.now.report.logs.items))
@@ -40,9 +41,9 @@ returns-in_err-part-clause-err c =
     (subst (λ times. KeepsTime options.nodes.count acts times) (sym c.deref-5.ensures.value) c.in_ok-times.ensures)
     (subst (λ (pairs : List Pair). AreFirstPairs acts pairs) (sym c.deref-6.ensures.value) c.in_ok-pairs.ensures) in
     fault_up c.from_residual-in_err-part.result c.in_err-part.field-0.0
-    (IsShowFault (Chart c.args.charting) c.args.choice.now c.args.text.now c.args.program.now c.args.run.now.events.items c.args.run.now.report)
+    (IsShowFault (Chart c.args.charting) c.args.choice.now c.args.text.now c.args.program.now c.args.run.now.events.items (account_of c.args.run.now.report))
     c.from_residual-in_err-part.ensures.1
-    (chart_unshown c.args.charting c.args.choice.now c.args.text.now c.args.program.now c.args.run.now.events.items c.args.run.now.report
+    (chart_unshown c.args.charting c.args.choice.now c.args.text.now c.args.program.now c.args.run.now.events.items (account_of c.args.run.now.report)
     _ c.in_err-part.field-0.0 known c.in_err-part.ensures.err)
 
 pub returns-clause-ok : goal.returns-clause-ok
@@ -50,8 +51,8 @@ returns-clause-ok c =
     let options = c.args.choice.now.options in
     let acts = c.as_slice-acts.result.now in
     let course : CourseRecord = record { turns = c.deref-3.result.now; acts = acts; lines = c.deref-4.result.now; times = c.deref-5.result.now; pairs = c.deref-6.result.now } in
-    let known : IsCourse c.args.text.now c.args.program.now options c.args.run.now.events.items c.args.run.now.report course =
-    course_of_run c.args.text.now c.args.program.now options c.args.run.now.events.items c.args.run.now.report
+    let known : IsCourse c.args.text.now c.args.program.now options c.args.run.now.events.items (account_of c.args.run.now.report) course =
+    course_of_run c.args.text.now c.args.program.now options c.args.run.now.events.items (account_of c.args.run.now.report)
     c.deref-3.result.now acts c.deref-4.result.now c.deref-5.result.now c.deref-6.result.now
     (c.deref-3.ensures.value ∙ c.in_ok-turns.ensures ∙ ap (λ logs. turns_of (map (λ log. log.items) logs) c.deref-2.result.now) c.deref.ensures.value
     ∙ ap (turns_of (map (λ log. log.items) c.args.run.now.report.logs.items))
