@@ -6,7 +6,7 @@ use Rattle.lrc_lang.specs.declared.program.Program.{Program}
 use Rattle.lrc_trace.specs.declared.act.Act.{Act}
 use Rattle.lrc_judge.specs.declared.TheConstants.{NODES}
 use Rattle.lrc_exec.specs.Plain.{Plain, plain, plain_from, plain_start}
-use Rattle.lrc_theory.proofs.Plainly.{facts}
+use Rattle.lrc_plain_laws.proofs.Plainly.{facts}
 use Rattle.lrc_lines.specs.Walks.{lines_behind}
 use Rattle.lrc_explore.specs.Stuck.{GetsStuck}
 use Rattle.lrc_explore.specs.Verdict.{AreNodes}

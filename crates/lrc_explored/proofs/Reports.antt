@@ -7,7 +7,7 @@ use Rattle.lrc_trace.specs.declared.race.Race.{Race}
 use Rattle.lrc_trace.specs.Conflict.{IsFirstRace, IsRaceFree}
 use Rattle.lrc_judge.specs.Races.{AreNamedRaces}
 use Rattle.lrc_exec.specs.Plain.{plain}
-use Rattle.lrc_theory.specs.Follows.{nodes_of}
+use Rattle.lrc_plain_laws.specs.Follows.{nodes_of}
 use Rattle.lrc_protocol.specs.declared.event.Event.{Event}
 use Rattle.lrc_protocol.specs.Node.{OptionsRecord}
 use Rattle.lrc_world.specs.Report.{IsReportOf}

@@ -8,7 +8,7 @@ use Rattle.lrc_trace.specs.declared.race.Race.{Race}
 use Rattle.lrc_text.specs.Parts.{whole_text}
 use Rattle.lrc_text.specs.RaceText.{first_race_text, races_text}
 use Rattle.lrc_exec.specs.Plain.{plain}
-use Rattle.lrc_theory.specs.Racing.{HasNoRace}
+use Rattle.lrc_plain_laws.specs.Racing.{HasNoRace}
 use Rattle.lrc_explore.specs.declared.search.ExploreFault.{ExploreFault}
 use Rattle.lrc_explore.specs.declared.search.ExploreFault.TheVariants.{TooMany}
 use Rattle.lrc_explore.specs.Limit.{HasMoreStates}

@@ -8,7 +8,7 @@ use Rattle.lrc_show.specs.ActsText.{acts_text}
 use Rattle.lrc_lines.specs.Walks.{lines_of}
 use Rattle.lrc_stuck.specs.Stand.{stands_of}
 use Rattle.lrc_stuck.specs.Stuck.{stuck_text}
-use Rattle.lrc_theory.specs.Racing.{HasNoRace}
+use Rattle.lrc_plain_laws.specs.Racing.{HasNoRace}
 use Rattle.lrc_explore.specs.Stuck.{GetsStuck}
 use Rattle.lrc_explore.specs.Verdict.{LeadsToRace, NeverStuck}
 use Rattle.lrc_explored.specs.LastRaces.{AreRacesAt}

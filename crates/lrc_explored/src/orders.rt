@@ -7,7 +7,7 @@ ghost use Rattle.lrc_exec.specs.Plain.{plain};
 ghost use Rattle.lrc_explore.specs.Limit.{HasMoreStates};
 ghost use Rattle.lrc_explore.specs.Stuck.{GetsStuck};
 ghost use Rattle.lrc_explore.specs.Verdict.{AreNodes, IsVerdict, LeadsToRace, NeverStuck};
-ghost use Rattle.lrc_theory.specs.Racing.{HasNoRace};
+ghost use Rattle.lrc_plain_laws.specs.Racing.{HasNoRace};
 ghost use Rattle.lrc_explored.specs.Orders.{TellsOrders, ends_text, order_text};
 
 use crate::explored::Printout;

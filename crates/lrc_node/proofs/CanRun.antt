@@ -9,10 +9,10 @@ use Rattle.lrc_exec.proofs.NextLaws.{IsFine, next_of-fine}
 use Rattle.lrc_protocol.specs.Course.{Course, going, trapped, ended}
 use Rattle.lrc_protocol.specs.Mail.{Wait, nothing, grant, departure, access, upkeep, discard, is_idle}
 use Rattle.lrc_protocol.specs.Node.{Node, begins_of}
-use Rattle.lrc_invariants.specs.Waiting.{next_in, acquiring}
-use Rattle.lrc_local.specs.Reached.{IsReached}
-use Rattle.lrc_local.proofs.Tokened.{acquired-in_place, released-in_place, held_here, away}
-use Rattle.lrc_local.proofs.Always.{text_at, own_next, early_at}
+use Rattle.lrc_order_laws.specs.Waiting.{next_in, acquiring}
+use Rattle.lrc_node_laws.specs.Reached.{IsReached}
+use Rattle.lrc_node_laws.proofs.Tokened.{acquired-in_place, released-in_place, held_here, away}
+use Rattle.lrc_node_laws.proofs.Always.{text_at, own_next, early_at}
 use Rattle.lrc_node.specs.Effects.{CanBegin, CanRun}
 use Rattle.lrc_node.proofs.Effects.{begins_asked}
 

@@ -11,12 +11,12 @@ use Rattle.lrc_store.specs.Interval.{IntervalRecord}
 use Rattle.lrc_protocol.specs.Mail.{Wait, nothing, grant, departure, access, upkeep, discard, awaits_grant, awaits_departure, awaits_discard}
 use Rattle.lrc_protocol.specs.Node.{Node}
 use Rattle.lrc_protocol.specs.Expected.{is_learnable}
-use Rattle.lrc_invariants.specs.Waiting.{next_in, acquiring, is_departing, FixesNext}
-use Rattle.lrc_local.specs.Reached.{IsReached}
-use Rattle.lrc_local.specs.Ranges.{CollectsAt}
-use Rattle.lrc_local.specs.Waits.{IsQuiet}
-use Rattle.lrc_local.proofs.Tokened.{awaited_here, come_to, is_shaped}
-use Rattle.lrc_local.proofs.Always.{can_be_added, ranged_at, exact_at, quiet_at}
+use Rattle.lrc_order_laws.specs.Waiting.{next_in, acquiring, is_departing, FixesNext}
+use Rattle.lrc_node_laws.specs.Reached.{IsReached}
+use Rattle.lrc_node_laws.specs.Ranges.{CollectsAt}
+use Rattle.lrc_node_laws.specs.Waits.{IsQuiet}
+use Rattle.lrc_node_laws.proofs.Tokened.{awaited_here, come_to, is_shaped}
+use Rattle.lrc_node_laws.proofs.Always.{can_be_added, ranged_at, exact_at, quiet_at}
 use Rattle.lrc_memory.specs.Turns.{CanBeAdded}
 use Rattle.lrc_node.specs.Text.{asked_in}
 use Rattle.lrc_lock.specs.Lock.{manager_of}
@@ -30,21 +30,21 @@ use Rattle.lrc_barrier.specs.Barrier.{IsArrival}
 use Rattle.lrc_protocol.specs.Fetch.{Need}
 use Rattle.lrc_protocol.specs.Mail.{with_taken, needs_of}
 use Rattle.lrc_protocol.specs.Expected.{is_expected, is_page, is_interval, are_arriving}
-use Rattle.lrc_local.proofs.Tests.{each_passes}
-use Rattle.lrc_local.proofs.Awaited.{ascends-pairs}
-use Rattle.lrc_local.proofs.Always.{awaited_at, needed_at}
+use Rattle.lrc_node_laws.proofs.Tests.{each_passes}
+use Rattle.lrc_node_laws.proofs.Awaited.{ascends-pairs}
+use Rattle.lrc_node_laws.proofs.Always.{awaited_at, needed_at}
 use Rattle.lrc_node.specs.Barrier.{arrival_in}
 use Rattle.lrc_node.proofs.Keeping.{apart_pairs}
 use Rattle.lrc_node.specs.Keeping.{CanCollect}
 use Rattle.lrc_time.specs.Time.{joined}
 use Rattle.lrc_protocol.specs.Memory.{Memory, learned}
 use Rattle.lrc_protocol.specs.Take.{learns}
-use Rattle.lrc_invariants.specs.Counts.{is_inside}
-use Rattle.lrc_local.specs.Waits.{NoneWritten}
-use Rattle.lrc_local.proofs.Change.{View, view_of, Change, news, is_open, learns as learns_change}
-use Rattle.lrc_local.proofs.Ranges.{Ranged, ranged-kept}
-use Rattle.lrc_local.proofs.Quiet.{quiet-kept}
-use Rattle.lrc_local.proofs.Always.{entered_at}
+use Rattle.lrc_order_laws.specs.Counts.{is_inside}
+use Rattle.lrc_node_laws.specs.Waits.{NoneWritten}
+use Rattle.lrc_node_laws.proofs.Change.{View, view_of, Change, news, is_open, learns as learns_change}
+use Rattle.lrc_node_laws.proofs.Ranges.{Ranged, ranged-kept}
+use Rattle.lrc_node_laws.proofs.Quiet.{quiet-kept}
+use Rattle.lrc_node_laws.proofs.Always.{entered_at}
 use Rattle.lrc_node.proofs.Replied.{changes_go_on, page_goes_on, whatever_mail}
 use Rattle.lrc_protocol.specs.Waits.{with_needs}
 use Rattle.lrc_protocol.specs.Fetch.{with_changes, with_page}

@@ -18,17 +18,17 @@ use Rattle.lrc_protocol.specs.Letters.{requests_of}
 use Rattle.lrc_protocol.specs.Take.{needs_to_keep}
 use Rattle.lrc_protocol.specs.Memory.{Memory, copy_at, keeper_at, kept_pages, with_base, with_keepers}
 use Rattle.lrc_protocol.specs.Node.{Node, with_memory}
-use Rattle.lrc_local.specs.Needs.{FitsBase, FitsNeed}
-use Rattle.lrc_local.specs.Ranges.{HasRanges}
-use Rattle.lrc_local.proofs.Needs.{ascends-filter, kept-ascends, kept-below, needs-fit, pages_needed}
-use Rattle.lrc_local.specs.Waits.{NoneWritten}
-use Rattle.lrc_local.proofs.Awaited.{ascends-pairs}
-use Rattle.lrc_local.proofs.Change.{View, view_of, cleans}
-use Rattle.lrc_local.proofs.Indices.{Ascends}
-use Rattle.lrc_local.proofs.Quiet.{quiet-kept}
-use Rattle.lrc_local.proofs.Ranges.{keeps-ranges, mends-same}
-use Rattle.lrc_local.proofs.Replies.{bases-copies, clean-readable}
-use Rattle.lrc_local.proofs.Tests.{each_passes}
+use Rattle.lrc_node_laws.specs.Needs.{FitsBase, FitsNeed}
+use Rattle.lrc_node_laws.specs.Ranges.{HasRanges}
+use Rattle.lrc_node_laws.proofs.Needs.{ascends-filter, kept-ascends, kept-below, needs-fit, pages_needed}
+use Rattle.lrc_node_laws.specs.Waits.{NoneWritten}
+use Rattle.lrc_node_laws.proofs.Awaited.{ascends-pairs}
+use Rattle.lrc_node_laws.proofs.Change.{View, view_of, cleans}
+use Rattle.lrc_node_laws.proofs.Indices.{Ascends}
+use Rattle.lrc_node_laws.proofs.Quiet.{quiet-kept}
+use Rattle.lrc_node_laws.proofs.Ranges.{keeps-ranges, mends-same}
+use Rattle.lrc_node_laws.proofs.Replies.{bases-copies, clean-readable}
+use Rattle.lrc_node_laws.proofs.Tests.{each_passes}
 use Rattle.lrc_node.specs.Keeping.{CanMend, CanKeep, CanClean, CanCollect}
 use Rattle.lrc_node.specs.State.{AreFor}
 use Rattle.lrc_node.proofs.Misses.{lacking_of_page, requests_for}

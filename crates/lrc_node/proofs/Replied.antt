@@ -19,17 +19,17 @@ use Rattle.lrc_protocol.specs.Node.{Node, with_memory}
 use Rattle.lrc_protocol.specs.Expected.{is_changes_reply}
 use Rattle.lrc_protocol.specs.Take.{with_part}
 use Rattle.lrc_protocol.specs.Waits.{with_needs}
-use Rattle.lrc_invariants.specs.Waiting.{next_in}
-use Rattle.lrc_local.specs.Reached.{IsReached}
-use Rattle.lrc_local.specs.Needs.{FitsNeed, FitsKept, page_next, ReachesFor}
-use Rattle.lrc_local.specs.Waits.{IsQuiet}
-use Rattle.lrc_invariants.specs.Counts.{is_inside}
-use Rattle.lrc_local.proofs.Indices.{Ascends}
-use Rattle.lrc_local.proofs.Needs.{same_pages, kept-below}
-use Rattle.lrc_local.proofs.Always.{needed_at, reaching_at, ranged_at, is_store_at, quiet_at, entered_at}
-use Rattle.lrc_local.proofs.Change.{Reply, reply, view_of}
-use Rattle.lrc_local.proofs.Needed.{changed_page, sent_page}
-use Rattle.lrc_local.proofs.Replies.{changes-fit, page-fits, asked-exactly}
+use Rattle.lrc_order_laws.specs.Waiting.{next_in}
+use Rattle.lrc_node_laws.specs.Reached.{IsReached}
+use Rattle.lrc_node_laws.specs.Needs.{FitsNeed, FitsKept, page_next, ReachesFor}
+use Rattle.lrc_node_laws.specs.Waits.{IsQuiet}
+use Rattle.lrc_order_laws.specs.Counts.{is_inside}
+use Rattle.lrc_node_laws.proofs.Indices.{Ascends}
+use Rattle.lrc_node_laws.proofs.Needs.{same_pages, kept-below}
+use Rattle.lrc_node_laws.proofs.Always.{needed_at, reaching_at, ranged_at, is_store_at, quiet_at, entered_at}
+use Rattle.lrc_node_laws.proofs.Change.{Reply, reply, view_of}
+use Rattle.lrc_node_laws.proofs.Needed.{changed_page, sent_page}
+use Rattle.lrc_node_laws.proofs.Replies.{changes-fit, page-fits, asked-exactly}
 use Rattle.lrc_node.specs.Effects.{AccessesPage, CanRepair, CanGoOn, with_parts}
 use Rattle.lrc_node.proofs.CanRun.{read_within, write_within}
 use Rattle.lrc_node.proofs.Misses.{lacking_of_page}

@@ -14,7 +14,7 @@ use Rattle.lrc_time.proofs.Times.{entry-joined, entry-set_same, entry-set_other,
 use Rattle.lrc_store.specs.Interval.{IntervalRecord, index_of}
 use Rattle.lrc_exec.proofs.RoundsLaws.{range-last}
 use Rattle.lrc_protocol.specs.Expected.{indices_by, are_between}
-use Rattle.lrc_local.proofs.Indices.{indices-append, indices-here, indices-there}
+use Rattle.lrc_node_laws.proofs.Indices.{indices-append, indices-here, indices-there}
 use Rattle.lrc_node.specs.News.{IsRunOf, AreRuns, IsBroken}
 
 -- ---- one interval more

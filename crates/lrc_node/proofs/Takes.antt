@@ -3,7 +3,7 @@ use Rattle.std.proofs.Common.{◌≡◌, Bool, true, false, cond, ◌⊎◌, ⊎
 use Rattle.std.specs.Prelude.{if◌then◌else◌, Result, Ok, Err, IfErr}
 use Rattle.lrc_envelope.specs.Envelope.{EnvelopeRecord}
 use Rattle.lrc_trace.specs.Trace.{TraceRecord}
-use Rattle.lrc_local.specs.Traced.{IsTraced}
+use Rattle.lrc_node_laws.specs.Traced.{IsTraced}
 use Rattle.lrc_protocol.specs.Expected.{is_expected}
 use Rattle.lrc_protocol.specs.Node.{Node}
 use Rattle.lrc_protocol.specs.Log.{taken}

@@ -2,7 +2,7 @@
 use Rattle.std.specs.Prelude.{ℕ, ◌≡◌, ◌≢◌, ◌<◌, ◌≤◌, true, None, List, All, AllPairs, length, fold}
 use Rattle.lrc_page.specs.declared.size.Size.{Size}
 use Rattle.lrc_page.specs.Place.{pages_of}
-use Rattle.lrc_local.specs.Ranges.{HasRanges}
+use Rattle.lrc_node_laws.specs.Ranges.{HasRanges}
 use Rattle.lrc_memory.specs.Turns.{is_mendable, IsClosed}
 use Rattle.lrc_protocol.specs.Copy.{is_readable, changes_of}
 use Rattle.lrc_protocol.specs.Fetch.{Need, mended}

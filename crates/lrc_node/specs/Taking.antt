@@ -6,7 +6,7 @@ use Rattle.lrc_envelope.specs.declared.message.Message.{Message}
 use Rattle.lrc_envelope.specs.declared.message.Message.TheVariants.{LockRequest, LockForward, LockGrant, Arrive, Depart, Clean, Discard}
 use Rattle.lrc_envelope.specs.declared.message.Message.TheVariants.{ChangesRequest, ChangesReply, PageRequest, PageReply}
 use Rattle.lrc_barrier.specs.Barrier.{IsArrival, is_accepted}
-use Rattle.lrc_invariants.specs.Tokens.{is_awaited}
+use Rattle.lrc_order_laws.specs.Tokens.{is_awaited}
 use Rattle.lrc_lock.specs.Held.{forwarded, lock_at}
 use Rattle.lrc_lock.specs.Lock.{manager_of}
 use Rattle.lrc_memory.specs.Turns.{AreAwaited, CanBeAdded, IsClosed}

@@ -33,7 +33,7 @@ impl<'c> Model for Node<'c> {
     ghost use Rattle.std.specs.Prelude.{◌≡◌, false};
     ghost use Rattle.std.specs.Coded.{codes};
     ghost use Rattle.lrc_lang.specs.contracts.program.Statement as statement;
-    ghost use Rattle.lrc_local.specs.Traced.{IsTraced};
+    ghost use Rattle.lrc_node_laws.specs.Traced.{IsTraced};
     ghost use Rattle.lrc_node.specs.Node.{TracedNode, seen_node};
 
     ghost Value = { TracedNode };

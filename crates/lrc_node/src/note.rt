@@ -1,7 +1,7 @@
 // How a node notes its accesses.
 
 ghost use Rattle.std.specs.Prelude.{◌≡◌, IfErr, IfOk, OnErr, OnOk};
-ghost use Rattle.lrc_local.specs.Traced.{CanNote, CanNoteAct, IsTraced};
+ghost use Rattle.lrc_node_laws.specs.Traced.{CanNote, CanNoteAct, IsTraced};
 ghost use Rattle.lrc_protocol.specs.Traced.{with_access_by, with_act};
 ghost use Rattle.lrc_protocol.specs.Turn.{done, not_ready, run_turn, take_turn, unexpected};
 ghost use Rattle.lrc_node.specs.Effects.{RefusesRun};

@@ -3,7 +3,7 @@ use Rattle.std.specs.Prelude.{ℕ, ◌==◌, Option, Some, List, [], ◌∷◌, 
 use Rattle.lrc_trace.specs.declared.act.Deed.{Deed}
 use Rattle.lrc_exec.specs.Meaning.{Thread, next_of}
 use Rattle.lrc_envelope.specs.Envelope.{EnvelopeRecord}
-use Rattle.lrc_theory.specs.Follows.{Goes}
+use Rattle.lrc_plain_laws.specs.Follows.{Goes}
 use Rattle.lrc_protocol.specs.Turn.{TurnRecord}
 use Rattle.lrc_protocol.specs.Log.{Input, EntryRecord}
 

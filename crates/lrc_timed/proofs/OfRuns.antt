@@ -8,7 +8,7 @@ use Rattle.lrc_clock.proofs.Deciding.{one_list}
 use Rattle.lrc_protocol.specs.declared.event.Event.{Event}
 use Rattle.lrc_protocol.specs.Node.{OptionsRecord}
 use Rattle.lrc_protocol.specs.World.{World, run_of}
-use Rattle.lrc_invariants.proofs.Timed.{keeps}
+use Rattle.lrc_order_laws.proofs.Timed.{keeps}
 
 pub acts_of_nodes : (program : Program) (nodes : ℕ) (options : OptionsRecord) (events : List Event) (world : World)
     → run_of program nodes options events ≡ Some world → All (λ act. act.node < nodes) world.acts

@@ -15,10 +15,10 @@ use Rattle.lrc_protocol.specs.Node.{OptionsRecord, fresh_node}
 use Rattle.lrc_protocol.specs.Log.{Logged}
 use Rattle.lrc_protocol.specs.Traced.{trace_of}
 use Rattle.lrc_protocol.specs.World.{World as Run, run_of}
-use Rattle.lrc_invariants.proofs.Reached.{IsReached}
-use Rattle.lrc_coherence.proofs.Traced.Notes.{HasSome}
-use Rattle.lrc_coherence.proofs.Traced.Runs.{IsTraceIn, IsAccessAt}
-use Rattle.lrc_coherence.proofs.Traced.Worlds.{all_traced}
+use Rattle.lrc_order_laws.proofs.Reached.{IsReached}
+use Rattle.lrc_reading_laws.proofs.Traced.Notes.{HasSome}
+use Rattle.lrc_reading_laws.proofs.Traced.Runs.{IsTraceIn, IsAccessAt}
+use Rattle.lrc_reading_laws.proofs.Traced.Worlds.{all_traced}
 use Rattle.lrc_world.specs.Epochs.{IsOfAccess}
 
 by_kind : (run : Run) (position node word : ℕ) (is_write : Bool) → AccessesBy is_write run.acts position node word → Accesses run.acts position node word

@@ -14,13 +14,13 @@ use Rattle.lrc_protocol.specs.Node.{OptionsRecord}
 use Rattle.lrc_protocol.specs.Log.{Logged}
 use Rattle.lrc_protocol.specs.World.{World as Run, pending, run_of}
 use Rattle.lrc_protocol.proofs.Worlds.{run-whole}
-use Rattle.lrc_invariants.specs.Tokens.{grants_of_lock}
-use Rattle.lrc_invariants.proofs.Timed.{keeps, synchronized}
-use Rattle.lrc_invariants.proofs.Timely.{get_within}
-use Rattle.lrc_invariants.proofs.TokenCounts.{one_place}
-use Rattle.lrc_invariants.proofs.TokenWorlds.{all_tokens}
-use Rattle.lrc_coherence.proofs.Received.AllExpected.{accepted}
-use Rattle.lrc_coherence.proofs.Received.ReceiverWorlds.{in_flight, all_to}
+use Rattle.lrc_order_laws.specs.Tokens.{grants_of_lock}
+use Rattle.lrc_order_laws.proofs.Timed.{keeps, synchronized}
+use Rattle.lrc_order_laws.proofs.Timely.{get_within}
+use Rattle.lrc_order_laws.proofs.TokenCounts.{one_place}
+use Rattle.lrc_order_laws.proofs.TokenWorlds.{all_tokens}
+use Rattle.lrc_reading_laws.proofs.Received.AllExpected.{accepted}
+use Rattle.lrc_reading_laws.proofs.Received.ReceiverWorlds.{in_flight, all_to}
 use Rattle.lrc_world.specs.Moments.{Throughout, RefusesNone, HasEachToken, AreCovered}
 
 -- an access is some deed

@@ -5,10 +5,10 @@ use Rattle.lrc_lang.specs.declared.program.Program.{Program}
 use Rattle.lrc_trace.specs.declared.act.Act.{Act}
 use Rattle.lrc_protocol.specs.declared.event.Event.{Event}
 use Rattle.lrc_protocol.specs.Node.{OptionsRecord}
-use Rattle.lrc_invariants.proofs.Timed.{synchronized}
-use Rattle.lrc_invariants.proofs.Reached.{IsReached}
-use Rattle.lrc_coherence.proofs.Whole.{reads}
-use Rattle.lrc_coherence.proofs.Lazy.Theorem.{is_plain, is_plain_to_race, is_race_free}
+use Rattle.lrc_order_laws.proofs.Timed.{synchronized}
+use Rattle.lrc_order_laws.proofs.Reached.{IsReached}
+use Rattle.lrc_reading_laws.proofs.Whole.{reads}
+use Rattle.lrc_reading_laws.proofs.Lazy.Theorem.{is_plain, is_plain_to_race, is_race_free}
 use Rattle.lrc_protocol.specs.World.{World as Run, run_of}
 use Rattle.lrc_node.specs.declared.end.End.{End}
 use Rattle.lrc_world.specs.declared.report.Report.{Report}

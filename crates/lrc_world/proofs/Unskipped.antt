@@ -26,7 +26,7 @@ use Rattle.lrc_protocol.specs.Log as log
 use Rattle.lrc_protocol.specs.World.{World as Run, Flying as Sent, fresh_world, marked, sent_by, with_turn, with_mark, after_input, input_to, delivers}
 use Rattle.lrc_protocol.specs.World.{event_on, step_of, played, run_of}
 use Rattle.lrc_protocol.proofs.Skips.{ready-goes_on}
-use Rattle.lrc_invariants.proofs.Timely.{get_within}
+use Rattle.lrc_order_laws.proofs.Timely.{get_within}
 use Rattle.lrc_world.specs.Led.{Schedule, Led, begins as starts, plays, passes, AreLed}
 use Rattle.lrc_world.specs.Moments.{RefusesNone}
 use Rattle.lrc_world.specs.Random.{choices_of, drawn_event, drawn_number, next_state, wandering}

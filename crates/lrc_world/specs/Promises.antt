@@ -6,8 +6,8 @@ use Rattle.lrc_trace.specs.Conflict.{IsRaceFree, IsFirstRace}
 use Rattle.lrc_trace.specs.Reading.{ReadsLazily}
 use Rattle.lrc_trace.specs.Synchronization.{IsWellSynchronized}
 use Rattle.lrc_exec.specs.Plain.{plain}
-use Rattle.lrc_theory.specs.Follows.{nodes_of}
-use Rattle.lrc_theory.specs.Racing.{HasNoRace, PlainToRace}
+use Rattle.lrc_plain_laws.specs.Follows.{nodes_of}
+use Rattle.lrc_plain_laws.specs.Racing.{HasNoRace, PlainToRace}
 use Rattle.lrc_node.specs.declared.end.End.{End}
 use Rattle.lrc_protocol.specs.declared.event.Event.{Event}
 use Rattle.lrc_protocol.specs.Node.{OptionsRecord}

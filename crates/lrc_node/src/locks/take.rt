@@ -3,7 +3,7 @@
 ghost use Rattle.std.specs.Prelude.{◌≡◌, ℕ, ◌<◌, IfOk, IsTrue, Some, length};
 ghost use Rattle.lrc_envelope.specs.declared.message.Message.TheVariants as messages;
 ghost use Rattle.lrc_exec.specs.declared.machine.Ask.TheVariants.{Acquire};
-ghost use Rattle.lrc_invariants.specs.Tokens.{is_awaited};
+ghost use Rattle.lrc_order_laws.specs.Tokens.{is_awaited};
 ghost use Rattle.lrc_lock.specs.Held.{forwarded, lock_at};
 ghost use Rattle.lrc_lock.specs.Lock.{manager_of};
 ghost use Rattle.lrc_lock.specs.Managed.{requested};

@@ -1,7 +1,7 @@
 // How a node takes a message.
 
 ghost use Rattle.std.specs.Prelude.{◌≡◌, ◌⊎◌, ◌<◌, true, false, IfErr, IfOk, Err};
-ghost use Rattle.lrc_local.specs.Reached.{IsReached};
+ghost use Rattle.lrc_node_laws.specs.Reached.{IsReached};
 ghost use Rattle.lrc_protocol.specs.Expected.{is_expected};
 ghost use Rattle.lrc_protocol.specs.Take.{take_effect};
 ghost use Rattle.lrc_protocol.specs.Turn.{done, is_addressed, is_repeat, take_turn, taking, turn_of, unexpected, worn};

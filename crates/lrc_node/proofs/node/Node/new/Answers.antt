@@ -1,8 +1,8 @@
 use Rattle.std.proofs.Common.{◌≡◌, ◌∙◌, [], sym, subst, ap}
 use Rattle.lrc_trace.specs.Trace.{TraceRecord}
 use Rattle.lrc_protocol.specs.Node.{Node, OptionsRecord, fresh_node}
-use Rattle.lrc_local.specs.Traced.{IsTraced}
-use Rattle.lrc_local.proofs.Noting.{traced_first}
+use Rattle.lrc_node_laws.specs.Traced.{IsTraced}
+use Rattle.lrc_node_laws.proofs.Noting.{traced_first}
 use Rattle.lrc_node.proofs.node.Node.new.Goals as goal
 
 pub invariant_of-result : goal.invariant_of-result

@@ -1,8 +1,8 @@
 use Rattle.std.proofs.Common.{◌≡◌, cond, None, Some, sym, ◌∙◌, subst}
 use Rattle.lrc_protocol.specs.Turn.{run_turn, done}
 use Rattle.lrc_protocol.specs.Log.{run}
-use Rattle.lrc_local.specs.Traced.{IsTraced}
-use Rattle.lrc_local.proofs.Noting.{traced_turn}
+use Rattle.lrc_node_laws.specs.Traced.{IsTraced}
+use Rattle.lrc_node_laws.proofs.Noting.{traced_turn}
 use Rattle.lrc_node.specs.Fault.{is_final}
 use Rattle.lrc_node.specs.Node.{Answers}
 use Rattle.lrc_node.proofs.Outcomes.{answers_run, may_run, traced_run, seen_there, seen_turn}

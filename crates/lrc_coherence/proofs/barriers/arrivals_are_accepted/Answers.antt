@@ -1,6 +1,0 @@
-use Rattle.lrc_coherence.proofs.Arriving.ArriveLaw.{arrival_expected}
-use Rattle.lrc_coherence.proofs.barriers.arrivals_are_accepted.Goals as goal
-
-pub returns : goal.returns
-returns c = λ program nodes options events world e m l runs there is at.
-    arrival_expected program nodes options events world runs e m l there is at

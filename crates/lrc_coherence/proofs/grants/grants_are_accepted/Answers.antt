@@ -1,6 +1,0 @@
-use Rattle.lrc_coherence.proofs.Stamped.Grants.{grant_expected}
-use Rattle.lrc_coherence.proofs.grants.grants_are_accepted.Goals as goal
-
-pub returns : goal.returns
-returns c = λ program nodes options events world e m l runs there is at.
-    grant_expected program nodes options events world e m l runs there is at

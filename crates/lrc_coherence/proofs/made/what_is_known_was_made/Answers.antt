@@ -1,7 +1,0 @@
-use Rattle.lrc_coherence.proofs.Closed.History.{history_of}
-use Rattle.lrc_coherence.proofs.Stamped.Law.{stamps_law}
-use Rattle.lrc_coherence.proofs.made.what_is_known_was_made.Goals as goal
-
-pub returns : goal.returns
-returns c = λ program nodes options events world e.
-    let h = history_of program nodes options events world e in (h.0, stamps_law program nodes options world h.0 h.1)

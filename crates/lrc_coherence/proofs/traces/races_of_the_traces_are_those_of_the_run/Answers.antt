@@ -1,5 +1,0 @@
-use Rattle.lrc_coherence.proofs.Traced.Laws.{races_named}
-use Rattle.lrc_coherence.proofs.traces.races_of_the_traces_are_those_of_the_run.Goals as goal
-
-pub returns : goal.returns
-returns c = λ program nodes options events world race e. races_named program nodes options events world e race

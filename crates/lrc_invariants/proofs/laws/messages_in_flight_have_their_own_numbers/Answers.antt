@@ -1,5 +1,0 @@
-use Rattle.lrc_invariants.proofs.InFlight.{all_send}
-use Rattle.lrc_invariants.proofs.laws.messages_in_flight_have_their_own_numbers.Goals as goal
-
-pub returns : goal.returns
-returns c = λ program nodes options events world from to l e at lt. ((all_send program nodes options events world e).each from l at).numbers to lt

@@ -1,9 +1,0 @@
-use Rattle.lrc_invariants.proofs.Shape.{shape_at}
-use Rattle.lrc_invariants.proofs.laws.nodes_keep_their_shape.Goals as goal
-
-pub returns-clause-setting : goal.returns-clause-setting
-returns-clause-setting c = λ program nodes options events world n l e at.
-    ((shape_at program nodes options events world n l e at).setting, (shape_at program nodes options events world n l e at).options)
-
-pub returns-clause-shape : goal.returns-clause-shape
-returns-clause-shape c = λ program nodes options events world n l e at. (shape_at program nodes options events world n l e at).shape

@@ -1,5 +1,0 @@
-use Rattle.lrc_invariants.proofs.Held.{tokened_at}
-use Rattle.lrc_invariants.proofs.laws.text_holds_what_is_held.Goals as goal
-
-pub returns : goal.returns
-returns c = λ program nodes options events world n l e at. (tokened_at program nodes options events world n l e at).holding

@@ -1,5 +1,0 @@
-use Rattle.lrc_invariants.proofs.Timed.{keeps}
-use Rattle.lrc_invariants.proofs.synchronization.every_run_keeps_time.Goals as goal
-
-pub returns : goal.returns
-returns c = λ program nodes options events world e. keeps program nodes options events world e

@@ -1,5 +1,0 @@
-use Rattle.lrc_local.proofs.Always.{awaited_at}
-use Rattle.lrc_local.proofs.laws.replies_are_of_unread_notices.Goals as goal
-
-pub returns : goal.returns
-returns c = λ node from m r e. awaited_at node r from m e

@@ -1,0 +1,28 @@
+-- What the text does next to a lock fits its token.
+use Rattle.std.proofs.Common.{◌≡◌, ℕ, true, false, sym, subst, ◌∙◌}
+use Rattle.std.specs.Prelude.{Some}
+use Rattle.lrc_exec.specs.Meaning.{Thread, acquires, releases}
+use Rattle.lrc_lock.specs.Held.{HeldRecord, lock_at, is_held}
+use Rattle.lrc_protocol.specs.Course.{Course}
+use Rattle.lrc_protocol.specs.Mail.{Wait, grant}
+use Rattle.lrc_order_laws.specs.Waiting.{next_in, acquiring}
+use Rattle.lrc_order_laws.specs.Tokens.{is_awaited, HoldsTokens, AwaitsOne}
+use Rattle.lrc_order_laws.proofs.Counts.{lock_next}
+use Rattle.lrc_order_laws.proofs.Holding.{Stands, stands}
+use Rattle.lrc_order_laws.proofs.Tokens.{awaits_it}
+
+-- a text acquires no lock that it holds, and releases none that it doesn't hold
+pub acquired : (c : Course) (held : HeldRecord) (lock : ℕ) → HoldsTokens c held → acquiring (next_in c) ≡ Some lock → is_held (lock_at held lock) ≡ false
+acquired c held lock h n =
+    let next : (x : Thread) × (next_in c ≡ Some (acquires lock x)) = lock_next (next_in c) lock n in
+    let at : Stands c (acquires lock next.0) = stands c (acquires lock next.0) next.1 in
+    sym (h at.thread at.course_is lock) ∙ at.leads_so.free
+
+pub let_go : (c : Course) (held : HeldRecord) (lock : ℕ) (after : Thread) → HoldsTokens c held → next_in c ≡ Some (releases lock after)
+    → is_held (lock_at held lock) ≡ true
+let_go c held lock after h n =
+    let at : Stands c (releases lock after) = stands c (releases lock after) n in
+    sym (h at.thread at.course_is lock) ∙ at.leads_so.holding
+
+pub granted_is_awaited : (w : Wait) (held : HeldRecord) (lock : ℕ) → AwaitsOne w held → w ≡ grant lock → is_awaited (lock_at held lock) ≡ true
+granted_is_awaited w held lock a e = awaits_it held lock (subst (λ w. AwaitsOne w held) e a)

@@ -1,0 +1,128 @@
+// What holds of every run, whatever its events. Each function is a theorem: its body is empty, and its clauses are the law.
+
+ghost use Rattle.std.specs.Prelude.{◌≡◌, ℕ, ◌+◌, ◌<◌, true, false, List, Some, length, map, slice_get, slice_index, slice_index_or, []};
+ghost use Rattle.lrc_lang.specs.declared.program.Program.{Program};
+ghost use Rattle.lrc_protocol.specs.declared.event.Event.{Event};
+ghost use Rattle.lrc_protocol.specs.Node.{OptionsRecord};
+ghost use Rattle.lrc_protocol.specs.Log.{Logged};
+ghost use Rattle.lrc_protocol.specs.World.{World, Flying, run_of};
+ghost use Rattle.lrc_exec.specs.Plain.{setting_of};
+ghost use Rattle.lrc_order_laws.specs.Shape.{HasShape};
+ghost use Rattle.lrc_time.specs.Time.{entry};
+ghost use Rattle.lrc_plain_laws.specs.Follows.{deeds_of};
+ghost use Rattle.lrc_order_laws.specs.Counts.{closes, is_arrive, is_depart, count, awaits_acquire, is_inside};
+ghost use Rattle.lrc_exec.specs.Meaning.{Thread, releases};
+ghost use Rattle.lrc_lock.specs.Held.{lock_at, is_held};
+ghost use Rattle.lrc_protocol.specs.Mail.{grant};
+ghost use Rattle.lrc_order_laws.specs.Tokens.{is_awaited, HoldsTokens, AwaitsOne};
+ghost use Rattle.lrc_order_laws.specs.Present.{IsPresent};
+ghost use Rattle.lrc_clock.specs.Times.{time_at, time_before};
+ghost use Rattle.lrc_order_laws.specs.Numbers.{numbers_between, Rises, Below};
+ghost use Rattle.lrc_trace.specs.declared.act.Deed.{Deed};
+ghost use Rattle.lrc_trace.specs.Run.{Does};
+ghost use Rattle.lrc_order_laws.specs.Rules.{FollowsRule};
+ghost use Rattle.lrc_order_laws.specs.Waiting.{next_in, acquiring, FixesNext};
+
+/// In every run each node keeps its setting and its options, and its time, its tokens and the askers that it notes have a
+/// place for each node or lock.
+pub fn nodes_keep_their_shape()
+    ensures setting { (program : Program) (nodes : ℕ) (options : OptionsRecord) (events : List Event) (world : World)
+        (n : ℕ) (l : Logged) → run_of program nodes options events ≡ Some world → slice_get world.nodes n ≡ Some l
+        → (l.node.setting ≡ setting_of program nodes n) × (l.node.options ≡ options) }
+    ensures shape { (program : Program) (nodes : ℕ) (options : OptionsRecord) (events : List Event) (world : World)
+        (n : ℕ) (l : Logged) → run_of program nodes options events ≡ Some world → slice_get world.nodes n ≡ Some l
+        → HasShape (setting_of program nodes n) l.node.locks }
+{}
+
+/// In every run what a node waits for fixes what its text does next: who waits for a lock's grant acquires that lock, who
+/// waits at a miss makes an access, and who is inside a barrier departs.
+pub fn waiting_fixes_the_next_act()
+    ensures { (program : Program) (nodes : ℕ) (options : OptionsRecord) (events : List Event) (world : World)
+        (n : ℕ) (l : Logged) → run_of program nodes options events ≡ Some world → slice_get world.nodes n ≡ Some l
+        → FixesNext l.node.mail.wait (next_in l.node.course) }
+{}
+
+/// In every run a node's own entry of its time counts the acts of its that close an interval, and one more exactly while
+/// it waits for a grant: the interval is closed when the lock is asked for, and the acquire comes with the grant.
+pub fn own_entry_counts_closes()
+    ensures { (program : Program) (nodes : ℕ) (options : OptionsRecord) (events : List Event) (world : World)
+        (n : ℕ) (l : Logged) → run_of program nodes options events ≡ Some world → slice_get world.nodes n ≡ Some l
+        → entry l.node.locks.time n ≡ count closes (deeds_of n world.acts) + awaits_acquire l.node.mail.wait }
+{}
+
+/// In every run a node's episode counts its arrivals at barriers, and it has departed as often, or once less exactly while
+/// it is inside a barrier.
+pub fn arrives_and_departs_count()
+    ensures arrives { (program : Program) (nodes : ℕ) (options : OptionsRecord) (events : List Event) (world : World)
+        (n : ℕ) (l : Logged) → run_of program nodes options events ≡ Some world → slice_get world.nodes n ≡ Some l
+        → l.node.barrier.episode ≡ count is_arrive (deeds_of n world.acts) }
+    ensures departs { (program : Program) (nodes : ℕ) (options : OptionsRecord) (events : List Event) (world : World)
+        (n : ℕ) (l : Logged) → run_of program nodes options events ≡ Some world → slice_get world.nodes n ≡ Some l
+        → count is_arrive (deeds_of n world.acts) ≡ count is_depart (deeds_of n world.acts) + is_inside l.node.mail.wait }
+{}
+
+/// In every run, while a node's text goes on, it holds just the locks whose tokens its node holds.
+pub fn text_holds_what_is_held()
+    ensures { (program : Program) (nodes : ℕ) (options : OptionsRecord) (events : List Event) (world : World)
+        (n : ℕ) (l : Logged) → run_of program nodes options events ≡ Some world → slice_get world.nodes n ≡ Some l
+        → HoldsTokens l.node.course l.node.locks.held }
+{}
+
+/// In every run a node that waits for a lock's grant awaits that lock's token and no other, and a node that waits for no
+/// grant awaits none.
+pub fn waits_for_one_lock()
+    ensures { (program : Program) (nodes : ℕ) (options : OptionsRecord) (events : List Event) (world : World)
+        (n : ℕ) (l : Logged) → run_of program nodes options events ≡ Some world → slice_get world.nodes n ≡ Some l
+        → AwaitsOne l.node.mail.wait l.node.locks.held }
+{}
+
+/// In every run a node's time is that of its last act, or zeros before any. Where it waits for a grant its own entry is one
+/// greater, for the interval that it has closed; and in a collection it has learned the barrier's time already.
+pub fn node_time_is_that_of_its_last_act()
+    ensures { (program : Program) (nodes : ℕ) (options : OptionsRecord) (events : List Event) (world : World)
+        (n : ℕ) (l : Logged) → run_of program nodes options events ≡ Some world → slice_get world.nodes n ≡ Some l
+        → IsPresent n l.node.mail.wait (time_before nodes world.acts world.times n (length world.acts)) l.node.locks.time }
+{}
+
+/// In every run the messages in flight from one node to another stand in the order of their numbers, no two with the same,
+/// and each number is among those that were sent: from `first` on, as many as the sender has counted.
+pub fn messages_in_flight_have_their_own_numbers()
+    ensures { (program : Program) (nodes : ℕ) (options : OptionsRecord) (events : List Event) (world : World)
+        (from to : ℕ) (l : Logged) → run_of program nodes options events ≡ Some world → slice_get world.nodes from ≡ Some l
+        → to < nodes → Rises options.first (options.first + slice_index l.node.mail.sent to)
+        (numbers_between from to (map (λ (flying : Flying). flying.envelope) world.flight)) }
+{}
+
+/// In every run each act does to its node's time what its kind does: a release and an arrive raise the own entry, an
+/// acquire does so and learns some time, a depart learns some time, and any other act leaves it as it is.
+pub fn each_act_follows_its_rule()
+    ensures { (program : Program) (nodes : ℕ) (options : OptionsRecord) (events : List Event) (world : World)
+        (j node : ℕ) (deed : Deed) → run_of program nodes options events ≡ Some world → Does world.acts j node deed
+        → FollowsRule node (time_before nodes world.acts world.times node j) deed (time_at world.times j) }
+{}
+
+/// In every run a node that acquires a lock next does not hold its token, one that releases a lock next holds its token, and
+/// one that waits for a grant awaits its token: no call on a lock at a node is refused for its state.
+pub fn locks_are_called_in_turn()
+    ensures acquire { (program : Program) (nodes : ℕ) (options : OptionsRecord) (events : List Event) (world : World)
+        (n : ℕ) (l : Logged) (lock : ℕ) → run_of program nodes options events ≡ Some world
+        → slice_get world.nodes n ≡ Some l → acquiring (next_in l.node.course) ≡ Some lock
+        → is_held (lock_at l.node.locks.held lock) ≡ false }
+    ensures release { (program : Program) (nodes : ℕ) (options : OptionsRecord) (events : List Event) (world : World)
+        (n : ℕ) (l : Logged) (lock : ℕ) (after : Thread) → run_of program nodes options events ≡ Some world
+        → slice_get world.nodes n ≡ Some l → next_in l.node.course ≡ Some (releases lock after)
+        → is_held (lock_at l.node.locks.held lock) ≡ true }
+    ensures grant { (program : Program) (nodes : ℕ) (options : OptionsRecord) (events : List Event) (world : World)
+        (n : ℕ) (l : Logged) (lock : ℕ) → run_of program nodes options events ≡ Some world
+        → slice_get world.nodes n ≡ Some l → l.node.mail.wait ≡ grant lock
+        → is_awaited (lock_at l.node.locks.held lock) ≡ true }
+{}
+
+/// In every run the numbers that a node has taken from another are all below the next one that the sender will give: what
+/// was taken was sent.
+pub fn messages_taken_were_sent()
+    ensures { (program : Program) (nodes : ℕ) (options : OptionsRecord) (events : List Event) (world : World)
+        (from to : ℕ) (sender receiver : Logged) → run_of program nodes options events ≡ Some world
+        → slice_get world.nodes from ≡ Some sender → slice_get world.nodes to ≡ Some receiver
+        → Below (options.first + slice_index sender.node.mail.sent to) (slice_index_or receiver.node.mail.taken from []) }
+{}

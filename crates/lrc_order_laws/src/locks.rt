@@ -1,0 +1,75 @@
+// What holds of the locks in every run: where their tokens are, who holds them, and what an acquire learns. Each function is a
+// theorem: its body is empty, and its clauses are the law.
+
+ghost use Rattle.std.specs.Prelude.{◌≡◌, ◌↔◌, ℕ, ◌+◌, ◌<◌, true, List, Some, length, slice_get};
+ghost use Rattle.lrc_lang.specs.declared.program.Program.{Program};
+ghost use Rattle.lrc_trace.specs.Synchronization.{Holds};
+ghost use Rattle.lrc_clock.specs.Times.{released_time};
+ghost use Rattle.lrc_envelope.specs.Envelope.{EnvelopeRecord};
+ghost use Rattle.lrc_envelope.specs.Records.{LockRequestRecord, LockForwardRecord, LockGrantRecord};
+ghost use Rattle.lrc_envelope.specs.declared.message.Message.TheVariants.{LockRequest, LockForward, LockGrant};
+ghost use Rattle.lrc_lock.specs.declared.state.LockState.TheVariants.{Free};
+ghost use Rattle.lrc_lock.specs.Held.{lock_at, is_held};
+ghost use Rattle.lrc_protocol.specs.declared.event.Event.{Event};
+ghost use Rattle.lrc_protocol.specs.Mail.{awaits_grant};
+ghost use Rattle.lrc_protocol.specs.Node.{OptionsRecord};
+ghost use Rattle.lrc_protocol.specs.Expected.{is_expected};
+ghost use Rattle.lrc_protocol.specs.Log.{Logged};
+ghost use Rattle.lrc_protocol.specs.World.{World, pending, run_of};
+ghost use Rattle.lrc_order_laws.specs.Tokens.{grants_of_lock, tokens_at_nodes};
+ghost use Rattle.lrc_order_laws.specs.LockLines.{KeepsLocks};
+
+/// In every run of at least one node each lock has one token: it is at one node, free or held, and no grant of the lock is
+/// pending; or it is at no node, and just one grant is pending. (The lock's token in TreadMarks: Keleher, Cox, Dwarkadas and
+/// Zwaenepoel 1994.)
+pub fn each_lock_has_one_token()
+    ensures { (program : Program) (nodes : ℕ) (options : OptionsRecord) (events : List Event) (world : World) (lock : ℕ)
+        → run_of program nodes options events ≡ Some world → 0 < nodes → lock < program.locks
+        → tokens_at_nodes lock world.nodes + length (grants_of_lock lock (pending world)) ≡ 1 }
+{}
+
+/// In every run a lock is acquired where nobody holds it, and released by its holder; and an acquire learns what the lock's
+/// last release knew, by whichever node that was made.
+pub fn locks_are_kept_in_every_run()
+    ensures { (program : Program) (nodes : ℕ) (options : OptionsRecord) (events : List Event) (world : World)
+        → run_of program nodes options events ≡ Some world → KeepsLocks nodes world.acts world.times }
+{}
+
+/// In every run a node holds a lock by its acts exactly where the lock's token is held there.
+pub fn holder_has_the_token()
+    ensures { (program : Program) (nodes : ℕ) (options : OptionsRecord) (events : List Event) (world : World)
+        (lock n : ℕ) (l : Logged) → run_of program nodes options events ≡ Some world → lock < program.locks
+        → slice_get world.nodes n ≡ Some l
+        → Holds world.acts (length world.acts) n lock ↔ (is_held (lock_at l.node.locks.held lock) ≡ true) }
+{}
+
+/// In every run the time that is kept with a free token, and that of a pending grant, is the time of the lock's last release,
+/// zeros before any.
+pub fn tokens_come_with_the_last_release()
+    ensures kept { (program : Program) (nodes : ℕ) (options : OptionsRecord) (events : List Event) (world : World)
+        (lock n : ℕ) (l : Logged) (time : List ℕ) → run_of program nodes options events ≡ Some world → lock < program.locks
+        → slice_get world.nodes n ≡ Some l → lock_at l.node.locks.held lock ≡ Free time
+        → time ≡ released_time nodes world.acts world.times lock (length world.acts) }
+    ensures granted { (program : Program) (nodes : ℕ) (options : OptionsRecord) (events : List Event) (world : World)
+        (lock place : ℕ) (envelope : EnvelopeRecord) (m : LockGrantRecord) → run_of program nodes options events ≡ Some world
+        → 0 < nodes → lock < program.locks → slice_get (grants_of_lock lock (pending world)) place ≡ Some envelope
+        → envelope.message ≡ LockGrant m
+        → m.time ≡ released_time nodes world.acts world.times lock (length world.acts) }
+{}
+
+/// In every run each pending message of locks would be accepted by its receiver now: a request and a forward as they are; and
+/// of a grant, that its receiver awaits just that lock, whatever may be said of the intervals that it carries.
+pub fn pending_lock_messages_are_expected()
+    ensures requests { (program : Program) (nodes : ℕ) (options : OptionsRecord) (events : List Event) (world : World)
+        (place : ℕ) (envelope : EnvelopeRecord) (m : LockRequestRecord) (l : Logged) → run_of program nodes options events ≡ Some world
+        → slice_get (pending world) place ≡ Some envelope → envelope.message ≡ LockRequest m → slice_get world.nodes envelope.to ≡ Some l
+        → is_expected l.node envelope.from envelope.message ≡ true }
+    ensures forwards { (program : Program) (nodes : ℕ) (options : OptionsRecord) (events : List Event) (world : World)
+        (place : ℕ) (envelope : EnvelopeRecord) (m : LockForwardRecord) (l : Logged) → run_of program nodes options events ≡ Some world
+        → slice_get (pending world) place ≡ Some envelope → envelope.message ≡ LockForward m → slice_get world.nodes envelope.to ≡ Some l
+        → is_expected l.node envelope.from envelope.message ≡ true }
+    ensures grants { (program : Program) (nodes : ℕ) (options : OptionsRecord) (events : List Event) (world : World)
+        (place : ℕ) (envelope : EnvelopeRecord) (m : LockGrantRecord) (l : Logged) → run_of program nodes options events ≡ Some world
+        → slice_get (pending world) place ≡ Some envelope → envelope.message ≡ LockGrant m → slice_get world.nodes envelope.to ≡ Some l
+        → (m.lock < program.locks) × (awaits_grant m.lock l.node.mail.wait ≡ true) }
+{}

@@ -1,0 +1,38 @@
+-- What the nodes know of the intervals that were closed: their stamps and their changes.
+use Rattle.std.specs.Prelude.{◌≡◌, ℕ, ◌<◌, Some, List, map, slice_get, All, AllPairs, Contains}
+use Rattle.lrc_page.specs.declared.changes.Change.{Change}
+use Rattle.lrc_store.specs.declared.key.Key.{Key}
+use Rattle.lrc_store.specs.Store.{StoredRecord, NoticeRecord, interval_of, stored_at, changes_at}
+use Rattle.lrc_copies.specs.Stamps.{index_of, IsCut, AreStamped}
+use Rattle.lrc_envelope.specs.Envelope.{EnvelopeRecord}
+use Rattle.lrc_envelope.specs.Records.{IndexedChangesRecord, ChangesReplyRecord}
+use Rattle.lrc_envelope.specs.declared.message.Message.TheVariants.{ChangesReply}
+use Rattle.lrc_protocol.specs.Copy.{invalid}
+use Rattle.lrc_protocol.specs.Memory.{copy_at}
+use Rattle.lrc_protocol.specs.Log.{Logged}
+use Rattle.lrc_protocol.specs.World.{World, pending}
+use Rattle.lrc_node_laws.specs.Own.{IsAttached}
+use Rattle.lrc_reading_laws.specs.Made.{AreMade, StoresJust}
+use Rattle.lrc_reading_laws.specs.Written.{made_stamps, made_changes}
+
+-- The intervals that were closed, as the nodes know them:
+pub record AreKnown (nodes : ℕ) (made : List StoredRecord) (world : World) : Type 0 where
+  -- they are those that the nodes store and tell one another of, each with the changes of all its pages;
+  pub are : AreMade (map interval_of made) world
+  pub stored : (n : ℕ) (l : Logged) → slice_get world.nodes n ≡ Some l → StoresJust (map interval_of made) l.node
+  pub attached : All IsAttached made
+  pub pages : All (λ (x : StoredRecord). AllPairs (λ (a b : NoticeRecord). a.page < b.page) x.notices) made
+  -- no two have the same node and index;
+  pub found : (x : StoredRecord) → Contains made x → stored_at made x.node (index_of made_stamps x) ≡ Some x
+  -- their stamps are cuts, and so are the times of the nodes, what they collected, and what they remember of invalid copies;
+  pub stamped : AreStamped made_stamps nodes made
+  pub time : (n : ℕ) (l : Logged) → slice_get world.nodes n ≡ Some l → IsCut made_stamps made l.node.locks.time
+  pub collected : (n : ℕ) (l : Logged) → slice_get world.nodes n ≡ Some l → IsCut made_stamps made l.node.memory.collected
+  pub since : (n : ℕ) (l : Logged) (page : ℕ) (values since : List ℕ) → slice_get world.nodes n ≡ Some l
+      → copy_at l.node.memory page ≡ invalid values since → IsCut made_stamps made since
+  -- what a node knows of changes, and what a pending reply tells of them, is what they were.
+  pub known : (n : ℕ) (l : Logged) (key : Key) (changes : List Change) → slice_get world.nodes n ≡ Some l
+      → changes_at l.node.memory.store key ≡ Some changes → made_changes made key ≡ Some changes
+  pub replied : (e : EnvelopeRecord) (m : ChangesReplyRecord) (part : IndexedChangesRecord) → Contains (pending world) e
+      → e.message ≡ ChangesReply m → Contains m.parts part
+      → made_changes made (record { node = e.from; index = part.index; page = m.page }) ≡ Some part.changes

@@ -1,5 +1,0 @@
-use Rattle.std.proofs.Common.{◌≡◌, length}
-use Rattle.node_tests.proofs.mails.take_half.Given as goal
-
-abbrev pub invariant-loop-half : goal.invariant-loop-half
-invariant-loop-half l = length l.mail.taken ≡ 2

@@ -1,0 +1,11 @@
+use Rattle.std.proofs.Common.{refl}
+use Rattle.lrc_page.specs.Page.{zero_page}
+use Rattle.test_parts.proofs.protocol.a_grant_hands_on_what_was_learned.Goals as goal
+
+pub returns-clause-reads : goal.returns-clause-reads
+unfolding zero_page
+returns-clause-reads c = refl
+
+pub returns-clause-messages : goal.returns-clause-messages
+unfolding zero_page
+returns-clause-messages c = refl

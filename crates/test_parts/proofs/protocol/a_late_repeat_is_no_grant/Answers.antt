@@ -1,0 +1,7 @@
+use Rattle.std.proofs.Common.{refl}
+use Rattle.lrc_page.specs.Page.{zero_page}
+use Rattle.test_parts.proofs.protocol.a_late_repeat_is_no_grant.Goals as goal
+
+pub returns : goal.returns
+unfolding zero_page
+returns c = refl
