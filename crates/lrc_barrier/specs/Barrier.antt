@@ -174,6 +174,11 @@ is_accepted (refuses fault) = false
 is_accepted (waits next) = true
 is_accepted (departs departures next) = true
 
+-- the Clean isn't refused
+abbrev pub is_clean : CleanStep → Bool
+is_clean (refuses_clean fault) = false
+is_clean _ = true
+
 abbrev pub clean_answer : CleanStep → Result (Option ℕ) BarrierFault
 clean_answer (refuses_clean fault) = Err fault
 clean_answer (awaits next) = Ok None

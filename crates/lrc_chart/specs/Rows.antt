@@ -1,7 +1,7 @@
 -- Rows of a picture: the turns that make an act, or send or take a message.
 use Rattle.std.specs.Prelude.{ℕ, Bool, true, false, ◌||◌, Some, None, is_some, List, [], ◌∷◌, if◌then◌else◌, take}
 use Rattle.lrc_envelope.specs.Envelope.{EnvelopeRecord}
-use Rattle.lrc_protocol.specs.Log.{Input, run, taken}
+use Rattle.lrc_protocol.specs.Run.{Input, run, taken}
 use Rattle.lrc_turns.specs.Turns.{Made}
 use Rattle.lrc_turns.specs.TurnsText.{acts_in}
 use Rattle.lrc_show.specs.Each.{each}

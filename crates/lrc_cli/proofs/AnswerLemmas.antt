@@ -6,7 +6,7 @@ use Rattle.lrc_lang.specs.declared.fault.FaultKind.{FaultKind}
 use Rattle.lrc_lang.specs.declared.fault.FaultKind.TheVariants as faults
 use Rattle.lrc_lang.specs.declared.fault.ParseFault.{ParseFault}
 use Rattle.lrc_lang.specs.declared.program.Program.{Program}
-use Rattle.lrc_protocol.specs.Log.{EntryRecord}
+use Rattle.lrc_protocol.specs.Run.{EntryRecord}
 use Rattle.lrc_protocol.specs.declared.event.Event.{Event}
 use Rattle.lrc_world.specs.declared.report.Brief.{Brief}
 use Rattle.lrc_cli.specs.Answer.{Answers, IsFault, IsTextFault, IsTextOf, Prints}

@@ -11,8 +11,8 @@ use Rattle.lrc_words.specs.declared.choice.RunOptions.{RunOptions}
 use Rattle.lrc_words.specs.declared.choice.Way.{Way}
 use Rattle.lrc_words.specs.declared.choice.Way.TheVariants.{Rounds, Random}
 use Rattle.lrc_judge.specs.Races.{AreNamedRaces}
-use Rattle.lrc_protocol.specs.Log.{EntryRecord}
 use Rattle.lrc_protocol.specs.Node.{OptionsRecord}
+use Rattle.lrc_protocol.specs.Run.{EntryRecord}
 use Rattle.lrc_world.specs.Random.{IsWandering}
 use Rattle.lrc_world.specs.Report.{AreAll, IsBriefOf}
 use Rattle.lrc_world.specs.Rounds.{AreRounds}

@@ -9,9 +9,8 @@ use Rattle.lrc_node.specs.declared.end.End.{End}
 use Rattle.lrc_envelope.specs.declared.picker.Picker.{Picker}
 use Rattle.lrc_post.specs.Mailbox.{MailboxRecord}
 use Rattle.lrc_protocol.specs.declared.event.Event.{Event}
-use Rattle.lrc_protocol.specs.Log.{EntryRecord}
 use Rattle.lrc_protocol.specs.Node.{OptionsRecord}
-use Rattle.lrc_protocol.specs.World.{World as Run, run_of}
+use Rattle.lrc_protocol.specs.Run.{EntryRecord, World as Run, run_of}
 use Rattle.lrc_world.specs.Random.{IsWandering, WanderingWearsOut}
 use Rattle.lrc_world.specs.Report.{AreAll, IsWornBy, end_of_logged}
 use Rattle.lrc_world.specs.Rounds.{AreRounds, RoundsWearOut}

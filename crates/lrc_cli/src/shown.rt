@@ -4,7 +4,7 @@ ghost use Rattle.std.specs.Prelude.{◌≡◌, ◌<◌, ℕ, All, IfErr, IfOk, L
 ghost use Rattle.lrc_cli.specs.Answer.{IsFault, IsTextOf, Prints};
 ghost use Rattle.lrc_cli.specs.Runs.{IsReported, account_of, account_with};
 ghost use Rattle.lrc_cli.specs.Shown.{IsExplained, IsShowFault, IsShown, is_brief, shown_status};
-ghost use Rattle.lrc_protocol.specs.Log.{EntryRecord};
+ghost use Rattle.lrc_protocol.specs.Run.{EntryRecord};
 ghost use Rattle.lrc_protocol.specs.declared.event.Event.{Event as AnyEvent};
 ghost use Rattle.lrc_run.specs.Run.{turns_of};
 ghost use Rattle.lrc_stats.specs.StatsText.{stats_text};

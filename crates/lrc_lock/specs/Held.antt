@@ -75,6 +75,11 @@ pass_of (refuses fault) = None
 pass_of (stays next) = None
 pass_of (passes pass) = Some pass
 
+-- the call takes what comes
+abbrev pub is_taken : LockStep → Bool
+is_taken (refuses fault) = false
+is_taken _ = true
+
 -- what a call answers that may be refused
 abbrev pub answer_of : LockStep → Result (Option Pass) LockFault
 answer_of (refuses fault) = Err fault

@@ -33,6 +33,14 @@ first_managed me nodes locks = record {
   recent = map (manager_of nodes) (range_with_len 0 locks);
 }
 
+-- who asked last for a lock
+abbrev pub recent_asker : ManagedRecord → ℕ → ℕ
+recent_asker managed lock = slice_index managed.recent lock
+
+-- the same once this node has asked for it
+abbrev pub with_asker : ManagedRecord → ℕ → ℕ → ManagedRecord
+with_asker managed lock asker = record managed { recent = slice_set managed.recent lock asker }
+
 -- what a request does: nothing, or it goes on to a node
 pub data Requested : Type 0 where
   refuses : LockFault → Requested
@@ -42,9 +50,7 @@ pub data Requested : Type 0 where
 abbrev pub requested : ManagedRecord → ℕ → ℕ → Requested
 requested managed lock asker =
     if manager_of managed.nodes lock == managed.me
-    then forwards
-    (slice_index managed.recent lock)
-    (record managed { recent = slice_set managed.recent lock asker })
+    then forwards (recent_asker managed lock) (with_asker managed lock asker)
     else refuses NotMine
 
 -- what the manager answers

@@ -17,9 +17,9 @@ use Rattle.lrc_protocol.proofs.Numbers.{ranges-append}
 use Rattle.lrc_store.proofs.Ranks.{is_lt-nat_cmp}
 use Rattle.lrc_envelope.specs.Records.{AreIndices}
 use Rattle.lrc_envelope.specs.declared.message.Message.TheVariants.{PageRequest}
-use Rattle.lrc_protocol.specs.Fetch.{Base, unneeded, due, come, Asked, Need, some_asked, indices_of, asked_of}
-use Rattle.lrc_protocol.specs.Mail.{Letter}
-use Rattle.lrc_protocol.specs.Letters.{letter, page_request_of, changes_request_of, requests_of}
+use Rattle.lrc_protocol.specs.Pages.{Base, unneeded, due, come, Asked, Need, some_asked, indices_of, asked_of}
+use Rattle.lrc_protocol.specs.Node.{Letter}
+use Rattle.lrc_protocol.specs.Turn.{letter, page_request_of, changes_request_of, requests_of}
 use Rattle.lrc_mail.specs.Need.{AreAskable, DueBelow}
 
 -- a maker's keys, and their indices

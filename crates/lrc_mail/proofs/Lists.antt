@@ -6,7 +6,7 @@ use Rattle.std.specs.List.{All, AllPairs}
 use Rattle.std.proofs.lemmas.List.{ext_get_or, get_or_default}
 use Rattle.std.proofs.lemmas.Bool.{false_from_ne_true, ne_eqb}
 use lib.Pointwise.{pointwise, bytes_decides}
-use Rattle.lrc_protocol.specs.Fetch.{Need, come, with_page}
+use Rattle.lrc_protocol.specs.Pages.{Need, come, with_page}
 
 -- ---- the first elements changed, the others as they were
 

@@ -5,7 +5,8 @@ use Rattle.std.proofs.lemmas.List.{length-set, append-nil}
 use Rattle.std.proofs.lemmas.List.Elements.{All-tail}
 use Rattle.std.proofs.lemmas.Option.{same_Some}
 use Rattle.lrc_envelope.specs.Envelope.{EnvelopeRecord}
-use Rattle.lrc_protocol.specs.Mail.{Letter, numbered, envelope_of, MOST_NUMBER}
+use Rattle.lrc_protocol.specs.Times.{MOST_NUMBER}
+use Rattle.lrc_protocol.specs.Node.{Letter, numbered, envelope_of}
 use Rattle.lrc_mail.specs.Sent.{AreCounts, number_after}
 
 -- what is numbered, behind what was numbered before

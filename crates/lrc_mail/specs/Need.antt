@@ -2,7 +2,7 @@
 use Rattle.std.specs.Prelude.{◌≡◌, ◌≢◌, ℕ, ◌<◌, ◌≤◌, List, All, AllPairs, length}
 use Rattle.lrc_page.specs.declared.TheConstants.{MOST_PAGES}
 use Rattle.lrc_store.specs.declared.key.Key.{Key}
-use Rattle.lrc_protocol.specs.Fetch.{Base, due, Asked}
+use Rattle.lrc_protocol.specs.Pages.{Base, due, Asked}
 
 -- keys of which changes may be asked: indices begin at 1, and no interval of a maker is there twice
 pub record AreAskable (keys : List Key) : Type 0 where

@@ -1,6 +1,6 @@
 -- A base copy as the protocol's machine sees it.
-use Rattle.lrc_protocol.specs.Fetch.{unneeded, due, come}
-use Rattle.lrc_protocol.specs.Fetch as fetch
+use Rattle.lrc_protocol.specs.Pages.{unneeded, due, come}
+use Rattle.lrc_protocol.specs.Pages as fetch
 use Rattle.lrc_mail.specs.declared.base.Base.{Base}
 use Rattle.lrc_mail.specs.declared.base.Base.TheVariants.{Unneeded, Due, Come}
 

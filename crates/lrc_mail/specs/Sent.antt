@@ -1,7 +1,7 @@
 -- How many messages were sent.
 use Rattle.std.specs.Prelude.{ℕ, ◌+◌, ◌≤◌, List, All, length, Option, Some, None, nat_le, if◌then◌else◌}
 use Rattle.lrc_envelope.specs.declared.limits.TheConstants.{MOST_NODES}
-use Rattle.lrc_protocol.specs.Mail.{MOST_NUMBER}
+use Rattle.lrc_protocol.specs.Times.{MOST_NUMBER}
 
 -- a count for each of at most so many nodes, no more than there are numbers
 pub record AreCounts (sent : List ℕ) : Type 0 where

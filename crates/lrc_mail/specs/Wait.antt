@@ -1,6 +1,6 @@
 -- What is awaited, as the protocol's machine sees it.
-use Rattle.lrc_protocol.specs.Mail.{nothing, grant, departure, access, upkeep, discard}
-use Rattle.lrc_protocol.specs.Mail as mail
+use Rattle.lrc_protocol.specs.Node.{nothing, grant, departure, access, upkeep, discard}
+use Rattle.lrc_protocol.specs.Node as mail
 use Rattle.lrc_mail.specs.declared.wait.Wait.{Wait}
 use Rattle.lrc_mail.specs.declared.wait.Wait.TheVariants.{Nothing, Grant, Departure, Access, Upkeep, Discard}
 

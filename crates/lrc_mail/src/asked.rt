@@ -4,7 +4,7 @@ ghost use Rattle.std.specs.Prelude.{◌≡◌, ◌≤◌, ◌==◌, ◌++◌, If
 ghost use Rattle.std.specs.List.{list_any};
 ghost use Rattle.std.specs.Option.{option_to_list};
 ghost use lib.Pointwise.{pointwise};
-ghost use Rattle.lrc_protocol.specs.Fetch.{asked_of, asks, indices_of, some_asked};
+ghost use Rattle.lrc_protocol.specs.Pages.{asked_of, asks, indices_of, some_asked};
 ghost use Rattle.lrc_mail.specs.Need.{AreAskable};
 
 use lrc_envelope::{IndexedChanges, Indices};
@@ -22,7 +22,7 @@ pub struct Asked {
 }
 
 impl Model for Asked {
-    ghost use Rattle.lrc_protocol.specs.Fetch as fetch;
+    ghost use Rattle.lrc_protocol.specs.Pages as fetch;
 
     ghost Value = { fetch.Asked };
 

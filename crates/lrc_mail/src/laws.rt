@@ -5,8 +5,8 @@ ghost use Rattle.std.specs.Prelude.{◌≡◌, ℕ, ◌<◌, ◌≤◌, List, Al
 ghost use Rattle.std.specs.List.{range_with_len};
 ghost use Rattle.lrc_store.specs.declared.key.Key.{Key};
 ghost use Rattle.lrc_store.specs.Store.{StoreRecord, IsStore, IsMissing};
-ghost use Rattle.lrc_protocol.specs.Fetch.{Need, asked_of};
-ghost use Rattle.lrc_protocol.specs.Letters.{requests_of};
+ghost use Rattle.lrc_protocol.specs.Pages.{Need, asked_of};
+ghost use Rattle.lrc_protocol.specs.Turn.{requests_of};
 ghost use Rattle.lrc_mail.specs.declared.numbers.Span.{Span};
 ghost use Rattle.lrc_mail.specs.Need.{AreAskable, DueBelow};
 ghost use Rattle.lrc_mail.specs.Spans.{AreSpans, numbers_of};

@@ -12,7 +12,7 @@ pub struct Letter {
 }
 
 impl Model for Letter {
-    ghost use Rattle.lrc_protocol.specs.Mail as mail;
+    ghost use Rattle.lrc_protocol.specs.Node as mail;
 
     ghost Value = { mail.Letter };
 

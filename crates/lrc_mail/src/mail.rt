@@ -3,7 +3,8 @@
 ghost use Rattle.std.specs.Prelude.{◌≡◌, ◌+◌, ◌<◌, ◌≤◌, Some, None, Err, All, IfOk, OnErr, OnOk, OnSome, false, [], length, replicate, slice_index, slice_set};
 ghost use Rattle.lrc_envelope.specs.declared.limits.TheConstants.{MOST_NODES};
 ghost use Rattle.lrc_mail.specs.declared.fault.MailFault.TheVariants.{Worn};
-ghost use Rattle.lrc_protocol.specs.Mail.{fresh_mail, nothing, was_taken, with_taken, numbered, MOST_NUMBER};
+ghost use Rattle.lrc_protocol.specs.Times.{MOST_NUMBER};
+ghost use Rattle.lrc_protocol.specs.Node.{fresh_mail, nothing, was_taken, with_taken, numbered};
 ghost use Rattle.lrc_mail.specs.Sent.{AreCounts, number_after};
 
 use crate::fault::MailFault;
@@ -25,7 +26,7 @@ pub struct Mail {
 }
 
 impl Model for Mail {
-    ghost use Rattle.lrc_protocol.specs.Mail as mail;
+    ghost use Rattle.lrc_protocol.specs.Node as mail;
 
     ghost Value = { mail.Mail };
 

@@ -2,8 +2,8 @@
 
 ghost use Rattle.std.specs.Prelude.{◌≡◌, ◌<◌, ◌++◌, IfOk, OnOk, map};
 ghost use Rattle.lrc_page.specs.declared.TheConstants.{MOST_PAGES};
-ghost use Rattle.lrc_protocol.specs.Fetch.{asked_of, is_met, awaits_changes, awaits_page, with_changes, with_page};
-ghost use Rattle.lrc_protocol.specs.Letters.{requests_of};
+ghost use Rattle.lrc_protocol.specs.Pages.{asked_of, is_met, awaits_changes, awaits_page, with_changes, with_page};
+ghost use Rattle.lrc_protocol.specs.Turn.{requests_of};
 
 use crate::asked::{Asked, ask, drop_maker, is_any_of};
 use crate::base::Base;
@@ -26,7 +26,7 @@ pub struct Need {
 }
 
 impl Model for Need {
-    ghost use Rattle.lrc_protocol.specs.Fetch as fetch;
+    ghost use Rattle.lrc_protocol.specs.Pages as fetch;
 
     ghost Value = { fetch.Need };
 

@@ -3,7 +3,7 @@
 ghost use Rattle.std.specs.Prelude.{◌≡◌, ◌<◌, ◌≤◌, ◌++◌, All, IfOk, OnOk, length, map, flat_map};
 ghost use Rattle.lrc_page.specs.declared.TheConstants.{MOST_PAGES};
 ghost use Rattle.lrc_envelope.specs.declared.message.Message.TheVariants as messages;
-ghost use Rattle.lrc_protocol.specs.Letters.{letter, changes_request_of, requests_of};
+ghost use Rattle.lrc_protocol.specs.Turn.{letter, changes_request_of, requests_of};
 
 use crate::asked::Asked;
 use crate::letter::Letter;

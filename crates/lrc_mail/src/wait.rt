@@ -3,9 +3,9 @@
 ghost use Rattle.std.specs.Prelude.{◌≡◌, ◌≢◌, AllPairs, map};
 ghost use Rattle.std.specs.List.{list_any, list_all};
 ghost use Rattle.std.specs.Option.{option_copied};
-ghost use Rattle.lrc_protocol.specs.Fetch.{awaits_changes, awaits_page, with_changes, with_page};
-ghost use Rattle.lrc_protocol.specs.Mail.{is_idle, needs_of, awaits_grant, awaits_departure, awaits_discard, collection_of};
-ghost use Rattle.lrc_protocol.specs.Waits.{with_needs};
+ghost use Rattle.lrc_protocol.specs.Pages.{awaits_changes, awaits_page, with_changes, with_page};
+ghost use Rattle.lrc_protocol.specs.Node.{is_idle, needs_of, awaits_grant, awaits_departure, awaits_discard, collection_of};
+ghost use Rattle.lrc_protocol.specs.Turn.{with_needs};
 
 use crate::need::Need;
 use lrc_envelope::IndexedChanges;
@@ -24,9 +24,10 @@ pub struct Collection {
 }
 
 impl Model for Collection {
-    ghost use Rattle.lrc_protocol.specs.Mail as mail;
+    ghost use Rattle.lrc_protocol.specs.Node as mail;
+    ghost use Rattle.lrc_protocol.specs.Barriers as barriers;
 
-    ghost Value = { mail.Collection };
+    ghost Value = { barriers.Collection };
 
     ghost view = { λ c. record { time = c.time; kept = c.kept } };
 }

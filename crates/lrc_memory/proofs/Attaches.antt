@@ -10,11 +10,10 @@ use Rattle.lrc_store.specs.Store.{NoticeRecord, StoreRecord, notice_at, unread, 
 use Rattle.lrc_store.proofs.Lookups.{notice_at-attached_other}
 use Rattle.lrc_table.specs.PageCopy.{settled}
 use Rattle.lrc_table.proofs.Copies.{pending-settled}
-use Rattle.lrc_protocol.specs.Memory.{changes_or_none}
+use Rattle.lrc_protocol.specs.Pages.{changes_or_none, with_part}
 use Rattle.lrc_memory.proofs.Mending.{changes-over}
 use Rattle.lrc_table.specs.Table.{copy_at}
 use Rattle.lrc_envelope.specs.Records.{IndexedChangesRecord, AreParts}
-use Rattle.lrc_protocol.specs.Take.{with_part}
 use Rattle.lrc_memory.specs.View.{Kept, NodeMemory, IsKept, seen, node_seen, unmade, with_memory}
 use Rattle.lrc_memory.proofs.Overlays.{notice_at-over, notice_seen, over-attached}
 use Rattle.lrc_memory.proofs.Settling.{kept-store, unmade-on, unmade-here, settled_at, seen-settled}

@@ -27,9 +27,8 @@ use Rattle.lrc_table.specs.PageCopy.{PageCopy, IsWhole, fresh, is_written, pendi
 use Rattle.lrc_table.specs.Table.{Table, copy_at, with_each, written_pages}
 use Rattle.lrc_table.proofs.Copies.{is_written-says, pending-closed, pending-untwinned, whole-twin}
 use Rattle.lrc_table.proofs.Tables.{contains-written}
-use Rattle.lrc_protocol.specs.Copy as copy
-use Rattle.lrc_protocol.specs.Copy.{Copy, absent}
-use Rattle.lrc_protocol.specs.Memory.{all_changes, closed_interval, with_own, with_interval}
+use Rattle.lrc_protocol.specs.Pages as copy
+use Rattle.lrc_protocol.specs.Pages.{Copy, absent, all_changes, closed_interval, with_own, with_interval}
 use Rattle.lrc_memory.specs.View.{Kept, NodeMemory, AreSized, IsKept, seen, node_seen, seen_in, seen_copy}
 use Rattle.lrc_memory.specs.View.{unmade, notice_over, stored_over, store_over, with_memory}
 use Rattle.lrc_memory.proofs.Overlays.{map-alike, map-both, map-append, is_at-over, stored-over_new}

@@ -7,8 +7,8 @@ use Rattle.lrc_table.specs.declared.slot.State.TheVariants.{Valid, Written, Inva
 use Rattle.lrc_page.specs.Place.{page_of, offset_of}
 use Rattle.lrc_table.specs.PageCopy.{PageCopy, is_readable as may_read, read_at, fresh}
 use Rattle.lrc_table.specs.Table.{copy_at as copy_in}
-use Rattle.lrc_protocol.specs.Copy.{Copy, absent, is_readable, values_of}
-use Rattle.lrc_protocol.specs.Memory.{copy_at, value_at, base_at}
+use Rattle.lrc_protocol.specs.Pages.{Copy, absent, is_readable, values_of, copy_at, value_at}
+use Rattle.lrc_protocol.specs.Barriers.{base_at}
 use Rattle.lrc_memory.specs.View.{Kept, NodeMemory, seen, node_seen, seen_in, seen_copy}
 
 -- there are as many copies

@@ -19,8 +19,9 @@ use Rattle.lrc_table.specs.declared.slot.State.{State}
 use Rattle.lrc_table.specs.declared.slot.State.TheVariants.{Valid, Written, Invalid, Absent}
 use Rattle.lrc_table.specs.PageCopy.{PageCopy, fresh, pending_changes, without_twin, without_base, dropped}
 use Rattle.lrc_table.specs.Table.{Table, copy_at, with_each}
-use Rattle.lrc_protocol.specs.Copy as copy
-use Rattle.lrc_protocol.specs.Memory as memory
+use Rattle.lrc_protocol.specs.Pages as copy
+use Rattle.lrc_protocol.specs.Pages as memory
+use Rattle.lrc_protocol.specs.Barriers as barriers
 use Rattle.lrc_memory.specs.View.{Kept, NodeMemory, AreSized, IsKept, SameMemory, seen, node_seen, seen_in}
 use Rattle.lrc_memory.specs.View.{seen_copy, unmade, notice_over, stored_over, store_over, with_memory}
 use Rattle.lrc_memory.specs.Steps.{kept_base, without_bases}
@@ -259,7 +260,7 @@ kept-collected kept time now is long last = record {
 
 pub seen-collected : (kept : Kept) (n : NodeMemory) (time : List ℕ) (in_step : Bool) → node_seen kept ≡ n → IsKept kept → IsClosed n.memory
     → entry n.memory.store.last n.me ≤ entry time n.me
-    → node_seen (collected kept time in_step) ≡ with_memory n (memory.collected_at n.me time n.memory)
+    → node_seen (collected kept time in_step) ≡ with_memory n (barriers.collected_at n.me time n.memory)
 seen-collected kept n time in_step is sound closed own =
     let after = collected kept time in_step in
     let count = length kept.table.copies in
@@ -286,7 +287,7 @@ seen-collected kept n time in_step is sound closed own =
     ∙ ap (λ bs. with_memory (node_seen kept)
     (record (seen after) { store = discarded (seen kept).store time; copies = map copy.dropped (seen kept).copies; bases = bs }))
     (bases-swept kept)
-    ∙ ap (λ (n : NodeMemory). with_memory n (memory.collected_at n.me time n.memory)) is
+    ∙ ap (λ (n : NodeMemory). with_memory n (barriers.collected_at n.me time n.memory)) is
   where
     nothing : Option (List Change)
     nothing = None

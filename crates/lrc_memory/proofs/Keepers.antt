@@ -13,7 +13,8 @@ use Rattle.lrc_store.specs.Chains.{last_from}
 use Rattle.lrc_store.specs.Interval.{IntervalRecord}
 use Rattle.lrc_store.specs.Lists.{keys_of, pages_noted, first_on_page_of}
 use Rattle.lrc_store.specs.Store.{StoreRecord, intervals_of, key_of}
-use Rattle.lrc_protocol.specs.Memory.{is_named, kept_pages}
+use Rattle.lrc_protocol.specs.Times.{is_named}
+use Rattle.lrc_protocol.specs.Barriers.{kept_pages}
 use Rattle.lrc_memory.specs.View.{Kept, NodeMemory, node_seen, unmade}
 use Rattle.lrc_memory.proofs.Overlays.{intervals-over}
 

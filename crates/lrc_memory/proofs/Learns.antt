@@ -22,11 +22,10 @@ use Rattle.lrc_table.specs.PageCopy as page_copy
 use Rattle.lrc_table.specs.Table.{Table, copy_at, with_copy}
 use Rattle.lrc_table.proofs.Copies.{copy_of}
 use Rattle.lrc_table.proofs.Tables.{copy_at-with_copy, copy_at-with_copy_other}
-use Rattle.lrc_protocol.specs.Copy as copy
-use Rattle.lrc_protocol.specs.Copy.{Copy, absent}
-use Rattle.lrc_protocol.specs.Memory.{Memory, learned, is_named}
-use Rattle.lrc_protocol.specs.Memory as memory
-use Rattle.lrc_protocol.specs.Expected.{indices_by}
+use Rattle.lrc_protocol.specs.Pages as copy
+use Rattle.lrc_protocol.specs.Times.{is_named, indices_by}
+use Rattle.lrc_protocol.specs.Pages.{Copy, absent, Memory, learned}
+use Rattle.lrc_protocol.specs.Pages as memory
 use Rattle.lrc_memory.specs.View.{Kept, NodeMemory, AreSized, IsKept, SameMemory, WasLast, seen, node_seen}
 use Rattle.lrc_memory.specs.View.{seen_in, seen_copy, settled_store, unmade, store_over, with_memory}
 use Rattle.lrc_memory.specs.Turns.{CanBeAdded, IsInRange}

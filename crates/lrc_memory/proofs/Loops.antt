@@ -18,7 +18,7 @@ use Rattle.lrc_store.specs.Store.{NoticeRecord, StoredRecord, StoreRecord, notic
 use Rattle.lrc_table.specs.PageCopy.{PageCopy, fresh, without_base, patched}
 use Rattle.lrc_table.specs.Table.{Table, copy_at, with_copy}
 use Rattle.lrc_table.proofs.Tables.{copy_at-with_copy, copy_at-with_copy_other}
-use Rattle.lrc_protocol.specs.Memory.{changes_or_none}
+use Rattle.lrc_protocol.specs.Pages.{changes_or_none}
 use Rattle.lrc_memory.specs.View.{AreSized}
 use Rattle.lrc_memory.specs.Steps.{patched_with, kept_base, without_bases}
 

@@ -11,7 +11,8 @@ use Rattle.lrc_store.specs.Interval.{IntervalRecord}
 use Rattle.lrc_store.specs.Lists.{keys_of, notices_of, pages_noted, first_on_page_of, next_on_page_of}
 use Rattle.lrc_store.specs.Store.{StoreRecord, intervals_of, key_of}
 use Rattle.lrc_store.proofs.Chained.{Reaches, reaches, picked_more, last_at-map}
-use Rattle.lrc_protocol.specs.Memory.{is_named, least, namers_of}
+use Rattle.lrc_protocol.specs.Times.{is_named}
+use Rattle.lrc_protocol.specs.Barriers.{least, namers_of}
 use Rattle.lrc_memory.proofs.Overlays.{map-append}
 
 -- the lower of two, where either may be missing

@@ -13,10 +13,9 @@ use Rattle.lrc_table.specs.declared.slot.State.TheVariants.{Valid, Written, Inva
 use Rattle.lrc_table.specs.PageCopy.{PageCopy, IsWhole, fresh, installed, is_readable, pending_changes, repaired}
 use Rattle.lrc_table.specs.Table.{Table, copy_at, with_copy}
 use Rattle.lrc_table.proofs.Tables.{copy_at-with_copy}
-use Rattle.lrc_protocol.specs.Copy as copy
-use Rattle.lrc_protocol.specs.Memory.{changes_or_none}
-use Rattle.lrc_protocol.specs.Memory as memory
-use Rattle.lrc_protocol.specs.Fetch.{Base, unneeded, due, come, first_values}
+use Rattle.lrc_protocol.specs.Pages as copy
+use Rattle.lrc_protocol.specs.Pages.{changes_or_none, Base, unneeded, due, come, first_values}
+use Rattle.lrc_protocol.specs.Pages as memory
 use Rattle.lrc_memory.specs.View.{Kept, NodeMemory, IsKept, seen, node_seen, seen_in, unmade, store_over, with_memory}
 use Rattle.lrc_memory.specs.Turns.{is_mendable}
 use Rattle.lrc_memory.specs.Steps.{begun_with, patched_with}

@@ -11,11 +11,10 @@ use Rattle.lrc_table.specs.declared.slot.State.{State}
 use Rattle.lrc_table.specs.declared.slot.State.TheVariants.{Valid, Written, Invalid, Absent}
 use Rattle.lrc_table.specs.PageCopy.{pending_changes}
 use Rattle.lrc_table.specs.Table.{copy_at}
-use Rattle.lrc_protocol.specs.Memory.{lacking, lacking_in, keeper_at}
-use Rattle.lrc_protocol.specs.Fetch.{Base, Need, base_of, asked_of, unknown_of, need_of}
+use Rattle.lrc_protocol.specs.Pages.{lacking, lacking_in, keeper_at, Base, Need, base_of, asked_of, unknown_of, need_of}
 use Rattle.lrc_memory.specs.Steps.{base_in}
 use Rattle.lrc_memory.proofs.Mending.{changes-over, unmade-none}
-use Rattle.lrc_protocol.specs.Memory as memory
+use Rattle.lrc_protocol.specs.Pages as memory
 use Rattle.lrc_memory.specs.View.{Kept, NodeMemory, seen, node_seen, seen_in, unmade}
 use Rattle.lrc_memory.proofs.Overlays.{intervals-over}
 use Rattle.lrc_memory.proofs.Copies.{copy-seen}

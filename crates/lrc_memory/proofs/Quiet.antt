@@ -9,8 +9,9 @@ use Rattle.lrc_table.specs.declared.slot.State.TheVariants.{Valid, Written, Inva
 use Rattle.lrc_table.specs.PageCopy.{PageCopy, pending_changes, with_base}
 use Rattle.lrc_table.specs.Table.{Table, copy_at, with_copy}
 use Rattle.lrc_table.proofs.Tables.{copy_at-with_copy, copy_at-with_copy_other}
-use Rattle.lrc_protocol.specs.Copy as copy
-use Rattle.lrc_protocol.specs.Memory as memory
+use Rattle.lrc_protocol.specs.Pages as copy
+use Rattle.lrc_protocol.specs.Pages as memory
+use Rattle.lrc_protocol.specs.Barriers as barriers
 use Rattle.lrc_memory.specs.View.{Kept, NodeMemory, IsKept, seen, node_seen, seen_in, seen_copy, unmade, store_over, with_memory}
 use Rattle.lrc_memory.proofs.Overlays.{over-alike}
 use Rattle.lrc_memory.proofs.Copies.{copy-seen, within-seen}
@@ -99,7 +100,7 @@ module _ (kept : Kept) (page : ℕ) (within : page < length kept.table.copies) w
 
   pub seen-based : {E : Type 0} (r : Result (Unit {0}) E) (table : Table) (n : NodeMemory) → node_seen kept ≡ n
       → (copy_at kept.table page).state ≡ Valid → OnOk r (table ≡ based)
-      → OnOk r (node_seen (with_table kept table) ≡ with_memory n (memory.with_base n.memory page))
+      → OnOk r (node_seen (with_table kept table) ≡ with_memory n (barriers.with_base n.memory page))
   seen-based (Err e) table n is valid ok = tt
   seen-based (Ok x) table n is valid ok =
       ap (λ t. node_seen (with_table kept t)) ok
@@ -108,7 +109,7 @@ module _ (kept : Kept) (page : ℕ) (within : page < length kept.table.copies) w
       (map-set (λ (c : PageCopy). c.base) kept.table.copies page (with_base (copy_at kept.table page))
       ∙ ap (λ vs. set (map (λ (c : PageCopy). c.base) kept.table.copies) page (Some vs))
       (sym (ap copy.values_of (copy-seen kept page within ∙ ap (λ state. seen_in state (get_or kept.since page []) (copy_at kept.table page)) valid))))
-      ∙ ap (λ (n : NodeMemory). with_memory n (memory.with_base n.memory page)) is
+      ∙ ap (λ (n : NodeMemory). with_memory n (barriers.with_base n.memory page)) is
 
 -- a readable copy that is not written is valid
 pub valid-seen : (kept : Kept) (n : NodeMemory) (page : ℕ) → node_seen kept ≡ n → page < length n.memory.copies

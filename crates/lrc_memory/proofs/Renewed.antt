@@ -9,7 +9,8 @@ use Rattle.std.proofs.lemmas.List.FromFn.{length-enumerate_from, get_or-enumerat
 use Rattle.std.proofs.lemmas.List.Elements.{All-head, All-tail, All-cons}
 use Rattle.lrc_store.specs.Interval.{IntervalRecord}
 use Rattle.lrc_store.specs.Store.{StoreRecord, intervals_of}
-use Rattle.lrc_protocol.specs.Memory.{is_named, least, namers_of, with_keepers}
+use Rattle.lrc_protocol.specs.Times.{is_named}
+use Rattle.lrc_protocol.specs.Barriers.{least, namers_of, with_keepers}
 use Rattle.lrc_memory.specs.View.{Kept, NodeMemory, IsKept, node_seen, unmade, with_memory}
 use Rattle.lrc_memory.proofs.Overlays.{intervals-over}
 

@@ -25,9 +25,8 @@ use Rattle.lrc_table.specs.PageCopy.{PageCopy, IsWhole, fresh, is_valid, pending
 use Rattle.lrc_table.specs.Table.{Table, copy_at, with_copy}
 use Rattle.lrc_table.proofs.Tables.{copy_at-with_copy, copy_at-with_copy_other}
 use Rattle.lrc_table.proofs.Copies.{copy_of, pending-settled}
-use Rattle.lrc_protocol.specs.Copy.{Copy, absent}
-use Rattle.lrc_protocol.specs.Memory.{Memory}
-use Rattle.lrc_protocol.specs.Memory as memory
+use Rattle.lrc_protocol.specs.Pages.{Copy, absent, Memory}
+use Rattle.lrc_protocol.specs.Pages as memory
 use Rattle.lrc_memory.specs.View.{Kept, AreSized, IsKept, seen, node_seen, seen_in, seen_copy, unmade, settled_store, store_over, with_memory}
 use Rattle.lrc_memory.proofs.Overlays.{map-alike, over-alike, over-settled}
 use Rattle.lrc_memory.proofs.InStep.{all-attached}

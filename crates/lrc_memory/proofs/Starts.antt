@@ -14,8 +14,7 @@ use Rattle.lrc_time.specs.Time.{zeros, entry}
 use Rattle.lrc_store.specs.Store.{StoreRecord, IsStore, empty_store}
 use Rattle.lrc_table.specs.PageCopy.{PageCopy, fresh, pending_changes}
 use Rattle.lrc_table.specs.Table.{Table, fresh_table, copy_at}
-use Rattle.lrc_protocol.specs.Copy.{valid, absent}
-use Rattle.lrc_protocol.specs.Memory.{fresh_memory}
+use Rattle.lrc_protocol.specs.Pages.{valid, absent, fresh_memory}
 use Rattle.lrc_memory.specs.View.{NodeMemory, Kept, IsKept, WasLast, seen_in, seen_copy, node_seen}
 use Rattle.lrc_memory.proofs.InStep.{was-now}
 

@@ -12,9 +12,9 @@ use Rattle.lrc_table.specs.PageCopy.{PageCopy, is_pending, is_readable as may_re
 use Rattle.lrc_table.specs.Table.{Table, copy_at, with_copy}
 use Rattle.lrc_table.proofs.Tables.{copy_at-with_copy}
 use Rattle.lrc_table.proofs.Copies.{copy_of, pending-settled, base-after_write}
-use Rattle.lrc_protocol.specs.Copy as copy
-use Rattle.lrc_protocol.specs.Memory.{with_word}
-use Rattle.lrc_protocol.specs.Memory as memory
+use Rattle.lrc_protocol.specs.Pages as copy
+use Rattle.lrc_protocol.specs.Pages.{with_word}
+use Rattle.lrc_protocol.specs.Pages as memory
 use Rattle.lrc_memory.specs.View.{Kept, NodeMemory, IsKept, seen, node_seen, seen_in, settled_store, with_memory}
 use Rattle.lrc_memory.proofs.Copies.{copy-seen, readable_as}
 use Rattle.lrc_memory.proofs.Settling.{changed, settled_at, kept-changed, seen-changed, kept-settled, seen-settled, with_parts, after-settle}

@@ -7,9 +7,7 @@ use Rattle.lrc_store.specs.Store.{StoreRecord, added}
 use Rattle.lrc_table.specs.PageCopy.{PageCopy, installed, without_base}
 use Rattle.lrc_table.specs.Table.{Table, copy_at}
 use Rattle.lrc_store.specs.Interval.{IntervalRecord}
-use Rattle.lrc_protocol.specs.Copy.{Copy, absent, invalidated}
-use Rattle.lrc_protocol.specs.Memory.{Memory, changes_or_none}
-use Rattle.lrc_protocol.specs.Fetch.{Base, unneeded, due, come}
+use Rattle.lrc_protocol.specs.Pages.{Copy, absent, invalidated, Memory, changes_or_none, Base, unneeded, due, come}
 use Rattle.lrc_table.specs.declared.slot.State.{State}
 use Rattle.lrc_table.specs.declared.slot.State.TheVariants.{Valid, Written, Invalid, Absent}
 

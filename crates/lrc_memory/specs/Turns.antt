@@ -7,10 +7,8 @@ use Rattle.lrc_store.specs.Store.{StoreRecord, notice_at, unread}
 use Rattle.lrc_page.specs.declared.size.Size.{Size}
 use Rattle.lrc_page.specs.Page.{words_of}
 use Rattle.lrc_envelope.specs.Records.{IndexedChangesRecord}
-use Rattle.lrc_protocol.specs.Copy.{Copy, invalid, absent, changes_of}
-use Rattle.lrc_protocol.specs.Memory.{Memory}
-use Rattle.lrc_protocol.specs.Fetch.{Base, unneeded, come}
-use Rattle.lrc_protocol.specs.Expected.{indices_by}
+use Rattle.lrc_protocol.specs.Times.{indices_by}
+use Rattle.lrc_protocol.specs.Pages.{Copy, invalid, absent, changes_of, Memory, Base, unneeded, come}
 
 -- the interval is of a node that a store counts, with a stamp of as many entries, and names pages that it has
 pub record IsInRange (store : StoreRecord) (interval : IntervalRecord) : Type 0 where

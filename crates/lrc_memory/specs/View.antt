@@ -16,8 +16,7 @@ use Rattle.lrc_table.specs.declared.slot.State.{State}
 use Rattle.lrc_table.specs.declared.slot.State.TheVariants.{Valid, Written, Invalid, Absent}
 use Rattle.lrc_table.specs.PageCopy.{PageCopy, pending_changes}
 use Rattle.lrc_table.specs.Table.{Table, copy_at}
-use Rattle.lrc_protocol.specs.Copy.{Copy, valid, written, invalid, absent}
-use Rattle.lrc_protocol.specs.Memory.{Memory}
+use Rattle.lrc_protocol.specs.Pages.{Copy, valid, written, invalid, absent, Memory}
 
 -- what callers see: which node it is, the size of its pages, and its memory as the protocol has it
 pub record NodeMemory : Type 0 where

@@ -3,8 +3,9 @@
 ghost use Rattle.std.specs.Prelude.{◌≡◌, ◌<◌, ◌≤◌, ◌==◌, ◌&&◌, filter, slice_index, IfOk, OnErr, OnOk, MatchOption, Some, None, length, true};
 ghost use Rattle.std.specs.Prelude.{map, min, option_map, unwrap_or};
 ghost use Rattle.lrc_time.specs.Time.{entry};
-ghost use Rattle.lrc_protocol.specs.Copy.{is_readable, changes_of};
-ghost use Rattle.lrc_protocol.specs.Memory.{copy_at, with_base, base_at, kept_pages, with_keepers, collected_at, is_named, least, namers_of};
+ghost use Rattle.lrc_protocol.specs.Times.{is_named};
+ghost use Rattle.lrc_protocol.specs.Pages.{is_readable, changes_of, copy_at};
+ghost use Rattle.lrc_protocol.specs.Barriers.{with_base, base_at, kept_pages, with_keepers, collected_at, least, namers_of};
 ghost use Rattle.std.specs.List.{enumerate_from, range_with_len};
 ghost use Rattle.lrc_store.specs.Store.{intervals_of};
 ghost use Rattle.lrc_memory.specs.Notes.{keepers_of, named_of, since_of};

@@ -1,12 +1,10 @@
 // What a node gives to others, and takes from them.
 
 ghost use Rattle.std.specs.Prelude.{◌≡◌, ◌<◌, Some, All, IfOk, IsTrue, OnOk, fold, length, true, []};
-ghost use Rattle.lrc_protocol.specs.Memory.{changes_or_none, copy_at, keeper_at, lacking};
-ghost use Rattle.lrc_protocol.specs.Fetch.{mended, need_of, unknown_of};
+ghost use Rattle.lrc_protocol.specs.Pages.{changes_or_none, copy_at, keeper_at, lacking, mended, need_of, unknown_of, with_part};
 ghost use Rattle.lrc_page.specs.Page.{words_of};
 ghost use Rattle.lrc_store.specs.Lists.{KnowsTheFirst};
 ghost use Rattle.lrc_store.specs.Store.{IsMissing, attached, missing_of, notice_at, unread};
-ghost use Rattle.lrc_protocol.specs.Take.{with_part};
 ghost use Rattle.lrc_table.specs.Table.{with_copy};
 ghost use Rattle.lrc_table.specs.Table as tables;
 ghost use Rattle.lrc_mail.specs.Need.{AreAskable};

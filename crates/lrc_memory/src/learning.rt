@@ -3,7 +3,7 @@
 ghost use Rattle.std.specs.Prelude.{All, ◌≡◌, ◌<◌, ◌+◌, ◌↔◌, IfOk, IsTrue, OnOk, is_some, length};
 ghost use Rattle.lrc_time.specs.Time.{entry};
 ghost use Rattle.lrc_store.specs.Store.{newer_of, notice_at};
-ghost use Rattle.lrc_protocol.specs.Memory.{learned};
+ghost use Rattle.lrc_protocol.specs.Pages.{learned};
 ghost use Rattle.lrc_store.specs.Interval.{index_of};
 ghost use Rattle.lrc_memory.specs.Steps.{invalidated_on, learned_one};
 ghost use Rattle.lrc_memory.specs.View.{SameMemory, WasLast, with_memory};

@@ -3,8 +3,7 @@
 ghost use Rattle.std.specs.Prelude.{◌≡◌, ◌<◌, ◌≤◌, ◌+◌, All, IfOk, OnOk, fold, slice_set, Some, None, length, replicate, if◌then◌else◌};
 ghost use Rattle.lrc_time.specs.Time.{entry};
 ghost use Rattle.lrc_page.specs.Place.{page_of, pages_of};
-ghost use Rattle.lrc_protocol.specs.Copy.{is_readable};
-ghost use Rattle.lrc_protocol.specs.Memory.{fresh_memory, copy_at, value_at, with_word, with_interval};
+ghost use Rattle.lrc_protocol.specs.Pages.{is_readable, fresh_memory, copy_at, value_at, with_word, with_interval};
 ghost use Rattle.lrc_memory.specs.Notes.{keepers_of, named_of, since_of};
 ghost use Rattle.lrc_memory.specs.View.{SameMemory, with_memory};
 

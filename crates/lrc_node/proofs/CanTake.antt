@@ -8,9 +8,9 @@ use Rattle.lrc_exec.specs.declared.machine.Ask.TheVariants.{Acquire, Barrier}
 use Rattle.lrc_exec.specs.Ask.{ask_of}
 use Rattle.lrc_exec.specs.Meaning.{Next, quiet, prints, reads, writes, acquires, releases, arrives, departs, traps, ends}
 use Rattle.lrc_store.specs.Interval.{IntervalRecord}
-use Rattle.lrc_protocol.specs.Mail.{Wait, nothing, grant, departure, access, upkeep, discard, awaits_grant, awaits_departure, awaits_discard}
-use Rattle.lrc_protocol.specs.Node.{Node}
-use Rattle.lrc_protocol.specs.Expected.{is_learnable}
+use Rattle.lrc_protocol.specs.Node.{Wait, nothing, grant, departure, access, upkeep, discard, awaits_grant, awaits_departure, awaits_discard}
+use Rattle.lrc_protocol.specs.Node.{Node, with_taken, needs_of}
+use Rattle.lrc_protocol.specs.Turn.{is_learnable, is_expected, is_page, is_interval, are_arriving, learns, with_needs}
 use Rattle.lrc_order_laws.specs.Waiting.{next_in, acquiring, is_departing, FixesNext}
 use Rattle.lrc_node_laws.specs.Reached.{IsReached}
 use Rattle.lrc_node_laws.specs.Ranges.{CollectsAt}
@@ -27,18 +27,13 @@ use Rattle.lrc_envelope.specs.declared.message.Message.{Message}
 use Rattle.lrc_envelope.specs.declared.message.Message.TheVariants.{LockRequest, LockForward, LockGrant, Arrive, Depart, Clean, Discard}
 use Rattle.lrc_envelope.specs.declared.message.Message.TheVariants.{ChangesRequest, ChangesReply, PageRequest, PageReply}
 use Rattle.lrc_barrier.specs.Barrier.{IsArrival}
-use Rattle.lrc_protocol.specs.Fetch.{Need}
-use Rattle.lrc_protocol.specs.Mail.{with_taken, needs_of}
-use Rattle.lrc_protocol.specs.Expected.{is_expected, is_page, is_interval, are_arriving}
+use Rattle.lrc_protocol.specs.Pages.{Need, Memory, learned, with_changes, with_page}
 use Rattle.lrc_node_laws.proofs.Tests.{each_passes}
 use Rattle.lrc_node_laws.proofs.Awaited.{ascends-pairs}
 use Rattle.lrc_node_laws.proofs.Always.{awaited_at, needed_at}
-use Rattle.lrc_node.specs.Barrier.{arrival_in}
 use Rattle.lrc_node.proofs.Keeping.{apart_pairs}
 use Rattle.lrc_node.specs.Keeping.{CanCollect}
 use Rattle.lrc_time.specs.Time.{joined}
-use Rattle.lrc_protocol.specs.Memory.{Memory, learned}
-use Rattle.lrc_protocol.specs.Take.{learns}
 use Rattle.lrc_order_laws.specs.Counts.{is_inside}
 use Rattle.lrc_node_laws.specs.Waits.{NoneWritten}
 use Rattle.lrc_node_laws.proofs.Change.{View, view_of, Change, news, is_open, learns as learns_change}
@@ -46,8 +41,8 @@ use Rattle.lrc_node_laws.proofs.Ranges.{Ranged, ranged-kept}
 use Rattle.lrc_node_laws.proofs.Quiet.{quiet-kept}
 use Rattle.lrc_node_laws.proofs.Always.{entered_at}
 use Rattle.lrc_node.proofs.Replied.{changes_go_on, page_goes_on, whatever_mail}
-use Rattle.lrc_protocol.specs.Waits.{with_needs}
-use Rattle.lrc_protocol.specs.Fetch.{with_changes, with_page}
+use Rattle.lrc_protocol.specs.Barriers.{arrival_in}
+use Rattle.lrc_protocol.proofs.Expecting.{fulfilled}
 use Rattle.lrc_node.specs.Effects.{with_parts}
 
 -- ---- what is awaited, and what the text asks for then
@@ -210,18 +205,18 @@ can_collect node r sender number time intervals waits e =
 pub can_take : (node : Node) → IsReached node → (from sender number : ℕ) (message : Message) → is_expected node from message ≡ true
     → CanTake (record node { mail = with_taken sender number node.mail }) from message
 can_take node r from sender number (LockRequest m) e =
-    let a = and_parts _ _ e in
+    let a = and_parts _ _ (fulfilled node from (LockRequest m) e) in
     let shape = is_shaped node r in (
       ltb-true _ _ (and_parts _ _ a.0).0,
       ap (λ n. manager_of n m.lock) shape.managed_nodes ∙ eqb-true _ _ a.1 ∙ sym shape.manager,
     )
 can_take node r from sender number (LockForward m) e =
-    let whole = and_parts _ _ e in
+    let whole = and_parts _ _ (fulfilled node from (LockForward m) e) in
     let a = and_parts _ _ (and_parts _ _ whole.0).0 in
     let b = and_parts _ _ a.0 in
     (ltb-true _ _ b.0, ltb-true _ _ b.1, eqb-true _ _ a.1, whole.1)
 can_take node r from sender number (LockGrant m) e =
-    let a = and_parts _ _ e in
+    let a = and_parts _ _ (fulfilled node from (LockGrant m) e) in
     let b = and_parts _ _ a.0 in
     let waits = grant_wait node.mail.wait m.lock b.1 in (
       ltb-true _ _ b.0,
@@ -231,29 +226,29 @@ can_take node r from sender number (LockGrant m) e =
       learnable_added node r m.time m.intervals a.1,
     )
 can_take node r from sender number (Arrive m) e =
-    let a = and_parts _ _ e in
+    let a = and_parts _ _ (fulfilled node from (Arrive m) e) in
     (a.0, arriving node from m a.1)
 can_take node r from sender number (Depart m) e =
-    let a = and_parts _ _ e in
+    let a = and_parts _ _ (fulfilled node from (Depart m) e) in
     let waits = (and_parts _ _ (and_parts _ _ (and_parts _ _ a.0).0).0).1 in (
       departing_asked node r waits,
       news_time node m.time m.intervals a.1,
       learnable_added node r m.time m.intervals a.1,
       can_collect node r sender number m.time m.intervals waits a.1,
     )
-can_take node r from sender number (Clean episode) e = e
+can_take node r from sender number (Clean episode) e = fulfilled node from (Clean episode) e
 can_take node r from sender number (Discard episode) e =
-    let d = can_discard node r (and_parts _ _ (and_parts _ _ e).0).1 in
+    let d = can_discard node r (and_parts _ _ (and_parts _ _ (fulfilled node from (Discard episode) e)).0).1 in
     record { next = d.next; waits = d.waits; closed = d.closed; time = d.time }
-can_take node r from sender number (ChangesRequest m) e = below_copies node r m.page (and_parts _ _ e).0
+can_take node r from sender number (ChangesRequest m) e = below_copies node r m.page (and_parts _ _ (fulfilled node from (ChangesRequest m) e)).0
 can_take node r from sender number (ChangesReply m) e = (
-  awaited_at node r from m e,
+  awaited_at node r from m (fulfilled node from (ChangesReply m) e),
   whatever_mail (with_parts from m node) (with_taken sender number node.mail)
-      (with_needs (with_changes m.page from) node.mail.wait) (changes_go_on node r from m e),
+      (with_needs (with_changes m.page from) node.mail.wait) (changes_go_on node r from m (fulfilled node from (ChangesReply m) e)),
 )
-can_take node r from sender number (PageRequest page) e = below_copies node r page (and_parts _ _ (and_parts _ _ e).0).0
+can_take node r from sender number (PageRequest page) e = below_copies node r page (and_parts _ _ (and_parts _ _ (fulfilled node from (PageRequest page) e)).0).0
 can_take node r from sender number (PageReply m) e =
-    let a = and_parts _ _ e in (
+    let a = and_parts _ _ (fulfilled node from (PageReply m) e) in (
       apart_pairs (needs_of node.mail.wait) (ascends-pairs (map (λ (need : Need). need.page) (needs_of node.mail.wait)) (needed_at node r).apart),
       whatever_mail node (with_taken sender number node.mail) (with_needs (with_page m.page m.values) node.mail.wait)
           (page_goes_on node r from m.page m.values (eqb-true _ _ (and_parts _ _ a.0).1) a.1),

@@ -9,11 +9,9 @@ use Rattle.lrc_exec.specs.declared.machine.Ask.TheVariants.{End as Ask_End}
 use Rattle.lrc_envelope.specs.Envelope.{EnvelopeRecord}
 use Rattle.lrc_exec.specs.Ask.{ask_of}
 use Rattle.lrc_exec.specs.Meaning.{Thread, Next, quiet, prints, reads, writes, acquires, releases, arrives, departs, traps, ends, next_of}
-use Rattle.lrc_protocol.specs.Course.{Course, going, trapped, ended, deed_of, course_of}
-use Rattle.lrc_protocol.specs.Mail.{Letter, is_idle}
-use Rattle.lrc_protocol.specs.Node.{Node, Effect, acts, acts_by, makes, begins_of, begins, may_begin}
-use Rattle.lrc_protocol.specs.Run.{run_effect, charged}
-use Rattle.lrc_protocol.specs.Turn.{run_turn, turn_by, turn_if, turn_of, turn_with, not_ready, worn}
+use Rattle.lrc_protocol.specs.Node.{Course, going, trapped, ended, deed_of, course_of, Letter, is_idle, Node, Effect, acts, acts_by, makes}
+use Rattle.lrc_protocol.specs.Turn.{begins_of, begins, may_begin, run_effect, charged, run_turn, turn_by, turn_if, turn_of, turn_with}
+use Rattle.lrc_protocol.specs.Turn.{not_ready, worn}
 use Rattle.lrc_node.specs.Text.{asked_in, cost_to_begin}
 use Rattle.lrc_node.specs.Effects.{value_asked, memory_asked, acted, deed_next, effect_asked, begun_node, CanBegin, RefusesRun, too_large, without_memory}
 use Rattle.lrc_node.specs.declared.fault.NodeFault.{NodeFault}

@@ -6,7 +6,7 @@ use Rattle.std.proofs.lemmas.Option.{same_Some}
 use Rattle.std.proofs.lemmas.List.{append-nil}
 use Rattle.std.proofs.lemmas.List.Elements.{filter_map-append}
 use Rattle.lrc_trace.specs.declared.act.Act.{Act}
-use Rattle.lrc_protocol.specs.Log.{EntryRecord}
+use Rattle.lrc_protocol.specs.Run.{EntryRecord}
 use Rattle.lrc_node.specs.declared.end.End.{End}
 use Rattle.lrc_node.specs.Logged.{end_by, ended_by, end_next}
 

@@ -11,13 +11,11 @@ use Rattle.lrc_page.specs.Page.{words_of}
 use Rattle.lrc_page.specs.Place.{pages_of}
 use Rattle.lrc_store.specs.declared.key.Key.{Key}
 use Rattle.lrc_memory.specs.Turns.{is_mendable}
-use Rattle.lrc_protocol.specs.Copy.{Copy, valid, written, invalid, absent, is_readable, changes_of}
-use Rattle.lrc_protocol.specs.Fetch.{Base, unneeded, due, come, Need, need_of, is_due, is_met, mended}
-use Rattle.lrc_protocol.specs.Mail.{Collection, Letter, upkeep}
-use Rattle.lrc_protocol.specs.Letters.{requests_of}
-use Rattle.lrc_protocol.specs.Take.{needs_to_keep}
-use Rattle.lrc_protocol.specs.Memory.{Memory, copy_at, keeper_at, kept_pages, with_base, with_keepers}
-use Rattle.lrc_protocol.specs.Node.{Node, with_memory}
+use Rattle.lrc_protocol.specs.Pages.{Copy, valid, written, invalid, absent, is_readable, changes_of, Base, unneeded, due, come, Need, need_of}
+use Rattle.lrc_protocol.specs.Pages.{is_due, is_met, mended, Memory, copy_at, keeper_at}
+use Rattle.lrc_protocol.specs.Barriers.{Collection, kept_pages, with_base, with_keepers}
+use Rattle.lrc_protocol.specs.Node.{Letter, upkeep, Node, with_memory}
+use Rattle.lrc_protocol.specs.Turn.{requests_of, needs_to_keep}
 use Rattle.lrc_node_laws.specs.Needs.{FitsBase, FitsNeed}
 use Rattle.lrc_node_laws.specs.Ranges.{HasRanges}
 use Rattle.lrc_node_laws.proofs.Needs.{ascends-filter, kept-ascends, kept-below, needs-fit, pages_needed}

@@ -1,7 +1,7 @@
 -- The log of a node leads it on from how it started.
 use Rattle.std.proofs.Common.{◌≡◌, ◌∙◌, ℕ, ◌++◌, [], ◌∷◌, Ok, sym, ap, subst}
-use Rattle.lrc_protocol.specs.Log.{Input, EntryRecord, Logged, logged, logs}
 use Rattle.lrc_protocol.specs.Node.{Node}
+use Rattle.lrc_protocol.specs.Run.{Input, EntryRecord, Logged, logged, logs}
 use Rattle.lrc_protocol.specs.Traced.{Traced, with_act}
 use Rattle.lrc_protocol.proofs.Traces.{traced_entry}
 use Rattle.lrc_protocol.proofs.Worlds.{IsEntry, Entries, logs-entries}

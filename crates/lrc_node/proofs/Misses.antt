@@ -12,14 +12,10 @@ use Rattle.lrc_store.specs.Store.{key_of}
 use Rattle.lrc_memory.specs.Turns.{is_mendable}
 use Rattle.lrc_mail.specs.Need.{DueBelow}
 use Rattle.lrc_mail.proofs.Asking.{asked-below, requests-below}
-use Rattle.lrc_protocol.specs.Copy.{Copy, valid, written, invalid, absent, is_readable}
-use Rattle.lrc_protocol.specs.Memory.{Memory, copy_at, lacking, lacking_in, keeper_at}
-use Rattle.lrc_protocol.specs.Fetch.{Need, base_of, is_due, is_met, need_of, unknown_of, mended}
-use Rattle.lrc_protocol.specs.Letters.{requests_of}
-use Rattle.lrc_protocol.specs.Mail.{Letter, access, nothing}
-use Rattle.lrc_protocol.specs.Node.{Node, acts, sends, waiting, with_memory}
-use Rattle.lrc_protocol.specs.Run.{reaches}
-use Rattle.lrc_protocol.specs.Waits.{waits_or_goes_on}
+use Rattle.lrc_protocol.specs.Pages.{Copy, valid, written, invalid, absent, is_readable, Memory, copy_at, lacking, lacking_in, keeper_at, Need}
+use Rattle.lrc_protocol.specs.Pages.{base_of, is_due, is_met, need_of, unknown_of, mended}
+use Rattle.lrc_protocol.specs.Node.{Letter, access, nothing, Node, acts, sends, waiting, with_memory}
+use Rattle.lrc_protocol.specs.Turn.{requests_of, reaches, waits_or_goes_on}
 use Rattle.lrc_node.specs.Effects.{AccessesPage, CanAccess}
 use Rattle.lrc_node.specs.State.{AreFor}
 

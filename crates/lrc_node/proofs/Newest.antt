@@ -3,7 +3,7 @@ use Rattle.std.proofs.Common.{◌≡◌, ◌∙◌, ℕ, ◌-◌, ◌<◌, ◌�
 use Rattle.std.specs.Prelude.{fold, slice_index_or}
 use Rattle.std.specs.List.{last_or}
 use Rattle.std.specs.Option.{option_to_list}
-use Rattle.lrc_protocol.specs.Log.{EntryRecord, last_stamp}
+use Rattle.lrc_protocol.specs.Run.{EntryRecord, last_stamp}
 use Rattle.lrc_node.specs.Logged.{newest}
 
 last-push : (o : Option EntryRecord) (log : List EntryRecord) (entry : EntryRecord) → last_or o (log ++ entry ∷ []) ≡ Some entry

@@ -7,7 +7,7 @@ use Rattle.lrc_trace.specs.Trace.{TraceRecord}
 use Rattle.lrc_protocol.specs.Node.{Node}
 use Rattle.lrc_protocol.specs.Traced.{with_act}
 use Rattle.lrc_protocol.specs.Turn.{TurnRecord, Outcome, not_ready}
-use Rattle.lrc_protocol.specs.Log.{run}
+use Rattle.lrc_protocol.specs.Run.{run}
 use Rattle.lrc_node_laws.specs.Traced.{IsTraced}
 use Rattle.lrc_node.specs.declared.fault.NodeFault.{NodeFault}
 use Rattle.lrc_node.specs.Fault.{MayAnswer, is_final}

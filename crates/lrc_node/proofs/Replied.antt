@@ -11,14 +11,10 @@ use Rattle.lrc_exec.specs.Ask.{ask_of}
 use Rattle.lrc_exec.specs.Meaning.{Next, quiet, prints, reads, writes, acquires, releases, arrives, departs, traps, ends}
 use Rattle.lrc_store.specs.declared.key.Key.{Key}
 use Rattle.lrc_envelope.specs.Records.{IndexedChangesRecord, ChangesReplyRecord}
-use Rattle.lrc_protocol.specs.Copy.{Copy, absent, is_readable, changes_of}
-use Rattle.lrc_protocol.specs.Memory.{Memory, copy_at}
-use Rattle.lrc_protocol.specs.Fetch.{Need, is_due, is_met, with_changes, with_page, awaits_page}
-use Rattle.lrc_protocol.specs.Mail.{Mail, Wait, nothing, grant, departure, access, upkeep, discard, needs_of}
-use Rattle.lrc_protocol.specs.Node.{Node, with_memory}
-use Rattle.lrc_protocol.specs.Expected.{is_changes_reply}
-use Rattle.lrc_protocol.specs.Take.{with_part}
-use Rattle.lrc_protocol.specs.Waits.{with_needs}
+use Rattle.lrc_protocol.specs.Pages.{Copy, absent, is_readable, changes_of, Memory, copy_at, Need, is_due, is_met, with_changes, with_page}
+use Rattle.lrc_protocol.specs.Pages.{awaits_page, with_part}
+use Rattle.lrc_protocol.specs.Node.{Mail, Wait, nothing, grant, departure, access, upkeep, discard, needs_of, Node, with_memory}
+use Rattle.lrc_protocol.specs.Turn.{is_changes_reply, with_needs}
 use Rattle.lrc_order_laws.specs.Waiting.{next_in}
 use Rattle.lrc_node_laws.specs.Reached.{IsReached}
 use Rattle.lrc_node_laws.specs.Needs.{FitsNeed, FitsKept, page_next, ReachesFor}

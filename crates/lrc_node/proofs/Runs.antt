@@ -13,7 +13,7 @@ use Rattle.lrc_time.specs.Time.{entry, joined}
 use Rattle.lrc_time.proofs.Times.{entry-joined, entry-set_same, entry-set_other, length-joined_same, same_times}
 use Rattle.lrc_store.specs.Interval.{IntervalRecord, index_of}
 use Rattle.lrc_exec.proofs.RoundsLaws.{range-last}
-use Rattle.lrc_protocol.specs.Expected.{indices_by, are_between}
+use Rattle.lrc_protocol.specs.Times.{indices_by, are_between}
 use Rattle.lrc_node_laws.proofs.Indices.{indices-append, indices-here, indices-there}
 use Rattle.lrc_node.specs.News.{IsRunOf, AreRuns, IsBroken}
 

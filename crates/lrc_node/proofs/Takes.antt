@@ -1,14 +1,22 @@
 -- What comes of a message that is taken.
-use Rattle.std.proofs.Common.{◌≡◌, Bool, true, false, cond, ◌⊎◌, ⊎_elim, Some, None, sym, ap, ◌∙◌, subst}
-use Rattle.std.specs.Prelude.{if◌then◌else◌, Result, Ok, Err, IfErr}
+use Rattle.std.proofs.Common.{◌≡◌, Bool, true, false, cond, ◌⊎◌, ⊎_elim, Some, None, sym, ap, ◌∙◌, subst, ℕ, refl}
+use Rattle.std.specs.Prelude.{if◌then◌else◌, Result, Ok, Err, IfErr, ◌==◌, ◌&&◌, Option, option_map, option_and_then, is_some}
+use Rattle.std.proofs.lemmas.Bool.{and_parts, and_from}
 use Rattle.lrc_envelope.specs.Envelope.{EnvelopeRecord}
+use Rattle.lrc_envelope.specs.declared.message.Message.{Message}
+use Rattle.lrc_envelope.specs.declared.message.Message.TheVariants.{LockRequest, LockForward, LockGrant, Arrive, Depart, Clean, Discard}
+use Rattle.lrc_envelope.specs.declared.message.Message.TheVariants.{ChangesRequest, ChangesReply, PageRequest, PageReply}
+use Rattle.lrc_barrier.specs.Barrier.{ManagerRecord, arrived, cleaned}
 use Rattle.lrc_trace.specs.Trace.{TraceRecord}
 use Rattle.lrc_node_laws.specs.Traced.{IsTraced}
-use Rattle.lrc_protocol.specs.Expected.{is_expected}
-use Rattle.lrc_protocol.specs.Node.{Node}
-use Rattle.lrc_protocol.specs.Log.{taken}
-use Rattle.lrc_protocol.specs.Take.{take_effect}
-use Rattle.lrc_protocol.specs.Turn.{Outcome, done, unexpected, worn, empty_turn, take_turn, take_anew, taking, turn_of, is_addressed, is_repeat}
+use Rattle.lrc_protocol.specs.Node.{Node, Effect}
+use Rattle.lrc_protocol.specs.Turn.{is_expected, Outcome, done, unexpected, worn, empty_turn, take_turn, take_anew, taking, is_addressed}
+use Rattle.lrc_protocol.specs.Turn.{is_repeat, is_request, is_forward, is_grant, are_arriving, arrive_by, is_departure, clean_by}
+use Rattle.lrc_protocol.specs.Turn.{is_changes_request, is_changes_reply, is_page_request, is_page_reply, takes, turn_taking}
+use Rattle.lrc_protocol.specs.Run.{taken}
+use Rattle.lrc_protocol.specs.Barriers.{arrival_in}
+use Rattle.lrc_protocol.proofs.Expecting.{given-made, expects, fulfilled, still_expected}
+use Rattle.lrc_node.specs.Taking.{effect_of}
 use Rattle.lrc_node.specs.declared.fault.NodeFault.{NodeFault}
 use Rattle.lrc_node.specs.declared.fault.NodeFault.TheVariants.{Worn, NoMemory}
 use Rattle.lrc_node.specs.Fault.{MayAnswer, is_final}
@@ -39,10 +47,46 @@ repeated node envelope e old =
     ap (λ (b : Bool). if b then (if is_repeat node envelope then done empty_turn node else take_anew node envelope) else unexpected) e
     ∙ ap (λ (b : Bool). if b then done empty_turn node else take_anew node envelope) old
 
-pub anew : (node : Node) (envelope : EnvelopeRecord) (b : Bool) → is_expected node envelope.from envelope.message ≡ b
-    → take_anew node envelope ≡ (if b then turn_of (take_effect (taking node envelope) envelope.from envelope.message) else unexpected)
-anew node envelope b e =
-    ap (λ (b : Bool). if b then turn_of (take_effect (taking node envelope) envelope.from envelope.message) else unexpected) e
+at_manager : {X : Type 0} (step : ManagerRecord → X) (go : X → Option Effect) (o : Option ManagerRecord)
+    → option_and_then (λ manager. go (step manager)) o ≡ option_and_then go (option_map step o)
+at_manager step go None = refl
+at_manager step go (Some manager) = refl
+
+-- an expected message does just that
+takes-made : (node : Node) (from : ℕ) (message : Message) → expects node from message ≡ true → takes node from message ≡ effect_of node from message
+takes-made node from (LockRequest m) e = given-made (is_request node m) _ e
+takes-made node from (LockForward m) e = given-made (is_forward node from m) _ (and_parts _ _ e).0
+takes-made node from (LockGrant m) e = given-made (is_grant node m) _ e
+takes-made node from (Arrive m) e =
+    given-made (are_arriving node from m.time m.intervals) _ (and_parts _ _ e).1
+    ∙ at_manager (λ manager. arrived manager from (arrival_in m)) (arrive_by node) node.barrier.manager
+takes-made node from (Depart m) e = given-made (is_departure node from m) _ e
+takes-made node from (Clean episode) e = at_manager (λ manager. cleaned manager from episode) (clean_by node) node.barrier.manager
+takes-made node from (Discard episode) e =
+    let outer : _ = and_parts _ _ e in
+    given-made ((from == 0) && (episode == node.barrier.episode)) _ (and_from _ _ (and_parts _ _ outer.0).0 outer.1)
+takes-made node from (ChangesRequest m) e = given-made (is_changes_request node m) _ e
+takes-made node from (ChangesReply m) e = given-made (is_changes_reply node from m) _ e
+takes-made node from (PageRequest page) e = given-made (is_page_request node from page) _ (and_parts _ _ e).0
+takes-made node from (PageReply m) e = given-made (is_page_reply node from m) _ e
+
+none_there : {X : Type 0} (o : Option X) → is_some o ≡ false → o ≡ None
+none_there None e = refl
+none_there (Some x) e = cc
+
+-- what comes of a message that is expected, and of one that is not
+pub awaited : (node : Node) (envelope : EnvelopeRecord) → is_expected node envelope.from envelope.message ≡ true
+    → take_anew node envelope ≡ turn_taking (effect_of (taking node envelope) envelope.from envelope.message)
+awaited node envelope e =
+    ap turn_taking
+    (takes-made (taking node envelope) envelope.from envelope.message
+    (fulfilled (taking node envelope) envelope.from envelope.message (still_expected node envelope envelope.from envelope.message ∙ e)))
+
+pub unawaited_so : (node : Node) (envelope : EnvelopeRecord) → is_expected node envelope.from envelope.message ≡ false
+    → take_anew node envelope ≡ unexpected
+unawaited_so node envelope e =
+    ap turn_taking
+    (none_there (takes (taking node envelope) envelope.from envelope.message) (still_expected node envelope envelope.from envelope.message ∙ e))
 
 -- why an expected message is not taken
 pub refuses_anew : (outcome : Outcome) (node after : Node) (fault : NodeFault) → ((fault ≡ Worn) × (outcome ≡ worn)) ⊎ (fault ≡ NoMemory)

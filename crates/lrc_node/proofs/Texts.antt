@@ -4,7 +4,7 @@ use Rattle.std.specs.Prelude.{Some, None, nat_le, option_map, if◌then◌else�
 use Rattle.lrc_exec.specs.Ask.{ask_of}
 use Rattle.lrc_exec.specs.Meaning.{Thread, Next, quiet, prints, reads, writes, acquires, releases, arrives, departs, traps, ends, next_of}
 use Rattle.lrc_exec.proofs.NextLaws.{IsFine, next_of-fine}
-use Rattle.lrc_protocol.specs.Node.{may_begin}
+use Rattle.lrc_protocol.specs.Turn.{may_begin}
 use Rattle.lrc_node.specs.Text.{allowed_with}
 
 pick : (allowed : Bool) (n : Next) → option_map ask_of (if allowed then Some n else None) ≡ (if allowed then Some (ask_of n) else None)

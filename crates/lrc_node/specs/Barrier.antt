@@ -1,10 +1,10 @@
 -- What comes of an arrival or a Clean at the manager of barriers, beside its node's state.
-use Rattle.std.specs.Prelude.{ℕ, Option, Some, None, List, All, IfSome, ◌≤◌, ◌≡◌, length, is_some, slice_index_or}
+use Rattle.std.specs.Prelude.{ℕ, Option, Some, None, List, All, IfSome, ◌≤◌, ◌≡◌, length, is_some, slice_index_or, option_map}
 use Rattle.lrc_barrier.specs.declared.arrival.Arrival.{Arrival}
 use Rattle.lrc_barrier.specs.declared.departure.Departure.{Departure}
-use Rattle.lrc_barrier.specs.Barrier.{ManagerRecord, IsDeparture, ArriveStep, refuses, waits, departs, CleanStep, refuses_clean, awaits, discards}
-use Rattle.lrc_envelope.specs.Records.{ArriveRecord}
-use Rattle.lrc_protocol.specs.Barrier.{Barrier, with_manager}
+use Rattle.lrc_barrier.specs.Barrier.{ManagerRecord, IsDeparture, ArriveStep, refuses, waits, departs, CleanStep, refuses_clean, awaits}
+use Rattle.lrc_barrier.specs.Barrier.{discards, arrived, cleaned}
+use Rattle.lrc_protocol.specs.Barriers.{Barrier, with_manager}
 
 -- what an arrival is answered, the departures if it was the last, and the barrier then; none where it isn't accepted
 abbrev pub arrival_taken : Barrier → Option ArriveStep → Option (Option (List Departure) × Barrier)
@@ -38,6 +38,10 @@ pub record AreDepartures (nodes : ℕ) (departures : List Departure) : Type 0 wh
   pub each : All (IsDeparture nodes) departures
   pub episodes : All (λ departure. 1 ≤ departure.episode) departures
 
--- the arrival of a message
-abbrev pub arrival_in : ArriveRecord → Arrival
-arrival_in m = record { episode = m.episode; ask = m.ask; time = m.time; intervals = m.intervals }
+-- what an arrival does at the manager, and none where no manager is
+abbrev pub arrive_step : Barrier → ℕ → Arrival → Option ArriveStep
+arrive_step barrier from arrival = option_map (λ manager. arrived manager from arrival) barrier.manager
+
+-- what a Clean does at the manager, and none where no manager is
+abbrev pub clean_step : Barrier → ℕ → ℕ → Option CleanStep
+clean_step barrier from episode = option_map (λ manager. cleaned manager from episode) barrier.manager

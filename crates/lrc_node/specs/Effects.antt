@@ -8,18 +8,13 @@ use Rattle.lrc_trace.specs.declared.act.Deed.{Deed}
 use Rattle.lrc_page.specs.Place.{page_of}
 use Rattle.lrc_exec.specs.declared.machine.Ask.{Ask}
 use Rattle.lrc_exec.specs.declared.machine.Ask.TheVariants.{Read, Write, Acquire, Release, Barrier}
-use Rattle.lrc_protocol.specs.Copy.{is_readable}
-use Rattle.lrc_protocol.specs.Memory.{Memory, copy_at, value_at, with_word}
-use Rattle.lrc_protocol.specs.Locks.{next_time}
+use Rattle.lrc_protocol.specs.Times.{next_time}
+use Rattle.lrc_protocol.specs.Pages.{is_readable, Memory, copy_at, value_at, with_word, Need, is_met, with_part}
 use Rattle.lrc_memory.specs.Turns.{is_mendable}
-use Rattle.lrc_protocol.specs.Fetch.{Need, is_met}
-use Rattle.lrc_protocol.specs.Mail.{Wait, access, upkeep}
-use Rattle.lrc_protocol.specs.Node.{Node, Effect, begins, acts, with_memory}
-use Rattle.lrc_protocol.specs.Run.{own_index, reaches, closing, acquire_at, release_at, arrive_at}
+use Rattle.lrc_protocol.specs.Node.{Wait, access, upkeep, Node, Effect, acts, with_memory, own_index}
+use Rattle.lrc_protocol.specs.Turn.{begins, reaches, closing, acquire_at, release_at, arrive_at, Outcome, not_ready, worn}
 use Rattle.lrc_exec.specs.Ask.{ask_of}
 use Rattle.lrc_envelope.specs.Records.{ChangesReplyRecord}
-use Rattle.lrc_protocol.specs.Take.{with_part}
-use Rattle.lrc_protocol.specs.Turn.{Outcome, not_ready, worn}
 use Rattle.lrc_node.specs.declared.fault.NodeFault.{NodeFault}
 use Rattle.lrc_node.specs.declared.fault.NodeFault.TheVariants.{NotReady, Worn, NoMemory}
 use Rattle.lrc_node.specs.Keeping.{CanClean}

@@ -1,6 +1,6 @@
 -- With which faults a node fails, and which input each refusal is of.
 use Rattle.std.specs.Prelude.{Bool, true, false}
-use Rattle.lrc_protocol.specs.Log.{Input, run, taken}
+use Rattle.lrc_protocol.specs.Run.{Input, run, taken}
 use Rattle.lrc_node.specs.declared.fault.NodeFault.{NodeFault}
 use Rattle.lrc_node.specs.declared.fault.NodeFault.TheVariants.{Failed, NotReady, Unexpected, Worn, NoMemory}
 

@@ -4,9 +4,7 @@ use Rattle.lrc_page.specs.declared.size.Size.{Size}
 use Rattle.lrc_page.specs.Place.{pages_of}
 use Rattle.lrc_node_laws.specs.Ranges.{HasRanges}
 use Rattle.lrc_memory.specs.Turns.{is_mendable, IsClosed}
-use Rattle.lrc_protocol.specs.Copy.{is_readable, changes_of}
-use Rattle.lrc_protocol.specs.Fetch.{Need, mended}
-use Rattle.lrc_protocol.specs.Memory.{Memory, copy_at}
+use Rattle.lrc_protocol.specs.Pages.{is_readable, changes_of, Need, mended, Memory, copy_at}
 use Rattle.lrc_protocol.specs.Node.{Node}
 
 -- a page for which all has come can be repaired: it is one of the memory's, its base copy fits, and its keys are of it

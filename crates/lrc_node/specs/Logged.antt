@@ -7,7 +7,8 @@ use Rattle.lrc_trace.specs.declared.act.Deed.{Deed}
 use Rattle.lrc_trace.specs.declared.act.Deed.TheVariants as deeds
 use Rattle.lrc_trace.specs.Trace.{TraceRecord}
 use Rattle.lrc_protocol.specs.Node.{Node}
-use Rattle.lrc_protocol.specs.Log.{Input, run, taken, EntryRecord, Logged, Logging, logged, refused, too_large, logs, next_stamp, outcome_of, MOST_STAMP}
+use Rattle.lrc_protocol.specs.Run.{Input, run, taken, EntryRecord, Logged, Logging, logged, refused, too_large, logs, next_stamp, outcome_of}
+use Rattle.lrc_protocol.specs.Run.{MOST_STAMP}
 use Rattle.lrc_protocol.specs.Follows.{inputs_of}
 use Rattle.lrc_protocol.specs.Traced.{traced, trace_of, with_act}
 use Rattle.lrc_protocol.specs.Turn.{TurnRecord, Outcome, done as made}

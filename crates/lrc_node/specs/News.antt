@@ -3,7 +3,7 @@ use Rattle.std.specs.Prelude.{◌≡◌, ℕ, ◌+◌, ◌-◌, ◌<◌, ◌≤�
 use Rattle.std.specs.List.{range_with_len}
 use Rattle.lrc_time.specs.Time.{entry}
 use Rattle.lrc_store.specs.Interval.{IntervalRecord}
-use Rattle.lrc_protocol.specs.Expected.{indices_by, are_between}
+use Rattle.lrc_protocol.specs.Times.{indices_by, are_between}
 
 -- the indices of one node's intervals begin just above a number, follow one another, and end at a number
 pub record IsRunOf (intervals : List IntervalRecord) (q above last : ℕ) : Type 0 where

@@ -3,7 +3,7 @@ use Rattle.std.specs.Prelude.{ℕ, ◌==◌, ◌&&◌, Bool, List, length, nat_l
 use Rattle.std.specs.List.{list_all, range_with_len}
 use Rattle.lrc_time.specs.Time.{covers, entry}
 use Rattle.lrc_store.specs.Interval.{IntervalRecord}
-use Rattle.lrc_protocol.specs.Expected.{are_between}
+use Rattle.lrc_protocol.specs.Times.{are_between}
 
 -- the interval is of one of so many nodes, its stamp has as many entries, and the pages that it names are below so many
 abbrev pub is_in_range : ℕ → ℕ → IntervalRecord → Bool

@@ -2,7 +2,7 @@
 use Rattle.std.specs.Prelude.{ℕ}
 use Rattle.lrc_envelope.specs.Records.{IndexedChangesRecord}
 use Rattle.lrc_memory.specs.View.{NodeMemory}
-use Rattle.lrc_protocol.specs.Memory.{changes_or_none}
+use Rattle.lrc_protocol.specs.Pages.{changes_or_none}
 
 -- what the node's own interval of this index changed in a page
 abbrev pub part_in : NodeMemory → ℕ → ℕ → IndexedChangesRecord

@@ -3,8 +3,7 @@ use Rattle.std.specs.Prelude.{◌≡◌, ℕ, ◌<◌, ◌≤◌, List, All, len
 use Rattle.lrc_page.specs.declared.TheConstants.{MOST_WORDS}
 use Rattle.lrc_page.specs.declared.size.Size.{Size}
 use Rattle.lrc_page.specs.Place.{pages_of}
-use Rattle.lrc_protocol.specs.Mail.{Letter}
-use Rattle.lrc_protocol.specs.Node.{Node, Effect}
+use Rattle.lrc_protocol.specs.Node.{Letter, Node, Effect}
 use Rattle.lrc_node.specs.Barrier.{IsOfNodes}
 use Rattle.lrc_node.specs.declared.turn.Effect.{Effect as Work}
 

@@ -1,23 +1,21 @@
 -- What a node has where it takes a message that it expects.
-use Rattle.std.specs.Prelude.{ℕ, ◌≡◌, ◌≢◌, ◌<◌, ◌≤◌, IsTrue, Some, AllPairs, false, length, option_map, unwrap_or}
+use Rattle.std.specs.Prelude.{ℕ, ◌≡◌, ◌≢◌, ◌<◌, ◌≤◌, IsTrue, Option, Some, AllPairs, false, [], ◌∷◌, length, option_map, option_and_then, unwrap_or}
 use Rattle.lrc_time.specs.Time.{entry}
 use Rattle.lrc_exec.specs.declared.machine.Ask.TheVariants.{Acquire, Barrier}
 use Rattle.lrc_envelope.specs.declared.message.Message.{Message}
 use Rattle.lrc_envelope.specs.declared.message.Message.TheVariants.{LockRequest, LockForward, LockGrant, Arrive, Depart, Clean, Discard}
 use Rattle.lrc_envelope.specs.declared.message.Message.TheVariants.{ChangesRequest, ChangesReply, PageRequest, PageReply}
-use Rattle.lrc_barrier.specs.Barrier.{IsArrival, is_accepted}
+use Rattle.lrc_barrier.specs.Barrier.{IsArrival, is_accepted, is_clean}
 use Rattle.lrc_order_laws.specs.Tokens.{is_awaited}
-use Rattle.lrc_lock.specs.Held.{forwarded, lock_at}
+use Rattle.lrc_lock.specs.Held.{forwarded, lock_at, is_taken}
 use Rattle.lrc_lock.specs.Lock.{manager_of}
 use Rattle.lrc_memory.specs.Turns.{AreAwaited, CanBeAdded, IsClosed}
-use Rattle.lrc_protocol.specs.Barrier.{arrive_step, clean_step}
-use Rattle.lrc_protocol.specs.Expected.{is_clean, is_taken}
-use Rattle.lrc_protocol.specs.Fetch.{with_changes, with_page}
-use Rattle.lrc_protocol.specs.Mail.{Collection, awaits_discard, discard, needs_of}
-use Rattle.lrc_protocol.specs.Node.{Node}
-use Rattle.lrc_protocol.specs.Take.{learns}
-use Rattle.lrc_protocol.specs.Waits.{with_needs}
-use Rattle.lrc_node.specs.Barrier.{arrival_in}
+use Rattle.lrc_protocol.specs.Pages.{with_changes, with_page}
+use Rattle.lrc_protocol.specs.Barriers.{Collection, arrival_in, base_at}
+use Rattle.lrc_protocol.specs.Node.{awaits_discard, discard, needs_of, Node, Effect, collection_of, sends}
+use Rattle.lrc_protocol.specs.Turn.{learns, with_needs, page_reply_by, take_page, passes_on, forward_by, take_grant, arrive_by, take_departure}
+use Rattle.lrc_protocol.specs.Turn.{clean_by, discard_by, changes_reply_to, take_changes}
+use Rattle.lrc_node.specs.Barrier.{arrive_step, clean_step}
 use Rattle.lrc_node.specs.Effects.{CanGoOn, with_parts}
 use Rattle.lrc_node.specs.Keeping.{CanCollect}
 use Rattle.lrc_node.specs.Text.{asked_in}
@@ -56,3 +54,17 @@ CanTake node from (PageRequest page) = page < length node.memory.copies
 CanTake node from (PageReply m) =
     AllPairs (λ a b. a.page ≢ b.page) (needs_of node.mail.wait)
     × CanGoOn node (with_needs (with_page m.page m.values) node.mail.wait)
+
+-- what a message does that the node expects
+abbrev pub effect_of : Node → ℕ → Message → Option Effect
+effect_of node from (LockRequest m) = Some (passes_on node from m)
+effect_of node from (LockForward m) = forward_by node m.lock (forwarded node.locks.held m.lock m.asker m.time)
+effect_of node from (LockGrant m) = Some (take_grant node m)
+effect_of node from (Arrive m) = option_and_then (arrive_by node) (arrive_step node.barrier from (arrival_in m))
+effect_of node from (Depart m) = Some (take_departure node m.collect m.time m.intervals)
+effect_of node from (Clean episode) = option_and_then (clean_by node) (clean_step node.barrier from episode)
+effect_of node from (Discard episode) = discard_by node (collection_of node.mail.wait)
+effect_of node from (ChangesRequest m) = Some (sends (changes_reply_to node from m.page m.indices ∷ []) node)
+effect_of node from (ChangesReply m) = Some (take_changes node from m)
+effect_of node from (PageRequest page) = page_reply_by node from page (base_at node.memory page)
+effect_of node from (PageReply m) = Some (take_page node m)

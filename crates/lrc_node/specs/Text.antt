@@ -5,8 +5,8 @@ use Rattle.lrc_exec.specs.declared.machine.Ask.{Ask}
 use Rattle.lrc_exec.specs.declared.machine.Ask.TheVariants.{Barrier, Trap, End}
 use Rattle.lrc_exec.specs.Ask.{ask_of, cost_asked}
 use Rattle.lrc_exec.specs.Meaning.{Thread, Next, next_of}
-use Rattle.lrc_protocol.specs.Course.{Course, going, trapped, ended, deed_of, course_of, cost_of}
-use Rattle.lrc_protocol.specs.Node.{begins_of}
+use Rattle.lrc_protocol.specs.Node.{Course, going, trapped, ended, deed_of, course_of, cost_of}
+use Rattle.lrc_protocol.specs.Turn.{begins_of}
 use Rattle.lrc_order_laws.specs.Waiting.{next_in}
 use Rattle.lrc_node.specs.declared.turns.text.TextStanding.{TextStanding}
 use Rattle.lrc_node.specs.declared.turns.text.TextStanding.TheVariants.{Running, Arrived, Trapped, Ended}

@@ -2,8 +2,8 @@
 
 ghost use Rattle.std.specs.Prelude.{◌≡◌, ℕ, Some, [], Ok, Err};
 ghost use Rattle.lrc_lang.specs.declared.program.Program.{Program};
-ghost use Rattle.lrc_protocol.specs.Log.{Input, EntryRecord, Logged as LogRecord, logged, logs};
 ghost use Rattle.lrc_protocol.specs.Node.{Node as NodeRecord, OptionsRecord, fresh_node};
+ghost use Rattle.lrc_protocol.specs.Run.{Input, EntryRecord, Logged as LogRecord, logged, logs};
 ghost use Rattle.lrc_node.specs.Logged.{LeadsFrom, LogsTo, NotesIn, TracedLog};
 ghost use Rattle.lrc_node.specs.declared.fault.NodeFault.TheVariants.{NotReady, Unexpected};
 

@@ -1,7 +1,7 @@
 // A node with its log.
 
 ghost use Rattle.std.specs.Prelude.{◌≡◌, Err, IfErr, MatchResult, None, [], false, true};
-ghost use Rattle.lrc_protocol.specs.Log as log;
+ghost use Rattle.lrc_protocol.specs.Run as log;
 ghost use Rattle.lrc_protocol.specs.Turn.{is_ready};
 ghost use Rattle.lrc_node.specs.Fault.{MayAnswer, is_final};
 ghost use Rattle.lrc_node.specs.Logged.{Enters, LogsTo, MakesRoom, NotesFailing, NotesIn, end_next, ended_by, newest, seen_input, sound};
@@ -36,7 +36,7 @@ pub struct Entry {
 }
 
 impl Model for Entry {
-    ghost use Rattle.lrc_protocol.specs.Log.{EntryRecord};
+    ghost use Rattle.lrc_protocol.specs.Run.{EntryRecord};
 
     ghost Value = { EntryRecord };
 
@@ -58,7 +58,7 @@ impl<'c> Model for Logged<'c> {
     ghost use Rattle.std.specs.Prelude.{◌≡◌};
     ghost use Rattle.std.specs.Coded.{codes};
     ghost use Rattle.lrc_lang.specs.contracts.program.Statement as statement;
-    ghost use Rattle.lrc_protocol.specs.Log.{last_stamp};
+    ghost use Rattle.lrc_protocol.specs.Run.{last_stamp};
     ghost use Rattle.lrc_node.specs.Logged.{TracedLog};
 
     ghost Value = { TracedLog };

@@ -4,7 +4,7 @@ ghost use Rattle.std.specs.Prelude.{◌≡◌, ◌<◌, ◌≤◌, IfErr, IfOk, 
 ghost use Rattle.lrc_protocol.specs.Node.{Node as NodeRecord, fresh_node};
 ghost use Rattle.lrc_protocol.specs.Traced.{with_act};
 ghost use Rattle.lrc_protocol.specs.Turn.{done, is_ready, not_ready, run_turn, take_turn, unexpected};
-ghost use Rattle.lrc_protocol.specs.Log.{run, taken};
+ghost use Rattle.lrc_protocol.specs.Run.{run, taken};
 ghost use Rattle.lrc_node.specs.Fault.{MayAnswer};
 ghost use Rattle.lrc_node.specs.Node.{Answers, end_in};
 ghost use Rattle.lrc_node.specs.declared.fault.NodeFault.TheVariants.{Failed, NoMemory, NotReady, Unexpected};

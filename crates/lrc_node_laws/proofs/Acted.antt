@@ -11,25 +11,20 @@ use Rattle.lrc_exec.specs.Meaning.{Thread, Next, quiet, prints, reads, writes, a
 use Rattle.lrc_store.specs.Interval.{IntervalRecord}
 use Rattle.lrc_envelope.specs.Envelope.{EnvelopeRecord}
 use Rattle.lrc_envelope.specs.declared.message.Message.{Message}
-use Rattle.lrc_protocol.specs.Copy.{Copy, valid, written, invalid, absent, is_readable, changes_of}
-use Rattle.lrc_protocol.specs.Memory.{Memory, copy_at, with_word, collected_at}
-use Rattle.lrc_protocol.specs.Fetch.{Base, Need, mended}
-use Rattle.lrc_protocol.specs.Mail.{Letter, Wait, nothing, grant, departure, access, upkeep, discard, needs_of}
-use Rattle.lrc_protocol.specs.Course.{Course, going, trapped, ended}
-use Rattle.lrc_protocol.specs.Locks.{next_time}
+use Rattle.lrc_protocol.specs.Times.{next_time}
+use Rattle.lrc_protocol.specs.Pages.{Copy, valid, written, invalid, absent, is_readable, changes_of, Memory, copy_at, with_word, Base, Need}
+use Rattle.lrc_protocol.specs.Pages.{mended}
+use Rattle.lrc_protocol.specs.Barriers.{collected_at}
+use Rattle.lrc_protocol.specs.Node.{Letter, Wait, nothing, grant, departure, access, upkeep, discard, needs_of, Course, going, trapped, ended}
 use Rattle.lrc_protocol.specs.Node.{Node, Effect, makes, acts, acts_by, with_memory, waiting}
-use Rattle.lrc_protocol.specs.Letters.{requests_of}
-use Rattle.lrc_protocol.specs.Run.{charged}
-use Rattle.lrc_protocol.specs.Take.{learns as learns_news}
-use Rattle.lrc_protocol.specs.Turn.{TurnRecord, taking}
-use Rattle.lrc_protocol.specs.Log.{Input}
-use Rattle.lrc_protocol.specs.Rules.{Accesses, access_read, access_write, IsOwn, own_quiet, own_print, own_trap, own_end}
-use Rattle.lrc_protocol.specs.Rules.{page_at, need_at, closed_for, keeping, collection_at, upkeep_at}
-use Rattle.lrc_protocol.specs.Rules.{RunRule, run_hit, run_miss, run_repair, run_acquire, run_ask, run_release, run_barrier, run_other}
-use Rattle.lrc_protocol.specs.Rules.{TakeRule, take_request, take_request_unnoted, take_forward, take_token, take_arrive}
+use Rattle.lrc_protocol.specs.Turn.{requests_of, charged, learns as learns_news, TurnRecord, taking}
+use Rattle.lrc_protocol.specs.Run.{Input}
+use Rattle.lrc_protocol.specs.Rules.{take_request, Accesses, access_read, access_write, IsOwn, own_quiet, own_print, own_trap, own_end, page_at}
+use Rattle.lrc_protocol.specs.Rules.{need_at, closed_for, keeping, collection_at, upkeep_at, RunRule, run_hit, run_miss, run_repair}
+use Rattle.lrc_protocol.specs.Rules.{run_acquire, run_ask, run_release, run_barrier, run_other, TakeRule, take_forward, take_token, take_arrive}
 use Rattle.lrc_protocol.specs.Rules.{take_last_arrive, take_depart, take_collect, take_collect_at_once, take_reply, take_last_reply}
-use Rattle.lrc_protocol.specs.Rules.{take_kept_reply, take_last_kept_reply, take_clean, take_last_clean, take_discard}
-use Rattle.lrc_protocol.specs.Rules.{take_changes_request, take_page_request, IsSent, with_numbers, TurnRule, by_run, by_repeat, by_message}
+use Rattle.lrc_protocol.specs.Rules.{take_kept_reply, take_last_kept_reply, take_clean, take_last_clean, take_discard, take_changes_request}
+use Rattle.lrc_protocol.specs.Rules.{take_page_request, IsSent, with_numbers, TurnRule, by_run, by_repeat, by_message}
 use Rattle.lrc_order_laws.specs.Waiting.{next_in, is_departing, FixesNext}
 use Rattle.lrc_order_laws.proofs.Counts.{lock_next, departure_next}
 use Rattle.lrc_order_laws.proofs.TextHolds.{TextIs}
@@ -218,8 +213,7 @@ module _ (ws : List (ℕ × ℕ)) where
       (mends-made size memory (change need) ws unread m))
 
   take-made : (node : Node) (from : ℕ) (message : Message) (e : Effect) → Known node → Made node → TakeRule node from message e → After e
-  take-made node from message e k made (take_request m to managed lt counted mine is) = made
-  take-made node from message e k made (take_request_unnoted m fault lt counted mine is) = made
+  take-made node from message e k made (take_request m lt counted mine) = made
   take-made node from message e k made (take_forward m lt asker counted managed accepted) = made
   take-made node from message e k made (take_token m lt at news) =
       let next : (x : Thread) × (next_in node.course ≡ Some (acquires m.lock x)) =

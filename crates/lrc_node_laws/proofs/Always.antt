@@ -13,10 +13,10 @@ use Rattle.lrc_page.specs.Page.{zero_page, words_of}
 use Rattle.lrc_page.specs.Place.{pages_of}
 use Rattle.lrc_store.specs.Interval.{IntervalRecord}
 use Rattle.lrc_store.specs.Store.{IsStore}
-use Rattle.lrc_protocol.specs.Expected.{indices_by, is_learnable}
-use Rattle.lrc_protocol.specs.Locks.{next_time}
-use Rattle.lrc_protocol.specs.Memory.{fresh_memory}
-use Rattle.lrc_protocol.specs.Node.{Node, OptionsRecord}
+use Rattle.lrc_protocol.specs.Times.{indices_by, next_time}
+use Rattle.lrc_protocol.specs.Pages.{fresh_memory, indices_of, unknown_of, lacking, Copy, valid, absent, Asked, Need, copy_at, is_met, Memory}
+use Rattle.lrc_protocol.specs.Node.{Node, OptionsRecord, going, Wait, nothing, grant, departure, access, upkeep, discard, needs_of}
+use Rattle.lrc_protocol.specs.Turn.{is_learnable, is_changes_reply}
 use Rattle.lrc_node_laws.specs.Ranges.{InRange}
 use Rattle.lrc_node_laws.specs.Reached.{IsReached}
 use Rattle.lrc_node_laws.specs.Stored.{StoresExactly}
@@ -25,10 +25,8 @@ use Rattle.lrc_node_laws.proofs.Reach.{first_view}
 use Rattle.lrc_node_laws.proofs.Tokened.{come_to, is_set}
 use Rattle.lrc_exec.specs.Meaning.{Setting, Thread, Next, quiet, prints, reads, writes, acquires, releases, arrives, departs, traps, ends}
 use Rattle.lrc_exec.specs.Plain.{setting_of}
-use Rattle.lrc_protocol.specs.Course.{going}
 use Rattle.lrc_order_laws.specs.Waiting.{next_in, is_departing, is_access, acquiring, FixesNext}
 use Rattle.lrc_order_laws.specs.Counts.{is_inside}
-use Rattle.lrc_protocol.specs.Mail.{Wait, nothing, grant, departure, access, upkeep, discard}
 use Rattle.std.specs.Prelude.{Option, Some, None, ◌==◌}
 use Rattle.lrc_order_laws.proofs.Waiting.{departs_arrived}
 use Rattle.lrc_order_laws.proofs.TextHolds.{IsText, TextIs}
@@ -38,29 +36,20 @@ use Rattle.lrc_node_laws.specs.Waits.{IsQuiet}
 use Rattle.lrc_page.specs.declared.changes.Change.{Change}
 use Rattle.lrc_store.specs.Store.{notice_at, unread}
 use Rattle.lrc_envelope.specs.Records.{IndexedChangesRecord, ChangesReplyRecord}
-use Rattle.lrc_protocol.specs.Expected.{is_changes_reply}
-use Rattle.lrc_protocol.specs.Fetch.{indices_of, unknown_of}
-use Rattle.lrc_protocol.specs.Memory.{lacking}
-use Rattle.lrc_protocol.specs.Mail.{needs_of}
 use Rattle.lrc_node_laws.specs.Needs.{FitsNeed, ReachesFor}
 use Rattle.lrc_node_laws.proofs.Needed.{Needed, needed-kept}
 use Rattle.lrc_node_laws.proofs.Reaches.{reaches-kept}
 use Rattle.lrc_node_laws.proofs.Replies.{asked-exactly}
 use Rattle.lrc_node_laws.proofs.Awaited.{All-unmap, asked-unread}
 use Rattle.lrc_page.specs.declared.size.Size.{Size}
-use Rattle.lrc_protocol.specs.Copy.{Copy, valid, absent}
 use Rattle.lrc_node_laws.specs.Ranges.{IsWhole, IsWholeBase}
 use Rattle.lrc_node_laws.proofs.Whole.{Whole, whole-kept}
 use Rattle.lrc_store.specs.declared.key.Key.{Key}
 use Rattle.lrc_store.specs.Store.{StoredRecord, changes_at}
-use Rattle.lrc_protocol.specs.Fetch.{Asked, Need}
-use Rattle.lrc_protocol.specs.Memory.{copy_at}
 use Rattle.lrc_node_laws.specs.Own.{IsAttached, OwnAttached, OwnCopied}
 use Rattle.lrc_node_laws.proofs.Own.{attached-kept}
 use Rattle.lrc_node_laws.proofs.OwnCopies.{own-kept, lacking-other}
 use Rattle.lrc_node_laws.proofs.OwnAsked.{makers-other}
-use Rattle.lrc_protocol.specs.Fetch.{is_met}
-use Rattle.lrc_protocol.specs.Memory.{Memory}
 use Rattle.lrc_node_laws.specs.Remembered.{IsBetween}
 use Rattle.lrc_node_laws.proofs.Remembered.{Between, between-kept}
 use Rattle.lrc_node_laws.proofs.MetNeeds.{met-known}

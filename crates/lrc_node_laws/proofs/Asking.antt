@@ -9,8 +9,7 @@ use Rattle.lrc_store.specs.Order.{placed, ascending_part}
 use Rattle.lrc_store.specs.Store.{StoreRecord, changes_at}
 use Rattle.lrc_store.proofs.Orders.{Contains-first, Contains-later, cases_Contains, none_Contains, filter-Contains}
 use Rattle.lrc_envelope.specs.Records.{IndexedChangesRecord}
-use Rattle.lrc_protocol.specs.Fetch.{Asked, indices_of, some_asked, asked_of, unknown_of}
-use Rattle.lrc_protocol.specs.Take.{with_part}
+use Rattle.lrc_protocol.specs.Pages.{Asked, indices_of, some_asked, asked_of, unknown_of, with_part}
 use Rattle.lrc_node_laws.proofs.Keys.{IsNoticed, parts-still, parts-here, parts-other}
 
 -- ---- filters

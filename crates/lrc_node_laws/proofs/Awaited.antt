@@ -7,8 +7,7 @@ use Rattle.std.proofs.lemmas.List.Kept.{AllPairs-cons}
 use Rattle.lrc_page.specs.declared.changes.Change.{Change}
 use Rattle.lrc_store.specs.declared.key.Key.{Key}
 use Rattle.lrc_store.specs.Store.{NoticeRecord, StoreRecord, IsStore, stored_at, notice_at, changes_at, unread}
-use Rattle.lrc_protocol.specs.Memory.{Memory, copy_at, lacking}
-use Rattle.lrc_protocol.specs.Fetch.{indices_of, unknown_of}
+use Rattle.lrc_protocol.specs.Pages.{Memory, copy_at, lacking, indices_of, unknown_of}
 use Rattle.lrc_node_laws.proofs.Indices.{Ascends}
 use Rattle.lrc_node_laws.proofs.Keys.{IsNoticed, All-part, notice_page}
 use Rattle.lrc_node_laws.proofs.Needs.{filter-both}

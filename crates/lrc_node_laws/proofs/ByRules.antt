@@ -4,8 +4,7 @@ use Rattle.std.specs.Prelude.{Some}
 use Rattle.lrc_page.specs.Place.{pages_of}
 use Rattle.lrc_exec.specs.Meaning.{Next, reads, writes}
 use Rattle.lrc_envelope.specs.declared.message.Message.{Message}
-use Rattle.lrc_protocol.specs.Memory.{Memory}
-use Rattle.lrc_protocol.specs.Fetch.{Need}
+use Rattle.lrc_protocol.specs.Pages.{Memory, Need}
 use Rattle.lrc_protocol.specs.Node.{Node}
 use Rattle.lrc_protocol.specs.Rules.{IsReadyFor, Accesses, access_read, access_write, page_at, Brings, brings_changes, brings_base_copy}
 use Rattle.lrc_order_laws.specs.Waiting.{next_in}

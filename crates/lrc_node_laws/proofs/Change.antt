@@ -13,16 +13,12 @@ use Rattle.lrc_exec.specs.Meaning.{Setting}
 use Rattle.lrc_store.specs.Interval.{IntervalRecord}
 use Rattle.lrc_envelope.specs.Records.{IndexedChangesRecord, ChangesReplyRecord}
 use Rattle.lrc_barrier.specs.Barrier.{ManagerRecord}
-use Rattle.lrc_protocol.specs.Copy.{is_readable}
-use Rattle.lrc_protocol.specs.Memory.{Memory, copy_at, with_word, with_interval, learned, with_keepers, kept_pages, collected_at}
-use Rattle.lrc_protocol.specs.Fetch.{Need, need_of, is_met, mended, awaits_changes, awaits_page, with_changes, with_page}
-use Rattle.lrc_protocol.specs.Mail.{Wait, nothing, grant, departure, access, upkeep, discard, Collection, needs_of}
-use Rattle.lrc_protocol.specs.Course.{Course}
-use Rattle.lrc_protocol.specs.Locks.{next_time}
-use Rattle.lrc_protocol.specs.Node.{Node}
-use Rattle.lrc_protocol.specs.Waits.{clean_memory, with_needs}
-use Rattle.lrc_protocol.specs.Expected.{is_page, is_interval, are_changes, indices_by, are_between, is_learnable, is_changes_reply}
-use Rattle.lrc_protocol.specs.Take.{with_part}
+use Rattle.lrc_protocol.specs.Times.{next_time, indices_by, are_between}
+use Rattle.lrc_protocol.specs.Pages.{is_readable, Memory, copy_at, with_word, with_interval, learned, Need, need_of, is_met, mended}
+use Rattle.lrc_protocol.specs.Pages.{awaits_changes, awaits_page, with_changes, with_page, with_part}
+use Rattle.lrc_protocol.specs.Barriers.{with_keepers, kept_pages, collected_at, Collection, clean_memory}
+use Rattle.lrc_protocol.specs.Node.{Wait, nothing, grant, departure, access, upkeep, discard, needs_of, Course, Node}
+use Rattle.lrc_protocol.specs.Turn.{with_needs, is_page, is_interval, are_changes, is_learnable, is_changes_reply}
 use Rattle.lrc_order_laws.specs.Waiting.{next_in}
 use Rattle.lrc_node_laws.specs.Ranges.{InRange}
 use Rattle.lrc_node_laws.specs.Needs.{page_next}

@@ -4,7 +4,7 @@ use Rattle.std.specs.Prelude.{Option, Some, None, All, slice_index_or}
 use Rattle.std.proofs.lemmas.Bool.{and_parts, eqb-true, ltb-true}
 use Rattle.std.proofs.lemmas.Option.{same_Some}
 use Rattle.std.proofs.lemmas.List.Elements.{All-head, All-weaker}
-use Rattle.lrc_protocol.specs.Copy.{Copy, absent}
+use Rattle.lrc_protocol.specs.Pages.{Copy, absent, copy_at, lacking, Need, with_changes, with_page}
 use Rattle.lrc_exec.specs.Meaning.{Setting, Next, quiet, prints, reads, writes, acquires, releases, arrives, departs, traps, ends}
 use Rattle.lrc_page.specs.declared.size.Size.{Size}
 use Rattle.lrc_page.specs.Page.{words_of}
@@ -12,12 +12,9 @@ use Rattle.lrc_page.specs.Place.{page_of}
 use Rattle.lrc_store.specs.declared.key.Key.{Key}
 use Rattle.lrc_store.specs.Store.{IsStore}
 use Rattle.lrc_envelope.specs.Records.{ChangesReplyRecord, PageReplyRecord}
-use Rattle.lrc_protocol.specs.Memory.{copy_at, lacking}
-use Rattle.lrc_protocol.specs.Fetch.{Need, with_changes, with_page}
-use Rattle.lrc_protocol.specs.Mail.{access, needs_of}
-use Rattle.lrc_protocol.specs.Node.{Node}
-use Rattle.lrc_protocol.specs.Waits.{with_needs}
-use Rattle.lrc_protocol.specs.Expected.{is_changes_reply, is_expected}
+use Rattle.lrc_protocol.specs.Node.{access, needs_of, Node}
+use Rattle.lrc_protocol.specs.Turn.{with_needs, is_changes_reply, is_expected}
+use Rattle.lrc_protocol.proofs.Expecting.{fulfilled}
 use Rattle.lrc_envelope.specs.declared.message.Message.TheVariants.{PageReply}
 use Rattle.lrc_order_laws.specs.Waiting.{next_in}
 use Rattle.lrc_node_laws.specs.Needs.{FitsBase, FitsNeed, page_next, ReachesFor}
@@ -86,7 +83,7 @@ changes_repair node r from m e need w =
 pub page_repairs : (node : Node) → IsReached node → (from : ℕ) (m : PageReplyRecord) → is_expected node from (PageReply m) ≡ true → (need : Need)
     → with_needs (with_page m.page m.values) node.mail.wait ≡ access need → CanBeRepaired node need
 page_repairs node r from m e need w =
-    let outer : _ = and_parts _ _ e in
+    let outer : _ = and_parts _ _ (fulfilled node from (PageReply m) e) in
     let inner : _ = and_parts _ _ outer.0 in
     repairs node r _
     (gets_page from m.page m.values (record { in_range = ltb-true _ _ inner.0; whole = eqb-true _ _ inner.1; asked = outer.1 })) refl refl refl refl need w

@@ -1,7 +1,7 @@
 -- Who is inside a barrier has arrived at one.
 use Rattle.std.proofs.Common.{ℕ, ◌≤◌, Bool, ap, arith}
 use Rattle.lrc_protocol.specs.Locks.{Locks}
-use Rattle.lrc_protocol.specs.Mail.{Wait}
+use Rattle.lrc_protocol.specs.Node.{Wait}
 use Rattle.lrc_order_laws.specs.Counts.{is_inside}
 use Rattle.lrc_order_laws.proofs.Shift.{Part, Shift, plain, misses, takes, asks, releasing, arriving, manages, forwarding, grants, departing}
 use Rattle.lrc_order_laws.proofs.Shift.{collecting, clean_at_once, discarding, accessing, still_misses, still_collects, cleaning, rests}

@@ -11,9 +11,9 @@ use Rattle.lrc_time.proofs.Times.{entry-joined, length-joined_same, entry-set_sa
 use Rattle.lrc_store.specs.Interval.{IntervalRecord, index_of}
 use Rattle.lrc_store.specs.Store.{StoreRecord, IsStore, intervals_of, added, discarded}
 use Rattle.lrc_store.proofs.Stores.{intervals_of-added, intervals_of-discarded}
-use Rattle.lrc_protocol.specs.Expected.{indices_by}
-use Rattle.lrc_protocol.specs.Memory.{Memory, all_changes, closed_interval, with_interval, learned, collected_at}
-use Rattle.lrc_protocol.specs.Locks.{next_time}
+use Rattle.lrc_protocol.specs.Times.{indices_by, next_time}
+use Rattle.lrc_protocol.specs.Pages.{Memory, all_changes, closed_interval, with_interval, learned}
+use Rattle.lrc_protocol.specs.Barriers.{collected_at}
 use Rattle.lrc_node_laws.specs.Ranges.{InRange, HasRanges, CollectsAt}
 use Rattle.lrc_node_laws.specs.Stored.{StoresExactly}
 use Rattle.lrc_node_laws.proofs.Stores.{SameIntervals, append_none, own-same, parts-same, Longer, learned-longer, length-last_with, last_with}

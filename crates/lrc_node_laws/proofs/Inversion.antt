@@ -1,7 +1,7 @@
 -- Every turn is some changes one after another.
 use Rattle.lrc_protocol.specs.Node.{Node}
 use Rattle.lrc_protocol.specs.Turn.{Outcome, done, not_ready, unexpected, worn, taking}
-use Rattle.lrc_protocol.specs.Log.{Input, outcome_of}
+use Rattle.lrc_protocol.specs.Run.{Input, outcome_of}
 use Rattle.lrc_order_laws.proofs.TextHolds.{TextIs}
 use Rattle.lrc_order_laws.proofs.Sends.{by_itself, comes}
 use Rattle.lrc_node_laws.proofs.Change.{View, view_of, Walk, goes, receives}

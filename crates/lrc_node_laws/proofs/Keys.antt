@@ -15,7 +15,7 @@ use Rattle.lrc_store.proofs.Lookups.{find-map, passes-find, notice_at-attached_o
 use Rattle.lrc_store.proofs.Orders.{cases_Contains, none_Contains}
 use Rattle.lrc_store.proofs.Stores.{interval_of-stored_with, kept_page}
 use Rattle.lrc_envelope.specs.Records.{IndexedChangesRecord}
-use Rattle.lrc_protocol.specs.Take.{with_part}
+use Rattle.lrc_protocol.specs.Pages.{with_part}
 
 -- ---- one key gets changes
 

@@ -5,7 +5,7 @@ use Rattle.std.specs.List.{enumerate_from, cons_option}
 use Rattle.std.proofs.lemmas.List.{length-map}
 use Rattle.std.proofs.lemmas.List.FromFn.{length-enumerate_from}
 use Rattle.std.proofs.lemmas.List.Elements.{All-nil, All-cons, All-head, All-tail}
-use Rattle.lrc_protocol.specs.Memory.{least}
+use Rattle.lrc_protocol.specs.Barriers.{least}
 
 -- ---- lists made from each element with its place
 

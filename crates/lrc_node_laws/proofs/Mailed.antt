@@ -6,8 +6,8 @@ use Rattle.std.proofs.lemmas.List.{length-set}
 use Rattle.lrc_time.specs.Time.{entry}
 use Rattle.lrc_time.proofs.Times.{entry-set_same, entry-joined, length-zeros}
 use Rattle.lrc_barrier.specs.Barrier.{ManagerRecord, first_manager}
-use Rattle.lrc_protocol.specs.Mail.{Wait}
 use Rattle.lrc_protocol.specs.Locks.{Locks}
+use Rattle.lrc_protocol.specs.Node.{Wait}
 use Rattle.lrc_order_laws.proofs.Shift.{Part, Shift, plain, misses as misses_shift, takes, asks, releasing, arriving, manages as manages_shift}
 use Rattle.lrc_order_laws.proofs.Shift.{forwarding, grants, departing, collecting, clean_at_once, discarding, accessing, still_misses, still_collects}
 use Rattle.lrc_order_laws.proofs.Shift.{cleaning, rests}

@@ -8,9 +8,8 @@ use Rattle.lrc_store.specs.declared.key.Key.{Key}
 use Rattle.lrc_store.specs.Interval.{IntervalRecord, by_weight}
 use Rattle.lrc_store.specs.Store.{StoreRecord, intervals_of, changes_at, is_missing, key_of, missing_of}
 use Rattle.lrc_store.proofs.Orders.{none_Contains, filter-Contains}
-use Rattle.lrc_protocol.specs.Copy.{Copy, valid, written, invalid, absent}
-use Rattle.lrc_protocol.specs.Memory.{Memory, copy_at, lacking_in}
-use Rattle.lrc_protocol.specs.Fetch.{Asked, Need, indices_of, some_asked, asked_of, unknown_of, is_due, is_nothing, is_met}
+use Rattle.lrc_protocol.specs.Pages.{Copy, valid, written, invalid, absent, Memory, copy_at, lacking_in, Asked, Need, indices_of, some_asked}
+use Rattle.lrc_protocol.specs.Pages.{asked_of, unknown_of, is_due, is_nothing, is_met}
 use Rattle.lrc_node_laws.specs.Ranges.{InRange, HasRanges}
 use Rattle.lrc_node_laws.specs.Needs.{FitsNeed}
 use Rattle.lrc_node_laws.proofs.Keys.{IsKnown, All-part}

@@ -5,12 +5,12 @@ use Rattle.std.specs.List.{range_with_len}
 use Rattle.std.proofs.lemmas.List.Elements.{All-nil, All-cons, All-weaker, All-contains_itself}
 use Rattle.lrc_page.specs.Page.{words_of}
 use Rattle.lrc_store.specs.Store.{IsStore, intervals_of}
-use Rattle.lrc_protocol.specs.Copy.{is_readable}
-use Rattle.lrc_protocol.specs.Memory.{Memory, copy_at, is_named, keeper_at, kept_pages, with_keepers, with_word}
-use Rattle.lrc_protocol.specs.Fetch.{come, Need, need_of, with_changes, with_page}
-use Rattle.lrc_protocol.specs.Mail.{Wait, upkeep, needs_of}
-use Rattle.lrc_protocol.specs.Take.{with_part}
-use Rattle.lrc_protocol.specs.Waits.{clean_memory, with_needs}
+use Rattle.lrc_protocol.specs.Times.{is_named}
+use Rattle.lrc_protocol.specs.Pages.{is_readable, Memory, copy_at, keeper_at, with_word, come, Need, need_of, with_changes, with_page}
+use Rattle.lrc_protocol.specs.Pages.{with_part}
+use Rattle.lrc_protocol.specs.Barriers.{kept_pages, with_keepers, clean_memory}
+use Rattle.lrc_protocol.specs.Node.{Wait, upkeep, needs_of}
+use Rattle.lrc_protocol.specs.Turn.{with_needs}
 use Rattle.lrc_node_laws.specs.Ranges.{HasRanges}
 use Rattle.lrc_node_laws.specs.Stored.{StoresExactly}
 use Rattle.lrc_node_laws.specs.Needs.{FitsNeed, FitsKept}

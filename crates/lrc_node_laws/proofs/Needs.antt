@@ -5,11 +5,11 @@ use Rattle.std.specs.List.{list_any, range_with_len}
 use Rattle.std.proofs.lemmas.Bool.{cond_both, false≢true, or_cases, not-true}
 use Rattle.std.proofs.lemmas.List.Elements.{All-nil, All-cons, All-head, All-tail, All-map, All-filter, All-weaker, All-get_or}
 use Rattle.lrc_store.specs.Store.{intervals_of}
-use Rattle.lrc_protocol.specs.Copy.{Copy, valid, written, invalid, absent, is_readable}
-use Rattle.lrc_protocol.specs.Memory.{Memory, copy_at, is_named, keeper_at, kept_pages}
-use Rattle.lrc_protocol.specs.Fetch.{Need, base_of, need_of}
-use Rattle.lrc_protocol.specs.Mail.{Wait, nothing, grant, departure, access, upkeep, discard, needs_of}
-use Rattle.lrc_protocol.specs.Waits.{with_needs}
+use Rattle.lrc_protocol.specs.Times.{is_named}
+use Rattle.lrc_protocol.specs.Pages.{Copy, valid, written, invalid, absent, is_readable, Memory, copy_at, keeper_at, Need, base_of, need_of}
+use Rattle.lrc_protocol.specs.Barriers.{kept_pages}
+use Rattle.lrc_protocol.specs.Node.{Wait, nothing, grant, departure, access, upkeep, discard, needs_of}
+use Rattle.lrc_protocol.specs.Turn.{with_needs}
 use Rattle.lrc_node_laws.specs.Ranges.{HasRanges}
 use Rattle.lrc_node_laws.specs.Needs.{FitsBase, FitsNeed, FitsKept}
 use Rattle.lrc_node_laws.proofs.Indices.{Ascends, range-ascends}

@@ -14,13 +14,12 @@ use Rattle.lrc_page.specs.Place.{page_of, offset_of}
 use Rattle.lrc_time.specs.Time.{entry, joined}
 use Rattle.lrc_time.proofs.Times.{entry-set_same, entry-joined, entry-zeros}
 use Rattle.lrc_exec.specs.Meaning.{Setting, Next, quiet, prints, reads, writes, acquires, releases, arrives, departs, traps, ends, next_of}
-use Rattle.lrc_protocol.specs.Course.{Course, going, trapped, ended, deed_of}
-use Rattle.lrc_protocol.specs.Locks.{Locks, next_time}
-use Rattle.lrc_protocol.specs.Mail.{Wait, nothing, grant, departure, access, upkeep, discard}
-use Rattle.lrc_protocol.specs.Node.{Node, OptionsRecord, fresh_node}
-use Rattle.lrc_protocol.specs.Run.{own_index}
+use Rattle.lrc_protocol.specs.Times.{next_time}
+use Rattle.lrc_protocol.specs.Locks.{Locks}
+use Rattle.lrc_protocol.specs.Node.{Course, going, trapped, ended, deed_of, Wait, nothing, grant, departure, access, upkeep, discard, Node}
+use Rattle.lrc_protocol.specs.Node.{OptionsRecord, fresh_node, own_index}
 use Rattle.lrc_protocol.specs.Turn.{TurnRecord, Outcome, done, not_ready, unexpected, worn}
-use Rattle.lrc_protocol.specs.Log.{Input, outcome_of, Local, local_after, local_step}
+use Rattle.lrc_protocol.specs.Run.{Input, outcome_of, Local, local_after, local_step}
 use Rattle.lrc_protocol.specs.Traced.{Traced, untraced, traced, traced_by, traced_step, with_access_by, with_deed, with_act}
 use Rattle.lrc_protocol.proofs.Ruled.{by_rule}
 use Rattle.lrc_protocol.proofs.Traces.{traced_node, traced_more}

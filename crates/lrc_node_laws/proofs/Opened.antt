@@ -8,10 +8,10 @@ use Rattle.std.proofs.lemmas.List.Elements.{filter-append, All-get_or, All-set}
 use Rattle.lrc_page.specs.declared.size.Size.{Size}
 use Rattle.lrc_page.specs.Place.{page_of, offset_of}
 use Rattle.lrc_store.specs.Interval.{IntervalRecord}
-use Rattle.lrc_protocol.specs.Copy.{Copy, valid, written, invalid, absent, is_readable, changes_of, after_write, closed, invalidated, dropped}
-use Rattle.lrc_protocol.specs.Memory.{Memory, copy_at, with_word, with_interval, is_named, learned, collected_at, repaired}
-use Rattle.lrc_protocol.specs.Fetch.{Need, first_values, mended}
-use Rattle.lrc_protocol.specs.Waits.{clean_memory}
+use Rattle.lrc_protocol.specs.Times.{is_named}
+use Rattle.lrc_protocol.specs.Pages.{Copy, valid, written, invalid, absent, is_readable, changes_of, after_write, closed, invalidated, dropped}
+use Rattle.lrc_protocol.specs.Pages.{Memory, copy_at, with_word, with_interval, learned, repaired, Need, first_values, mended}
+use Rattle.lrc_protocol.specs.Barriers.{collected_at, clean_memory}
 use Rattle.lrc_node_laws.specs.Waits.{NoneWritten}
 use Rattle.lrc_node_laws.specs.Opened.{on_page, put, IsMadeBy, AreMadeBy}
 use Rattle.lrc_node_laws.proofs.Lists.{length-placed}

@@ -14,11 +14,9 @@ use Rattle.lrc_store.proofs.Stores.{interval_of-stored_with, kept_page}
 use Rattle.lrc_store.proofs.Records.{interval_of-without_changes}
 use Rattle.lrc_store.proofs.Orders.{cases_Contains, none_Contains}
 use Rattle.lrc_envelope.specs.Records.{IndexedChangesRecord}
-use Rattle.lrc_protocol.specs.Memory.{Memory, all_changes, closed_interval, with_own, with_interval}
-use Rattle.lrc_protocol.specs.Take.{with_part}
-use Rattle.lrc_protocol.specs.Waits.{clean_memory}
-use Rattle.lrc_protocol.specs.Locks.{next_time}
-use Rattle.lrc_protocol.specs.Expected.{indices_by}
+use Rattle.lrc_protocol.specs.Times.{next_time, indices_by}
+use Rattle.lrc_protocol.specs.Pages.{Memory, all_changes, closed_interval, with_own, with_interval, with_part}
+use Rattle.lrc_protocol.specs.Barriers.{clean_memory}
 use Rattle.lrc_node_laws.specs.Own.{IsAttached, OwnAttached}
 use Rattle.lrc_node_laws.proofs.Indices.{of_node}
 use Rattle.lrc_node_laws.proofs.Change.{View, News, Change, receives, manages, moves, puts, closes, learns, resumes}

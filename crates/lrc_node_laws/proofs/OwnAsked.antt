@@ -9,8 +9,7 @@ use Rattle.lrc_store.specs.declared.key.Key.{Key}
 use Rattle.lrc_store.specs.Order.{ascending_part}
 use Rattle.lrc_store.specs.Store.{NoticeRecord, StoredRecord, is_at, stored_at, notice_of, notice_at, changes_at}
 use Rattle.lrc_store.proofs.Lookups.{passes-find}
-use Rattle.lrc_protocol.specs.Fetch.{Asked, indices_of, some_asked, asked_of}
-use Rattle.lrc_protocol.specs.Memory.{Memory}
+use Rattle.lrc_protocol.specs.Pages.{Asked, indices_of, some_asked, asked_of, Memory}
 use Rattle.lrc_node_laws.specs.Own.{IsAttached, OwnAttached}
 use Rattle.lrc_node_laws.proofs.Lists.{All-chosen}
 use Rattle.lrc_node_laws.proofs.Needs.{range-within}

@@ -14,11 +14,10 @@ use Rattle.lrc_store.specs.Interval.{IntervalRecord, index_of, by_weight}
 use Rattle.lrc_store.specs.Store.{intervals_of, added, is_missing, key_of, missing_of, discarded}
 use Rattle.lrc_store.proofs.Stores.{intervals_of-added}
 use Rattle.lrc_page.specs.Place.{page_of, offset_of}
-use Rattle.lrc_protocol.specs.Copy.{Copy, valid, written, invalid, absent, changes_of, after_write, closed, invalidated}
-use Rattle.lrc_protocol.specs.Memory.{Memory, copy_at, with_word, all_changes, closed_interval, with_interval, is_named, learned, lacking_in, collected_at}
-use Rattle.lrc_protocol.specs.Fetch.{Need, mended}
-use Rattle.lrc_protocol.specs.Locks.{next_time}
-use Rattle.lrc_protocol.specs.Waits.{clean_memory}
+use Rattle.lrc_protocol.specs.Times.{is_named, next_time}
+use Rattle.lrc_protocol.specs.Pages.{Copy, valid, written, invalid, absent, changes_of, after_write, closed, invalidated, Memory, copy_at}
+use Rattle.lrc_protocol.specs.Pages.{with_word, all_changes, closed_interval, with_interval, learned, lacking_in, Need, mended}
+use Rattle.lrc_protocol.specs.Barriers.{collected_at, clean_memory}
 use Rattle.lrc_node_laws.specs.Ranges.{CollectsAt}
 use Rattle.lrc_node_laws.specs.Stored.{StoresExactly}
 use Rattle.lrc_node_laws.specs.Own.{HasOwn, OwnCopied}

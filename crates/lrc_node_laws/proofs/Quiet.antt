@@ -2,11 +2,12 @@
 use Rattle.std.proofs.Common.{◌≡◌, ℕ, List, [], ◌∷◌, Bool, true, false, refl, sym, subst}
 use Rattle.std.specs.Prelude.{None, All, fold, map, if◌then◌else◌}
 use Rattle.std.proofs.lemmas.List.Elements.{All-map, All-set}
-use Rattle.lrc_protocol.specs.Copy.{Copy, valid, written, invalid, absent, changes_of, closed, invalidated}
-use Rattle.lrc_protocol.specs.Memory.{Memory, copy_at, is_named, learned, with_base, with_word, repaired}
-use Rattle.lrc_protocol.specs.Fetch.{Need, mended, first_values}
-use Rattle.lrc_protocol.specs.Mail.{Wait, nothing, grant, departure, access, upkeep, discard}
-use Rattle.lrc_protocol.specs.Waits.{with_needs}
+use Rattle.lrc_protocol.specs.Times.{is_named}
+use Rattle.lrc_protocol.specs.Pages.{Copy, valid, written, invalid, absent, changes_of, closed, invalidated, Memory, copy_at, learned}
+use Rattle.lrc_protocol.specs.Pages.{with_word, repaired, Need, mended, first_values}
+use Rattle.lrc_protocol.specs.Barriers.{with_base}
+use Rattle.lrc_protocol.specs.Node.{Wait, nothing, grant, departure, access, upkeep, discard}
+use Rattle.lrc_protocol.specs.Turn.{with_needs}
 use Rattle.lrc_store.specs.Interval.{IntervalRecord}
 use Rattle.lrc_node_laws.specs.Waits.{NoneWritten, IsQuiet}
 use Rattle.lrc_node_laws.proofs.Lists.{All-placed}

@@ -11,13 +11,12 @@ use Rattle.lrc_page.specs.declared.changes.Change.{Change as PageChange}
 use Rattle.lrc_store.specs.Interval.{IntervalRecord}
 use Rattle.lrc_store.specs.Store.{StoreRecord, intervals_of, added, is_covered}
 use Rattle.lrc_store.proofs.Stores.{intervals_of-added, intervals_of-discarded}
-use Rattle.lrc_protocol.specs.Copy.{Copy, changes_of, closed, invalidated, dropped}
-use Rattle.lrc_protocol.specs.Memory.{Memory, with_copy, all_changes, closed_interval, with_interval, is_named, learned}
-use Rattle.lrc_protocol.specs.Memory.{least, namers_of, keeper_at, with_keepers, with_base, collected_at}
-use Rattle.lrc_protocol.specs.Fetch.{Need, mended}
-use Rattle.lrc_protocol.specs.Mail.{Wait, nothing, grant, departure, access, upkeep, discard}
-use Rattle.lrc_protocol.specs.Locks.{next_time}
-use Rattle.lrc_protocol.specs.Waits.{clean_memory, with_needs}
+use Rattle.lrc_protocol.specs.Times.{is_named, next_time}
+use Rattle.lrc_protocol.specs.Pages.{Copy, changes_of, closed, invalidated, dropped, Memory, with_copy, all_changes, closed_interval}
+use Rattle.lrc_protocol.specs.Pages.{with_interval, learned, keeper_at, Need, mended}
+use Rattle.lrc_protocol.specs.Barriers.{least, namers_of, with_keepers, with_base, collected_at, clean_memory}
+use Rattle.lrc_protocol.specs.Node.{Wait, nothing, grant, departure, access, upkeep, discard}
+use Rattle.lrc_protocol.specs.Turn.{with_needs}
 use Rattle.lrc_node_laws.specs.Ranges.{InRange, HasRanges, CollectsAt}
 use Rattle.lrc_node_laws.proofs.Lists.{length-placed, All-placed, All-chosen, places-below, least_or-below}
 use Rattle.lrc_node_laws.proofs.Stores.{SameIntervals, own-same, parts-same, Longer, learned-longer, length-last_with}

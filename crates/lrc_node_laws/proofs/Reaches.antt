@@ -3,9 +3,9 @@ use Rattle.std.proofs.Common.{◌≡◌, [], true, sym, ap, ◌∙◌}
 use Rattle.std.specs.Prelude.{Option, Some}
 use Rattle.lrc_page.specs.declared.size.Size.{Size}
 use Rattle.lrc_exec.specs.Meaning.{Next}
-use Rattle.lrc_protocol.specs.Fetch.{Need, with_changes, with_page}
-use Rattle.lrc_protocol.specs.Mail.{Wait, nothing, grant, departure, access, upkeep, discard, needs_of}
-use Rattle.lrc_protocol.specs.Waits.{with_needs}
+use Rattle.lrc_protocol.specs.Pages.{Need, with_changes, with_page}
+use Rattle.lrc_protocol.specs.Node.{Wait, nothing, grant, departure, access, upkeep, discard, needs_of}
+use Rattle.lrc_protocol.specs.Turn.{with_needs}
 use Rattle.lrc_order_laws.specs.Waiting.{next_in}
 use Rattle.lrc_node_laws.specs.Needs.{ReachesFor}
 use Rattle.lrc_node_laws.proofs.Needed.{changed_page, sent_page}

@@ -12,12 +12,10 @@ use Rattle.lrc_store.specs.Interval.{IntervalRecord, index_of}
 use Rattle.lrc_store.specs.Store.{intervals_of, added, is_missing}
 use Rattle.lrc_store.proofs.Stores.{intervals_of-added}
 use Rattle.lrc_page.specs.Place.{page_of, offset_of}
-use Rattle.lrc_protocol.specs.Copy.{Copy, valid, written, invalid, absent, after_write, closed, invalidated, dropped}
-use Rattle.lrc_protocol.specs.Memory.{Memory, copy_at, with_word, all_changes, closed_interval, with_interval, is_named, learned, with_keepers, collected_at}
-use Rattle.lrc_protocol.specs.Fetch.{Need, mended}
-use Rattle.lrc_protocol.specs.Locks.{next_time}
-use Rattle.lrc_protocol.specs.Waits.{clean_memory}
-use Rattle.lrc_protocol.specs.Take.{with_part}
+use Rattle.lrc_protocol.specs.Times.{is_named, next_time}
+use Rattle.lrc_protocol.specs.Pages.{Copy, valid, written, invalid, absent, after_write, closed, invalidated, dropped, Memory, copy_at}
+use Rattle.lrc_protocol.specs.Pages.{with_word, all_changes, closed_interval, with_interval, learned, Need, mended, with_part}
+use Rattle.lrc_protocol.specs.Barriers.{with_keepers, collected_at, clean_memory}
 use Rattle.lrc_node_laws.specs.Stored.{StoresExactly}
 use Rattle.lrc_node_laws.specs.Remembered.{IsBetween}
 use Rattle.lrc_node_laws.proofs.Lists.{length-placed}

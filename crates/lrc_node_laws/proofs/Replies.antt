@@ -12,12 +12,10 @@ use Rattle.lrc_store.specs.Order.{ascending_part}
 use Rattle.lrc_store.specs.Store.{StoreRecord, IsStore, intervals_of, is_missing, key_of}
 use Rattle.lrc_store.proofs.Orders.{cases_Contains, none_Contains, filter-Contains}
 use Rattle.lrc_envelope.specs.Records.{IndexedChangesRecord}
-use Rattle.lrc_protocol.specs.Copy.{Copy, valid, written, invalid, absent, is_readable}
-use Rattle.lrc_protocol.specs.Memory.{Memory, copy_at, lacking, lacking_in, with_base, repaired}
-use Rattle.lrc_protocol.specs.Fetch.{Base, unneeded, due, come, Asked, Need, indices_of, some_asked, asked_of, unknown_of, asks}
-use Rattle.lrc_protocol.specs.Fetch.{awaits_changes, is_due_from, awaits_page, with_changes, with_page, first_values, mended}
-use Rattle.lrc_protocol.specs.Take.{with_part}
-use Rattle.lrc_protocol.specs.Waits.{clean_memory}
+use Rattle.lrc_protocol.specs.Pages.{Copy, valid, written, invalid, absent, is_readable, Memory, copy_at, lacking, lacking_in, repaired, Base}
+use Rattle.lrc_protocol.specs.Pages.{unneeded, due, come, Asked, Need, indices_of, some_asked, asked_of, unknown_of, asks, awaits_changes}
+use Rattle.lrc_protocol.specs.Pages.{is_due_from, awaits_page, with_changes, with_page, first_values, mended, with_part}
+use Rattle.lrc_protocol.specs.Barriers.{with_base, clean_memory}
 use Rattle.lrc_node_laws.specs.Needs.{FitsBase, FitsNeed}
 use Rattle.lrc_node_laws.proofs.Tests.{same_numbers}
 use Rattle.lrc_node_laws.proofs.Lists.{All-chosen}

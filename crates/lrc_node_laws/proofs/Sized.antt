@@ -16,10 +16,9 @@ use Rattle.lrc_store.specs.Store.{NoticeRecord, StoredRecord, StoreRecord, inter
 use Rattle.lrc_store.specs.Store.{unread, without_changes, added, stored_with, notice_with}
 use Rattle.lrc_envelope.specs.Records.{IndexedChangesRecord}
 use Rattle.lrc_time.specs.Time.{entry}
-use Rattle.lrc_protocol.specs.Copy.{Copy, valid, written, invalid, absent, changes_of}
-use Rattle.lrc_protocol.specs.Memory.{Memory, all_changes, closed_interval, with_own}
-use Rattle.lrc_protocol.specs.Take.{with_part}
-use Rattle.lrc_protocol.specs.Locks.{next_time}
+use Rattle.lrc_protocol.specs.Times.{next_time}
+use Rattle.lrc_protocol.specs.Pages.{Copy, valid, written, invalid, absent, changes_of, Memory, all_changes, closed_interval, with_own}
+use Rattle.lrc_protocol.specs.Pages.{with_part}
 use Rattle.lrc_node_laws.specs.Ranges.{IsWhole}
 use Rattle.lrc_node_laws.specs.Sized.{AreInPage, IsSized}
 use Rattle.lrc_node_laws.proofs.Lists.{All-chosen}

@@ -11,21 +11,16 @@ use Rattle.lrc_time.proofs.Times.{entry-set_same, entry-joined}
 use Rattle.lrc_exec.specs.Meaning.{Thread, Next, quiet, prints, reads, writes, acquires, releases, arrives, departs, traps, ends, next_of}
 use Rattle.lrc_store.specs.Interval.{IntervalRecord}
 use Rattle.lrc_envelope.specs.declared.message.Message.{Message}
-use Rattle.lrc_protocol.specs.Memory.{collected_at}
-use Rattle.lrc_protocol.specs.Mail.{Letter, Wait, nothing, access}
-use Rattle.lrc_protocol.specs.Course.{Course, going, trapped, ended, deed_of, cost_of}
-use Rattle.lrc_protocol.specs.Node.{Node, Effect, value_read, acts, acts_by, with_memory, waiting}
-use Rattle.lrc_protocol.specs.Expected.{is_learnable}
-use Rattle.lrc_protocol.specs.Run.{own_index, closes, charged}
-use Rattle.lrc_protocol.specs.Take.{learns}
-use Rattle.lrc_protocol.specs.Turn.{TurnRecord, taking}
-use Rattle.lrc_protocol.specs.Log.{Input}
-use Rattle.lrc_protocol.specs.Rules.{Accesses, access_read, access_write}
-use Rattle.lrc_protocol.specs.Rules.{RunRule, run_hit, run_miss, run_repair, run_acquire, run_ask, run_release, run_barrier, run_other}
-use Rattle.lrc_protocol.specs.Rules.{TakeRule, take_request, take_request_unnoted, take_forward, take_token, take_arrive}
+use Rattle.lrc_protocol.specs.Barriers.{collected_at}
+use Rattle.lrc_protocol.specs.Node.{Letter, Wait, nothing, access, Course, going, trapped, ended, deed_of, cost_of, Node, Effect, value_read}
+use Rattle.lrc_protocol.specs.Node.{acts, acts_by, with_memory, waiting, own_index}
+use Rattle.lrc_protocol.specs.Turn.{is_learnable, closes, charged, learns, TurnRecord, taking}
+use Rattle.lrc_protocol.specs.Run.{Input}
+use Rattle.lrc_protocol.specs.Rules.{take_request, Accesses, access_read, access_write, RunRule, run_hit, run_miss, run_repair, run_acquire}
+use Rattle.lrc_protocol.specs.Rules.{run_ask, run_release, run_barrier, run_other, TakeRule, take_forward, take_token, take_arrive}
 use Rattle.lrc_protocol.specs.Rules.{take_last_arrive, take_depart, take_collect, take_collect_at_once, take_reply, take_last_reply}
-use Rattle.lrc_protocol.specs.Rules.{take_kept_reply, take_last_kept_reply, take_clean, take_last_clean, take_discard}
-use Rattle.lrc_protocol.specs.Rules.{take_changes_request, take_page_request, IsSent, with_numbers, TurnRule, by_run, by_repeat, by_message}
+use Rattle.lrc_protocol.specs.Rules.{take_kept_reply, take_last_kept_reply, take_clean, take_last_clean, take_discard, take_changes_request}
+use Rattle.lrc_protocol.specs.Rules.{take_page_request, IsSent, with_numbers, TurnRule, by_run, by_repeat, by_message}
 use Rattle.lrc_order_laws.specs.Waiting.{next_in, is_access, is_departing, FixesNext}
 use Rattle.lrc_order_laws.proofs.Counts.{lock_next, departure_next}
 use Rattle.lrc_order_laws.proofs.Shift.{next-ready, learnable, deed_made, deed_back}
@@ -156,8 +151,7 @@ module _ (most : ℕ) where
 
   take-spends : (node : Node) (from : ℕ) (message : Message) (e : Effect) → FixesNext node.mail.wait (next_in node.course) → spent node ≤ most
       → TakeRule node from message e → Spends most e
-  take-spends node from message e f h (take_request m to managed lt counted mine is) = omega (arith, h)
-  take-spends node from message e f h (take_request_unnoted m fault lt counted mine is) = omega (arith, h)
+  take-spends node from message e f h (take_request m lt counted mine) = omega (arith, h)
   take-spends node from message e f h (take_forward m lt asker counted managed accepted) = omega (arith, h)
   take-spends node from message e f h (take_token m lt at news) =
       let next : (x : Thread) × (next_in node.course ≡ Some (acquires m.lock x)) =

@@ -7,8 +7,7 @@ use Rattle.lrc_store.specs.Interval.{IntervalRecord, index_of}
 use Rattle.lrc_store.specs.Store.{StoreRecord, intervals_of, added}
 use Rattle.lrc_store.proofs.Stores.{intervals_of-added, intervals_of-attached}
 use Rattle.lrc_envelope.specs.Records.{IndexedChangesRecord}
-use Rattle.lrc_protocol.specs.Memory.{with_own}
-use Rattle.lrc_protocol.specs.Take.{with_part}
+use Rattle.lrc_protocol.specs.Pages.{with_own, with_part}
 
 -- the same intervals, whatever is known of their changes
 pub record SameIntervals (a b : StoreRecord) : Type 0 where

@@ -6,8 +6,7 @@ use Rattle.lrc_exec.specs.Plain.{setting_of}
 use Rattle.lrc_lock.specs.declared.state.LockState.{LockState}
 use Rattle.lrc_lock.specs.declared.state.LockState.TheVariants.{Away, Awaited, Free, Held}
 use Rattle.lrc_lock.specs.Held.{lock_at, is_free, is_held}
-use Rattle.lrc_protocol.specs.Mail.{nothing, grant}
-use Rattle.lrc_protocol.specs.Node.{Node}
+use Rattle.lrc_protocol.specs.Node.{nothing, grant, Node}
 use Rattle.lrc_order_laws.specs.Waiting.{next_in, acquiring, FixesNext}
 use Rattle.lrc_order_laws.specs.Shape.{HasShape}
 use Rattle.lrc_order_laws.specs.Tokens.{is_awaited, AwaitsOne}

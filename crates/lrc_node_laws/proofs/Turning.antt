@@ -12,26 +12,20 @@ use Rattle.lrc_envelope.specs.Records.{DepartRecord, ChangesReplyRecord, PageRep
 use Rattle.lrc_envelope.specs.declared.message.Message.{Message}
 use Rattle.lrc_envelope.specs.declared.message.Message.TheVariants.{LockGrant, Depart, PageReply}
 use Rattle.lrc_barrier.specs.Barrier.{ManagerRecord}
-use Rattle.lrc_protocol.specs.Copy.{is_readable}
-use Rattle.lrc_protocol.specs.Memory.{Memory, copy_at, with_word, with_interval, learned, with_keepers, collected_at}
-use Rattle.lrc_protocol.specs.Fetch.{Need, need_of, is_met, mended, with_changes, with_page}
-use Rattle.lrc_protocol.specs.Mail.{Letter, Wait, nothing, grant, departure, access, upkeep, discard, Collection, needs_of}
-use Rattle.lrc_protocol.specs.Course.{Course, going, trapped, ended}
-use Rattle.lrc_protocol.specs.Locks.{next_time}
+use Rattle.lrc_protocol.specs.Times.{next_time}
+use Rattle.lrc_protocol.specs.Pages.{is_readable, Memory, copy_at, with_word, with_interval, learned, Need, need_of, is_met, mended}
+use Rattle.lrc_protocol.specs.Pages.{with_changes, with_page, with_part}
+use Rattle.lrc_protocol.specs.Barriers.{with_keepers, collected_at, Collection, clean_memory, arrival_in}
+use Rattle.lrc_protocol.specs.Node.{Letter, Wait, nothing, grant, departure, access, upkeep, discard, needs_of, Course, going, trapped, ended}
 use Rattle.lrc_protocol.specs.Node.{Node, Effect, makes, acts, acts_by, with_memory, waiting}
-use Rattle.lrc_protocol.specs.Waits.{with_needs, clean_memory}
-use Rattle.lrc_protocol.specs.Expected.{is_expected}
-use Rattle.lrc_protocol.specs.Run.{charged}
-use Rattle.lrc_protocol.specs.Take.{with_part}
-use Rattle.lrc_protocol.specs.Turn.{TurnRecord, Outcome, done, not_ready, unexpected, worn, taking, is_repeat}
-use Rattle.lrc_protocol.specs.Log.{Input, run, taken as taken_in, outcome_of}
-use Rattle.lrc_protocol.specs.Rules.{IsReadyFor, Accesses, IsDeparture, Brings as Replies, brings_changes, brings_base_copy}
-use Rattle.lrc_protocol.specs.Rules.{page_at, need_at, arrival_in, keeping, collection_at, upkeep_at}
-use Rattle.lrc_protocol.specs.Rules.{RunRule, run_hit, run_miss, run_repair, run_acquire, run_ask, run_release, run_barrier, run_other}
-use Rattle.lrc_protocol.specs.Rules.{TakeRule, take_request, take_request_unnoted, take_forward, take_token, take_arrive}
+use Rattle.lrc_protocol.specs.Turn.{with_needs, is_expected, charged, TurnRecord, Outcome, done, not_ready, unexpected, worn, taking, is_repeat}
+use Rattle.lrc_protocol.specs.Run.{Input, run, taken as taken_in, outcome_of}
+use Rattle.lrc_protocol.specs.Rules.{take_request, IsReadyFor, Accesses, IsDeparture, Brings as Replies, brings_changes, brings_base_copy}
+use Rattle.lrc_protocol.specs.Rules.{page_at, need_at, keeping, collection_at, upkeep_at, RunRule, run_hit, run_miss, run_repair, run_acquire}
+use Rattle.lrc_protocol.specs.Rules.{run_ask, run_release, run_barrier, run_other, TakeRule, take_forward, take_token, take_arrive}
 use Rattle.lrc_protocol.specs.Rules.{take_last_arrive, take_depart, take_collect, take_collect_at_once, take_reply, take_last_reply}
-use Rattle.lrc_protocol.specs.Rules.{take_kept_reply, take_last_kept_reply, take_clean, take_last_clean, take_discard}
-use Rattle.lrc_protocol.specs.Rules.{take_changes_request, take_page_request, IsSent, with_numbers, TurnRule, by_run, by_repeat, by_message}
+use Rattle.lrc_protocol.specs.Rules.{take_kept_reply, take_last_kept_reply, take_clean, take_last_clean, take_discard, take_changes_request}
+use Rattle.lrc_protocol.specs.Rules.{take_page_request, IsSent, with_numbers, TurnRule, by_run, by_repeat, by_message}
 use Rattle.lrc_protocol.proofs.Ruled.{RuledIf, ruled}
 use Rattle.lrc_protocol.proofs.Allowed.{expected_by_rule}
 use Rattle.lrc_order_laws.specs.Waiting.{next_in}
@@ -220,8 +214,7 @@ module _ (node : Node) (from : ℕ) where
       (record { from = from; message = Depart m; came_is = refl; told = refl })
 
   take-at : (message : Message) (e : Effect) → TakeRule node from message e → At (comes from message) node e.node
-  take-at message e (take_request m to managed lt counted mine is) = begun rests
-  take-at message e (take_request_unnoted m fault lt counted mine is) = begun rests
+  take-at message e (take_request m lt counted mine) = begun rests
   take-at message e (take_forward m lt asker counted managed accepted) = begun rests
   take-at message e (take_token m lt at told) =
       acts-at _ node [] _ refl

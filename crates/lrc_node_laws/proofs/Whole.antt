@@ -7,11 +7,12 @@ use Rattle.std.proofs.lemmas.List.Elements.{All-head, All-tail, All-map, All-set
 use Rattle.lrc_page.specs.Page.{words_of}
 use Rattle.lrc_page.specs.Place.{page_of, offset_of}
 use Rattle.lrc_page.proofs.ChangeLists.{length-fold-applied}
-use Rattle.lrc_protocol.specs.Copy.{Copy, valid, written, invalid, absent, is_readable, values_of, after_write, closed, invalidated, dropped}
-use Rattle.lrc_protocol.specs.Memory.{Memory, copy_at, is_named, keeper_at, with_base, changes_or_none, repaired}
-use Rattle.lrc_protocol.specs.Fetch.{Base, unneeded, due, come, Need, is_due, is_met, first_values, mended}
-use Rattle.lrc_protocol.specs.Mail.{upkeep, needs_of}
-use Rattle.lrc_protocol.specs.Waits.{clean_memory}
+use Rattle.lrc_protocol.specs.Times.{is_named}
+use Rattle.lrc_protocol.specs.Pages.{Copy, valid, written, invalid, absent, is_readable, values_of, after_write, closed, invalidated, dropped}
+use Rattle.lrc_protocol.specs.Pages.{Memory, copy_at, keeper_at, changes_or_none, repaired, Base, unneeded, due, come, Need, is_due, is_met}
+use Rattle.lrc_protocol.specs.Pages.{first_values, mended}
+use Rattle.lrc_protocol.specs.Barriers.{with_base, clean_memory}
+use Rattle.lrc_protocol.specs.Node.{upkeep, needs_of}
 use Rattle.lrc_node_laws.specs.Ranges.{IsWhole, IsWholeBase}
 use Rattle.lrc_node_laws.specs.Needs.{FitsBase, FitsNeed, FitsKept}
 use Rattle.lrc_node_laws.proofs.Tests.{each_passes}

@@ -9,12 +9,11 @@ use Rattle.lrc_trace.specs.declared.act.Deed.{Deed}
 use Rattle.lrc_page.specs.Page.{zero_page}
 use Rattle.lrc_page.specs.Place.{pages_of}
 use Rattle.lrc_page.specs.declared.size.Size.{Size}
-use Rattle.lrc_protocol.specs.Copy.{Copy, valid, absent}
-use Rattle.lrc_protocol.specs.Memory.{Memory, copy_at}
+use Rattle.lrc_protocol.specs.Pages.{Copy, valid, absent, Memory, copy_at}
 use Rattle.lrc_protocol.specs.Node.{OptionsRecord, fresh_node}
 use Rattle.lrc_protocol.specs.Turn.{TurnRecord, Outcome, done, not_ready, unexpected, worn}
 use Rattle.lrc_protocol.specs.Follows.{deeds_in}
-use Rattle.lrc_protocol.specs.Log.{Input, outcome_of, Local, local_after, local_step}
+use Rattle.lrc_protocol.specs.Run.{Input, outcome_of, Local, local_after, local_step}
 use Rattle.lrc_protocol.proofs.Ruled.{by_rule}
 use Rattle.lrc_order_laws.proofs.Shift.{deed_made}
 use Rattle.lrc_node_laws.specs.Reached.{LeadsTo}

@@ -4,8 +4,7 @@ use Rattle.lrc_exec.specs.Meaning.{Next, reads, writes}
 use Rattle.lrc_page.specs.declared.size.Size.{Size}
 use Rattle.lrc_page.specs.Page.{words_of}
 use Rattle.lrc_page.specs.Place.{page_of}
-use Rattle.lrc_protocol.specs.Memory.{copy_at}
-use Rattle.lrc_protocol.specs.Fetch.{Need}
+use Rattle.lrc_protocol.specs.Pages.{copy_at, Need}
 use Rattle.lrc_protocol.specs.Node.{Node}
 use Rattle.lrc_order_laws.specs.Waiting.{next_in}
 use Rattle.lrc_node_laws.specs.Needs.{FitsBase}

@@ -3,10 +3,10 @@ use Rattle.std.specs.Prelude.{◌≡◌, ℕ, ◌<◌, true, not, Option, Some, 
 use Rattle.lrc_page.specs.declared.size.Size.{Size}
 use Rattle.lrc_page.specs.Place.{page_of}
 use Rattle.lrc_exec.specs.Meaning.{Next, reads, writes}
-use Rattle.lrc_protocol.specs.Copy.{Copy, valid, written, invalid, absent, is_readable}
-use Rattle.lrc_protocol.specs.Memory.{Memory, copy_at, kept_pages, lacking}
-use Rattle.lrc_protocol.specs.Fetch.{Base, unneeded, due, come, Need, asked_of, unknown_of}
-use Rattle.lrc_protocol.specs.Mail.{Wait, access, upkeep, discard}
+use Rattle.lrc_protocol.specs.Pages.{Copy, valid, written, invalid, absent, is_readable, Memory, copy_at, lacking, Base, unneeded, due, come}
+use Rattle.lrc_protocol.specs.Pages.{Need, asked_of, unknown_of}
+use Rattle.lrc_protocol.specs.Barriers.{kept_pages}
+use Rattle.lrc_protocol.specs.Node.{Wait, access, upkeep, discard}
 
 -- with so many nodes, and words on a page: a copy that is absent has a base copy that is due from one of the nodes, or has come
 -- whole; one that is invalid needs none; and one that is readable needs nothing

@@ -4,9 +4,8 @@ use Rattle.lrc_trace.specs.declared.act.Deed.{Deed}
 use Rattle.lrc_trace.specs.declared.act.Deed.TheVariants.{Write, Acquire, Release, Arrive}
 use Rattle.lrc_page.specs.declared.size.Size.{Size}
 use Rattle.lrc_page.specs.Place.{page_of, offset_of}
-use Rattle.lrc_protocol.specs.Copy.{Copy, written}
-use Rattle.lrc_protocol.specs.Memory.{Memory, copy_at}
-use Rattle.lrc_protocol.specs.Mail.{Wait, grant}
+use Rattle.lrc_protocol.specs.Pages.{Copy, written, Memory, copy_at}
+use Rattle.lrc_protocol.specs.Node.{Wait, grant}
 
 -- the writes of the open interval, each a word with its value, after one deed more: an acquire, a release and an arrive close it
 abbrev pub after_deed : List (ℕ × ℕ) → Deed → List (ℕ × ℕ)

@@ -3,8 +3,7 @@ use Rattle.std.specs.Prelude.{◌≡◌, ℕ, ◌≤◌, true, is_some, All}
 use Rattle.lrc_time.specs.Time.{entry}
 use Rattle.lrc_store.specs.Interval.{IntervalRecord, index_of}
 use Rattle.lrc_store.specs.Store.{StoredRecord, NoticeRecord, intervals_of}
-use Rattle.lrc_protocol.specs.Copy.{Copy, valid, written, invalid, absent}
-use Rattle.lrc_protocol.specs.Memory.{Memory, copy_at}
+use Rattle.lrc_protocol.specs.Pages.{Copy, valid, written, invalid, absent, Memory, copy_at}
 
 -- the changes of all its pages are known
 abbrev pub IsAttached : StoredRecord → Type 0

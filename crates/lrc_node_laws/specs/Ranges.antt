@@ -3,9 +3,8 @@ use Rattle.std.specs.Prelude.{◌≡◌, ℕ, ◌<◌, ◌==◌, true, false, Op
 use Rattle.lrc_barrier.specs.Barrier.{ManagerRecord}
 use Rattle.lrc_store.specs.Interval.{IntervalRecord}
 use Rattle.lrc_store.specs.Store.{intervals_of}
-use Rattle.lrc_protocol.specs.Copy.{Copy, valid, written, invalid, absent}
-use Rattle.lrc_protocol.specs.Memory.{Memory}
-use Rattle.lrc_protocol.specs.Mail.{Wait, upkeep, discard}
+use Rattle.lrc_protocol.specs.Pages.{Copy, valid, written, invalid, absent, Memory}
+use Rattle.lrc_protocol.specs.Node.{Wait, upkeep, discard}
 
 -- an interval of one of the nodes, with a stamp of as many entries, that names some of the pages
 pub record InRange (nodes pages : ℕ) (i : IntervalRecord) : Type 0 where

@@ -3,8 +3,7 @@ use Rattle.std.specs.Prelude.{◌≡◌, ℕ, true, List}
 use Rattle.std.specs.List.{list_any}
 use Rattle.lrc_time.specs.Time.{Covers}
 use Rattle.lrc_store.specs.Store.{intervals_of, is_missing}
-use Rattle.lrc_protocol.specs.Copy.{Copy, valid, written, invalid, absent}
-use Rattle.lrc_protocol.specs.Memory.{Memory}
+use Rattle.lrc_protocol.specs.Pages.{Copy, valid, written, invalid, absent, Memory}
 
 -- It covers what was collected, and is covered by the node's time; and some stored interval that it does not know names the page.
 abbrev pub IsBetween : List ℕ → Memory → ℕ → Copy → Type 0

@@ -5,9 +5,8 @@ use Rattle.lrc_trace.specs.declared.act.Act.{Act}
 use Rattle.lrc_trace.specs.declared.act.Deed.{Deed}
 use Rattle.lrc_trace.specs.declared.act.Deed.TheVariants.{Read, Write}
 use Rattle.lrc_trace.specs.Trace.{TraceRecord, MayNote}
-use Rattle.lrc_protocol.specs.Locks.{next_time}
-use Rattle.lrc_protocol.specs.Node.{Node, OptionsRecord, fresh_node}
-use Rattle.lrc_protocol.specs.Run.{own_index}
+use Rattle.lrc_protocol.specs.Times.{next_time}
+use Rattle.lrc_protocol.specs.Node.{Node, OptionsRecord, fresh_node, own_index}
 use Rattle.lrc_protocol.specs.Traced.{traced}
 use Rattle.lrc_protocol.specs.Turn.{TurnRecord}
 use Rattle.lrc_node_laws.specs.Reached.{LeadsTo}

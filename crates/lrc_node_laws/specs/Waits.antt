@@ -1,8 +1,7 @@
 -- What a node's memory is like while it waits.
 use Rattle.std.specs.Prelude.{◌≡◌, None, All}
-use Rattle.lrc_protocol.specs.Copy.{changes_of}
-use Rattle.lrc_protocol.specs.Memory.{Memory}
-use Rattle.lrc_protocol.specs.Mail.{Wait, nothing, grant, departure, access, upkeep, discard}
+use Rattle.lrc_protocol.specs.Pages.{changes_of, Memory}
+use Rattle.lrc_protocol.specs.Node.{Wait, nothing, grant, departure, access, upkeep, discard}
 
 -- no page is written in the open interval
 abbrev pub NoneWritten : Memory → Type 0

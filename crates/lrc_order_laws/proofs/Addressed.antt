@@ -13,18 +13,16 @@ use Rattle.lrc_store.proofs.Orders.{cases_Contains, none_Contains}
 use Rattle.lrc_barrier.specs.declared.arrival.Arrival.{Arrival}
 use Rattle.lrc_barrier.specs.Barrier.{ManagerRecord, with_arrival, arrivals_of, departure_to}
 use Rattle.lrc_protocol.specs.declared.event.Event.{Event}
-use Rattle.lrc_protocol.specs.Mail.{Letter, Wait, nothing}
-use Rattle.lrc_protocol.specs.Letters.{letter, departure_of, discards_to}
 use Rattle.lrc_protocol.specs.Locks.{Locks}
-use Rattle.lrc_protocol.specs.Barrier.{Barrier}
-use Rattle.lrc_protocol.specs.Node.{OptionsRecord}
-use Rattle.lrc_protocol.specs.Log.{Input, EntryRecord, Logged}
-use Rattle.lrc_protocol.specs.World.{World, Flying, fresh_world, with_turn, pending, run_of}
+use Rattle.lrc_protocol.specs.Barriers.{arrival_in, Barrier}
+use Rattle.lrc_protocol.specs.Node.{Letter, Wait, nothing, OptionsRecord}
+use Rattle.lrc_protocol.specs.Turn.{letter, departure_of, discards_to}
+use Rattle.lrc_protocol.specs.Run.{Input, EntryRecord, Logged, World, Flying, fresh_world, with_turn, pending, run_of}
 use Rattle.lrc_protocol.proofs.Worlds.{IsEntry, get_set_same, get_set_other}
 use Rattle.lrc_protocol.proofs.Induction.{Comes}
 use Rattle.lrc_order_laws.specs.Barriers.{says_arrive, says_clean, says_discard, arrive_from, depart_to, clean_from}
 use Rattle.lrc_order_laws.specs.Barriers.{discard_to, kept_of, noted_of, awaits_depart, awaits_word}
-use Rattle.lrc_order_laws.proofs.Sends.{Came, Site, site_of, letter_in, arrival_in}
+use Rattle.lrc_order_laws.proofs.Sends.{Came, Site, site_of, letter_in}
 use Rattle.lrc_order_laws.proofs.Managers.{departs-only, discards-only}
 use Rattle.lrc_order_laws.proofs.Standing.{arrive_test, depart_test, clean_test, discard_test}
 use Rattle.lrc_order_laws.proofs.Moves.{in-now, Brought, brought, sent_from, among_letters, counted_in}

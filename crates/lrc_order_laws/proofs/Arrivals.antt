@@ -11,12 +11,12 @@ use Rattle.lrc_store.proofs.Orders.{cases_Contains, none_Contains}
 use Rattle.lrc_barrier.specs.declared.arrival.Arrival.{Arrival}
 use Rattle.lrc_barrier.specs.declared.departure.Departure.{Departure}
 use Rattle.lrc_barrier.specs.Barrier.{ManagerRecord}
-use Rattle.lrc_protocol.specs.Mail.{Letter, Wait, nothing, departure}
-use Rattle.lrc_protocol.specs.Letters.{letter, departure_of}
 use Rattle.lrc_protocol.specs.Locks.{Locks}
-use Rattle.lrc_protocol.specs.Barrier.{Barrier}
+use Rattle.lrc_protocol.specs.Barriers.{arrival_in, Barrier}
+use Rattle.lrc_protocol.specs.Node.{Letter, Wait, nothing, departure}
+use Rattle.lrc_protocol.specs.Turn.{letter, departure_of}
 use Rattle.lrc_order_laws.specs.Barriers.{says_arrive, says_depart, time_in}
-use Rattle.lrc_order_laws.proofs.Sends.{Came, comes, Site, arrival_in}
+use Rattle.lrc_order_laws.proofs.Sends.{Came, comes, Site}
 use Rattle.lrc_order_laws.proofs.Managers.{Gathered, gathered, LetGo, let_go}
 use Rattle.lrc_order_laws.proofs.Moves.{quiet_in}
 use Rattle.lrc_order_laws.proofs.Passing.{SameArrivals, same_arrivals, Passing, arrives_so, told_so, gathers_so, lets_depart_so, other_so}

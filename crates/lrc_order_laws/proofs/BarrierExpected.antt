@@ -16,16 +16,15 @@ use Rattle.lrc_envelope.specs.Records.{ArriveRecord, DepartRecord}
 use Rattle.lrc_envelope.specs.declared.message.Message.TheVariants.{Arrive, Depart, Clean, Discard}
 use Rattle.lrc_barrier.specs.declared.fault.BarrierFault.TheVariants.{WrongEpisode, Twice}
 use Rattle.lrc_barrier.specs.Barrier.{ManagerRecord, refuses, waits, departs, is_accepted, with_arrival, arrivals_of, departures_of, departed}
-use Rattle.lrc_barrier.specs.Barrier.{is_next, has_arrived, arrived, refuses_clean, awaits, discards, cleaned_by, cleaned}
+use Rattle.lrc_barrier.specs.Barrier.{is_next, has_arrived, arrived, refuses_clean, awaits, discards, cleaned_by, cleaned, is_clean}
 use Rattle.lrc_protocol.specs.declared.event.Event.{Event}
-use Rattle.lrc_protocol.specs.Mail.{Wait, nothing, grant, departure, access, upkeep, discard, awaits_departure, awaits_discard}
-use Rattle.lrc_protocol.specs.Node.{OptionsRecord}
-use Rattle.lrc_protocol.specs.Log.{Logged}
-use Rattle.lrc_protocol.specs.World.{World, pending, run_of}
-use Rattle.lrc_protocol.specs.Expected.{is_expected, is_arrival, is_clean}
-use Rattle.lrc_order_laws.specs.Barriers.{says_clean, says_discard, arrive_from, depart_to, clean_from, discard_to}
+use Rattle.lrc_protocol.specs.Barriers.{arrival_in}
+use Rattle.lrc_protocol.specs.Node.{Wait, nothing, grant, departure, access, upkeep, discard, awaits_departure, awaits_discard, OptionsRecord}
+use Rattle.lrc_protocol.specs.Turn.{is_expected}
+use Rattle.lrc_protocol.specs.Run.{Logged, World, pending, run_of}
+use Rattle.lrc_protocol.proofs.Expecting.{conditions}
+use Rattle.lrc_order_laws.specs.Barriers.{accepts_arrival, says_clean, says_discard, arrive_from, depart_to, clean_from, discard_to}
 use Rattle.lrc_order_laws.specs.Barriers.{kept_of, noted_of, awaits_depart, awaits_word, IsNewestTime}
-use Rattle.lrc_order_laws.proofs.Sends.{arrival_in}
 use Rattle.lrc_order_laws.proofs.Moves.{counted_in}
 use Rattle.lrc_order_laws.proofs.AllStand.{AllStand}
 use Rattle.lrc_order_laws.proofs.Departs.{Standing_at, standing_at}
@@ -118,7 +117,8 @@ module _ (program : Program) (nodes : ℕ) (options : OptionsRecord) (events : L
       let first_one : slice_index_or under_way.0 e.from false ≡ false =
       no_place _ (sym (ap (λ (o : Option (List Bool)).
       cond {A = ℕ} (unwrap_or (option_map (λ cleans. slice_index_or cleans e.from false) o) false) 1 0) under_way.1) ∙ unnoted) in
-      ap (λ o. unwrap_or (option_map is_clean (option_map (λ manager. cleaned manager e.from episode) o)) false) (stand.here first at_first)
+      conditions first.node e.from (Clean episode)
+      ∙ ap (λ o. unwrap_or (option_map is_clean (option_map (λ manager. cleaned manager e.from episode) o)) false) (stand.here first at_first)
       ∙ clean_by stand.manager e.from episode under_way.0 under_way.1 (omega (arith, is_of, arrived, none)) first_one
     where
       at_most_word : (w : Wait) → awaits_word w ≤ 1
@@ -139,13 +139,14 @@ module _ (program : Program) (nodes : ℕ) (options : OptionsRecord) (events : L
       let discards : count_by (clean_from e.to) (pending world) + noted_of stand.manager e.to + count_by (discard_to e.to)
       (pending world) ≡ awaits_word l.node.mail.wait =
       (stand.each e.to l at).discards in
-      and_from ((e.from == 0) && awaits_discard l.node.mail.wait) (episode == l.node.barrier.episode)
+      conditions l.node e.from (Discard episode)
+      ∙ and_from ((e.from == 0) && awaits_discard l.node.mail.wait) (episode == l.node.barrier.episode)
       (and_from (e.from == 0) (awaits_discard l.node.mail.wait) (eq-eqb e.from 0 (a.word e episode there says).0)
       (waits_to_discard l.node.mail.wait (omega (arith, some, discards))))
       (eq-eqb episode l.node.barrier.episode ((a.word e episode there says).1 l at))
 
   pub arrival_accepted : (first l : Logged) (e : EnvelopeRecord) (m : ArriveRecord) → slice_get world.nodes 0 ≡ Some first → Contains (pending world) e
-      → e.message ≡ Arrive m → slice_get world.nodes e.from ≡ Some l → is_arrival first.node e.from m ≡ true
+      → e.message ≡ Arrive m → slice_get world.nodes e.from ≡ Some l → accepts_arrival first.node e.from m ≡ true
   unfolding stand
   arrival_accepted first l e m at_first there says at =
       let some : 1 ≤ count_by (arrive_from e.from) (pending world) =

@@ -6,14 +6,14 @@ use Rattle.lrc_envelope.specs.Records.{ArriveRecord, DepartRecord}
 use Rattle.lrc_envelope.specs.declared.message.Message.TheVariants.{Arrive, Depart, Clean, Discard}
 use Rattle.lrc_barrier.specs.declared.departure.Departure.{Departure}
 use Rattle.lrc_barrier.specs.Barrier.{ManagerRecord, waits, departs as all_depart, arrived, awaits, discards, cleaned}
-use Rattle.lrc_protocol.specs.Fetch.{Need}
-use Rattle.lrc_protocol.specs.Mail.{Letter, Wait, nothing, grant, departure, access, upkeep, discard, Collection}
-use Rattle.lrc_protocol.specs.Letters.{letter, departure_of, discards_to}
+use Rattle.lrc_protocol.specs.Pages.{Need}
 use Rattle.lrc_protocol.specs.Locks.{Locks}
-use Rattle.lrc_protocol.specs.Barrier.{Barrier}
+use Rattle.lrc_protocol.specs.Barriers.{arrival_in, Collection, Barrier}
+use Rattle.lrc_protocol.specs.Node.{Letter, Wait, nothing, grant, departure, access, upkeep, discard}
+use Rattle.lrc_protocol.specs.Turn.{letter, departure_of, discards_to}
 use Rattle.lrc_order_laws.specs.Counts.{is_inside}
 use Rattle.lrc_order_laws.specs.Barriers.{is_collecting}
-use Rattle.lrc_order_laws.proofs.Sends.{Came, by_itself, comes, Site, arrival_in, Sends, plain, misses, takes, asks, releasing, arriving}
+use Rattle.lrc_order_laws.proofs.Sends.{Came, by_itself, comes, Site, Sends, plain, misses, takes, asks, releasing, arriving}
 use Rattle.lrc_order_laws.proofs.Sends.{manages, forwarding, grants, gathers, lets_depart, departing, collecting, clean_at_once}
 use Rattle.lrc_order_laws.proofs.Sends.{notes_clean, lets_discard, discarding, serves, accessing, still_misses, still_collects, cleaning}
 use Rattle.lrc_order_laws.proofs.Standing.{Silent, silent_none, silent_one, silent_others, silent_grants}

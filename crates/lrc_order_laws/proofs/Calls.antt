@@ -3,8 +3,7 @@ use Rattle.std.proofs.Common.{◌≡◌, ℕ, true, false, sym, subst, ◌∙◌
 use Rattle.std.specs.Prelude.{Some}
 use Rattle.lrc_exec.specs.Meaning.{Thread, acquires, releases}
 use Rattle.lrc_lock.specs.Held.{HeldRecord, lock_at, is_held}
-use Rattle.lrc_protocol.specs.Course.{Course}
-use Rattle.lrc_protocol.specs.Mail.{Wait, grant}
+use Rattle.lrc_protocol.specs.Node.{Course, Wait, grant}
 use Rattle.lrc_order_laws.specs.Waiting.{next_in, acquiring}
 use Rattle.lrc_order_laws.specs.Tokens.{is_awaited, HoldsTokens, AwaitsOne}
 use Rattle.lrc_order_laws.proofs.Counts.{lock_next}

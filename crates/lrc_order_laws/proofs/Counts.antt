@@ -8,9 +8,9 @@ use Rattle.lrc_time.proofs.Times.{entry-set_same, entry-joined}
 use Rattle.lrc_trace.specs.declared.act.Act.{Act}
 use Rattle.lrc_trace.specs.declared.act.Deed.{Deed}
 use Rattle.lrc_exec.specs.Meaning.{Thread, Next, reads, writes, acquires, releases, arrives, departs, next_of}
-use Rattle.lrc_protocol.specs.Course.{Course, going, trapped, ended, deed_of}
-use Rattle.lrc_protocol.specs.Mail.{Wait, nothing, grant, departure, access, upkeep, discard}
-use Rattle.lrc_protocol.specs.Locks.{Locks, next_time}
+use Rattle.lrc_protocol.specs.Times.{next_time}
+use Rattle.lrc_protocol.specs.Locks.{Locks}
+use Rattle.lrc_protocol.specs.Node.{Course, going, trapped, ended, deed_of, Wait, nothing, grant, departure, access, upkeep, discard}
 use Rattle.lrc_protocol.specs.Turn.{TurnRecord}
 use Rattle.lrc_protocol.specs.Follows.{deeds_in}
 use Rattle.lrc_order_laws.specs.Waiting.{next_in, is_departing, is_access, acquiring, FixesNext}
@@ -133,7 +133,7 @@ module _ (p : Part) (lt : p.me < length p.locks.time) (fits : FixesNext p.wait (
       rises nothing deed (ap (λ x. x + 0) (made closes p.course after deed (releases lock next) 1 m n (λ v. refl)) ∙ ap (λ x. 1 + x) (sym (was nothing w)))
   own-kept _ _ _ _ deed after (arriving next w n) m =
       rises departure deed (ap (λ x. x + 0) (made closes p.course after deed (arrives next) 1 m n (λ v. refl)) ∙ ap (λ x. 1 + x) (sym (was nothing w)))
-  own-kept _ _ _ _ deed after (manages managed lock from to e) m =
+  own-kept _ _ _ _ deed after (manages lock from) m =
       stands p.locks.time p.wait deed refl (ap (λ x. x + awaits_acquire p.wait) (none_made closes p.course after deed m) ∙ omega arith)
   own-kept _ _ _ _ deed after (forwarding lock asker time) m =
       stands p.locks.time p.wait deed refl (ap (λ x. x + awaits_acquire p.wait) (none_made closes p.course after deed m) ∙ omega arith)

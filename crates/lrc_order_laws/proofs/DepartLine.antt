@@ -18,13 +18,11 @@ use Rattle.lrc_envelope.specs.declared.message.Message.TheVariants.{Depart}
 use Rattle.lrc_exec.specs.Meaning.{Setting}
 use Rattle.lrc_exec.specs.Plain.{setting_of}
 use Rattle.lrc_protocol.specs.declared.event.Event.{Event}
-use Rattle.lrc_protocol.specs.Mail.{Wait, Letter, Collection, nothing, grant, departure, access, discard}
 use Rattle.lrc_protocol.specs.Locks.{Locks}
-use Rattle.lrc_protocol.specs.Barrier.{Barrier}
-use Rattle.lrc_protocol.specs.Node.{Node, OptionsRecord}
+use Rattle.lrc_protocol.specs.Barriers.{Collection, Barrier}
+use Rattle.lrc_protocol.specs.Node.{Wait, Letter, nothing, grant, departure, access, discard, Node, OptionsRecord}
 use Rattle.lrc_protocol.specs.Turn.{TurnRecord}
-use Rattle.lrc_protocol.specs.Log.{Logged}
-use Rattle.lrc_protocol.specs.World.{World, with_turn, pending, run_of}
+use Rattle.lrc_protocol.specs.Run.{Logged, World, with_turn, pending, run_of}
 use Rattle.lrc_protocol.proofs.Worlds.{get_set_same}
 use Rattle.lrc_order_laws.specs.Counts.{is_inside}
 use Rattle.lrc_order_laws.specs.Present.{IsPresent}

@@ -8,12 +8,9 @@ use Rattle.lrc_exec.specs.Meaning.{Thread, Next, acquires, releases, arrives, de
 use Rattle.lrc_exec.specs.Plain.{start_of}
 use Rattle.lrc_plain_laws.specs.Follows.{deeds_of}
 use Rattle.lrc_protocol.specs.declared.event.Event.{Event}
-use Rattle.lrc_protocol.specs.Course.{Course, deed_of}
-use Rattle.lrc_protocol.specs.Mail.{Wait, nothing, grant, departure, access, upkeep, discard}
 use Rattle.lrc_protocol.specs.Locks.{Locks}
-use Rattle.lrc_protocol.specs.Node.{OptionsRecord, fresh_node}
-use Rattle.lrc_protocol.specs.Log.{Local, Logged}
-use Rattle.lrc_protocol.specs.World.{World, run_of}
+use Rattle.lrc_protocol.specs.Node.{Course, deed_of, Wait, nothing, grant, departure, access, upkeep, discard, OptionsRecord, fresh_node}
+use Rattle.lrc_protocol.specs.Run.{Local, Logged, World, run_of}
 use Rattle.lrc_protocol.specs.Follows.{turns_of, deeds_in}
 use Rattle.lrc_protocol.proofs.Texts.{follows_at}
 use Rattle.lrc_order_laws.specs.Waiting.{next_in, FixesNext}
@@ -76,7 +73,7 @@ module _ (p : Part) (fits : FixesNext p.wait (next_in p.course)) where
       acted nothing nothing p.episode deed after (releases lock next) 0 0 w m n (λ v. refl) (λ v. refl) (omega arith) refl
   steps-kept _ _ _ _ deed after (arriving next w n) m =
       acted nothing departure (p.episode + 1) deed after (arrives next) 1 0 w m n (λ v. refl) (λ v. refl) refl refl
-  steps-kept _ _ _ _ deed after (manages managed lock from to e) m = rested p.wait p.wait deed after refl m refl
+  steps-kept _ _ _ _ deed after (manages lock from) m = rested p.wait p.wait deed after refl m refl
   steps-kept _ _ _ _ deed after (forwarding lock asker time) m = rested p.wait p.wait deed after refl m refl
   steps-kept _ _ _ _ deed after (grants lock time w l) m =
       let a : (after : Thread) × (next_in p.course ≡ Some (acquires lock after)) = lock_next (next_in p.course) lock (next_then (grant lock) w) in

@@ -19,12 +19,10 @@ use Rattle.lrc_barrier.specs.declared.arrival.Arrival.{Arrival}
 use Rattle.lrc_barrier.specs.declared.departure.Departure.{Departure}
 use Rattle.lrc_barrier.specs.Barrier.{ManagerRecord, first_manager, with_arrival, arrivals_of, asks, departure_to}
 use Rattle.lrc_protocol.specs.declared.event.Event.{Event}
-use Rattle.lrc_protocol.specs.Mail.{Letter, Wait, nothing, grant, departure, access, upkeep, discard}
-use Rattle.lrc_protocol.specs.Letters.{departure_of, discards_to}
-use Rattle.lrc_protocol.specs.Barrier.{Barrier}
-use Rattle.lrc_protocol.specs.Node.{OptionsRecord}
-use Rattle.lrc_protocol.specs.Log.{Input, EntryRecord, Logged}
-use Rattle.lrc_protocol.specs.World.{World, Flying, fresh_world, with_turn, pending, run_of}
+use Rattle.lrc_protocol.specs.Barriers.{arrival_in, Barrier}
+use Rattle.lrc_protocol.specs.Node.{Letter, Wait, nothing, grant, departure, access, upkeep, discard, OptionsRecord}
+use Rattle.lrc_protocol.specs.Turn.{departure_of, discards_to}
+use Rattle.lrc_protocol.specs.Run.{Input, EntryRecord, Logged, World, Flying, fresh_world, with_turn, pending, run_of}
 use Rattle.lrc_protocol.proofs.Worlds.{IsEntry, get_set_same, get_set_other, fresh_at}
 use Rattle.lrc_protocol.proofs.Turned.{Turned, Turns, turns}
 use Rattle.lrc_protocol.proofs.Induction.{Comes}
@@ -33,7 +31,7 @@ use Rattle.lrc_order_laws.specs.Counts.{is_inside}
 use Rattle.lrc_order_laws.specs.Barriers.{says_depart, says_discard, arrive_from, depart_to, clean_from, discard_to}
 use Rattle.lrc_order_laws.specs.Barriers.{kept_of, noted_of, awaits_depart, awaits_word, is_collecting}
 use Rattle.lrc_order_laws.proofs.Shape.{NodeShape, shape_at}
-use Rattle.lrc_order_laws.proofs.Sends.{Came, comes, site_of, letter_in, arrival_in}
+use Rattle.lrc_order_laws.proofs.Sends.{Came, comes, site_of, letter_in}
 use Rattle.lrc_order_laws.proofs.Flows.{IsFromNode, stepped, counts, came_count, count_of}
 use Rattle.lrc_order_laws.proofs.Managers.{Gathered, gathered, LetGo, let_go, Noted, noted, LetDiscard, let_discard, as_many, departs-once, discards-once}
 use Rattle.lrc_order_laws.proofs.Standing.{same_manager, arrive_test, depart_test, clean_test, discard_test}

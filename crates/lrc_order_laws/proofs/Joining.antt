@@ -14,7 +14,7 @@ use Rattle.lrc_clock.specs.Times.{time_at, time_before, arrived_time}
 use Rattle.lrc_clock.specs.Keeping.{KeepsTime, leaves_time}
 use Rattle.lrc_protocol.specs.declared.event.Event.{Event}
 use Rattle.lrc_protocol.specs.Node.{OptionsRecord}
-use Rattle.lrc_protocol.specs.World.{World, run_of}
+use Rattle.lrc_protocol.specs.Run.{World, run_of}
 use Rattle.lrc_protocol.proofs.Worlds.{run-whole}
 use Rattle.lrc_order_laws.specs.Rules.{FollowsRule}
 use Rattle.lrc_order_laws.specs.LockLines.{KeepsLocks}

@@ -18,10 +18,11 @@ use Rattle.lrc_lock.specs.declared.state.LockState.TheVariants.{Away, Awaited, F
 use Rattle.lrc_lock.specs.Held.{refuses, lock_at, released, released_at, forwarded, forwarded_at, pass_of, pass_to}
 use Rattle.lrc_exec.specs.Meaning.{Thread, releases}
 use Rattle.lrc_lock.specs.Lock.{manager_of}
-use Rattle.lrc_protocol.specs.Mail.{Letter, Wait}
-use Rattle.lrc_protocol.specs.Locks.{Locks, next_time}
-use Rattle.lrc_protocol.specs.Barrier.{Barrier}
-use Rattle.lrc_protocol.specs.Letters.{departure_of, discards_to}
+use Rattle.lrc_protocol.specs.Times.{next_time}
+use Rattle.lrc_protocol.specs.Locks.{Locks}
+use Rattle.lrc_protocol.specs.Barriers.{Barrier}
+use Rattle.lrc_protocol.specs.Node.{Letter, Wait}
+use Rattle.lrc_protocol.specs.Turn.{departure_of, discards_to}
 use Rattle.lrc_order_laws.specs.Waiting.{next_in, acquiring}
 use Rattle.lrc_order_laws.proofs.Shift.{AllFrom}
 use Rattle.lrc_order_laws.proofs.Pending.{Goes}

@@ -14,16 +14,14 @@ use Rattle.lrc_lock.specs.declared.fault.LockFault.TheVariants.{NotMine}
 use Rattle.lrc_lock.specs.declared.state.LockState.{LockState}
 use Rattle.lrc_lock.specs.declared.state.LockState.TheVariants.{Away, Awaited, Free, Held}
 use Rattle.lrc_lock.specs.Lock.{manager_of}
-use Rattle.lrc_lock.specs.Held.{refuses, lock_at, forwarded_at}
+use Rattle.lrc_lock.specs.Held.{refuses, lock_at, forwarded_at, is_taken}
 use Rattle.lrc_protocol.specs.declared.event.Event.{Event}
-use Rattle.lrc_protocol.specs.Mail.{awaits_grant}
-use Rattle.lrc_protocol.specs.Node.{Node, OptionsRecord}
-use Rattle.lrc_protocol.specs.Turn.{TurnRecord}
-use Rattle.lrc_protocol.specs.Expected.{is_expected, is_taken}
-use Rattle.lrc_protocol.specs.Log.{Logged}
-use Rattle.lrc_protocol.specs.World.{World, with_turn, pending, run_of}
+use Rattle.lrc_protocol.specs.Node.{awaits_grant, Node, OptionsRecord}
+use Rattle.lrc_protocol.specs.Turn.{TurnRecord, is_expected}
+use Rattle.lrc_protocol.specs.Run.{Logged, World, with_turn, pending, run_of}
 use Rattle.lrc_protocol.specs.Follows.{turns_of}
 use Rattle.lrc_protocol.proofs.Worlds.{get_set_same}
+use Rattle.lrc_protocol.proofs.Expecting.{conditions}
 use Rattle.lrc_order_laws.specs.Shape.{HasShape}
 use Rattle.lrc_order_laws.specs.Tokens.{is_awaited}
 use Rattle.lrc_order_laws.proofs.Shift.{AllFrom}
@@ -171,6 +169,7 @@ module _ (program : Program) (nodes : ℕ) (options : OptionsRecord) (events : L
   request_expected m says =
       let s : IsSound nodes program.locks e.from e.to (LockRequest m) = subst (IsSound nodes program.locks e.from e.to) says sound in
       ap (is_expected l.node e.from) says
+      ∙ conditions l.node e.from (LockRequest m)
       ∙ subst (λ (x : Setting). (nat_lt m.lock x.locks && (length m.time == x.nodes) && (manager_of x.nodes m.lock == x.me)) ≡ true) (sym own_setting)
       (and_from _ _ (and_from _ _ (lt-ltb m.lock program.locks s.0) (eq-eqb (length m.time) nodes s.1)) (eq-eqb (manager_of nodes m.lock) e.to s.2))
 
@@ -189,6 +188,7 @@ module _ (program : Program) (nodes : ℕ) (options : OptionsRecord) (events : L
       let mine : l.node.locks.held.me ≡ e.to = own.shape.shape.holder in
       let another : (m.asker == l.node.locks.held.me) ≡ false = ne_eqb m.asker l.node.locks.held.me (λ same. s.4 (same ∙ mine)) in
       ap (is_expected l.node e.from) says
+      ∙ conditions l.node e.from (LockForward m)
       ∙ and_from _ _
       (subst (λ (x : Setting). (nat_lt m.lock x.locks && nat_lt m.asker x.nodes && (length m.time == x.nodes) &&
       (manager_of x.nodes m.lock == e.from)) ≡ true) (sym own_setting)

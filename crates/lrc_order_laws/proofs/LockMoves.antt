@@ -21,13 +21,13 @@ use Rattle.lrc_lock.specs.declared.state.LockState.{LockState}
 use Rattle.lrc_lock.specs.declared.state.LockState.TheVariants.{Away, Awaited, Free, Held}
 use Rattle.lrc_lock.specs.Held.{HeldRecord, LockStep, refuses, stays, passes as passes_on, lock_at, is_free, is_held, with_lock, state_after}
 use Rattle.lrc_lock.specs.Held.{held_after, taken, asked, released, released_at, forwarded, forwarded_at, granted, granted_at, pass_of}
+use Rattle.lrc_lock.specs.Held.{is_taken}
 use Rattle.lrc_barrier.specs.declared.departure.Departure.{Departure}
-use Rattle.lrc_protocol.specs.Course.{Course, deed_of}
-use Rattle.lrc_protocol.specs.Mail.{Letter, Wait, nothing, grant, departure, access, discard}
-use Rattle.lrc_protocol.specs.Locks.{Locks, next_time}
-use Rattle.lrc_protocol.specs.Barrier.{Barrier}
-use Rattle.lrc_protocol.specs.Letters.{letter, departure_of, discards_to}
-use Rattle.lrc_protocol.specs.Expected.{is_taken}
+use Rattle.lrc_protocol.specs.Times.{next_time}
+use Rattle.lrc_protocol.specs.Locks.{Locks}
+use Rattle.lrc_protocol.specs.Barriers.{Barrier}
+use Rattle.lrc_protocol.specs.Node.{Course, deed_of, Letter, Wait, nothing, grant, departure, access, discard}
+use Rattle.lrc_protocol.specs.Turn.{letter, departure_of, discards_to}
 use Rattle.lrc_order_laws.specs.Waiting.{next_in, acquiring, FixesNext}
 use Rattle.lrc_order_laws.specs.Tokens.{is_awaited, AwaitsOne, HoldsTokens, is_grant_of}
 use Rattle.lrc_order_laws.proofs.Shift.{Acted, Rested, Moved, is_plain}

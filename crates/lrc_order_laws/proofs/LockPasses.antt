@@ -13,12 +13,12 @@ use Rattle.lrc_lock.specs.declared.state.Waiter.{Waiter}
 use Rattle.lrc_lock.specs.declared.state.LockState.{LockState}
 use Rattle.lrc_lock.specs.declared.state.LockState.TheVariants.{Away, Awaited, Free, Held}
 use Rattle.lrc_lock.specs.Lock.{manager_of}
-use Rattle.lrc_lock.specs.Held.{LockStep, refuses, lock_at, is_free, is_held, with_lock, state_after, held_after, taken, asked}
-use Rattle.lrc_lock.specs.Held.{released, released_at, forwarded, forwarded_at, granted, granted_at, pass_of}
-use Rattle.lrc_protocol.specs.Mail.{Letter, Wait, nothing, grant as grant_of}
-use Rattle.lrc_protocol.specs.Locks.{Locks, next_time}
-use Rattle.lrc_protocol.specs.Barrier.{Barrier}
-use Rattle.lrc_protocol.specs.Expected.{is_taken}
+use Rattle.lrc_lock.specs.Held.{LockStep, refuses, lock_at, is_free, is_held, with_lock, state_after, held_after, taken, asked, released}
+use Rattle.lrc_lock.specs.Held.{released_at, forwarded, forwarded_at, granted, granted_at, pass_of, is_taken}
+use Rattle.lrc_protocol.specs.Times.{next_time}
+use Rattle.lrc_protocol.specs.Locks.{Locks}
+use Rattle.lrc_protocol.specs.Barriers.{Barrier}
+use Rattle.lrc_protocol.specs.Node.{Letter, Wait, nothing, grant as grant_of}
 use Rattle.lrc_order_laws.specs.Waiting.{next_in, acquiring}
 use Rattle.lrc_order_laws.specs.Tokens.{is_awaited, AwaitsOne, HoldsTokens}
 use Rattle.lrc_order_laws.proofs.Calls.{acquired, let_go}

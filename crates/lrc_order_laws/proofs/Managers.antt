@@ -9,11 +9,12 @@ use Rattle.std.proofs.lemmas.Option.{same_Some}
 use Rattle.lrc_barrier.specs.declared.arrival.Arrival.{Arrival}
 use Rattle.lrc_barrier.specs.declared.departure.Departure.{Departure}
 use Rattle.lrc_barrier.specs.declared.fault.BarrierFault.TheVariants.{WrongEpisode, Twice}
-use Rattle.lrc_barrier.specs.Barrier.{ManagerRecord, is_next, has_arrived, with_arrival, arrivals_of, asks, departure_to, departures_of, departed}
-use Rattle.lrc_barrier.specs.Barrier.{ArriveStep, refuses, waits, departs, arrived, CleanStep, refuses_clean, awaits, discards, cleaned_by, cleaned}
+use Rattle.lrc_barrier.specs.Barrier.{ManagerRecord, is_next, has_arrived, with_arrival, arrivals_of, asks, departure_to, departures_of}
+use Rattle.lrc_barrier.specs.Barrier.{departed, ArriveStep, refuses, waits, departs, arrived, CleanStep, refuses_clean, awaits, discards}
+use Rattle.lrc_barrier.specs.Barrier.{cleaned_by, cleaned}
 use Rattle.lrc_barrier.proofs.Filled.{all_arrived}
-use Rattle.lrc_protocol.specs.Mail.{Letter}
-use Rattle.lrc_protocol.specs.Letters.{letter, departure_of, discards_to}
+use Rattle.lrc_protocol.specs.Node.{Letter}
+use Rattle.lrc_protocol.specs.Turn.{letter, departure_of, discards_to}
 use Rattle.lrc_envelope.specs.declared.message.Message.TheVariants.{Discard}
 use Rattle.lrc_order_laws.specs.Barriers.{says_depart, says_discard, kept_of, noted_of}
 use Rattle.lrc_order_laws.proofs.Flows.{count-cons}

@@ -6,8 +6,7 @@ use Rattle.lrc_exec.specs.Meaning.{Setting}
 use Rattle.lrc_envelope.specs.Envelope.{EnvelopeRecord}
 use Rattle.lrc_envelope.specs.declared.message.Message.{Message}
 use Rattle.lrc_store.proofs.Orders.{Contains-first, Contains-later, cases_Contains, none_Contains}
-use Rattle.lrc_protocol.specs.Mail.{Letter}
-use Rattle.lrc_protocol.specs.Node.{Node}
+use Rattle.lrc_protocol.specs.Node.{Letter, Node}
 use Rattle.lrc_protocol.specs.Turn.{TurnRecord}
 use Rattle.lrc_order_laws.specs.Barriers.{says_arrive, says_depart}
 use Rattle.lrc_order_laws.proofs.Shift.{AllFrom, Moved, deed_made}

@@ -7,8 +7,7 @@ use Rattle.std.proofs.lemmas.List.{map-append}
 use Rattle.std.proofs.lemmas.List.Elements.{filter-append}
 use Rattle.lrc_envelope.specs.Envelope.{EnvelopeRecord}
 use Rattle.lrc_protocol.specs.Follows.{numbers_to}
-use Rattle.lrc_protocol.specs.Log.{Input, EntryRecord}
-use Rattle.lrc_protocol.specs.World.{World, Flying, marked, sent_by}
+use Rattle.lrc_protocol.specs.Run.{Input, EntryRecord, World, Flying, marked, sent_by}
 use Rattle.lrc_protocol.proofs.Induction.{Comes, named, delivered, repeated}
 use Rattle.lrc_order_laws.specs.Numbers.{numbers_between, Rises}
 use Rattle.lrc_order_laws.proofs.Shift.{AllFrom}

@@ -7,8 +7,8 @@ use Rattle.lrc_envelope.specs.Envelope.{EnvelopeRecord}
 use Rattle.lrc_envelope.specs.Records.{LockGrantRecord}
 use Rattle.lrc_envelope.specs.declared.message.Message.{Message}
 use Rattle.lrc_envelope.specs.declared.message.Message.TheVariants.{LockGrant}
-use Rattle.lrc_protocol.specs.Mail.{Letter}
-use Rattle.lrc_protocol.specs.Letters.{letter}
+use Rattle.lrc_protocol.specs.Node.{Letter}
+use Rattle.lrc_protocol.specs.Turn.{letter}
 use Rattle.lrc_order_laws.specs.Tokens.{is_grant_of, grants_of_lock}
 use Rattle.lrc_order_laws.proofs.Pending.{Lost, Goes}
 use Rattle.lrc_order_laws.proofs.Sends.{Came, by_itself, comes, letter_in}

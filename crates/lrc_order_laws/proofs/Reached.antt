@@ -6,8 +6,8 @@ use Rattle.lrc_lang.specs.declared.program.Program.{Program}
 use Rattle.lrc_protocol.specs.declared.event.Event.{Event}
 use Rattle.lrc_protocol.specs.declared.event.Event.TheVariants.{Run, Deliver, Repeat}
 use Rattle.lrc_protocol.specs.Node.{OptionsRecord}
-use Rattle.lrc_protocol.specs.Log.{Input, run, taken, EntryRecord, Logged, Logging, logged, refused, too_large, logs}
-use Rattle.lrc_protocol.specs.World.{World, Flying, fresh_world, with_turn, with_mark, after_input, input_to, delivers, event_on, step_of, run_of}
+use Rattle.lrc_protocol.specs.Run.{Input, run, taken, EntryRecord, Logged, Logging, logged, refused, too_large, logs, World, Flying}
+use Rattle.lrc_protocol.specs.Run.{fresh_world, with_turn, with_mark, after_input, input_to, delivers, event_on, step_of, run_of}
 use Rattle.lrc_protocol.proofs.Worlds.{IsEntry, Entries, logs-entries}
 use Rattle.lrc_protocol.proofs.Induction.{Comes, named, delivered, repeated}
 

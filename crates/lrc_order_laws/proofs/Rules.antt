@@ -16,11 +16,9 @@ use Rattle.lrc_clock.proofs.Prefixes.{time_at-prefix, time_before-prefix}
 use Rattle.lrc_exec.specs.Meaning.{Setting, Thread, Next, acquires, releases, arrives, departs}
 use Rattle.lrc_exec.specs.Plain.{setting_of}
 use Rattle.lrc_protocol.specs.declared.event.Event.{Event}
-use Rattle.lrc_protocol.specs.Course.{Course, deed_of}
-use Rattle.lrc_protocol.specs.Mail.{Wait, nothing, grant, departure, access, discard}
 use Rattle.lrc_protocol.specs.Locks.{Locks}
-use Rattle.lrc_protocol.specs.Node.{OptionsRecord}
-use Rattle.lrc_protocol.specs.World.{World, run_of}
+use Rattle.lrc_protocol.specs.Node.{Course, deed_of, Wait, nothing, grant, departure, access, discard, OptionsRecord}
+use Rattle.lrc_protocol.specs.Run.{World, run_of}
 use Rattle.lrc_protocol.proofs.Turned.{Turned, Turns, turns}
 use Rattle.lrc_protocol.proofs.Induction.{KeptByTurns, by_turns}
 use Rattle.lrc_order_laws.specs.Waiting.{next_in, FixesNext}

@@ -13,38 +13,27 @@ use Rattle.lrc_envelope.specs.declared.message.Message.{Message}
 use Rattle.lrc_envelope.specs.declared.message.Message.TheVariants.{LockRequest, LockForward, LockGrant, Arrive, Depart, Clean, Discard}
 use Rattle.lrc_envelope.specs.declared.message.Message.TheVariants.{ChangesRequest, ChangesReply, PageRequest, PageReply}
 use Rattle.lrc_lock.specs.declared.state.Pass.{Pass}
-use Rattle.lrc_lock.specs.declared.fault.LockFault.TheVariants.{NotMine}
 use Rattle.lrc_lock.specs.Lock.{manager_of}
-use Rattle.lrc_lock.specs.Held.{lock_at, is_free, taken, asked, released, forwarded, granted, pass_of, held_after}
-use Rattle.lrc_lock.specs.Managed.{Requested, refuses as refuses_request, forwards, requested}
+use Rattle.lrc_lock.specs.Held.{lock_at, is_free, taken, asked, released, forwarded, granted, pass_of, held_after, is_taken}
 use Rattle.lrc_barrier.specs.declared.arrival.Arrival.{Arrival}
 use Rattle.lrc_barrier.specs.declared.departure.Departure.{Departure}
-use Rattle.lrc_barrier.specs.Barrier.{ManagerRecord, waits, departs as all_depart}
-use Rattle.lrc_barrier.specs.Barrier.{arrived, awaits, discards, cleaned}
-use Rattle.lrc_protocol.specs.Memory.{Memory}
-use Rattle.lrc_protocol.specs.Fetch.{Base, unneeded, due, come, Asked, Need}
-use Rattle.lrc_protocol.specs.Mail.{envelope_of, numbered, Letter, Wait, nothing, grant, departure, access, upkeep, discard}
-use Rattle.lrc_protocol.specs.Mail.{Collection, MOST_NUMBER}
-use Rattle.lrc_protocol.specs.Course.{Course, going, trapped, ended, deed_of, course_of}
-use Rattle.lrc_protocol.specs.Locks.{Locks, ticked, with_time, with_held, with_managed, next_time}
-use Rattle.lrc_protocol.specs.Barrier.{Barrier, with_arrive, with_manager}
-use Rattle.lrc_protocol.specs.Node.{Node, Effect, with_locks, sends, acts, acts_by, value_read}
-use Rattle.lrc_protocol.specs.Letters.{letter, forward_to, grants_of, own_news, asks_for_collection, departure_of}
-use Rattle.lrc_protocol.specs.Letters.{discards_to, changes_request_of, page_request_of, requests_of}
-use Rattle.lrc_protocol.specs.Expected.{is_taken, are_arriving}
-use Rattle.lrc_protocol.specs.Run.{charged}
-use Rattle.lrc_protocol.specs.Turn.{TurnRecord, Outcome, done, not_ready, unexpected, worn}
+use Rattle.lrc_barrier.specs.Barrier.{ManagerRecord, waits, departs as all_depart, arrived, awaits, discards, cleaned}
+use Rattle.lrc_protocol.specs.Times.{MOST_NUMBER, next_time}
+use Rattle.lrc_protocol.specs.Pages.{Memory, Base, unneeded, due, come, Asked, Need}
+use Rattle.lrc_protocol.specs.Locks.{Locks, ticked, with_time, with_held, with_managed}
+use Rattle.lrc_protocol.specs.Barriers.{arrival_in, Collection, Barrier, with_arrive, with_manager}
+use Rattle.lrc_protocol.specs.Node.{envelope_of, numbered, Letter, Wait, nothing, grant, departure, access, upkeep, discard, Course, going}
+use Rattle.lrc_protocol.specs.Node.{trapped, ended, deed_of, course_of, Node, Effect, with_locks, sends, acts, acts_by, value_read}
+use Rattle.lrc_protocol.specs.Turn.{letter, forward_to, grants_of, own_news, asks_for_collection, departure_of, discards_to, changes_request_of}
+use Rattle.lrc_protocol.specs.Turn.{page_request_of, requests_of, are_arriving, charged, TurnRecord, Outcome, done, not_ready, unexpected, worn}
 use Rattle.lrc_protocol.specs.Turn.{taking, is_repeat, empty_turn}
-use Rattle.lrc_protocol.specs.Log.{Input, run, taken as taken_in, outcome_of}
-use Rattle.lrc_protocol.specs.Rules.{IsReadyFor, page_at, need_at, closed_for, IsDeparture, Brings, brings_changes, brings_base_copy}
-use Rattle.lrc_protocol.specs.Rules.{RunRule, run_hit, run_miss, run_repair, run_acquire, run_ask, run_release, run_barrier, run_other}
-use Rattle.lrc_protocol.specs.Rules.{TakeRule, take_request, take_request_unnoted, take_forward, take_token, take_arrive}
-use Rattle.lrc_protocol.specs.Rules.{take_last_arrive}
-use Rattle.lrc_protocol.specs.Rules.{take_depart, take_collect, take_collect_at_once, collection_at, upkeep_at, take_reply}
-use Rattle.lrc_protocol.specs.Rules.{take_last_reply}
-use Rattle.lrc_protocol.specs.Rules.{take_kept_reply, take_last_kept_reply, take_clean, take_last_clean, take_discard}
-use Rattle.lrc_protocol.specs.Rules.{take_changes_request, take_page_request, IsSent, with_numbers, TurnRule, by_run, by_repeat}
-use Rattle.lrc_protocol.specs.Rules.{by_message}
+use Rattle.lrc_protocol.specs.Run.{Input, run, taken as taken_in, outcome_of}
+use Rattle.lrc_protocol.specs.Rules.{take_request, IsReadyFor, page_at, need_at, closed_for, IsDeparture, Brings, brings_changes}
+use Rattle.lrc_protocol.specs.Rules.{brings_base_copy, RunRule, run_hit, run_miss, run_repair, run_acquire, run_ask, run_release, run_barrier}
+use Rattle.lrc_protocol.specs.Rules.{run_other, TakeRule, take_forward, take_token, take_arrive, take_last_arrive, take_depart, take_collect}
+use Rattle.lrc_protocol.specs.Rules.{take_collect_at_once, collection_at, upkeep_at, take_reply, take_last_reply, take_kept_reply}
+use Rattle.lrc_protocol.specs.Rules.{take_last_kept_reply, take_clean, take_last_clean, take_discard, take_changes_request, take_page_request}
+use Rattle.lrc_protocol.specs.Rules.{IsSent, with_numbers, TurnRule, by_run, by_repeat, by_message}
 use Rattle.lrc_protocol.proofs.Ruled.{RuledIf, ruled}
 use Rattle.lrc_order_laws.specs.Shape.{HasShape}
 use Rattle.lrc_order_laws.specs.Waiting.{next_in, is_access, acquiring}
@@ -103,10 +92,6 @@ site_of node = record {
 -- the same without it
 abbrev pub part_in : Site → Part
 part_in s = record { me = s.me; nodes = s.nodes; course = s.course; wait = s.wait; locks = s.locks; episode = s.barrier.episode }
-
--- what an Arrive says to the manager
-abbrev pub arrival_in : ArriveRecord → Arrival
-arrival_in m = record { episode = m.episode; ask = m.ask; time = m.time; intervals = m.intervals }
 
 -- a Depart that a node accepts: from node 0, for the episode where it waits, with a time that covers its own
 pub record Accepted (s : Site) (from : ℕ) (m : DepartRecord) : Type 0 where
@@ -294,32 +279,6 @@ run-sends node e (run_other {next = next} r own) = plain-sends node next r (own-
 
 -- ---- what a node does with a message
 
--- what a request that goes on sends, and none is refused
-abbrev Passes : Node → ℕ → LockRequestRecord → Requested → Type 0
-Passes node from m (refuses_request fault) = ⊥
-Passes node from m (forwards to managed) =
-    EffectSends (site_of node) (comes from (LockRequest m))
-    (sends (forward_to to m.lock from m.time ∷ []) (with_locks node (with_managed managed node.locks)))
-
-request-passes : (node : Node) (from : ℕ) (m : LockRequestRecord) (b : Bool) → b ≡ true → m.lock < node.setting.locks
-    → length m.time ≡ node.setting.nodes → manager_of node.setting.nodes m.lock ≡ node.setting.me
-    → Passes node from m
-    (if b
-    then forwards (slice_index node.locks.managed.recent m.lock) (record node.locks.managed { recent = slice_set node.locks.managed.recent m.lock from })
-    else refuses_request NotMine)
-request-passes node from m true is lt counted mine =
-    rested (site_of node) (comes from (LockRequest m)) _ _ refl (manages from m lt counted mine)
-request-passes node from m false is lt counted mine = cc
-
--- a request goes on from a node of this shape, and not otherwise
-requested-passes : (node : Node) (from : ℕ) (m : LockRequestRecord) (r : Requested) → HasShape node.setting node.locks
-    → m.lock < node.setting.locks → length m.time ≡ node.setting.nodes → manager_of node.setting.nodes m.lock ≡ node.setting.me
-    → requested node.locks.managed m.lock from ≡ r → Passes node from m r
-requested-passes node from m r h lt counted mine is =
-    subst (Passes node from m) is
-    (request-passes node from m (manager_of node.locks.managed.nodes m.lock == node.locks.managed.me)
-    (eq-eqb _ _ (ap (λ k. manager_of k m.lock) h.managed_nodes ∙ mine ∙ sym h.manager)) lt counted mine)
-
 arriving-time : (node : Node) (from : ℕ) (time : List ℕ) (intervals : List IntervalRecord) → are_arriving node from time intervals ≡ true
     → length time ≡ node.setting.nodes
 arriving-time node from time intervals e =
@@ -345,10 +304,8 @@ brings-other node from message memory change (brings_base_copy m lt counted some
 
 take-sends : (node : Node) (from : ℕ) (message : Message) (e : Effect) → HasShape node.setting node.locks → TakeRule node from message e
     → EffectSends (site_of node) (comes from message) e
-take-sends node from message e h (take_request m to managed lt counted mine is) =
-    requested-passes node from m (forwards to managed) h lt counted mine is
-take-sends node from message e h (take_request_unnoted m fault lt counted mine is) =
-    absurd (requested-passes node from m (refuses_request fault) h lt counted mine is)
+take-sends node from message e h (take_request m lt counted mine) =
+    rested (site_of node) (comes from (LockRequest m)) _ _ refl (manages from m lt counted mine)
 take-sends node from message e h (take_forward m lt asker counted managed taken) =
     rested (site_of node) (comes from (LockForward m)) _ _ refl (forwarding from m lt asker counted managed taken (grants-so node _))
 take-sends node from message e h (take_token m lt at news) =

@@ -1,9 +1,7 @@
 -- The shape of a node is kept by every turn.
 use Rattle.std.proofs.Common.{◌≡◌, ℕ, ◌+◌, List, [], Bool, true, false, length, refl, sym, ap, subst, ◌∙◌}
-use Rattle.std.specs.Prelude.{Option, Some, None, ◌==◌, slice_get, slice_index, slice_set, if◌then◌else◌}
+use Rattle.std.specs.Prelude.{Option, Some, None, slice_get, if◌then◌else◌}
 use Rattle.std.specs.List.{range_with_len}
-use Rattle.lrc_lock.specs.declared.fault.LockFault.TheVariants.{NotMine}
-use Rattle.std.proofs.lemmas.Option.{same_Some}
 use Rattle.std.proofs.lemmas.List.{length-set, length-map}
 use Rattle.std.proofs.lemmas.List.FromFn.{length-range_with_len}
 use Rattle.lrc_lang.specs.declared.program.Program.{Program}
@@ -11,18 +9,17 @@ use Rattle.lrc_time.specs.Time.{entry}
 use Rattle.lrc_time.proofs.Times.{length-zeros, length-joined_same}
 use Rattle.lrc_lock.specs.declared.state.LockState.{LockState}
 use Rattle.lrc_lock.specs.declared.state.LockState.TheVariants.{Away, Awaited, Held}
-use Rattle.lrc_lock.specs.Held.{HeldRecord, SamePlace, LockStep, refuses, stays, passes, lock_at, is_free}
-use Rattle.lrc_lock.specs.Held.{with_lock, first_state, taken, released, forwarded, granted, held_after}
+use Rattle.lrc_lock.specs.Held.{HeldRecord, SamePlace, LockStep, refuses, stays, passes, lock_at, is_free, with_lock, first_state, taken}
+use Rattle.lrc_lock.specs.Held.{released, forwarded, granted, held_after}
 use Rattle.lrc_lock.specs.Lock.{manager_of}
-use Rattle.lrc_lock.specs.Managed.{ManagedRecord, SameManager, Requested, refuses as refuses_request, forwards, requested}
+use Rattle.lrc_lock.specs.Managed.{ManagedRecord, SameManager, with_asker}
 use Rattle.lrc_exec.specs.Meaning.{Setting}
 use Rattle.lrc_exec.specs.Plain.{setting_of}
-use Rattle.lrc_protocol.specs.Mail.{Wait}
-use Rattle.lrc_protocol.specs.Locks.{Locks, fresh_locks, next_time, ticked, with_time, with_held, with_managed}
-use Rattle.lrc_protocol.specs.Node.{OptionsRecord, fresh_node}
+use Rattle.lrc_protocol.specs.Times.{next_time}
+use Rattle.lrc_protocol.specs.Locks.{Locks, fresh_locks, ticked, with_time, with_held, with_managed}
+use Rattle.lrc_protocol.specs.Node.{Wait, OptionsRecord, fresh_node}
 use Rattle.lrc_protocol.specs.declared.event.Event.{Event}
-use Rattle.lrc_protocol.specs.Log.{Local, Logged}
-use Rattle.lrc_protocol.specs.World.{World, run_of}
+use Rattle.lrc_protocol.specs.Run.{Local, Logged, World, run_of}
 use Rattle.lrc_protocol.specs.Follows.{turns_of}
 use Rattle.lrc_order_laws.specs.Shape.{HasShape}
 use Rattle.lrc_order_laws.proofs.Shift.{Part, part_of, Shift, plain, misses, takes, asks, releasing, arriving, manages, forwarding, grants, departing}
@@ -49,20 +46,8 @@ taken_by held lock false = same_place held
 taken-place : (held : HeldRecord) (lock : ℕ) → SamePlace held (taken held lock)
 taken-place held lock = taken_by held lock (is_free (lock_at held lock))
 
-abbrev managed_in : Requested → Option ManagedRecord
-managed_in (refuses_request fault) = None
-managed_in (forwards to managed) = Some managed
-
-requested_by : (managed : ManagedRecord) (lock asker : ℕ) (b : Bool) (to : ℕ) (next : ManagedRecord)
-    → (if b then forwards (slice_index managed.recent lock) (record managed { recent = slice_set managed.recent lock asker }) else refuses_request NotMine)
-    ≡ forwards to next → SameManager managed next
-requested_by managed lock asker true to next e =
-    subst (SameManager managed) (same_Some _ next (ap managed_in e)) (record { me = refl; nodes = refl; locks = length-set managed.recent lock asker })
-requested_by managed lock asker false to next e = cc
-
-requested-place : (managed : ManagedRecord) (lock asker to : ℕ) (next : ManagedRecord)
-    → requested managed lock asker ≡ forwards to next → SameManager managed next
-requested-place managed lock asker to next e = requested_by managed lock asker (manager_of managed.nodes lock == managed.me) to next e
+asker-place : (managed : ManagedRecord) (lock asker : ℕ) → SameManager managed (with_asker managed lock asker)
+asker-place managed lock asker = record { me = refl; nodes = refl; locks = length-set managed.recent lock asker }
 
 -- ---- clock and tokens
 
@@ -124,7 +109,7 @@ shape-kept p s e _ _ _ _ (asks {lock = lock} w n away) h =
 shape-kept p s e _ _ _ _ (releasing lock next w n) h =
     holds s (ticked p.me p.locks) _ (step-place p.locks.held lock (released p.locks.held lock (next_time p.me p.locks.time))) (ticks s p.me p.locks h)
 shape-kept p s e _ _ _ _ (arriving next w n) h = ticks s p.me p.locks h
-shape-kept p s e _ _ _ _ (manages managed lock from to r) h = manages_so s p.locks managed (requested-place p.locks.managed lock from to managed r) h
+shape-kept p s e _ _ _ _ (manages lock from) h = manages_so s p.locks _ (asker-place p.locks.managed lock from) h
 shape-kept p s e _ _ _ _ (forwarding lock asker time) h = holds s p.locks _ (step-place p.locks.held lock (forwarded p.locks.held lock asker time)) h
 shape-kept p s e _ _ _ _ (grants lock time w k) h =
     learns_so s (with_held (held_after p.locks.held lock (granted p.locks.held lock)) p.locks) time (k.counted ∙ e)

@@ -12,27 +12,21 @@ use Rattle.lrc_store.specs.Interval.{IntervalRecord}
 use Rattle.lrc_envelope.specs.Envelope.{EnvelopeRecord}
 use Rattle.lrc_envelope.specs.declared.message.Message.{Message}
 use Rattle.lrc_lock.specs.Held.{lock_at, is_free, taken, asked, released, forwarded, granted, held_after}
-use Rattle.lrc_lock.specs.Managed.{ManagedRecord, forwards, requested}
-use Rattle.lrc_protocol.specs.Fetch.{Need}
-use Rattle.lrc_protocol.specs.Mail.{envelope_of, numbered, Letter, Wait, nothing, grant, departure, access, upkeep, discard}
-use Rattle.lrc_protocol.specs.Mail.{Collection, MOST_NUMBER}
-use Rattle.lrc_protocol.specs.Course.{Course, going, trapped, ended, deed_of, course_of}
-use Rattle.lrc_protocol.specs.Locks.{Locks, ticked, with_time, with_held, with_managed, next_time}
-use Rattle.lrc_protocol.specs.Node.{Node, Effect, sends, acts, acts_by, value_read}
-use Rattle.lrc_protocol.specs.Expected.{is_learnable}
-use Rattle.lrc_protocol.specs.Run.{charged}
-use Rattle.lrc_protocol.specs.Turn.{TurnRecord, Outcome, done, not_ready, unexpected, worn}
-use Rattle.lrc_protocol.specs.Turn.{taking}
-use Rattle.lrc_protocol.specs.Log.{Input, outcome_of}
-use Rattle.lrc_protocol.specs.Rules.{IsReadyFor, Accesses, access_read, access_write, IsOwn, own_quiet, own_print, own_trap, own_end}
-use Rattle.lrc_protocol.specs.Rules.{RunRule, run_hit, run_miss, run_repair, run_acquire, run_ask, run_release, run_barrier, run_other}
-use Rattle.lrc_protocol.specs.Rules.{TakeRule, take_request, take_request_unnoted, take_forward, take_token, take_arrive}
-use Rattle.lrc_protocol.specs.Rules.{take_last_arrive}
-use Rattle.lrc_protocol.specs.Rules.{take_depart, take_collect, take_collect_at_once, collection_at, upkeep_at, take_reply}
-use Rattle.lrc_protocol.specs.Rules.{take_last_reply}
-use Rattle.lrc_protocol.specs.Rules.{take_kept_reply, take_last_kept_reply, take_clean, take_last_clean, take_discard}
-use Rattle.lrc_protocol.specs.Rules.{take_changes_request, take_page_request, IsSent, with_numbers, TurnRule, by_run, by_repeat}
-use Rattle.lrc_protocol.specs.Rules.{by_message}
+use Rattle.lrc_lock.specs.Managed.{with_asker}
+use Rattle.lrc_protocol.specs.Times.{MOST_NUMBER, next_time}
+use Rattle.lrc_protocol.specs.Pages.{Need}
+use Rattle.lrc_protocol.specs.Locks.{Locks, ticked, with_time, with_held, with_managed}
+use Rattle.lrc_protocol.specs.Barriers.{Collection}
+use Rattle.lrc_protocol.specs.Node.{envelope_of, numbered, Letter, Wait, nothing, grant, departure, access, upkeep, discard, Course, going}
+use Rattle.lrc_protocol.specs.Node.{trapped, ended, deed_of, course_of, Node, Effect, sends, acts, acts_by, value_read}
+use Rattle.lrc_protocol.specs.Turn.{is_learnable, charged, TurnRecord, Outcome, done, not_ready, unexpected, worn, taking}
+use Rattle.lrc_protocol.specs.Run.{Input, outcome_of}
+use Rattle.lrc_protocol.specs.Rules.{take_request, IsReadyFor, Accesses, access_read, access_write, IsOwn, own_quiet, own_print, own_trap}
+use Rattle.lrc_protocol.specs.Rules.{own_end, RunRule, run_hit, run_miss, run_repair, run_acquire, run_ask, run_release, run_barrier, run_other}
+use Rattle.lrc_protocol.specs.Rules.{TakeRule, take_forward, take_token, take_arrive, take_last_arrive, take_depart, take_collect}
+use Rattle.lrc_protocol.specs.Rules.{take_collect_at_once, collection_at, upkeep_at, take_reply, take_last_reply, take_kept_reply}
+use Rattle.lrc_protocol.specs.Rules.{take_last_kept_reply, take_clean, take_last_clean, take_discard, take_changes_request, take_page_request}
+use Rattle.lrc_protocol.specs.Rules.{IsSent, with_numbers, TurnRule, by_run, by_repeat, by_message}
 use Rattle.lrc_protocol.proofs.Ruled.{RuledIf, ruled}
 use Rattle.lrc_order_laws.specs.Waiting.{next_in, is_access, acquiring}
 
@@ -115,8 +109,7 @@ pub data Shift (p : Part) : Bool → Wait → Locks → ℕ → Type 0 where
   arriving : (after : Thread) → p.wait ≡ nothing → next_in p.course ≡ Some (arrives after)
       → Shift p true departure (ticked p.me p.locks) (p.episode + 1)
   -- with a message
-  manages : (managed : ManagedRecord) (lock from to : ℕ) → requested p.locks.managed lock from ≡ forwards to managed
-      → Shift p false p.wait (with_managed managed p.locks) p.episode
+  manages : (lock from : ℕ) → Shift p false p.wait (with_managed (with_asker p.locks.managed lock from) p.locks) p.episode
   forwarding : (lock asker : ℕ) (time : List ℕ)
       → Shift p false p.wait (with_held (held_after p.locks.held lock (forwarded p.locks.held lock asker time)) p.locks) p.episode
   grants : (lock : ℕ) (time : List ℕ) → p.wait ≡ grant lock → Learnable p time
@@ -226,9 +219,8 @@ learnable node time intervals e =
     record { counted = eqb-true _ _ time_is.0; own = leb-true _ _ outer.1 }
 
 take-shifts : (node : Node) (from : ℕ) (message : Message) (e : Effect) → TakeRule node from message e → Shifts (part_of node) e
-take-shifts node from message e (take_request m to managed lt counted mine is) =
-    sends-shifts (part_of node) _ _ refl (manages managed m.lock from to is)
-take-shifts node from message e (take_request_unnoted m fault lt counted mine is) = sends-shifts (part_of node) _ _ refl rests
+take-shifts node from message e (take_request m lt counted mine) =
+    sends-shifts (part_of node) _ _ refl (manages m.lock from)
 take-shifts node from message e (take_forward m lt asker counted managed taken) =
     sends-shifts (part_of node) _ _ refl (forwarding m.lock m.asker m.time)
 take-shifts node from message e (take_token m lt at news) =

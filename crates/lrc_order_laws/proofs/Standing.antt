@@ -12,13 +12,13 @@ use Rattle.lrc_envelope.specs.declared.message.Message.TheVariants.{ChangesReque
 use Rattle.lrc_lock.specs.declared.state.Pass.{Pass}
 use Rattle.lrc_barrier.specs.declared.departure.Departure.{Departure}
 use Rattle.lrc_barrier.specs.Barrier.{ManagerRecord, with_arrival, arrivals_of, departed}
-use Rattle.lrc_protocol.specs.Mail.{Letter, Wait, nothing, grant, departure, access, upkeep, discard, Collection}
-use Rattle.lrc_protocol.specs.Letters.{letter, departure_of, discards_to}
 use Rattle.lrc_protocol.specs.Locks.{Locks}
-use Rattle.lrc_protocol.specs.Barrier.{Barrier}
+use Rattle.lrc_protocol.specs.Barriers.{arrival_in, Collection, Barrier}
+use Rattle.lrc_protocol.specs.Node.{Letter, Wait, nothing, grant, departure, access, upkeep, discard}
+use Rattle.lrc_protocol.specs.Turn.{letter, departure_of, discards_to}
 use Rattle.lrc_order_laws.specs.Barriers.{says_arrive, says_depart, says_clean, says_discard, arrive_from, depart_to, clean_from}
 use Rattle.lrc_order_laws.specs.Barriers.{discard_to, kept_of, noted_of, awaits_depart, awaits_word, StandsAt}
-use Rattle.lrc_order_laws.proofs.Sends.{Came, by_itself, comes, Site, is_other, AreOthers, Grants, arrival_in, Sends, plain, misses, takes, asks}
+use Rattle.lrc_order_laws.proofs.Sends.{Came, by_itself, comes, Site, is_other, AreOthers, Grants, Sends, plain, misses, takes, asks}
 use Rattle.lrc_order_laws.proofs.Sends.{releasing, arriving, manages, forwarding, grants, gathers, lets_depart, departing, collecting}
 use Rattle.lrc_order_laws.proofs.Sends.{clean_at_once, notes_clean, lets_discard, discarding, serves, accessing, still_misses, still_collects}
 use Rattle.lrc_order_laws.proofs.Sends.{cleaning}

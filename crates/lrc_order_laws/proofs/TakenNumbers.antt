@@ -1,21 +1,15 @@
 -- Which numbers a node has taken, after each turn.
 use Rattle.std.proofs.Common.{◌≡◌, ℕ, List, [], true, false, refl, sym, subst, ◌∙◌}
 use Rattle.lrc_envelope.specs.declared.message.Message.{Message}
-use Rattle.lrc_protocol.specs.Mail.{Letter}
-use Rattle.lrc_protocol.specs.Course.{Course, going, trapped, ended}
-use Rattle.lrc_protocol.specs.Node.{Node, Effect, acts, acts_by}
-use Rattle.lrc_protocol.specs.Run.{charged}
+use Rattle.lrc_protocol.specs.Node.{Letter, Course, going, trapped, ended, Node, Effect, acts, acts_by}
+use Rattle.lrc_protocol.specs.Turn.{charged, TurnRecord, Outcome, done, not_ready, unexpected, worn, taking, is_repeat}
 use Rattle.lrc_envelope.specs.Envelope.{EnvelopeRecord}
-use Rattle.lrc_protocol.specs.Turn.{TurnRecord, Outcome, done, not_ready, unexpected, worn}
-use Rattle.lrc_protocol.specs.Turn.{taking, is_repeat}
-use Rattle.lrc_protocol.specs.Log.{Input, run, taken, outcome_of}
-use Rattle.lrc_protocol.specs.Rules.{RunRule, run_hit, run_miss, run_repair, run_acquire, run_ask, run_release, run_barrier, run_other}
-use Rattle.lrc_protocol.specs.Rules.{TakeRule, take_request, take_request_unnoted, take_forward, take_token, take_arrive}
-use Rattle.lrc_protocol.specs.Rules.{take_last_arrive}
-use Rattle.lrc_protocol.specs.Rules.{take_depart, take_collect, take_collect_at_once, take_reply, take_last_reply}
-use Rattle.lrc_protocol.specs.Rules.{take_kept_reply, take_last_kept_reply, take_clean, take_last_clean, take_discard}
-use Rattle.lrc_protocol.specs.Rules.{take_changes_request, take_page_request, IsSent, with_numbers, TurnRule, by_run, by_repeat}
-use Rattle.lrc_protocol.specs.Rules.{by_message}
+use Rattle.lrc_protocol.specs.Run.{Input, run, taken, outcome_of}
+use Rattle.lrc_protocol.specs.Rules.{take_request, RunRule, run_hit, run_miss, run_repair, run_acquire, run_ask, run_release, run_barrier}
+use Rattle.lrc_protocol.specs.Rules.{run_other, TakeRule, take_forward, take_token, take_arrive, take_last_arrive, take_depart, take_collect}
+use Rattle.lrc_protocol.specs.Rules.{take_collect_at_once, take_reply, take_last_reply, take_kept_reply, take_last_kept_reply, take_clean}
+use Rattle.lrc_protocol.specs.Rules.{take_last_clean, take_discard, take_changes_request, take_page_request, IsSent, with_numbers, TurnRule}
+use Rattle.lrc_protocol.specs.Rules.{by_run, by_repeat, by_message}
 use Rattle.lrc_protocol.proofs.Ruled.{RuledIf, ruled}
 
 -- the numbers taken are these
@@ -41,8 +35,7 @@ run-taken node e (run_barrier after r room) = acts-taken _ _
 run-taken node e (run_other {next = next} r own) = acts-taken [] (charged node next)
 
 take-taken : (node : Node) (from : ℕ) (message : Message) (e : Effect) → TakeRule node from message e → TakenIs node.mail.taken e
-take-taken node from message e (take_request m to managed lt counted mine is) = refl
-take-taken node from message e (take_request_unnoted m fault lt counted mine is) = refl
+take-taken node from message e (take_request m lt counted mine) = refl
 take-taken node from message e (take_forward m lt asker counted managed accepted) = refl
 take-taken node from message e (take_token m lt at news) = acts-taken [] _
 take-taken node from message e (take_arrive m before after at news is) = refl

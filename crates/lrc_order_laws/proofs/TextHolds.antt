@@ -8,9 +8,9 @@ use Rattle.lrc_exec.specs.Meaning.{Setting, Thread, Next, acquires, releases, ar
 use Rattle.lrc_lock.specs.declared.state.LockState.{LockState}
 use Rattle.lrc_lock.specs.declared.state.LockState.TheVariants.{Away, Awaited, Free, Held}
 use Rattle.lrc_lock.specs.Held.{HeldRecord, lock_at, is_held, with_lock, held_after, asked, released, released_at, forwarded, granted, granted_at}
-use Rattle.lrc_protocol.specs.Course.{Course, going}
-use Rattle.lrc_protocol.specs.Mail.{Wait, grant, departure, access, discard}
-use Rattle.lrc_protocol.specs.Locks.{Locks, next_time}
+use Rattle.lrc_protocol.specs.Times.{next_time}
+use Rattle.lrc_protocol.specs.Locks.{Locks}
+use Rattle.lrc_protocol.specs.Node.{Course, going, Wait, grant, departure, access, discard}
 use Rattle.lrc_order_laws.specs.Waiting.{next_in, acquiring, FixesNext}
 use Rattle.lrc_order_laws.specs.Tokens.{is_awaited, HoldsTokens, AwaitsOne}
 use Rattle.lrc_order_laws.proofs.Shift.{Part, Moved, is_plain, Shift, plain, misses, takes, asks, releasing, arriving, manages, forwarding, grants}

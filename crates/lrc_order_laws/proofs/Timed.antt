@@ -7,7 +7,7 @@ use Rattle.lrc_clock.specs.Keeping.{KeepsTime}
 use Rattle.lrc_plain_laws.proofs.Waiting.{waits_at_barriers}
 use Rattle.lrc_protocol.specs.declared.event.Event.{Event}
 use Rattle.lrc_protocol.specs.Node.{OptionsRecord}
-use Rattle.lrc_protocol.specs.World.{World, run_of}
+use Rattle.lrc_protocol.specs.Run.{World, run_of}
 use Rattle.lrc_protocol.proofs.Texts.{text}
 use Rattle.lrc_order_laws.proofs.Departs.{all_departed}
 use Rattle.lrc_order_laws.proofs.DepartLine.{all_learn}

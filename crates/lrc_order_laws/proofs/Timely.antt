@@ -22,15 +22,13 @@ use Rattle.lrc_store.proofs.Orders.{Contains-first, Contains-later, cases_Contai
 use Rattle.lrc_barrier.specs.declared.arrival.Arrival.{Arrival}
 use Rattle.lrc_barrier.specs.declared.departure.Departure.{Departure}
 use Rattle.lrc_barrier.specs.Barrier.{ManagerRecord, with_arrival, arrivals_of, departure_to, joined_time}
-use Rattle.lrc_protocol.specs.Mail.{Letter, Wait, nothing, grant, departure, access, upkeep, discard}
-use Rattle.lrc_protocol.specs.Letters.{departure_of}
-use Rattle.lrc_protocol.specs.Node.{OptionsRecord}
-use Rattle.lrc_protocol.specs.Log.{Logged}
-use Rattle.lrc_protocol.specs.World.{World, pending}
+use Rattle.lrc_protocol.specs.Node.{Letter, Wait, nothing, grant, departure, access, upkeep, discard, OptionsRecord}
+use Rattle.lrc_protocol.specs.Turn.{departure_of}
+use Rattle.lrc_protocol.specs.Run.{Logged, World, pending}
 use Rattle.lrc_protocol.proofs.Worlds.{run-whole}
+use Rattle.lrc_protocol.specs.Barriers.{arrival_in}
 use Rattle.lrc_order_laws.specs.Barriers.{says_arrive, says_depart, arrive_from, depart_to, kept_of, awaits_depart, time_in, IsNewestTime}
 use Rattle.lrc_order_laws.proofs.Shape.{NodeShape, shape_at}
-use Rattle.lrc_order_laws.proofs.Sends.{arrival_in}
 use Rattle.lrc_order_laws.proofs.Managers.{failing, LetGo, kept-more, kept-all}
 use Rattle.lrc_order_laws.proofs.Moves.{Brought, counted_in}
 use Rattle.lrc_order_laws.proofs.Arrivals.{get_set}

@@ -9,7 +9,7 @@ use Rattle.lrc_lock.specs.Held.{lock_at, is_held, has_token}
 use Rattle.lrc_envelope.specs.Envelope.{EnvelopeRecord}
 use Rattle.lrc_envelope.specs.Records.{LockGrantRecord}
 use Rattle.lrc_envelope.specs.declared.message.Message.TheVariants.{LockGrant}
-use Rattle.lrc_protocol.specs.Log.{Logged}
+use Rattle.lrc_protocol.specs.Run.{Logged}
 use Rattle.lrc_order_laws.specs.Tokens.{tokens_at_nodes}
 use Rattle.lrc_order_laws.proofs.LockMoves.{absent, free_here, held_here, status_of}
 use Rattle.lrc_order_laws.proofs.LockActs.{HeldNow}

@@ -11,8 +11,8 @@ use Rattle.lrc_clock.specs.Times.{raised, time_before, released_time}
 use Rattle.lrc_envelope.specs.Envelope.{EnvelopeRecord}
 use Rattle.lrc_envelope.specs.Records.{LockGrantRecord}
 use Rattle.lrc_envelope.specs.declared.message.Message.TheVariants.{LockGrant}
-use Rattle.lrc_protocol.specs.Mail.{Letter, nothing, grant}
-use Rattle.lrc_protocol.specs.Locks.{next_time}
+use Rattle.lrc_protocol.specs.Times.{next_time}
+use Rattle.lrc_protocol.specs.Node.{Letter, nothing, grant}
 use Rattle.lrc_order_laws.proofs.Present.{more_acts, more_times}
 use Rattle.lrc_order_laws.proofs.Sends.{Came, comes, Site}
 use Rattle.lrc_order_laws.proofs.LockMoves.{Status, absent, free_here, held_here, brings, IsNeither, NoGrants, OneGrant}

@@ -3,10 +3,9 @@ use Rattle.std.proofs.Common.{◌≡◌, ℕ, ◌<◌, List, [], length, map, re
 use Rattle.std.specs.Prelude.{Some, None, if◌then◌else◌}
 use Rattle.lrc_time.proofs.Times.{covers-refl}
 use Rattle.lrc_lock.specs.Held.{lock_at}
-use Rattle.lrc_protocol.specs.Mail.{Letter}
-use Rattle.lrc_protocol.specs.Node.{Node}
+use Rattle.lrc_protocol.specs.Node.{Letter, Node}
 use Rattle.lrc_protocol.specs.Turn.{TurnRecord, empty_turn}
-use Rattle.lrc_protocol.specs.Log.{Input}
+use Rattle.lrc_protocol.specs.Run.{Input}
 use Rattle.lrc_order_laws.specs.Waiting.{next_in, acquiring, FixesNext}
 use Rattle.lrc_order_laws.specs.Tokens.{HoldsTokens, AwaitsOne}
 use Rattle.lrc_order_laws.proofs.Shift.{deed_made}

@@ -8,10 +8,11 @@ use Rattle.lrc_lock.specs.declared.state.LockState.{LockState}
 use Rattle.lrc_lock.specs.declared.state.LockState.TheVariants.{Away, Awaited, Free, Held}
 use Rattle.lrc_lock.specs.declared.state.Waiter.{Waiter}
 use Rattle.lrc_lock.specs.declared.fault.LockFault.TheVariants.{NotMine}
-use Rattle.lrc_lock.specs.Held.{HeldRecord, LockStep, refuses, stays, passes, lock_at, is_free, is_held, with_lock, state_after}
-use Rattle.lrc_lock.specs.Held.{held_after, taken, asked, released, released_at, forwarded, forwarded_at, granted_at}
-use Rattle.lrc_protocol.specs.Mail.{Wait, nothing, grant, departure, access, upkeep, discard, awaits_grant}
-use Rattle.lrc_protocol.specs.Locks.{Locks, next_time}
+use Rattle.lrc_lock.specs.Held.{HeldRecord, LockStep, refuses, stays, passes, lock_at, is_free, is_held, with_lock, state_after, held_after}
+use Rattle.lrc_lock.specs.Held.{taken, asked, released, released_at, forwarded, forwarded_at, granted_at}
+use Rattle.lrc_protocol.specs.Times.{next_time}
+use Rattle.lrc_protocol.specs.Locks.{Locks}
+use Rattle.lrc_protocol.specs.Node.{Wait, nothing, grant, departure, access, upkeep, discard, awaits_grant}
 use Rattle.lrc_order_laws.specs.Waiting.{next_in, acquiring, FixesNext}
 use Rattle.lrc_order_laws.specs.Tokens.{is_awaited, AwaitsOne}
 use Rattle.lrc_order_laws.proofs.Shift.{Part, Shift, plain, misses, takes, asks, releasing, arriving, manages, forwarding, grants, departing}

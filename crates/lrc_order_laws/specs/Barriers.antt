@@ -4,10 +4,17 @@ use Rattle.std.specs.Prelude.{Option, Some, None, List, length, count_by, slice_
 use Rattle.lrc_envelope.specs.Envelope.{EnvelopeRecord}
 use Rattle.lrc_envelope.specs.declared.message.Message.{Message}
 use Rattle.lrc_envelope.specs.declared.message.Message.TheVariants.{Arrive, Depart, Clean, Discard}
-use Rattle.lrc_barrier.specs.Barrier.{ManagerRecord, has_arrived}
+use Rattle.lrc_envelope.specs.Records.{ArriveRecord}
+use Rattle.lrc_barrier.specs.Barrier.{ManagerRecord, has_arrived, arrived, is_accepted}
 use Rattle.lrc_trace.specs.declared.act.Act.{Act}
 use Rattle.lrc_clock.specs.Times.{arrived_time}
-use Rattle.lrc_protocol.specs.Mail.{Wait, nothing, grant, departure, access, upkeep, discard}
+use Rattle.lrc_protocol.specs.Barriers.{arrival_in}
+use Rattle.lrc_protocol.specs.Node.{Node, Wait, nothing, grant, departure, access, upkeep, discard}
+
+-- the manager is here and accepts the arrival
+abbrev pub accepts_arrival : Node → ℕ → ArriveRecord → Bool
+accepts_arrival node from m =
+    unwrap_or (option_map is_accepted (option_map (λ manager. arrived manager from (arrival_in m)) node.barrier.manager)) false
 
 -- ---- messages of barriers
 

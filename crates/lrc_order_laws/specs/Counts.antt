@@ -1,7 +1,7 @@
 -- Counts of what a node has done: intervals closed, arrivals and departures.
 use Rattle.std.specs.Prelude.{ℕ, Bool, List, length, filter}
 use Rattle.lrc_trace.specs.declared.act.Deed.{Deed}
-use Rattle.lrc_protocol.specs.Mail.{Wait, grant, departure, upkeep, discard}
+use Rattle.lrc_protocol.specs.Node.{Wait, grant, departure, upkeep, discard}
 -- whether a deed closes an interval, arrives at a barrier, or departs from it
 pub use Rattle.lrc_trace.specs.Interval.{closes}
 pub use Rattle.lrc_trace.specs.Run.{is_arrive, is_depart}

@@ -2,7 +2,7 @@
 use Rattle.std.specs.Prelude.{◌≡◌, ℕ, List}
 use Rattle.lrc_time.specs.Time.{joined}
 use Rattle.lrc_clock.specs.Times.{raised}
-use Rattle.lrc_protocol.specs.Mail.{Wait, nothing, grant, departure, access, upkeep, discard}
+use Rattle.lrc_protocol.specs.Node.{Wait, nothing, grant, departure, access, upkeep, discard}
 
 -- A node's time is that of its last act. Where it waits for a grant its own entry is one greater, for the interval that it
 -- has closed; and in a collection it has learned the barrier's time already.

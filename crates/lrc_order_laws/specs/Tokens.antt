@@ -7,9 +7,8 @@ use Rattle.lrc_lock.specs.Held.{HeldRecord, lock_at, is_held, has_token}
 use Rattle.lrc_envelope.specs.Envelope.{EnvelopeRecord}
 use Rattle.lrc_envelope.specs.declared.message.Message.{Message}
 use Rattle.lrc_envelope.specs.declared.message.Message.TheVariants.{LockGrant}
-use Rattle.lrc_protocol.specs.Log.{Logged}
-use Rattle.lrc_protocol.specs.Course.{Course, going}
-use Rattle.lrc_protocol.specs.Mail.{Wait, awaits_grant}
+use Rattle.lrc_protocol.specs.Node.{Course, going, Wait, awaits_grant}
+use Rattle.lrc_protocol.specs.Run.{Logged}
 
 -- the node has asked for the token, and it has not come
 abbrev pub is_awaited : LockState → Bool

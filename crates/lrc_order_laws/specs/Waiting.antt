@@ -1,8 +1,7 @@
 -- What a node waits for fixes what its text does next.
 use Rattle.std.specs.Prelude.{◌≡◌, ℕ, Bool, true, false, Option, Some, None}
 use Rattle.lrc_exec.specs.Meaning.{Next, reads, writes, acquires, departs, next_of}
-use Rattle.lrc_protocol.specs.Course.{Course, going, trapped, ended}
-use Rattle.lrc_protocol.specs.Mail.{Wait, nothing, grant, departure, access, upkeep, discard}
+use Rattle.lrc_protocol.specs.Node.{Course, going, trapped, ended, Wait, nothing, grant, departure, access, upkeep, discard}
 
 -- what a text does next, and none once it has stopped
 abbrev pub next_in : Course → Option Next

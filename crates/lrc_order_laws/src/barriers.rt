@@ -12,12 +12,10 @@ ghost use Rattle.lrc_envelope.specs.Records.{ArriveRecord, DepartRecord};
 ghost use Rattle.lrc_envelope.specs.declared.message.Message.TheVariants.{Arrive, Depart, Clean, Discard};
 ghost use Rattle.lrc_trace.specs.Run.{Does, arrives_before, departs_before};
 ghost use Rattle.lrc_protocol.specs.declared.event.Event.{Event};
-ghost use Rattle.lrc_protocol.specs.Mail.{departure, awaits_departure};
-ghost use Rattle.lrc_protocol.specs.Expected.{is_expected, is_arrival};
-ghost use Rattle.lrc_protocol.specs.Node.{OptionsRecord};
-ghost use Rattle.lrc_protocol.specs.Log.{Logged};
-ghost use Rattle.lrc_protocol.specs.World.{World, pending, run_of};
-ghost use Rattle.lrc_order_laws.specs.Barriers.{arrive_from, clean_from, discard_to, kept_of, is_collecting, StandsAt, time_in, IsNewestTime};
+ghost use Rattle.lrc_protocol.specs.Node.{departure, awaits_departure, OptionsRecord};
+ghost use Rattle.lrc_protocol.specs.Turn.{is_expected};
+ghost use Rattle.lrc_protocol.specs.Run.{Logged, World, pending, run_of};
+ghost use Rattle.lrc_order_laws.specs.Barriers.{accepts_arrival, arrive_from, clean_from, discard_to, kept_of, is_collecting, StandsAt, time_in, IsNewestTime};
 ghost use Rattle.lrc_order_laws.specs.Counts.{is_inside};
 
 /// In every run node 0 has the barrier's manager, and no other node has one. A node has arrived as often as episodes are
@@ -143,7 +141,7 @@ pub fn barrier_messages_are_accepted()
     ensures arrive { (program : Program) (nodes : ℕ) (options : OptionsRecord) (events : List Event) (world : World)
         (first l : Logged) (e : EnvelopeRecord) (m : ArriveRecord) → run_of program nodes options events ≡ Some world
         → slice_get world.nodes 0 ≡ Some first → Contains (pending world) e → e.message ≡ Arrive m
-        → slice_get world.nodes e.from ≡ Some l → is_arrival first.node e.from m ≡ true }
+        → slice_get world.nodes e.from ≡ Some l → accepts_arrival first.node e.from m ≡ true }
     ensures depart { (program : Program) (nodes : ℕ) (options : OptionsRecord) (events : List Event) (world : World)
         (l : Logged) (e : EnvelopeRecord) (m : DepartRecord) → run_of program nodes options events ≡ Some world
         → Contains (pending world) e → e.message ≡ Depart m → slice_get world.nodes e.to ≡ Some l

@@ -15,7 +15,7 @@ ghost use Rattle.lrc_clock.specs.Cover.{ClosesAt, IsClosedBy};
 ghost use Rattle.lrc_clock.specs.Races.{AreUnknown, IsRaceOfSegments};
 ghost use Rattle.lrc_protocol.specs.declared.event.Event.{Event};
 ghost use Rattle.lrc_protocol.specs.Node.{OptionsRecord};
-ghost use Rattle.lrc_protocol.specs.World.{World, run_of};
+ghost use Rattle.lrc_protocol.specs.Run.{World, run_of};
 
 /// In every run, at each act of a node: its time has an entry of at least k for a node exactly where the act that closes that
 /// node's interval k is this act, or happens before it; and for another node exactly where that act happens before it.

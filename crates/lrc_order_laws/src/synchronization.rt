@@ -7,7 +7,7 @@ ghost use Rattle.lrc_trace.specs.Synchronization.{IsWellSynchronized};
 ghost use Rattle.lrc_clock.specs.Keeping.{KeepsTime};
 ghost use Rattle.lrc_protocol.specs.declared.event.Event.{Event};
 ghost use Rattle.lrc_protocol.specs.Node.{OptionsRecord};
-ghost use Rattle.lrc_protocol.specs.World.{World, run_of};
+ghost use Rattle.lrc_protocol.specs.Run.{World, run_of};
 
 /// In every run the acts are well synchronized: no lock is acquired that somebody holds, none is released by another than its
 /// holder, and no node departs from a barrier before every node has arrived there.

@@ -15,7 +15,7 @@ use Rattle.lrc_store.specs.Interval.{IntervalRecord}
 use Rattle.lrc_envelope.specs.Envelope.{EnvelopeRecord}
 use Rattle.lrc_envelope.specs.declared.message.Message.{Message}
 use Rattle.lrc_envelope.specs.declared.message.Message.TheVariants as messages
-use Rattle.lrc_protocol.specs.Log.{EntryRecord, Input, run, taken}
+use Rattle.lrc_protocol.specs.Run.{EntryRecord, Input, run, taken}
 use Rattle.lrc_turns.specs.Turns.{Made}
 use Rattle.lrc_chart.specs.Arrows.{takes_it}
 use Rattle.lrc_picture.specs.declared.picture.Kind.{Kind}

@@ -1,6 +1,6 @@
 -- Each turn that a rule makes, the machine makes.
 use Rattle.std.proofs.Common.{◌≡◌, ℕ, [], Bool, true, false, not, refl, sym, ap, ◌∙◌}
-use Rattle.std.specs.Prelude.{Option, Some, None, option_map, unwrap_or, is_some, nat_lt, nat_le, map, if◌then◌else◌}
+use Rattle.std.specs.Prelude.{◌==◌, ◌&&◌, Option, Some, None, option_and_then, is_some, nat_lt, nat_le, map, if◌then◌else◌}
 use Rattle.std.specs.List.{list_all}
 use Rattle.std.proofs.lemmas.Bool.{and_from, eq-eqb, ne_eqb, lt-ltb, le-leb}
 use Rattle.lrc_exec.specs.Meaning.{Next, acquires, releases, arrives}
@@ -8,32 +8,27 @@ use Rattle.lrc_envelope.specs.Envelope.{EnvelopeRecord}
 use Rattle.lrc_envelope.specs.declared.message.Message.{Message}
 use Rattle.lrc_envelope.specs.declared.message.Message.TheVariants.{Arrive, Depart, Clean}
 use Rattle.lrc_envelope.specs.Records.{ArriveRecord, DepartRecord}
-use Rattle.lrc_lock.specs.Held.{lock_at, is_free}
-use Rattle.lrc_barrier.specs.Barrier.{ManagerRecord, ArriveStep, is_accepted, arrived, CleanStep, cleaned}
-use Rattle.lrc_protocol.specs.Copy.{is_readable}
-use Rattle.lrc_protocol.specs.Memory.{Memory, copy_at}
-use Rattle.lrc_protocol.specs.Fetch.{Need, is_met}
-use Rattle.lrc_protocol.specs.Mail.{Wait, is_idle, MOST_NUMBER, awaits_grant, awaits_departure, awaits_discard, collection_of}
-use Rattle.lrc_protocol.specs.Course.{cost_of}
-use Rattle.lrc_protocol.specs.Node.{Node, Effect, with_memory, may_begin, begins_of, acts}
-use Rattle.lrc_protocol.specs.Waits.{waits_or_goes_on, with_needs}
-use Rattle.lrc_protocol.specs.Expected.{is_expected, is_clean}
-use Rattle.lrc_protocol.specs.Run.{own_index, reaches, run_effect, charged}
-use Rattle.lrc_protocol.specs.Take.{request_by, arrive_by, clean_by, discard_by, page_reply_by, take_effect}
-use Rattle.lrc_protocol.specs.Turn.{TurnRecord, done, turn_with, turn_of, turn_if, turn_by, run_turn, is_addressed, is_repeat, taking}
-use Rattle.lrc_protocol.specs.Log.{Input, outcome_of}
-use Rattle.lrc_protocol.specs.Rules.{IsReadyFor, Accesses, access_read, access_write, IsOwn, own_quiet, own_print, own_trap}
-use Rattle.lrc_protocol.specs.Rules.{own_end, page_at, need_at}
-use Rattle.lrc_protocol.specs.Rules.{RunRule, run_hit, run_miss, run_repair, run_acquire, run_ask, run_release, run_barrier}
-use Rattle.lrc_protocol.specs.Rules.{run_other, IsDeparture}
-use Rattle.lrc_protocol.specs.Rules.{Brings, brings_changes, brings_base_copy, arrival_in, upkeep_at, TakeRule, take_request}
-use Rattle.lrc_protocol.specs.Rules.{take_request_unnoted, take_forward, take_token}
-use Rattle.lrc_protocol.specs.Rules.{take_arrive, take_last_arrive, take_depart, take_collect, take_collect_at_once, take_reply}
-use Rattle.lrc_protocol.specs.Rules.{take_last_reply, take_kept_reply}
-use Rattle.lrc_protocol.specs.Rules.{take_last_kept_reply, take_clean, take_last_clean, take_discard, take_changes_request}
-use Rattle.lrc_protocol.specs.Rules.{take_page_request}
-use Rattle.lrc_protocol.specs.Rules.{IsSent, with_numbers, TurnRule, by_run, by_repeat, by_message}
-use Rattle.lrc_protocol.proofs.Ruled.{still_expected}
+use Rattle.lrc_lock.specs.Held.{LockStep, refuses, stays, passes, forwarded, is_taken, pass_of, held_after, lock_at, is_free}
+use Rattle.lrc_barrier.specs.Barrier.{ManagerRecord, ArriveStep, arrived, CleanStep, cleaned}
+use Rattle.lrc_protocol.specs.Times.{MOST_NUMBER}
+use Rattle.lrc_protocol.specs.Pages.{is_readable, Memory, copy_at, Need, is_met}
+use Rattle.lrc_protocol.specs.Barriers.{arrival_in}
+use Rattle.lrc_protocol.specs.Node.{Wait, is_idle, awaits_grant, awaits_departure, collection_of, cost_of, Node, Effect, sends, acts}
+use Rattle.lrc_protocol.specs.Node.{with_memory, with_tokens, own_index}
+use Rattle.lrc_protocol.specs.Turn.{may_begin, begins_of, waits_or_goes_on, with_needs, reaches, run_effect, charged, grants_of, is_request}
+use Rattle.lrc_protocol.specs.Turn.{is_forward, forward_by, is_grant, are_arriving, arrive_by, is_departure, take_departure, clean_by}
+use Rattle.lrc_protocol.specs.Turn.{discard_by, is_changes_request, is_changes_reply, is_page_request, page_reply_by, is_page_reply, takes}
+use Rattle.lrc_protocol.specs.Turn.{is_expected, TurnRecord, done, turn_with, turn_of, turn_if, turn_by, run_turn, turn_taking, is_addressed}
+use Rattle.lrc_protocol.specs.Turn.{is_repeat, taking}
+use Rattle.lrc_protocol.specs.Run.{Input, outcome_of}
+use Rattle.lrc_protocol.specs.Rules.{take_request, IsReadyFor, Accesses, access_read, access_write, IsOwn, own_quiet, own_print, own_trap}
+use Rattle.lrc_protocol.specs.Rules.{own_end, page_at, need_at, RunRule, run_hit, run_miss, run_repair, run_acquire, run_ask, run_release}
+use Rattle.lrc_protocol.specs.Rules.{run_barrier, run_other, IsDeparture, Brings, brings_changes, brings_base_copy, upkeep_at, TakeRule}
+use Rattle.lrc_protocol.specs.Rules.{take_forward, take_token, take_arrive, take_last_arrive, take_depart, take_collect, take_collect_at_once}
+use Rattle.lrc_protocol.specs.Rules.{take_reply, take_last_reply, take_kept_reply, take_last_kept_reply, take_clean, take_last_clean}
+use Rattle.lrc_protocol.specs.Rules.{take_discard, take_changes_request, take_page_request, IsSent, with_numbers, TurnRule, by_run, by_repeat}
+use Rattle.lrc_protocol.specs.Rules.{by_message}
+use Rattle.lrc_protocol.proofs.Expecting.{given-made as made, still_expected}
 
 then_one : {X : Type 0} (b : Bool) (x y : X) → b ≡ true → (if b then x else y) ≡ x
 then_one true x y e = refl
@@ -113,78 +108,69 @@ run-made node effect (run_other {next = next} ready own) =
 
 -- ---- a node takes a message
 
-abbrev pub IsTaken : Node → ℕ → Message → Effect → Type 0
-IsTaken node from message effect = (is_expected node from message ≡ true) × (take_effect node from message ≡ effect)
+forward-made : (node : Node) (lock : ℕ) (step : LockStep) → is_taken step ≡ true
+    → forward_by node lock step ≡ Some (sends (grants_of node (pass_of step)) (with_tokens node (held_after node.locks.held lock step)))
+forward-made node lock (refuses fault) e = cc
+forward-made node lock (stays state) e = refl
+forward-made node lock (passes pass) e = refl
 
 arrive-made : (node : Node) (from : ℕ) (m : ArriveRecord) (before : ManagerRecord) (step : ArriveStep) → node.barrier.manager ≡ Some before
-    → arrived before from (arrival_in m) ≡ step
-    → (unwrap_or (option_map is_accepted (option_map (λ manager. arrived manager from (arrival_in m)) node.barrier.manager)) false
-    ≡ is_accepted step)
-    × (take_effect node from (Arrive m) ≡ arrive_by node (Some step))
-arrive-made node from m before step at is = (
-  ap (λ (o : Option ManagerRecord).
-      unwrap_or (option_map is_accepted (option_map (λ manager. arrived manager from (arrival_in m)) o)) false) at
-      ∙ ap is_accepted is,
-  ap (λ (o : Option ManagerRecord). arrive_by node (option_map (λ manager. arrived manager from (arrival_in m)) o)) at
-      ∙ ap (λ (s : ArriveStep). arrive_by node (Some s)) is,
-)
+    → are_arriving node from m.time m.intervals ≡ true → arrived before from (arrival_in m) ≡ step
+    → takes node from (Arrive m) ≡ arrive_by node step
+arrive-made node from m before step at news is =
+    made (are_arriving node from m.time m.intervals) _ news
+    ∙ ap (λ (o : Option ManagerRecord). option_and_then (λ manager. arrive_by node (arrived manager from (arrival_in m))) o) at
+    ∙ ap (arrive_by node) is
 
 clean-made : (node : Node) (from episode : ℕ) (before : ManagerRecord) (step : CleanStep) → node.barrier.manager ≡ Some before
-    → cleaned before from episode ≡ step
-    → (is_expected node from (Clean episode) ≡ is_clean step) × (take_effect node from (Clean episode) ≡ clean_by node (Some step))
-clean-made node from episode before step at is = (
-  ap (λ (o : Option ManagerRecord). unwrap_or (option_map is_clean (option_map (λ manager. cleaned manager from episode) o)) false) at
-      ∙ ap is_clean is,
-  ap (λ (o : Option ManagerRecord). clean_by node (option_map (λ manager. cleaned manager from episode) o)) at
-      ∙ ap (λ (s : CleanStep). clean_by node (Some s)) is,
-)
+    → cleaned before from episode ≡ step → takes node from (Clean episode) ≡ clean_by node step
+clean-made node from episode before step at is =
+    ap (λ (o : Option ManagerRecord). option_and_then (λ manager. clean_by node (cleaned manager from episode)) o) at ∙ ap (clean_by node) is
 
-depart-expected : (node : Node) (from : ℕ) (m : DepartRecord) → IsDeparture node from m → is_expected node from (Depart m) ≡ true
-depart-expected node from m d =
-    and_from _ _
+depart-made : (node : Node) (from : ℕ) (m : DepartRecord) → IsDeparture node from m
+    → takes node from (Depart m) ≡ Some (take_departure node m.collect m.time m.intervals)
+depart-made node from m d =
+    made (is_departure node from m) _
+    (and_from _ _
     (and_from _ _
     (and_from _ _ (and_from _ _ (eq-eqb _ _ d.from_manager) (ap awaits_departure d.awaited)) (eq-eqb _ _ d.episode))
     d.above)
-    d.learnable
+    d.learnable)
 
 reply-made : (node : Node) (from : ℕ) (message : Message) (memory : Memory) (change : Need → Need) → Brings node from message memory change
-    → IsTaken node from message (waits_or_goes_on [] (with_memory node memory) (with_needs change node.mail.wait))
-reply-made node from message memory change (brings_changes m lt all some) = (and_from _ _ (and_from _ _ (lt-ltb _ _ lt) all) some, refl)
+    → takes node from message ≡ Some (waits_or_goes_on [] (with_memory node memory) (with_needs change node.mail.wait))
+reply-made node from message memory change (brings_changes m lt all some) =
+    made (is_changes_reply node from m) _ (and_from _ _ (and_from _ _ (lt-ltb _ _ lt) all) some)
 reply-made node from message memory change (brings_base_copy m lt counted some) =
-    (and_from _ _ (and_from _ _ (lt-ltb _ _ lt) (eq-eqb _ _ counted)) some, refl)
+    made (is_page_reply node from m) _ (and_from _ _ (and_from _ _ (lt-ltb _ _ lt) (eq-eqb _ _ counted)) some)
 
 -- the same where this is awaited
 reply-goes : (node : Node) (from : ℕ) (message : Message) (memory : Memory) (change : Need → Need) (w : Wait) (effect : Effect)
     → Brings node from message memory change → node.mail.wait ≡ w
-    → waits_or_goes_on [] (with_memory node memory) (with_needs change w) ≡ effect → IsTaken node from message effect
+    → waits_or_goes_on [] (with_memory node memory) (with_needs change w) ≡ effect → takes node from message ≡ Some effect
 reply-goes node from message memory change w effect b at is =
-    let made : IsTaken node from message (waits_or_goes_on [] (with_memory node memory) (with_needs change node.mail.wait)) =
-    reply-made node from message memory change b in
-    (made.0, made.1 ∙ ap (λ (w : Wait). waits_or_goes_on [] (with_memory node memory) (with_needs change w)) at ∙ is)
+    reply-made node from message memory change b
+    ∙ ap (λ (w : Wait). Some (waits_or_goes_on [] (with_memory node memory) (with_needs change w))) at
+    ∙ ap Some is
 
+-- what a rule takes, the machine takes
 take-made : (node : Node) (from : ℕ) (message : Message) (effect : Effect) → TakeRule node from message effect
-    → IsTaken node from message effect
-take-made node from message effect (take_request m to managed lt counted mine e) =
-    (and_from _ _ (and_from _ _ (lt-ltb _ _ lt) (eq-eqb _ _ counted)) (eq-eqb _ _ mine), ap (request_by node from m.lock m.time) e)
-take-made node from message effect (take_request_unnoted m fault lt counted mine e) =
-    (and_from _ _ (and_from _ _ (lt-ltb _ _ lt) (eq-eqb _ _ counted)) (eq-eqb _ _ mine), ap (request_by node from m.lock m.time) e)
-take-made node from message effect (take_forward m lt asker counted managed taken) = (
-  and_from _ _
-      (and_from _ _ (and_from _ _ (and_from _ _ (lt-ltb _ _ lt) (lt-ltb _ _ asker)) (eq-eqb _ _ counted)) (eq-eqb _ _ managed))
-      taken,
-  refl,
-)
+    → takes node from message ≡ Some effect
+take-made node from message effect (take_request m lt counted mine) =
+    made (is_request node m) _ (and_from _ _ (and_from _ _ (lt-ltb _ _ lt) (eq-eqb _ _ counted)) (eq-eqb _ _ mine))
+take-made node from message effect (take_forward m lt asker counted managed taken) =
+    made (is_forward node from m) _
+    (and_from _ _ (and_from _ _ (and_from _ _ (lt-ltb _ _ lt) (lt-ltb _ _ asker)) (eq-eqb _ _ counted)) (eq-eqb _ _ managed))
+    ∙ forward-made node m.lock (forwarded node.locks.held m.lock m.asker m.time) taken
 take-made node from message effect (take_token m lt at news) =
-    (and_from _ _ (and_from _ _ (lt-ltb _ _ lt) (ap (awaits_grant m.lock) at ∙ eq-eqb m.lock m.lock refl)) news, refl)
-take-made node from message effect (take_arrive m before after at news is) =
-    let made : _ = arrive-made node from m before _ at is in (and_from _ _ made.0 news, made.1)
-take-made node from message effect (take_last_arrive m before after departures at news is) =
-    let made : _ = arrive-made node from m before _ at is in (and_from _ _ made.0 news, made.1)
-take-made node from message effect (take_depart m d c) = (depart-expected node from m d, else_one m.collect _ _ c)
+    made (is_grant node m) _ (and_from _ _ (and_from _ _ (lt-ltb _ _ lt) (ap (awaits_grant m.lock) at ∙ eq-eqb m.lock m.lock refl)) news)
+take-made node from message effect (take_arrive m before after at news is) = arrive-made node from m before _ at news is
+take-made node from message effect (take_last_arrive m before after departures at news is) = arrive-made node from m before _ at news is
+take-made node from message effect (take_depart m d c) = depart-made node from m d ∙ ap Some (else_one m.collect _ _ c)
 take-made node from message effect (take_collect m d c unmet) =
-    (depart-expected node from m d, then_one m.collect _ _ c ∙ else_one (list_all is_met (upkeep_at node m)) _ _ unmet)
+    depart-made node from m d ∙ ap Some (then_one m.collect _ _ c ∙ else_one (list_all is_met (upkeep_at node m)) _ _ unmet)
 take-made node from message effect (take_collect_at_once m d c met) =
-    (depart-expected node from m d, then_one m.collect _ _ c ∙ then_one (list_all is_met (upkeep_at node m)) _ _ met)
+    depart-made node from m d ∙ ap Some (then_one m.collect _ _ c ∙ then_one (list_all is_met (upkeep_at node m)) _ _ met)
 take-made node from message effect (take_reply {memory = memory} {change = change} need b at unmet) =
     reply-goes node from message memory change _ effect b at (else_one (is_met (change need)) _ _ unmet)
 take-made node from message effect (take_last_reply {memory = memory} {change = change} need b at met) =
@@ -195,20 +181,19 @@ take-made node from message effect (take_last_kept_reply {memory = memory} {chan
     reply-goes node from message memory change _ effect b at (then_one (list_all is_met (map change needs)) _ _ met)
 take-made node from message effect (take_clean episode before after at is) = clean-made node from episode before _ at is
 take-made node from message effect (take_last_clean episode over before after at is) = clean-made node from episode before _ at is
-take-made node from message effect (take_discard episode collection f at k) = (
-  and_from _ _ (and_from _ _ (eq-eqb _ _ f) (ap awaits_discard at)) (eq-eqb _ _ k),
-  ap (λ (w : Wait). discard_by node (collection_of w)) at,
-)
-take-made node from message effect (take_changes_request m lt all) = (and_from _ _ (lt-ltb _ _ lt) all, refl)
+take-made node from message effect (take_discard episode collection f at k) =
+    made ((from == 0) && (episode == node.barrier.episode)) _ (and_from _ _ (eq-eqb _ _ f) (eq-eqb _ _ k))
+    ∙ ap (λ (w : Wait). discard_by node (collection_of w)) at
+take-made node from message effect (take_changes_request m lt all) = made (is_changes_request node m) _ (and_from _ _ (lt-ltb _ _ lt) all)
 take-made node from message effect (take_page_request page values lt other at) =
-    (and_from _ _ (and_from _ _ (lt-ltb _ _ lt) (ap not (ne_eqb _ _ other))) (ap is_some at), ap (page_reply_by node from page) at)
+    made (is_page_request node from page) _ (and_from _ _ (lt-ltb _ _ lt) (ap not (ne_eqb _ _ other))) ∙ ap (page_reply_by node from page) at
 
 -- a message that a rule takes, its number taken, was expected
 pub expected_by_rule : (node : Node) (envelope : EnvelopeRecord) (effect : Effect)
     → TakeRule (taking node envelope) envelope.from envelope.message effect → is_expected node envelope.from envelope.message ≡ true
 expected_by_rule node envelope effect r =
     sym (still_expected node envelope envelope.from envelope.message)
-    ∙ (take-made (taking node envelope) envelope.from envelope.message effect r).0
+    ∙ ap is_some (take-made (taking node envelope) envelope.from envelope.message effect r)
 
 -- ---- turns
 
@@ -222,6 +207,5 @@ allowed node input turn after (by_repeat envelope f again) =
 allowed node input turn after (by_message envelope {effect = effect} f new r s) =
     then_one (is_addressed node envelope) _ _ (and_from _ _ (eq-eqb _ _ f.to_it) (lt-ltb _ _ f.from_one))
     ∙ else_one (is_repeat node envelope) _ _ new
-    ∙ then_one (is_expected node envelope.from envelope.message) _ _ (expected_by_rule node envelope effect r)
-    ∙ ap turn_of (take-made (taking node envelope) envelope.from envelope.message effect r).1
+    ∙ ap turn_taking (take-made (taking node envelope) envelope.from envelope.message effect r)
     ∙ sent-made effect turn after s

@@ -1,29 +1,28 @@
 -- What every effect leaves as it was: the setting, the options, the counts of messages sent, and a text that moves on by
 -- its own next deed, or not at all.
 use Rattle.std.proofs.Common.{◌≡◌, ℕ, List, [], Bool, true, false, refl, sym, subst}
-use Rattle.std.specs.Prelude.{Option, Some, None, nat_lt, if◌then◌else◌, flat_map, fold}
+use Rattle.std.specs.Prelude.{◌==◌, ◌&&◌, Option, Some, None, option_and_then, nat_lt, if◌then◌else◌, flat_map, fold}
 use Rattle.std.specs.List.{list_all}
 use Rattle.lrc_trace.specs.declared.act.Deed.{Deed}
 use Rattle.lrc_exec.specs.Meaning.{Setting, Thread, Next, quiet, prints, reads, writes, acquires, releases, arrives, departs, traps, ends, next_of}
 use Rattle.lrc_envelope.specs.declared.message.Message.{Message}
 use Rattle.lrc_envelope.specs.declared.message.Message.TheVariants.{LockRequest, LockForward, LockGrant, Arrive, Depart, Clean, Discard}
 use Rattle.lrc_envelope.specs.declared.message.Message.TheVariants.{ChangesRequest, ChangesReply, PageRequest, PageReply}
-use Rattle.lrc_lock.specs.Managed.{Requested, refuses as refuses_request, forwards, requested}
-use Rattle.lrc_lock.specs.Held.{lock_at, is_free}
-use Rattle.lrc_barrier.specs.Barrier.{ArriveStep, refuses as refuses_arrival, waits, departs as all_depart, CleanStep, refuses_clean, awaits, discards}
+use Rattle.lrc_lock.specs.Held.{LockStep, refuses, stays as stays_here, passes, forwarded, lock_at, is_free}
+use Rattle.lrc_barrier.specs.Barrier.{ManagerRecord, ArriveStep, refuses as refuses_arrival, waits, departs as all_depart, arrived, CleanStep}
+use Rattle.lrc_barrier.specs.Barrier.{refuses_clean, awaits, discards, cleaned}
 use Rattle.lrc_plain_laws.specs.Follows.{Goes, quietly, printing, reading, writing, acquiring, releasing, arriving, departing, trapping, ending}
-use Rattle.lrc_protocol.specs.Copy.{is_readable}
-use Rattle.lrc_protocol.specs.Memory.{copy_at, kept_pages, with_keepers, base_at}
-use Rattle.lrc_protocol.specs.Fetch.{Need, need_of, is_met, with_changes, with_page}
-use Rattle.lrc_protocol.specs.Mail.{Letter, Wait, nothing, grant, departure, access, upkeep, discard, Collection, collection_of, MOST_NUMBER}
-use Rattle.lrc_protocol.specs.Course.{Course, going, trapped, ended, thread_of, deed_of, course_of}
-use Rattle.lrc_protocol.specs.Barrier.{clean_step}
-use Rattle.lrc_protocol.specs.Node.{Node, OptionsRecord, Effect, sends, acts, acts_by, value_read, with_memory, waiting}
-use Rattle.lrc_protocol.specs.Letters.{requests_of}
-use Rattle.lrc_protocol.specs.Waits.{waits_or_goes_on, with_needs}
+use Rattle.lrc_protocol.specs.Times.{MOST_NUMBER}
+use Rattle.lrc_protocol.specs.Pages.{is_readable, copy_at, Need, need_of, is_met, with_changes, with_page, with_part}
+use Rattle.lrc_protocol.specs.Barriers.{arrival_in, kept_pages, with_keepers, base_at, Collection}
+use Rattle.lrc_protocol.specs.Node.{Letter, Wait, nothing, grant, departure, access, upkeep, discard, collection_of, Course, going, trapped}
+use Rattle.lrc_protocol.specs.Node.{ended, thread_of, deed_of, course_of, Node, OptionsRecord, Effect, sends, acts, acts_by, value_read}
+use Rattle.lrc_protocol.specs.Node.{with_memory, waiting, own_index}
+use Rattle.lrc_protocol.specs.Turn.{requests_of, waits_or_goes_on, with_needs, closes, closing, reaches, acquire_at, release_at, arrive_at}
+use Rattle.lrc_protocol.specs.Turn.{run_effect, learns, given, is_request, is_forward, forward_by, is_grant, are_arriving, arrive_by}
+use Rattle.lrc_protocol.specs.Turn.{is_departure, needs_to_keep, collects, clean_by, discard_by, is_changes_request, is_changes_reply}
+use Rattle.lrc_protocol.specs.Turn.{is_page_request, page_reply_by, is_page_reply, takes}
 use Rattle.lrc_page.specs.Place.{page_of}
-use Rattle.lrc_protocol.specs.Run.{own_index, closes, closing, reaches, acquire_at, release_at, arrive_at, run_effect}
-use Rattle.lrc_protocol.specs.Take.{request_by, learns, arrive_by, collects, clean_by, discard_by, page_reply_by, take_effect, needs_to_keep, with_part}
 
 -- a text stays where it is, or moves on by its next deed
 pub data Moves : Course → Option Deed → Course → Type 0 where
@@ -118,29 +117,37 @@ run-keeps node ends = acts-keeps [] node
 
 -- ---- what a node does with a message
 
-request-keeps : (node : Node) (from lock : ℕ) (time : List ℕ) (r : Requested) → Kept node (request_by node from lock time r)
-request-keeps node from lock time (refuses_request fault) = sends-keeps [] node
-request-keeps node from lock time (forwards to managed) = sends-keeps _ _
+forward-keeps : (node : Node) (lock : ℕ) (step : LockStep) → KeptIf node (forward_by node lock step)
+forward-keeps node lock (refuses fault) = tt
+forward-keeps node lock (stays_here state) = sends-keeps [] _
+forward-keeps node lock (passes pass) = sends-keeps _ _
 
-arrive-keeps : (node : Node) (step : Option ArriveStep) → Kept node (arrive_by node step)
-arrive-keeps node None = sends-keeps [] node
-arrive-keeps node (Some (refuses_arrival fault)) = sends-keeps [] node
-arrive-keeps node (Some (waits manager)) = sends-keeps [] _
-arrive-keeps node (Some (all_depart departures manager)) = sends-keeps _ _
+arrive-keeps : (node : Node) (step : ArriveStep) → KeptIf node (arrive_by node step)
+arrive-keeps node (refuses_arrival fault) = tt
+arrive-keeps node (waits manager) = sends-keeps [] _
+arrive-keeps node (all_depart departures manager) = sends-keeps _ _
 
-clean-keeps : (node : Node) (step : Option CleanStep) → Kept node (clean_by node step)
-clean-keeps node None = sends-keeps [] node
-clean-keeps node (Some (refuses_clean fault)) = sends-keeps [] node
-clean-keeps node (Some (awaits manager)) = sends-keeps [] _
-clean-keeps node (Some (discards episode manager)) = sends-keeps _ _
+clean-keeps : (node : Node) (step : CleanStep) → KeptIf node (clean_by node step)
+clean-keeps node (refuses_clean fault) = tt
+clean-keeps node (awaits manager) = sends-keeps [] _
+clean-keeps node (discards episode manager) = sends-keeps _ _
 
-discard-keeps : (node : Node) (c : Option Collection) → Kept node (discard_by node c)
-discard-keeps node None = sends-keeps [] node
+at_manager-keeps : (node : Node) (step : ManagerRecord → Option Effect) → ((manager : ManagerRecord) → KeptIf node (step manager))
+    → (o : Option ManagerRecord) → KeptIf node (option_and_then step o)
+at_manager-keeps node step k None = tt
+at_manager-keeps node step k (Some manager) = k manager
+
+discard-keeps : (node : Node) (c : Option Collection) → KeptIf node (discard_by node c)
+discard-keeps node None = tt
 discard-keeps node (Some collection) = acts-keeps [] _
 
-reply-keeps : (node : Node) (from page : ℕ) (base : Option (List ℕ)) → Kept node (page_reply_by node from page base)
-reply-keeps node from page None = sends-keeps [] node
+reply-keeps : (node : Node) (from page : ℕ) (base : Option (List ℕ)) → KeptIf node (page_reply_by node from page base)
+reply-keeps node from page None = tt
 reply-keeps node from page (Some values) = sends-keeps _ node
+
+given-keeps : (node : Node) (condition : Bool) (o : Option Effect) → KeptIf node o → KeptIf node (given condition o)
+given-keeps node true o k = k
+given-keeps node false o k = tt
 
 collects-keeps : (time : List ℕ) (node : Node) → Kept node (collects time node)
 collects-keeps time node =
@@ -149,20 +156,28 @@ collects-keeps time node =
     let needs : List Need = needs_to_keep keeping kept in
     waits-keeps (flat_map requests_of needs) keeping (upkeep (record { time = time; kept = kept }) needs)
 
-pub take-keeps : (node : Node) (from : ℕ) (message : Message) → Kept node (take_effect node from message)
-take-keeps node from (LockRequest m) = request-keeps node from m.lock m.time (requested node.locks.managed m.lock from)
-take-keeps node from (LockForward m) = sends-keeps _ _
-take-keeps node from (LockGrant m) = acts-keeps [] _
-take-keeps node from (Arrive m) = arrive-keeps node _
+pub take-keeps : (node : Node) (from : ℕ) (message : Message) → KeptIf node (takes node from message)
+take-keeps node from (LockRequest m) = given-keeps node (is_request node m) _ (sends-keeps _ _)
+take-keeps node from (LockForward m) =
+    given-keeps node (is_forward node from m) _ (forward-keeps node m.lock (forwarded node.locks.held m.lock m.asker m.time))
+take-keeps node from (LockGrant m) = given-keeps node (is_grant node m) _ (acts-keeps [] _)
+take-keeps node from (Arrive m) =
+    given-keeps node (are_arriving node from m.time m.intervals) _
+    (at_manager-keeps node _ (λ manager. arrive-keeps node (arrived manager from (arrival_in m))) node.barrier.manager)
 take-keeps node from (Depart m) =
     let knowing : Node = learns m.time m.intervals node in
-    either node m.collect _ _ (collects-keeps m.time knowing) (acts-keeps [] (waiting nothing knowing))
-take-keeps node from (Clean episode) = clean-keeps node (clean_step node.barrier from episode)
-take-keeps node from (Discard episode) = discard-keeps node (collection_of node.mail.wait)
-take-keeps node from (ChangesRequest m) = sends-keeps _ node
+    given-keeps node (is_departure node from m) _
+    (either node m.collect _ _ (collects-keeps m.time knowing) (acts-keeps [] (waiting nothing knowing)))
+take-keeps node from (Clean episode) =
+    at_manager-keeps node _ (λ manager. clean-keeps node (cleaned manager from episode)) node.barrier.manager
+take-keeps node from (Discard episode) =
+    given-keeps node ((from == 0) && (episode == node.barrier.episode)) _ (discard-keeps node (collection_of node.mail.wait))
+take-keeps node from (ChangesRequest m) = given-keeps node (is_changes_request node m) _ (sends-keeps _ node)
 take-keeps node from (ChangesReply m) =
-    waits-keeps []
+    given-keeps node (is_changes_reply node from m) _
+    (waits-keeps []
     (with_memory node (record node.memory { store = fold (with_part from m.page) node.memory.store m.parts }))
-    (with_needs (with_changes m.page from) node.mail.wait)
-take-keeps node from (PageRequest page) = reply-keeps node from page (base_at node.memory page)
-take-keeps node from (PageReply m) = waits-keeps [] node (with_needs (with_page m.page m.values) node.mail.wait)
+    (with_needs (with_changes m.page from) node.mail.wait))
+take-keeps node from (PageRequest page) = given-keeps node (is_page_request node from page) _ (reply-keeps node from page (base_at node.memory page))
+take-keeps node from (PageReply m) =
+    given-keeps node (is_page_reply node from m) _ (waits-keeps [] node (with_needs (with_page m.page m.values) node.mail.wait))

@@ -1,3 +1,4 @@
+pub mod Expecting
 pub mod Ruled
 pub mod Allowed
 pub mod Keeps

@@ -6,7 +6,8 @@ use Rattle.std.specs.List.{range_with_len}
 use Rattle.std.proofs.lemmas.Bool.{cases_eq, eq-eqb, ne_eqb}
 use Rattle.std.proofs.lemmas.List.{get_or-set_same, get_or-set_other, length-set}
 use Rattle.lrc_envelope.specs.Envelope.{EnvelopeRecord}
-use Rattle.lrc_protocol.specs.Mail.{Letter, MOST_NUMBER, envelope_of, numbered}
+use Rattle.lrc_protocol.specs.Times.{MOST_NUMBER}
+use Rattle.lrc_protocol.specs.Node.{Letter, envelope_of, numbered}
 use Rattle.lrc_protocol.specs.Follows.{numbers_to}
 
 -- to each node, these messages go on from what was sent before, one after another, to what was sent after

@@ -1,44 +1,38 @@
 -- Each turn that the machine makes is made by a rule.
-use Rattle.std.proofs.Common.{◌≡◌, ℕ, ◌<◌, ◌≤◌, List, [], Bool, true, false, length, refl, ap, subst, ◌∙◌}
-use Rattle.std.specs.Prelude.{Option, Some, None, option_map, unwrap_or, is_some, nat_lt, map, if◌then◌else◌}
+use Rattle.std.proofs.Common.{◌≡◌, ℕ, ◌<◌, ◌≤◌, List, [], Bool, true, false, length, refl, ap, subst}
+use Rattle.std.specs.Prelude.{◌==◌, ◌&&◌, ◌≢◌, Option, Some, None, IfSome, option_and_then, nat_lt, map, if◌then◌else◌}
 use Rattle.std.specs.List.{list_all, list_any}
 use Rattle.std.proofs.lemmas.Bool.{and_parts, eqb-true, eqb-false, ltb-true, leb-true, not-true}
 use Rattle.lrc_exec.specs.Meaning.{Thread, Next, quiet, prints, reads, writes, acquires, releases, arrives, departs, traps, ends, next_of}
 use Rattle.lrc_envelope.specs.Envelope.{EnvelopeRecord}
-use Rattle.lrc_envelope.specs.Records.{LockRequestRecord, ArriveRecord}
+use Rattle.lrc_envelope.specs.Records.{LockForwardRecord, ArriveRecord}
 use Rattle.lrc_envelope.specs.declared.message.Message.{Message}
 use Rattle.lrc_envelope.specs.declared.message.Message.TheVariants.{LockRequest, LockForward, LockGrant, Arrive, Depart, Clean, Discard}
 use Rattle.lrc_envelope.specs.declared.message.Message.TheVariants.{ChangesRequest, ChangesReply, PageRequest, PageReply}
+use Rattle.lrc_page.specs.Place.{pages_of}
 use Rattle.lrc_lock.specs.Lock.{manager_of}
-use Rattle.lrc_lock.specs.Held.{lock_at, is_free}
-use Rattle.lrc_lock.specs.Managed.{Requested, refuses as refuses_request, forwards, requested}
-use Rattle.lrc_barrier.specs.Barrier.{ManagerRecord, ArriveStep, refuses as refuses_arrival, waits, departs as all_depart}
-use Rattle.lrc_barrier.specs.Barrier.{is_accepted, arrived, CleanStep, refuses_clean, awaits, discards, cleaned}
-use Rattle.lrc_protocol.specs.Copy.{is_readable}
-use Rattle.lrc_protocol.specs.Memory.{Memory, copy_at, base_at}
-use Rattle.lrc_protocol.specs.Fetch.{Need, is_met, with_page}
-use Rattle.lrc_protocol.specs.Mail.{Wait, nothing, grant, departure, access, upkeep, discard, needs_of, numbered, is_idle, MOST_NUMBER}
-use Rattle.lrc_protocol.specs.Mail.{awaits_grant, awaits_departure, awaits_discard, collection_of}
-use Rattle.lrc_protocol.specs.Course.{Course, going, trapped, ended, cost_of}
-use Rattle.lrc_protocol.specs.Node.{Node, Effect, with_memory, may_begin, begins_of}
-use Rattle.lrc_protocol.specs.Waits.{waits_or_goes_on, with_needs}
-use Rattle.lrc_protocol.specs.Expected.{is_expected, is_clean, are_arriving}
-use Rattle.lrc_protocol.specs.Run.{own_index, closes, reaches, acquire_at, release_at, arrive_at, run_effect, charged}
-use Rattle.lrc_protocol.specs.Take.{request_by, arrive_by, clean_by, discard_by, page_reply_by, take_effect}
-use Rattle.lrc_protocol.specs.Turn.{TurnRecord, Outcome, done, not_ready, unexpected, worn, turn_with, turn_of, turn_if}
-use Rattle.lrc_protocol.specs.Turn.{turn_by, take_anew, take_turn, taking, is_addressed, is_repeat, empty_turn}
-use Rattle.lrc_protocol.specs.Log.{Input, run, taken as taken_in, outcome_of}
-use Rattle.lrc_protocol.specs.Rules.{IsReadyFor, Accesses, access_read, access_write, own_quiet, own_print, own_trap, own_end}
-use Rattle.lrc_protocol.specs.Rules.{page_at, need_at}
-use Rattle.lrc_protocol.specs.Rules.{RunRule, run_hit, run_miss, run_repair, run_acquire, run_ask, run_release, run_barrier}
-use Rattle.lrc_protocol.specs.Rules.{run_other, IsDeparture}
-use Rattle.lrc_protocol.specs.Rules.{Brings, brings_changes, brings_base_copy, arrival_in, upkeep_at, TakeRule, take_request}
-use Rattle.lrc_protocol.specs.Rules.{take_request_unnoted, take_forward, take_token}
-use Rattle.lrc_protocol.specs.Rules.{take_arrive, take_last_arrive, take_depart, take_collect, take_collect_at_once, take_reply}
-use Rattle.lrc_protocol.specs.Rules.{take_last_reply, take_kept_reply}
-use Rattle.lrc_protocol.specs.Rules.{take_last_kept_reply, take_clean, take_last_clean, take_discard, take_changes_request}
-use Rattle.lrc_protocol.specs.Rules.{take_page_request}
-use Rattle.lrc_protocol.specs.Rules.{IsSent, with_numbers, IsFor, TurnRule, by_run, by_repeat, by_message}
+use Rattle.lrc_lock.specs.Held.{LockStep, refuses, stays, passes, forwarded, is_taken, pass_of, held_after, lock_at, is_free}
+use Rattle.lrc_barrier.specs.Barrier.{ManagerRecord, ArriveStep, refuses as refuses_arrival, waits, departs as all_depart, arrived, CleanStep}
+use Rattle.lrc_barrier.specs.Barrier.{refuses_clean, awaits, discards, cleaned}
+use Rattle.lrc_protocol.specs.Times.{MOST_NUMBER}
+use Rattle.lrc_protocol.specs.Pages.{is_readable, Memory, copy_at, Need, is_met, with_page}
+use Rattle.lrc_protocol.specs.Barriers.{base_at, arrival_in}
+use Rattle.lrc_protocol.specs.Node.{Wait, nothing, grant, departure, access, upkeep, discard, needs_of, numbered, is_idle, awaits_grant}
+use Rattle.lrc_protocol.specs.Node.{awaits_departure, collection_of, Course, going, trapped, ended, cost_of, Node, Effect, sends, with_memory}
+use Rattle.lrc_protocol.specs.Node.{with_tokens, own_index}
+use Rattle.lrc_protocol.specs.Turn.{may_begin, begins_of, waits_or_goes_on, with_needs, closes, reaches, acquire_at, release_at, arrive_at}
+use Rattle.lrc_protocol.specs.Turn.{run_effect, charged, grants_of, given, is_request, is_forward, forward_by, is_grant, are_arriving}
+use Rattle.lrc_protocol.specs.Turn.{arrive_by, is_departure, clean_by, discard_by, is_changes_request, is_changes_reply, is_page_request}
+use Rattle.lrc_protocol.specs.Turn.{page_reply_by, is_page_reply, takes, TurnRecord, Outcome, done, not_ready, unexpected, worn, turn_with}
+use Rattle.lrc_protocol.specs.Turn.{turn_of, turn_if, turn_by, turn_taking, take_anew, take_turn, taking, is_addressed, is_repeat, empty_turn}
+use Rattle.lrc_protocol.specs.Run.{Input, run, taken as taken_in, outcome_of}
+use Rattle.lrc_protocol.specs.Rules.{take_request, IsReadyFor, Accesses, access_read, access_write, own_quiet, own_print, own_trap, own_end}
+use Rattle.lrc_protocol.specs.Rules.{page_at, need_at, RunRule, run_hit, run_miss, run_repair, run_acquire, run_ask, run_release, run_barrier}
+use Rattle.lrc_protocol.specs.Rules.{run_other, IsDeparture, Brings, brings_changes, brings_base_copy, upkeep_at, TakeRule, take_forward}
+use Rattle.lrc_protocol.specs.Rules.{take_token, take_arrive, take_last_arrive, take_depart, take_collect, take_collect_at_once, take_reply}
+use Rattle.lrc_protocol.specs.Rules.{take_last_reply, take_kept_reply, take_last_kept_reply, take_clean, take_last_clean, take_discard}
+use Rattle.lrc_protocol.specs.Rules.{take_changes_request, take_page_request, IsSent, with_numbers, IsFor, TurnRule, by_run, by_repeat}
+use Rattle.lrc_protocol.specs.Rules.{by_message}
 
 either : (P : Effect → Type 0) (b : Bool) (x y : Effect) → (b ≡ true → P x) → (b ≡ false → P y) → P (if b then x else y)
 either P true x y k l = k refl
@@ -121,53 +115,62 @@ awaits-leave (access need) e = cc
 awaits-leave (upkeep collection needs) e = cc
 awaits-leave (discard collection) e = cc
 
-request-ruled : (node : Node) (from : ℕ) (m : LockRequestRecord) (r : Requested) → m.lock < node.setting.locks
-    → length m.time ≡ node.setting.nodes → manager_of node.setting.nodes m.lock ≡ node.setting.me
-    → requested node.locks.managed m.lock from ≡ r → TakeRule node from (LockRequest m) (request_by node from m.lock m.time r)
-request-ruled node from m (refuses_request fault) lt counted mine e = take_request_unnoted m fault lt counted mine e
-request-ruled node from m (forwards to managed) lt counted mine e = take_request m to managed lt counted mine e
+given-ruled : (P : Effect → Type 0) (condition : Bool) (effect : Option Effect) → (condition ≡ true → IfSome effect P)
+    → IfSome (given condition effect) P
+given-ruled P true effect k = k refl
+given-ruled P false effect k = tt
+
+forward-ruled : (node : Node) (from : ℕ) (m : LockForwardRecord) (step : LockStep) → m.lock < node.setting.locks → m.asker < node.setting.nodes
+    → length m.time ≡ node.setting.nodes → manager_of node.setting.nodes m.lock ≡ from
+    → forwarded node.locks.held m.lock m.asker m.time ≡ step → IfSome (forward_by node m.lock step) (TakeRule node from (LockForward m))
+forward-ruled node from m (refuses fault) lt asker counted managed e = tt
+forward-ruled node from m (stays state) lt asker counted managed e =
+    subst (λ (s : LockStep).
+        TakeRule node from (LockForward m) (sends (grants_of node (pass_of s)) (with_tokens node (held_after node.locks.held m.lock s)))) e
+    (take_forward m lt asker counted managed (ap is_taken e))
+forward-ruled node from m (passes pass) lt asker counted managed e =
+    subst (λ (s : LockStep).
+        TakeRule node from (LockForward m) (sends (grants_of node (pass_of s)) (with_tokens node (held_after node.locks.held m.lock s)))) e
+    (take_forward m lt asker counted managed (ap is_taken e))
 
 arrive-ruled : (node : Node) (from : ℕ) (m : ArriveRecord) (before : ManagerRecord) (step : ArriveStep) → node.barrier.manager ≡ Some before
-    → are_arriving node from m.time m.intervals ≡ true → arrived before from (arrival_in m) ≡ step → is_accepted step ≡ true
-    → TakeRule node from (Arrive m) (arrive_by node (Some step))
-arrive-ruled node from m before (refuses_arrival fault) at news is e = cc
-arrive-ruled node from m before (waits after) at news is e = take_arrive m before after at news is
-arrive-ruled node from m before (all_depart departures after) at news is e = take_last_arrive m before after departures at news is
+    → are_arriving node from m.time m.intervals ≡ true → arrived before from (arrival_in m) ≡ step
+    → IfSome (arrive_by node step) (TakeRule node from (Arrive m))
+arrive-ruled node from m before (refuses_arrival fault) at news is = tt
+arrive-ruled node from m before (waits after) at news is = take_arrive m before after at news is
+arrive-ruled node from m before (all_depart departures after) at news is = take_last_arrive m before after departures at news is
 
 arrivals-ruled : (node : Node) (from : ℕ) (m : ArriveRecord) (o : Option ManagerRecord) → node.barrier.manager ≡ o
     → are_arriving node from m.time m.intervals ≡ true
-    → unwrap_or (option_map is_accepted (option_map (λ manager. arrived manager from (arrival_in m)) o)) false ≡ true
-    → TakeRule node from (Arrive m) (arrive_by node (option_map (λ manager. arrived manager from (arrival_in m)) o))
-arrivals-ruled node from m None at news e = cc
-arrivals-ruled node from m (Some before) at news e = arrive-ruled node from m before (arrived before from (arrival_in m)) at news refl e
+    → IfSome (option_and_then (λ manager. arrive_by node (arrived manager from (arrival_in m))) o) (TakeRule node from (Arrive m))
+arrivals-ruled node from m None at news = tt
+arrivals-ruled node from m (Some before) at news = arrive-ruled node from m before (arrived before from (arrival_in m)) at news refl
 
 clean-ruled : (node : Node) (from episode : ℕ) (before : ManagerRecord) (step : CleanStep) → node.barrier.manager ≡ Some before
-    → cleaned before from episode ≡ step → is_clean step ≡ true → TakeRule node from (Clean episode) (clean_by node (Some step))
-clean-ruled node from episode before (refuses_clean fault) at is e = cc
-clean-ruled node from episode before (awaits after) at is e = take_clean episode before after at is
-clean-ruled node from episode before (discards over after) at is e = take_last_clean episode over before after at is
+    → cleaned before from episode ≡ step → IfSome (clean_by node step) (TakeRule node from (Clean episode))
+clean-ruled node from episode before (refuses_clean fault) at is = tt
+clean-ruled node from episode before (awaits after) at is = take_clean episode before after at is
+clean-ruled node from episode before (discards over after) at is = take_last_clean episode over before after at is
 
 cleans-ruled : (node : Node) (from episode : ℕ) (o : Option ManagerRecord) → node.barrier.manager ≡ o
-    → unwrap_or (option_map is_clean (option_map (λ manager. cleaned manager from episode) o)) false ≡ true
-    → TakeRule node from (Clean episode) (clean_by node (option_map (λ manager. cleaned manager from episode) o))
-cleans-ruled node from episode None at e = cc
-cleans-ruled node from episode (Some before) at e = clean-ruled node from episode before (cleaned before from episode) at refl e
+    → IfSome (option_and_then (λ manager. clean_by node (cleaned manager from episode)) o) (TakeRule node from (Clean episode))
+cleans-ruled node from episode None at = tt
+cleans-ruled node from episode (Some before) at = clean-ruled node from episode before (cleaned before from episode) at refl
 
 discard-ruled : (node : Node) (from episode : ℕ) (w : Wait) → node.mail.wait ≡ w → from ≡ 0 → episode ≡ node.barrier.episode
-    → awaits_discard w ≡ true → TakeRule node from (Discard episode) (discard_by node (collection_of w))
-discard-ruled node from episode (discard collection) at f k e = take_discard episode collection f at k
-discard-ruled node from episode nothing at f k e = cc
-discard-ruled node from episode (grant lock) at f k e = cc
-discard-ruled node from episode departure at f k e = cc
-discard-ruled node from episode (access need) at f k e = cc
-discard-ruled node from episode (upkeep collection needs) at f k e = cc
+    → IfSome (discard_by node (collection_of w)) (TakeRule node from (Discard episode))
+discard-ruled node from episode (discard collection) at f k = take_discard episode collection f at k
+discard-ruled node from episode nothing at f k = tt
+discard-ruled node from episode (grant lock) at f k = tt
+discard-ruled node from episode departure at f k = tt
+discard-ruled node from episode (access need) at f k = tt
+discard-ruled node from episode (upkeep collection needs) at f k = tt
 
-page-ruled : (node : Node) (from page : ℕ) (base : Option (List ℕ)) → base_at node.memory page ≡ base → is_some base ≡ true
-    → ((values : List ℕ) → base_at node.memory page ≡ Some values
-    → TakeRule node from (PageRequest page) (page_reply_by node from page (Some values)))
-    → TakeRule node from (PageRequest page) (page_reply_by node from page base)
-page-ruled node from page None at e k = cc
-page-ruled node from page (Some values) at e k = k values at
+page-ruled : (node : Node) (from page : ℕ) (base : Option (List ℕ)) → base_at node.memory page ≡ base
+    → page < pages_of node.setting.words node.options.size → from ≢ node.setting.me
+    → IfSome (page_reply_by node from page base) (TakeRule node from (PageRequest page))
+page-ruled node from page None at lt other = tt
+page-ruled node from page (Some values) at lt other = take_page_request page values lt other at
 
 -- something came for what pages need
 reply-ruled : (node : Node) (from : ℕ) (message : Message) (memory : Memory) (change : Need → Need) (test : Need → Bool) (w : Wait)
@@ -186,27 +189,33 @@ reply-ruled node from message memory change test (grant lock) b at some = cc
 reply-ruled node from message memory change test departure b at some = cc
 reply-ruled node from message memory change test (discard collection) b at some = cc
 
-take-ruled : (node : Node) (from : ℕ) (message : Message) → is_expected node from message ≡ true
-    → TakeRule node from message (take_effect node from message)
-take-ruled node from (LockRequest m) e =
+take-ruled : (node : Node) (from : ℕ) (message : Message) → IfSome (takes node from message) (TakeRule node from message)
+take-ruled node from (LockRequest m) =
+    given-ruled (TakeRule node from (LockRequest m)) (is_request node m) _
+    (λ e.
     let outer : _ = and_parts _ _ e in
     let inner : _ = and_parts _ _ outer.0 in
-    request-ruled node from m (requested node.locks.managed m.lock from)
-    (ltb-true _ _ inner.0) (eqb-true _ _ inner.1) (eqb-true _ _ outer.1) refl
-take-ruled node from (LockForward m) e =
-    let taken : _ = and_parts _ _ e in
-    let managed : _ = and_parts _ _ taken.0 in
+    take_request m (ltb-true _ _ inner.0) (eqb-true _ _ inner.1) (eqb-true _ _ outer.1))
+take-ruled node from (LockForward m) =
+    given-ruled (TakeRule node from (LockForward m)) (is_forward node from m) _
+    (λ e.
+    let managed : _ = and_parts _ _ e in
     let timed : _ = and_parts _ _ managed.0 in
     let askers : _ = and_parts _ _ timed.0 in
-    take_forward m (ltb-true _ _ askers.0) (ltb-true _ _ askers.1) (eqb-true _ _ timed.1) (eqb-true _ _ managed.1) taken.1
-take-ruled node from (LockGrant m) e =
+    forward-ruled node from m (forwarded node.locks.held m.lock m.asker m.time)
+    (ltb-true _ _ askers.0) (ltb-true _ _ askers.1) (eqb-true _ _ timed.1) (eqb-true _ _ managed.1) refl)
+take-ruled node from (LockGrant m) =
+    given-ruled (TakeRule node from (LockGrant m)) (is_grant node m) _
+    (λ e.
     let outer : _ = and_parts _ _ e in
     let inner : _ = and_parts _ _ outer.0 in
-    take_token m (ltb-true _ _ inner.0) (awaits-lock m.lock node.mail.wait inner.1) outer.1
-take-ruled node from (Arrive m) e =
-    let outer : _ = and_parts _ _ e in
-    arrivals-ruled node from m node.barrier.manager refl outer.1 outer.0
-take-ruled node from (Depart m) e =
+    take_token m (ltb-true _ _ inner.0) (awaits-lock m.lock node.mail.wait inner.1) outer.1)
+take-ruled node from (Arrive m) =
+    given-ruled (TakeRule node from (Arrive m)) (are_arriving node from m.time m.intervals) _
+    (λ news. arrivals-ruled node from m node.barrier.manager refl news)
+take-ruled node from (Depart m) =
+    given-ruled (TakeRule node from (Depart m)) (is_departure node from m) _
+    (λ e.
     let outer : _ = and_parts _ _ e in
     let covered : _ = and_parts _ _ outer.0 in
     let counted : _ = and_parts _ _ covered.0 in
@@ -222,44 +231,34 @@ take-ruled node from (Depart m) e =
     (λ c. either (TakeRule node from (Depart m)) (list_all is_met (upkeep_at node m)) _ _
     (λ met. take_collect_at_once m d c met)
     (λ unmet. take_collect m d c unmet))
-    (λ c. take_depart m d c)
-take-ruled node from (Clean episode) e = cleans-ruled node from episode node.barrier.manager refl e
-take-ruled node from (Discard episode) e =
+    (λ c. take_depart m d c))
+take-ruled node from (Clean episode) = cleans-ruled node from episode node.barrier.manager refl
+take-ruled node from (Discard episode) =
+    given-ruled (TakeRule node from (Discard episode)) ((from == 0) && (episode == node.barrier.episode)) _
+    (λ e.
+    let both : _ = and_parts _ _ e in
+    discard-ruled node from episode node.mail.wait refl (eqb-true _ _ both.0) (eqb-true _ _ both.1))
+take-ruled node from (ChangesRequest m) =
+    given-ruled (TakeRule node from (ChangesRequest m)) (is_changes_request node m) _
+    (λ e. let outer : _ = and_parts _ _ e in take_changes_request m (ltb-true _ _ outer.0) outer.1)
+take-ruled node from (ChangesReply m) =
+    given-ruled (TakeRule node from (ChangesReply m)) (is_changes_reply node from m) _
+    (λ e.
     let outer : _ = and_parts _ _ e in
     let inner : _ = and_parts _ _ outer.0 in
-    discard-ruled node from episode node.mail.wait refl (eqb-true _ _ inner.0) (eqb-true _ _ outer.1) inner.1
-take-ruled node from (ChangesRequest m) e =
-    let outer : _ = and_parts _ _ e in
-    take_changes_request m (ltb-true _ _ outer.0) outer.1
-take-ruled node from (ChangesReply m) e =
-    let outer : _ = and_parts _ _ e in
-    let inner : _ = and_parts _ _ outer.0 in
-    reply-ruled node from (ChangesReply m) _ _ _ node.mail.wait (brings_changes m (ltb-true _ _ inner.0) inner.1 outer.1) refl outer.1
-take-ruled node from (PageRequest page) e =
-    let outer : _ = and_parts _ _ e in
-    let inner : _ = and_parts _ _ outer.0 in
-    page-ruled node from page (base_at node.memory page) refl outer.1
-    (λ values at. take_page_request page values (ltb-true _ _ inner.0) (eqb-false _ _ (not-true _ inner.1)) at)
-take-ruled node from (PageReply m) e =
+    reply-ruled node from (ChangesReply m) _ _ _ node.mail.wait (brings_changes m (ltb-true _ _ inner.0) inner.1 outer.1) refl outer.1)
+take-ruled node from (PageRequest page) =
+    given-ruled (TakeRule node from (PageRequest page)) (is_page_request node from page) _
+    (λ e.
+    let both : _ = and_parts _ _ e in
+    page-ruled node from page (base_at node.memory page) refl (ltb-true _ _ both.0) (eqb-false _ _ (not-true _ both.1)))
+take-ruled node from (PageReply m) =
+    given-ruled (TakeRule node from (PageReply m)) (is_page_reply node from m) _
+    (λ e.
     let outer : _ = and_parts _ _ e in
     let inner : _ = and_parts _ _ outer.0 in
     reply-ruled node from (PageReply m) node.memory (with_page m.page m.values) _ node.mail.wait
-    (brings_base_copy m (ltb-true _ _ inner.0) (eqb-true _ _ inner.1) outer.1) refl outer.1
-
--- a message is expected all the same once its number is taken
-pub still_expected : (node : Node) (envelope : EnvelopeRecord) (from : ℕ) (message : Message)
-    → is_expected (taking node envelope) from message ≡ is_expected node from message
-still_expected node envelope from (LockRequest m) = refl
-still_expected node envelope from (LockForward m) = refl
-still_expected node envelope from (LockGrant m) = refl
-still_expected node envelope from (Arrive m) = refl
-still_expected node envelope from (Depart m) = refl
-still_expected node envelope from (Clean episode) = refl
-still_expected node envelope from (Discard episode) = refl
-still_expected node envelope from (ChangesRequest m) = refl
-still_expected node envelope from (ChangesReply m) = refl
-still_expected node envelope from (PageRequest page) = refl
-still_expected node envelope from (PageReply m) = refl
+    (brings_base_copy m (ltb-true _ _ inner.0) (eqb-true _ _ inner.1) outer.1) refl outer.1)
 
 -- ---- turns
 
@@ -320,15 +319,17 @@ repeated_or_not : (node : Node) (envelope : EnvelopeRecord) (b : Bool) (o : Outc
 repeated_or_not node envelope true o f e h = by_repeat envelope f e
 repeated_or_not node envelope false o f e h = h e
 
+taking-ruled : (node : Node) (envelope : EnvelopeRecord) → IsFor node envelope → is_repeat node envelope ≡ false → (o : Option Effect)
+    → IfSome o (TakeRule (taking node envelope) envelope.from envelope.message) → RuledIf node (taken_in envelope) (turn_taking o)
+taking-ruled node envelope f new None r = tt
+taking-ruled node envelope f new (Some effect) r =
+    effect-ruled node (taken_in envelope) effect (λ turn after s. by_message envelope f new r s)
+
 anew-ruled : (node : Node) (envelope : EnvelopeRecord) → IsFor node envelope → is_repeat node envelope ≡ false
     → RuledIf node (taken_in envelope) (take_anew node envelope)
 anew-ruled node envelope f new =
-    let effect : Effect = take_effect (taking node envelope) envelope.from envelope.message in
-    expected_or_not node (taken_in envelope) (is_expected node envelope.from envelope.message) (turn_of effect)
-    (λ e. effect-ruled node (taken_in envelope) effect
-    (λ turn after s. by_message envelope f new
-    (take-ruled (taking node envelope) envelope.from envelope.message
-    (still_expected node envelope envelope.from envelope.message ∙ e)) s))
+    taking-ruled node envelope f new (takes (taking node envelope) envelope.from envelope.message)
+    (take-ruled (taking node envelope) envelope.from envelope.message)
 
 taken-ruled : (node : Node) (envelope : EnvelopeRecord) → RuledIf node (taken_in envelope) (take_turn node envelope)
 taken-ruled node envelope =

@@ -6,14 +6,11 @@ use Rattle.std.proofs.lemmas.Option.{same_Some}
 use Rattle.lrc_exec.specs.Meaning.{Thread, Next, quiet, prints, reads, writes, acquires, releases, arrives, departs, traps, ends, next_of}
 use Rattle.lrc_envelope.specs.Envelope.{EnvelopeRecord}
 use Rattle.lrc_protocol.specs.declared.event.Event.TheVariants.{Run, Deliver, Repeat}
-use Rattle.lrc_protocol.specs.Course.{going, trapped, ended}
-use Rattle.lrc_protocol.specs.Mail.{is_idle}
-use Rattle.lrc_protocol.specs.Node.{Node, Effect, begins_of, begins, may_begin}
-use Rattle.lrc_protocol.specs.Run.{run_effect, charged}
-use Rattle.lrc_protocol.specs.Turn.{TurnRecord, Outcome, done, not_ready, unexpected, worn, turn_with, turn_if, turn_by}
-use Rattle.lrc_protocol.specs.Turn.{run_turn, take_turn, take_anew, empty_turn, is_ready, is_addressed, is_repeat}
-use Rattle.lrc_protocol.specs.Log.{Input, run, taken, EntryRecord, Logged, Logging, logged, refused, too_large, outcome_of, logging, logs, next_stamp}
-use Rattle.lrc_protocol.specs.World.{World, Flying, with_turn, with_mark, after_input, input_to, delivers, event_on}
+use Rattle.lrc_protocol.specs.Node.{going, trapped, ended, is_idle, Node, Effect}
+use Rattle.lrc_protocol.specs.Turn.{begins_of, begins, may_begin, run_effect, charged, TurnRecord, Outcome, done, not_ready, unexpected, worn}
+use Rattle.lrc_protocol.specs.Turn.{turn_with, turn_if, turn_by, run_turn, take_turn, take_anew, empty_turn, is_ready, is_addressed, is_repeat}
+use Rattle.lrc_protocol.specs.Run.{Input, run, taken, EntryRecord, Logged, Logging, logged, refused, too_large, outcome_of, logging, logs}
+use Rattle.lrc_protocol.specs.Run.{next_stamp, World, Flying, with_turn, with_mark, after_input, input_to, delivers, event_on}
 use Rattle.lrc_protocol.proofs.Worlds.{Entries, logs-entries}
 
 -- ---- readiness

@@ -3,7 +3,7 @@ use Rattle.std.proofs.Common.{◌≡◌, ◌+◌, List, length, map, sym, ap, �
 use Rattle.std.specs.Option.{option_to_list}
 use Rattle.std.proofs.lemmas.List.{length-map}
 use Rattle.lrc_trace.specs.declared.act.Act.{Act}
-use Rattle.lrc_protocol.specs.World.{World}
+use Rattle.lrc_protocol.specs.Run.{World}
 use Rattle.lrc_protocol.proofs.Induction.{KeptByTurns}
 
 -- as many times as acts

@@ -5,14 +5,10 @@ use Rattle.lrc_trace.specs.declared.act.Deed.{Deed}
 use Rattle.lrc_trace.specs.Run.{act_of}
 use Rattle.lrc_exec.specs.Meaning.{Setting, Next}
 use Rattle.lrc_envelope.specs.Envelope.{EnvelopeRecord}
-use Rattle.lrc_protocol.specs.Mail.{numbered}
-use Rattle.lrc_protocol.specs.Node.{Node, OptionsRecord, Effect, begins}
-use Rattle.lrc_protocol.specs.Run.{run_effect, charged}
-use Rattle.lrc_protocol.specs.Take.{take_effect}
-use Rattle.lrc_protocol.specs.Expected.{is_expected}
-use Rattle.lrc_protocol.specs.Turn.{TurnRecord, Outcome, done, not_ready, unexpected, worn, turn_with, turn_of, turn_if}
-use Rattle.lrc_protocol.specs.Turn.{turn_by, take_anew, take_turn, taking, is_addressed, is_repeat, empty_turn}
-use Rattle.lrc_protocol.specs.Log.{Input, run, taken, outcome_of}
+use Rattle.lrc_protocol.specs.Node.{numbered, Node, OptionsRecord, Effect}
+use Rattle.lrc_protocol.specs.Turn.{begins, run_effect, charged, takes, TurnRecord, Outcome, done, not_ready, unexpected, worn, turn_with}
+use Rattle.lrc_protocol.specs.Turn.{turn_of, turn_if, turn_by, turn_taking, take_anew, take_turn, taking, is_addressed, is_repeat, empty_turn}
+use Rattle.lrc_protocol.specs.Run.{Input, run, taken, outcome_of}
 use Rattle.lrc_protocol.proofs.Keeps.{Moves, stays, Kept, KeptIf, run-keeps, take-keeps}
 use Rattle.lrc_protocol.proofs.Numbers.{AreNumbered, Numbered, are_numbered, nothing_sent}
 
@@ -61,9 +57,9 @@ turned_by : (node : Node) (o : Option Next) → Turns node (turn_by node o)
 turned_by node None = tt
 turned_by node (Some next) = turned_if node (run_effect (charged node next) next) (run-keeps (charged node next) next)
 
-expected_or_not : (node : Node) (b : Bool) (o : Outcome) → Turns node o → Turns node (if b then o else unexpected)
-expected_or_not node true o h = h
-expected_or_not node false o h = tt
+addressed_or_not : (node : Node) (b : Bool) (o : Outcome) → Turns node o → Turns node (if b then o else unexpected)
+addressed_or_not node true o h = h
+addressed_or_not node false o h = tt
 
 repeated_or_not : (node : Node) (b : Bool) (o : Outcome) → Turns node o → Turns node (if b then done empty_turn node else o)
 repeated_or_not node true o h = record {
@@ -76,12 +72,16 @@ repeated_or_not node true o h = record {
 }
 repeated_or_not node false o h = h
 
+taking_turns : (node : Node) (envelope : EnvelopeRecord) (o : Option Effect) → KeptIf (taking node envelope) o → Turns node (turn_taking o)
+taking_turns node envelope None k = tt
+taking_turns node envelope (Some effect) k = turned node effect k
+
 taken_turns : (node : Node) (envelope : EnvelopeRecord) → Turns node (take_turn node envelope)
 taken_turns node envelope =
-    expected_or_not node (is_addressed node envelope) _
+    addressed_or_not node (is_addressed node envelope) _
     (repeated_or_not node (is_repeat node envelope) (take_anew node envelope)
-    (expected_or_not node (is_expected node envelope.from envelope.message) (turn_of (take_effect (taking node envelope) envelope.from envelope.message))
-    (turned node (take_effect (taking node envelope) envelope.from envelope.message) (take-keeps (taking node envelope) envelope.from envelope.message))))
+    (taking_turns node envelope (takes (taking node envelope) envelope.from envelope.message)
+    (take-keeps (taking node envelope) envelope.from envelope.message)))
 
 -- each input makes such a turn, or none
 pub turns : (node : Node) (input : Input) → Turns node (outcome_of node input)

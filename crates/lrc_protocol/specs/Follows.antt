@@ -5,7 +5,7 @@ use Rattle.lrc_exec.specs.Meaning.{Thread, next_of}
 use Rattle.lrc_envelope.specs.Envelope.{EnvelopeRecord}
 use Rattle.lrc_plain_laws.specs.Follows.{Goes}
 use Rattle.lrc_protocol.specs.Turn.{TurnRecord}
-use Rattle.lrc_protocol.specs.Log.{Input, EntryRecord}
+use Rattle.lrc_protocol.specs.Run.{Input, EntryRecord}
 
 -- A thread makes these deeds one after another, and then it is this one, or none once it has stopped.
 pub data MakesTo (start : Option Thread) : List Deed → Option Thread → Type 0 where

@@ -1,8 +1,10 @@
--- A node's clock, the tokens that it has or awaits, and the locks that it manages.
-use Rattle.std.specs.Prelude.{ℕ, ◌+◌, List, slice_set}
-use Rattle.lrc_time.specs.Time.{entry, zeros, joined}
-use Rattle.lrc_lock.specs.Held.{HeldRecord, first_held}
-use Rattle.lrc_lock.specs.Managed.{ManagedRecord, first_managed}
+-- Locks: a node's time, the tokens that it has or awaits, and the locks that it manages. What becomes of one token is defined with
+-- the crate of locks.
+use Rattle.std.specs.Prelude.{ℕ, List}
+use Rattle.lrc_time.specs.Time.{joined, zeros}
+use Rattle.lrc_lock.specs.Held.{first_held, HeldRecord}
+use Rattle.lrc_lock.specs.Managed.{first_managed, ManagedRecord}
+use Rattle.lrc_protocol.specs.Times.{next_time}
 
 -- the node's time, which counts closed intervals
 pub record Locks : Type 0 where
@@ -14,10 +16,6 @@ pub record Locks : Type 0 where
 abbrev pub fresh_locks : ℕ → ℕ → ℕ → Locks
 fresh_locks me nodes locks =
     record { time = zeros nodes; held = first_held me nodes locks; managed = first_managed me nodes locks }
-
--- the time after the node's open interval: its own entry is one greater
-abbrev pub next_time : ℕ → List ℕ → List ℕ
-next_time me time = slice_set time me (entry time me + 1)
 
 -- the clock once the open interval is closed
 abbrev pub ticked : ℕ → Locks → Locks

@@ -1,18 +1,149 @@
--- A node of the protocol machine: its text, and four parts that know nothing of one another.
-use Rattle.std.specs.Prelude.{ℕ, Bool, false, Option, Some, None, List, nat_le, if◌then◌else◌}
+-- A node: its text, the shared memory as it knows it, its locks, its part in barriers, and its mail.
+use Rattle.std.specs.Prelude.{[], ℕ, ◌+◌, ◌==◌, ◌∷◌, Bool, false, if◌then◌else◌, is_some, List, nat_le, nat_lt, None, Option}
+use Rattle.std.specs.Prelude.{option_map, replicate, slice_index, slice_index_or, slice_set, Some, true}
+use Rattle.std.specs.List.{list_any}
 use Rattle.lrc_lang.specs.declared.program.Program.{Program}
 use Rattle.lrc_lang.specs.declared.program.Statement.{Statement}
+use Rattle.lrc_trace.specs.declared.act.Cause.{Cause}
 use Rattle.lrc_trace.specs.declared.act.Deed.{Deed}
-use Rattle.lrc_exec.specs.Meaning.{Setting, thread_at_start, Next, reads, writes, departs, next_of}
-use Rattle.lrc_exec.specs.Plain.{setting_of}
-use Rattle.lrc_page.specs.declared.size.Size.{Size}
+use Rattle.lrc_trace.specs.declared.act.Deed.TheVariants.{Depart}
+use Rattle.lrc_time.specs.Time.{entry}
 use Rattle.lrc_page.specs.Place.{pages_of}
+use Rattle.lrc_page.specs.declared.size.Size.{Size}
+use Rattle.lrc_exec.specs.Ask.{ask_of, deed_asked, steps_of}
+use Rattle.lrc_exec.specs.Meaning.{acquires, arrives, departs, ends, Next, next_of, prints, quiet, reads, releases, Setting}
+use Rattle.lrc_exec.specs.Meaning.{Thread, thread_at_start, traps, writes}
+use Rattle.lrc_exec.specs.Plain.{setting_of}
+use Rattle.lrc_store.specs.Order.{placed}
+use Rattle.lrc_envelope.specs.Envelope.{EnvelopeRecord}
+use Rattle.lrc_envelope.specs.declared.message.Message.{Message}
 use Rattle.lrc_lock.specs.Held.{HeldRecord}
-use Rattle.lrc_protocol.specs.Memory.{Memory, fresh_memory, value_at, with_word}
-use Rattle.lrc_protocol.specs.Mail.{Mail, fresh_mail, Wait, is_idle, Letter}
-use Rattle.lrc_protocol.specs.Course.{Course, going, trapped, ended, deed_of, course_of, cost_of}
-use Rattle.lrc_protocol.specs.Locks.{Locks, fresh_locks, with_held}
-use Rattle.lrc_protocol.specs.Barrier.{Barrier, fresh_barrier}
+use Rattle.lrc_protocol.specs.Times.{MOST_NUMBER}
+use Rattle.lrc_protocol.specs.Pages.{fresh_memory, Memory, Need, value_at, with_word}
+use Rattle.lrc_protocol.specs.Locks.{fresh_locks, Locks, with_held}
+use Rattle.lrc_protocol.specs.Barriers.{Barrier, Collection, fresh_barrier}
+
+-- ---- how far the text has come
+
+-- a thread that goes on; a trap and its cause; or the end of the text
+pub data Course : Type 0 where
+  going : Thread → Course
+  trapped : Cause → Course
+  ended : Course
+
+-- the thread, and none once it has stopped
+abbrev pub thread_of : Course → Option Thread
+thread_of (going thread) = Some thread
+thread_of (trapped cause) = None
+thread_of ended = None
+
+-- the deed of what a thread does next, a read giving this value
+abbrev pub deed_of : ℕ → Next → Deed
+deed_of value (departs after) = Depart
+deed_of value next = deed_asked value (ask_of next)
+
+-- how far the text has come after that deed
+abbrev pub course_of : ℕ → Next → Course
+course_of value (quiet after) = going after
+course_of value (prints printed after) = going after
+course_of value (reads word after) = going (after value)
+course_of value (writes word written after) = going after
+course_of value (acquires lock after) = going after
+course_of value (releases lock after) = going after
+course_of value (arrives after) = going after
+course_of value (departs after) = going after
+course_of value (traps cause) = trapped cause
+course_of value ends = ended
+
+-- what it counts of a node's steps to begin this
+abbrev pub cost_of : Next → ℕ
+cost_of next = steps_of (deed_of 0 next)
+
+-- ---- mail
+
+-- What a node waits for:
+pub data Wait : Type 0 where
+  nothing : Wait
+  -- the grant of a lock,
+  grant : (lock : ℕ) → Wait
+  -- the departure from the barrier where it has arrived,
+  departure : Wait
+  -- what the page of its next access needs,
+  access : (need : Need) → Wait
+  -- what the pages need that it keeps, in a collection,
+  upkeep : (collection : Collection) → (needs : List Need) → Wait
+  -- or, its copies being clean, the word to discard.
+  discard : (collection : Collection) → Wait
+
+-- whether nothing is awaited
+abbrev pub is_idle : Wait → Bool
+is_idle nothing = true
+is_idle _ = false
+
+-- what is still needed of pages
+abbrev pub needs_of : Wait → List Need
+needs_of (access need) = need ∷ []
+needs_of (upkeep collection needs) = needs
+needs_of _ = []
+
+-- whether this lock's grant is awaited
+abbrev pub awaits_grant : ℕ → Wait → Bool
+awaits_grant lock (grant awaited) = awaited == lock
+awaits_grant lock _ = false
+
+-- whether the departure is awaited
+abbrev pub awaits_departure : Wait → Bool
+awaits_departure departure = true
+awaits_departure _ = false
+
+-- the collection in which the word to discard is awaited
+abbrev pub collection_of : Wait → Option Collection
+collection_of (discard collection) = Some collection
+collection_of _ = None
+
+-- whether the word to discard is awaited
+abbrev pub awaits_discard : Wait → Bool
+awaits_discard wait = is_some (collection_of wait)
+
+-- what it waits for; how many messages it has sent to each node; the numbers that it has taken from each, ascending
+pub record Mail : Type 0 where
+  pub wait : Wait
+  pub sent : List ℕ
+  pub taken : List (List ℕ)
+
+-- at the start nothing is awaited, sent or taken
+abbrev pub fresh_mail : ℕ → Mail
+fresh_mail nodes = record { wait = nothing; sent = replicate nodes 0; taken = replicate nodes [] }
+
+-- whether the message of this number was taken from a node
+abbrev pub was_taken : Mail → ℕ → ℕ → Bool
+was_taken mail from number = list_any (λ taken. taken == number) (slice_index_or mail.taken from [])
+
+-- the mail once the message of this number is taken
+abbrev pub with_taken : ℕ → ℕ → Mail → Mail
+with_taken from number mail =
+    record mail { taken = slice_set mail.taken from (placed nat_lt number (slice_index_or mail.taken from [])) }
+
+-- a message for a node, before it has a number
+pub record Letter : Type 0 where
+  pub to : ℕ
+  pub message : Message
+
+-- the letter with its sender and number
+abbrev pub envelope_of : ℕ → ℕ → Letter → EnvelopeRecord
+envelope_of me number letter = record { from = me; to = letter.to; number = number; message = letter.message }
+
+-- the letters with their numbers, where so many were sent to each node before, and how many are sent then: to each node
+-- the numbers go on one after another, from `first`. None where a number would be too large.
+abbrev pub numbered : ℕ → ℕ → List ℕ → List Letter → Option (List EnvelopeRecord × List ℕ)
+numbered me first sent [] = Some ([], sent)
+numbered me first sent (letter ∷ letters) =
+    let before = slice_index sent letter.to in
+    if nat_le (first + before) MOST_NUMBER
+    then option_map (λ more. (envelope_of me (first + before) letter ∷ more.0, more.1)) (numbered me first (slice_set sent letter.to (before + 1)) letters)
+    else None
+
+-- ---- the node
 
 -- how many steps a node may make, from how many stored intervals on it asks for a collection (0: never), the number of
 -- the first message from each node to each, and the size of a page
@@ -49,7 +180,9 @@ first_node options setting statements = record {
 abbrev pub fresh_node : Program → ℕ → OptionsRecord → ℕ → Node
 fresh_node program nodes options me = first_node options (setting_of program nodes me) program.statements.items
 
--- ---- one part changed
+-- the index of the node's newest closed interval
+abbrev pub own_index : Node → ℕ
+own_index node = entry node.locks.time node.setting.me
 
 abbrev pub with_locks : Node → Locks → Node
 with_locks node locks = record node { locks = locks }
@@ -66,22 +199,6 @@ with_tokens node held = with_locks node (with_held held node.locks)
 -- the node waits for this
 abbrev pub waiting : Wait → Node → Node
 waiting wait node = record node { mail = record node.mail { wait = wait } }
-
--- ---- readiness
-
--- whether a node with so many steps left may begin this: the end of the text always, a departure never by itself
-abbrev pub may_begin : ℕ → Next → Bool
-may_begin left (departs after) = false
-may_begin left next = nat_le (cost_of next) left
-
--- what the node begins if it is named; none where it has stopped, waits, or has used its steps
-abbrev pub begins_of : ℕ → Course → Option Next
-begins_of left (going thread) = if may_begin left (next_of thread) then Some (next_of thread) else None
-begins_of left (trapped cause) = None
-begins_of left ended = None
-
-abbrev pub begins : Node → Option Next
-begins node = if is_idle node.mail.wait then begins_of node.left node.course else None
 
 -- ---- effects
 

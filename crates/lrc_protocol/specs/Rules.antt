@@ -15,29 +15,22 @@ use Rattle.lrc_envelope.specs.Records.{ChangesRequestRecord, ChangesReplyRecord,
 use Rattle.lrc_envelope.specs.declared.message.Message.{Message}
 use Rattle.lrc_envelope.specs.declared.message.Message.TheVariants.{LockRequest, LockForward, LockGrant, Arrive, Depart, Clean, Discard}
 use Rattle.lrc_envelope.specs.declared.message.Message.TheVariants.{ChangesRequest, ChangesReply, PageRequest, PageReply}
-use Rattle.lrc_lock.specs.declared.fault.LockFault.{LockFault}
 use Rattle.lrc_lock.specs.Lock.{manager_of}
-use Rattle.lrc_lock.specs.Held.{lock_at, is_free, taken, asked, released, forwarded, granted, pass_of, held_after}
-use Rattle.lrc_lock.specs.Managed.{ManagedRecord, refuses, forwards, requested}
-use Rattle.lrc_barrier.specs.declared.arrival.Arrival.{Arrival}
+use Rattle.lrc_lock.specs.Held.{lock_at, is_free, taken, asked, released, forwarded, granted, pass_of, held_after, is_taken}
+use Rattle.lrc_lock.specs.Managed.{recent_asker, with_asker}
 use Rattle.lrc_barrier.specs.declared.departure.Departure.{Departure}
 use Rattle.lrc_barrier.specs.Barrier.{ManagerRecord, waits, departs, arrived, awaits, discards, cleaned}
-use Rattle.lrc_protocol.specs.Copy.{is_readable}
-use Rattle.lrc_protocol.specs.Memory.{Memory, copy_at, with_keepers, kept_pages, base_at, collected_at}
-use Rattle.lrc_protocol.specs.Fetch.{Need, need_of, is_met, mended, awaits_changes, awaits_page, with_changes, with_page}
-use Rattle.lrc_protocol.specs.Mail.{Collection, nothing, grant, departure, access, upkeep, discard, needs_of, numbered, MOST_NUMBER}
-use Rattle.lrc_protocol.specs.Course.{going, cost_of}
+use Rattle.lrc_protocol.specs.Times.{MOST_NUMBER}
+use Rattle.lrc_protocol.specs.Pages.{is_readable, Memory, copy_at, Need, need_of, is_met, mended, awaits_changes, awaits_page, with_changes}
+use Rattle.lrc_protocol.specs.Pages.{with_page, with_part}
 use Rattle.lrc_protocol.specs.Locks.{with_managed}
-use Rattle.lrc_protocol.specs.Barrier.{with_arrive, with_manager}
-use Rattle.lrc_protocol.specs.Node.{Node, Effect, with_locks, with_barrier, with_memory, with_tokens, waiting, sends, acts}
-use Rattle.lrc_protocol.specs.Letters.{request_of, forward_to, grants_of, arrival_of, departure_of, discards_to}
-use Rattle.lrc_protocol.specs.Letters.{requests_of, changes_reply_to, page_reply_to}
-use Rattle.lrc_protocol.specs.Waits.{cleans}
-use Rattle.lrc_protocol.specs.Run.{own_index, closes, charged}
-use Rattle.lrc_protocol.specs.Expected.{is_learnable, are_arriving, are_changes, is_taken}
-use Rattle.lrc_protocol.specs.Take.{learns, needs_to_keep, with_part}
+use Rattle.lrc_protocol.specs.Barriers.{arrival_in, with_keepers, kept_pages, base_at, collected_at, Collection, with_arrive, with_manager}
+use Rattle.lrc_protocol.specs.Node.{nothing, grant, departure, access, upkeep, discard, needs_of, numbered, going, cost_of, Node, Effect}
+use Rattle.lrc_protocol.specs.Node.{with_locks, with_barrier, with_memory, with_tokens, waiting, sends, acts, own_index}
+use Rattle.lrc_protocol.specs.Turn.{request_of, forward_to, grants_of, arrival_of, departure_of, discards_to, requests_of, changes_reply_to}
+use Rattle.lrc_protocol.specs.Turn.{page_reply_to, cleans, closes, charged, is_learnable, are_arriving, are_changes, learns, needs_to_keep}
 use Rattle.lrc_protocol.specs.Turn.{TurnRecord, with_sent, empty_turn, is_repeat, taking}
-use Rattle.lrc_protocol.specs.Log.{Input, run, taken as taken_in}
+use Rattle.lrc_protocol.specs.Run.{Input, run, taken as taken_in}
 
 -- ---- a node goes on by itself
 
@@ -138,10 +131,6 @@ pub data Brings (node : Node) (from : ℕ) : Message → Memory → (Need → Ne
       → length m.values ≡ words_of node.options.size → list_any (awaits_page m.page from) (needs_of node.mail.wait) ≡ true
       → Brings node from (PageReply m) node.memory (with_page m.page m.values)
 
--- what an Arrive says
-abbrev pub arrival_in : ArriveRecord → Arrival
-arrival_in m = record { episode = m.episode; ask = m.ask; time = m.time; intervals = m.intervals }
-
 -- a collection begins at a node that has learnt the news: the pages that were named have new keepers
 abbrev pub keeping : Node → DepartRecord → Node
 keeping node m = with_memory (learns m.time m.intervals node) (with_keepers (learns m.time m.intervals node).memory)
@@ -156,15 +145,11 @@ upkeep_at node m = needs_to_keep (keeping node m) (collection_at node m).kept
 -- the rules of a node that takes a message from another, its number taken
 pub data TakeRule (node : Node) (from : ℕ) : Message → Effect → Type 0 where
   -- LockRequest, where this node manages the lock: it goes on to who asked last
-  take_request : (m : LockRequestRecord) (to : ℕ) (managed : ManagedRecord) → m.lock < node.setting.locks
-      → length m.time ≡ node.setting.nodes → manager_of node.setting.nodes m.lock ≡ node.setting.me
-      → requested node.locks.managed m.lock from ≡ forwards to managed
+  take_request : (m : LockRequestRecord) → m.lock < node.setting.locks → length m.time ≡ node.setting.nodes
+      → manager_of node.setting.nodes m.lock ≡ node.setting.me
       → TakeRule node from (LockRequest m)
-      (sends (forward_to to m.lock from m.time ∷ []) (with_locks node (with_managed managed node.locks)))
-  -- (in no run: a node that has no note of a lock that it manages)
-  take_request_unnoted : (m : LockRequestRecord) (fault : LockFault) → m.lock < node.setting.locks
-      → length m.time ≡ node.setting.nodes → manager_of node.setting.nodes m.lock ≡ node.setting.me
-      → requested node.locks.managed m.lock from ≡ refuses fault → TakeRule node from (LockRequest m) (sends [] node)
+      (sends (forward_to (recent_asker node.locks.managed m.lock) m.lock from m.time ∷ [])
+      (with_locks node (with_managed (with_asker node.locks.managed m.lock from) node.locks)))
   -- LockForward, where its sender manages the lock, the token is here or awaited, without a successor, and the asker is
   -- another node: the lock is granted, or the successor kept
   take_forward : (m : LockForwardRecord) → m.lock < node.setting.locks → m.asker < node.setting.nodes

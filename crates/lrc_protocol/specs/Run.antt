@@ -1,73 +1,200 @@
--- What a node does when it goes on by itself: one statement, or the beginning of one that waits.
-use Rattle.std.specs.Prelude.{ℕ, ◌+◌, ◌-◌, Option, Some, None, [], ◌∷◌, nat_lt, if◌then◌else◌}
-use Rattle.lrc_time.specs.Time.{entry}
-use Rattle.lrc_page.specs.Place.{page_of}
-use Rattle.lrc_exec.specs.Meaning.{Next, reads, writes, acquires, releases, arrives}
-use Rattle.lrc_lock.specs.Held.{lock_at, is_free, taken, asked, released, pass_of, held_after}
-use Rattle.lrc_protocol.specs.Copy.{is_readable}
-use Rattle.lrc_protocol.specs.Memory.{copy_at, with_interval}
-use Rattle.lrc_protocol.specs.Fetch.{need_of}
-use Rattle.lrc_protocol.specs.Mail.{MOST_NUMBER, grant, departure, access}
-use Rattle.lrc_protocol.specs.Course.{cost_of}
-use Rattle.lrc_protocol.specs.Locks.{ticked}
-use Rattle.lrc_protocol.specs.Barrier.{with_arrive}
-use Rattle.lrc_protocol.specs.Node.{Node, Effect, with_barrier, with_tokens, waiting, sends, acts}
-use Rattle.lrc_protocol.specs.Letters.{request_of, grants_of, arrival_of, requests_of}
-use Rattle.lrc_protocol.specs.Waits.{waits_or_goes_on}
+-- The run: a node with the log of its turns, which depend on its own inputs alone; and all nodes with the messages in flight,
+-- what each event does, and the run of a list of events.
+use Rattle.std.specs.Prelude.{[], ℕ, ◌++◌, ◌+◌, ◌==◌, ◌∷◌, Bool, false, filter, fold, if◌then◌else◌, List, map, max, nat_le}
+use Rattle.std.specs.Prelude.{None, not, Option, option_map, remove, slice_get, slice_set, Some, true, unwrap_or}
+use Rattle.std.specs.Option.{option_to_list}
+use Rattle.std.specs.List.{enumerate_from, range_with_len}
+use Rattle.lrc_lang.specs.declared.program.Program.{Program}
+use Rattle.lrc_trace.specs.declared.act.Act.{Act}
+use Rattle.lrc_envelope.specs.Envelope.{EnvelopeRecord}
+use Rattle.lrc_protocol.specs.Node.{fresh_node, Node, OptionsRecord}
+use Rattle.lrc_protocol.specs.Turn.{done, is_repeat, not_ready, Outcome, run_turn, take_turn, TurnRecord, unexpected, worn}
+use Rattle.lrc_protocol.specs.declared.event.Event.{Event}
+use Rattle.lrc_protocol.specs.declared.event.Event.TheVariants.{Deliver, Repeat, Run}
 
--- ---- closing the open interval
+-- ---- a node with its log
 
--- the index of the node's newest closed interval
-abbrev pub own_index : Node → ℕ
-own_index node = entry node.locks.time node.setting.me
+-- what makes a turn: the node is named, or a message is delivered
+pub data Input : Type 0 where
+  run : Input
+  taken : EnvelopeRecord → Input
 
--- the node once its open interval is closed: its clock ticks, and the interval is stored with the new time as its stamp
-abbrev pub closes : Node → Node
-closes node =
-    let locks = ticked node.setting.me node.locks in
-    record node { locks = locks; memory = with_interval node.setting.me locks.time node.memory }
+-- an input, the stamp of its turn, and the turn
+pub record EntryRecord : Type 0 where
+  pub input : Input
+  pub stamp : ℕ
+  pub turn : TurnRecord
 
--- closes the open interval and goes on; none where its index would be too large
-abbrev pub closing : Node → (Node → Effect) → Option Effect
-closing node go = if nat_lt (own_index node) MOST_NUMBER then Some (go (closes node)) else None
+-- a node, and its turns so far
+pub record Logged : Type 0 where
+  pub node : Node
+  pub log : List EntryRecord
 
--- ---- by what the thread does next
+-- the largest stamp
+abbrev pub MOST_STAMP : ℕ
+MOST_STAMP = 18446744073709551615
 
--- a hit makes the access at once; a miss asks for what the page needs and waits, where anything has to be asked
-abbrev pub reaches : Node → ℕ → Effect
-reaches node page =
-    if is_readable (copy_at node.memory page)
-    then acts [] node
-    else (let need = need_of node.setting.nodes node.memory page in waits_or_goes_on (requests_of need) node (access need))
+-- what comes of an input
+abbrev pub outcome_of : Node → Input → Outcome
+outcome_of node run = run_turn node
+outcome_of node (taken envelope) = take_turn node envelope
 
--- a free token here is taken with no message; else the node asks the manager and waits
-abbrev pub acquire_at : ℕ → Node → Effect
-acquire_at lock node =
-    if is_free (lock_at node.locks.held lock)
-    then acts [] (with_tokens node (taken node.locks.held lock))
-    else sends (request_of node lock ∷ []) (waiting (grant lock) (with_tokens node (asked node.locks.held lock)))
+-- the stamp of the newest turn, 0 before any
+abbrev pub last_stamp : List EntryRecord → ℕ
+last_stamp log = fold (λ before entry. entry.stamp) 0 log
 
--- a release keeps the time with the token, or grants the lock to the successor
-abbrev pub release_at : ℕ → Node → Effect
-release_at lock node =
-    let step = released node.locks.held lock node.locks.time in
-    acts (grants_of node (pass_of step)) (with_tokens node (held_after node.locks.held lock step))
+-- a turn's stamp: one more than the greater of the node's last one and of the one that came with the message
+abbrev pub next_stamp : List EntryRecord → ℕ → ℕ
+next_stamp log came = max (last_stamp log) came + 1
 
--- an arrival tells the manager, and waits for the departure
-abbrev pub arrive_at : Node → Effect
-arrive_at node =
-    acts (arrival_of node (node.barrier.episode + 1) ∷ [])
-    (waiting departure (with_barrier node (with_arrive (own_index node) node.barrier)))
+-- What comes of an input to a node with its log: the node with one entry more; nothing; or a number or stamp too large.
+pub data Logging : Type 0 where
+  logged : EntryRecord → Logged → Logging
+  refused : Logging
+  too_large : Logging
 
--- the effect of what a thread does next; none where a number would be too large. A trap closes nothing.
-abbrev pub run_effect : Node → Next → Option Effect
-run_effect node (reads word after) = Some (reaches node (page_of word node.options.size))
-run_effect node (writes word value after) = Some (reaches node (page_of word node.options.size))
-run_effect node (acquires lock after) = closing node (acquire_at lock)
-run_effect node (releases lock after) = closing node (release_at lock)
-run_effect node (arrives after) = closing node arrive_at
-run_effect node _ = Some (acts [] node)
+-- a turn with its stamp
+abbrev pub entered : Input → ℕ → List EntryRecord → TurnRecord → Node → Logging
+entered input stamp log turn node =
+    if nat_le stamp MOST_STAMP
+    then (let entry : EntryRecord = record { input = input; stamp = stamp; turn = turn } in logged entry (record { node = node; log = log ++ entry ∷ [] }))
+    else too_large
 
--- the node with the steps fewer that it costs to begin this
-abbrev pub charged : Node → Next → Node
-charged node next = record node { left = node.left - cost_of next }
+-- the log after an outcome
+abbrev pub logging : Input → ℕ → List EntryRecord → Outcome → Logging
+logging input stamp log (done turn node) = entered input stamp log turn node
+logging input stamp log not_ready = refused
+logging input stamp log unexpected = refused
+logging input stamp log worn = too_large
+
+-- an input to a node with its log; a message comes with the stamp of the turn that sent it, and a run with 0
+abbrev pub logs : Logged → Input → ℕ → Logging
+logs l input came = logging input (next_stamp l.log came) l.log (outcome_of l.node input)
+
+-- ---- the local view
+
+-- a node and its turns
+pub record Local : Type 0 where
+  pub node : Node
+  pub turns : List TurnRecord
+
+-- the same after one outcome more, if it is a turn
+abbrev pub local_after : List TurnRecord → Outcome → Option Local
+local_after turns (done turn node) = Some (record { node = node; turns = turns ++ turn ∷ [] })
+local_after turns not_ready = None
+local_after turns unexpected = None
+local_after turns worn = None
+
+-- the same after one input more
+abbrev pub local_step : Option Local → Input → Option Local
+local_step None input = None
+local_step (Some l) input = local_after l.turns (outcome_of l.node input)
+
+-- the turns of a node of a program after these inputs, and the node after them; none where one of them is no turn
+abbrev pub local : Program → ℕ → OptionsRecord → ℕ → List Input → Option Local
+local program nodes options me inputs =
+    fold local_step (Some (record { node = fresh_node program nodes options me; turns = [] })) inputs
+
+-- ---- all nodes
+
+-- a message in flight, with the stamp of the turn that sent it, and whether it was delivered already
+pub record Flying : Type 0 where
+  pub envelope : EnvelopeRecord
+  pub stamp : ℕ
+  pub delivered : Bool
+
+-- the nodes with their logs; the messages in flight, oldest first; the acts so far, and for each the time of its node just
+-- after it
+pub record World : Type 0 where
+  pub nodes : List Logged
+  pub flight : List Flying
+  pub acts : List Act
+  pub times : List (List ℕ)
+
+-- these nodes before their first turn
+abbrev pub world_of : List Node → World
+world_of nodes = record {
+  nodes = map (λ node. record { node = node; log = [] }) nodes;
+  flight = [];
+  acts = [];
+  times = [];
+}
+
+-- all nodes at the beginning of a program
+abbrev pub fresh_world : Program → ℕ → OptionsRecord → World
+fresh_world program nodes options = world_of (map (fresh_node program nodes options) (range_with_len 0 nodes))
+
+-- the messages of a turn, in flight
+abbrev pub sent_by : EntryRecord → List Flying
+sent_by entry = map (λ envelope. record { envelope = envelope; stamp = entry.stamp; delivered = false }) entry.turn.out
+
+-- the world after a node's turn, with the messages that were in flight when it made it
+abbrev pub with_turn : World → List Flying → ℕ → EntryRecord → Logged → World
+with_turn world flight n entry l = record {
+  nodes = slice_set world.nodes n l;
+  flight = flight ++ sent_by entry;
+  acts = world.acts ++ option_to_list entry.turn.act;
+  times = world.times ++ map (λ act. l.node.locks.time) (option_to_list entry.turn.act);
+}
+
+-- the world after what came of an input to a node: a refused one changes nothing, and none is left of a run where a number
+-- would be too large
+abbrev pub after_input : World → List Flying → ℕ → Logging → Option World
+after_input world flight n (logged entry l) = Some (with_turn world flight n entry l)
+after_input world flight n refused = Some world
+after_input world flight n too_large = None
+
+-- an input to a node, with the messages that are in flight then; nothing where there is no such node
+abbrev pub input_to : World → List Flying → ℕ → Input → ℕ → Option Logged → Option World
+input_to world flight n input stamp None = Some world
+input_to world flight n input stamp (Some l) = after_input world flight n (logs l input stamp)
+
+abbrev pub inputs : World → List Flying → ℕ → Input → ℕ → Option World
+inputs world flight n input stamp = input_to world flight n input stamp (slice_get world.nodes n)
+
+-- a message is delivered to its receiver, with the messages that are in flight then; nothing where there is none
+abbrev pub delivers : World → List Flying → Option Flying → Option World
+delivers world flight None = Some world
+delivers world flight (Some flying) = inputs world flight flying.envelope.to (taken flying.envelope) flying.stamp
+
+-- the message stays in flight, marked as delivered
+abbrev pub marked : Flying → Flying
+marked flying = record flying { delivered = true }
+
+-- the messages in flight, the one at a place marked
+abbrev pub with_mark : List Flying → ℕ → List Flying
+with_mark flight place = map (λ at. if at.0 == place then marked at.1 else at.1) (enumerate_from 0 flight)
+
+-- ---- events
+
+-- What an event does: one turn where it names a ready node, or a message in flight that its receiver takes; and nothing
+-- else. None where a number would be too large.
+abbrev pub event_on : World → Event → Option World
+event_on world (Run n) = inputs world world.flight n run 0
+event_on world (Deliver place) = delivers world (remove world.flight place) (slice_get world.flight place)
+event_on world (Repeat place) = delivers world (with_mark world.flight place) (slice_get world.flight place)
+
+-- the run goes on with one event more
+abbrev pub step_of : Option World → Event → Option World
+step_of None event = None
+step_of (Some world) event = event_on world event
+
+-- the run of these events from a world on
+abbrev pub played : World → List Event → Option World
+played world events = fold step_of (Some world) events
+
+-- the run of the events of a program on so many nodes; none where a number would be too large
+abbrev pub run_of : Program → ℕ → OptionsRecord → List Event → Option World
+run_of program nodes options events = played (fresh_world program nodes options) events
+
+-- ---- messages that are still to be taken
+
+-- whether its receiver has taken the message's number
+abbrev pub is_taken_in : World → Flying → Bool
+is_taken_in world flying =
+    unwrap_or (option_map (λ l. is_repeat l.node flying.envelope) (slice_get world.nodes flying.envelope.to)) false
+
+-- the messages that were sent and whose numbers their receivers have not taken. (What is delivered and taken leaves the
+-- flight, or stays there as a repeat.)
+abbrev pub pending : World → List EnvelopeRecord
+pending world = map (λ flying. flying.envelope) (filter (λ flying. not (is_taken_in world flying)) world.flight)

@@ -6,12 +6,10 @@ use Rattle.lrc_trace.specs.declared.act.Act.{Act}
 use Rattle.lrc_trace.specs.declared.act.Deed.{Deed}
 use Rattle.lrc_trace.specs.declared.act.Deed.TheVariants.{Read, Write}
 use Rattle.lrc_trace.specs.Trace.{TraceRecord, noted}
-use Rattle.lrc_protocol.specs.Locks.{next_time}
-use Rattle.lrc_protocol.specs.Node.{Node, OptionsRecord, fresh_node}
-use Rattle.lrc_protocol.specs.Run.{own_index}
+use Rattle.lrc_protocol.specs.Times.{next_time}
+use Rattle.lrc_protocol.specs.Node.{Node, OptionsRecord, fresh_node, own_index}
 use Rattle.lrc_protocol.specs.Turn.{Outcome, done, not_ready, unexpected, worn}
-use Rattle.lrc_protocol.specs.Log.{Input, EntryRecord, outcome_of}
-use Rattle.lrc_protocol.specs.World.{World}
+use Rattle.lrc_protocol.specs.Run.{Input, EntryRecord, outcome_of, World}
 use Rattle.lrc_protocol.specs.Follows.{inputs_of}
 
 -- the trace with an access more, which this node has just made: in the interval after its newest closed one, with the stamp

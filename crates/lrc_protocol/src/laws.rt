@@ -10,13 +10,11 @@ ghost use Rattle.lrc_envelope.specs.Envelope.{EnvelopeRecord};
 ghost use Rattle.lrc_plain_laws.specs.Follows.{deeds_of, FollowsText};
 ghost use Rattle.lrc_protocol.specs.declared.event.Event.{Event};
 ghost use Rattle.lrc_protocol.specs.declared.event.Event.TheVariants.{Run, Deliver, Repeat};
-ghost use Rattle.lrc_protocol.specs.Course.{going, trapped, ended, thread_of};
-ghost use Rattle.lrc_protocol.specs.Mail.{is_idle};
-ghost use Rattle.lrc_protocol.specs.Node.{Node, OptionsRecord};
-ghost use Rattle.lrc_protocol.specs.Turn.{TurnRecord, done, not_ready, unexpected, run_turn, take_turn, empty_turn, is_ready, is_addressed, is_repeat};
-ghost use Rattle.lrc_protocol.specs.Log.{Input, Logged, local, outcome_of};
+ghost use Rattle.lrc_protocol.specs.Node.{going, trapped, ended, thread_of, is_idle, Node, OptionsRecord};
+ghost use Rattle.lrc_protocol.specs.Turn.{TurnRecord, done, not_ready, unexpected, run_turn, take_turn, empty_turn, is_ready, is_addressed};
+ghost use Rattle.lrc_protocol.specs.Turn.{is_repeat};
+ghost use Rattle.lrc_protocol.specs.Run.{Input, Logged, local, outcome_of, World, Flying, event_on, run_of};
 ghost use Rattle.lrc_protocol.specs.Rules.{TurnRule};
-ghost use Rattle.lrc_protocol.specs.World.{World, Flying, event_on, run_of};
 ghost use Rattle.lrc_protocol.specs.Follows.{MakesTo, inputs_of, turns_of, deeds_in, numbers_to, sent_in};
 
 /// A node makes a turn exactly where one of the protocol's rules has it: where that rule's conditions hold, the turn and

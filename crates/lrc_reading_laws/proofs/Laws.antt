@@ -12,13 +12,9 @@ use Rattle.lrc_copies.specs.Stamps.{covered, IsBetween}
 use Rattle.lrc_envelope.specs.Envelope.{EnvelopeRecord}
 use Rattle.lrc_envelope.specs.Records.{PageReplyRecord}
 use Rattle.lrc_envelope.specs.declared.message.Message.TheVariants.{PageRequest, PageReply}
-use Rattle.lrc_protocol.specs.Copy.{written, is_readable, values_of}
-use Rattle.lrc_protocol.specs.Fetch.{Need, due}
-use Rattle.lrc_protocol.specs.Mail.{Wait, access, discard}
-use Rattle.lrc_protocol.specs.Memory.{copy_at}
-use Rattle.lrc_protocol.specs.Node.{Node, OptionsRecord}
-use Rattle.lrc_protocol.specs.Log.{Input, EntryRecord, Logged}
-use Rattle.lrc_protocol.specs.World.{World, Flying, with_turn, pending}
+use Rattle.lrc_protocol.specs.Pages.{written, is_readable, values_of, Need, due, copy_at}
+use Rattle.lrc_protocol.specs.Node.{Wait, access, discard, Node, OptionsRecord}
+use Rattle.lrc_protocol.specs.Run.{Input, EntryRecord, Logged, World, Flying, with_turn, pending}
 use Rattle.lrc_protocol.proofs.Worlds.{IsEntry}
 use Rattle.lrc_protocol.proofs.Induction.{Comes}
 use Rattle.lrc_order_laws.proofs.Reached.{IsReached}

@@ -5,7 +5,7 @@ use Rattle.lrc_envelope.specs.Envelope.{EnvelopeRecord}
 use Rattle.lrc_envelope.specs.Records.{IndexedChangesRecord}
 use Rattle.lrc_envelope.specs.declared.message.Message.{Message}
 use Rattle.lrc_envelope.specs.declared.message.Message.TheVariants.{ChangesRequest, ChangesReply, PageRequest, PageReply}
-use Rattle.lrc_protocol.specs.Fetch.{Need, awaits_changes, awaits_page}
+use Rattle.lrc_protocol.specs.Pages.{Need, awaits_changes, awaits_page}
 
 -- a base copy of a page; or the changes of a page that a maker's intervals with these indices made
 pub data Wish : Type 0 where

@@ -13,7 +13,7 @@ use Rattle.lrc_store.specs.declared.key.Key.{Key}
 use Rattle.lrc_store.specs.Store.{StoredRecord, notice_of, stored_at}
 use Rattle.lrc_copies.specs.Page.{PageHistory}
 use Rattle.lrc_copies.specs.Stamps.{Stamps, index_of, page_of_stamps}
-use Rattle.lrc_protocol.specs.Locks.{next_time}
+use Rattle.lrc_protocol.specs.Times.{next_time}
 use Rattle.lrc_protocol.specs.Node.{Node}
 
 -- ---- what was written

@@ -6,10 +6,9 @@ ghost use Rattle.lrc_envelope.specs.Envelope.{EnvelopeRecord};
 ghost use Rattle.lrc_envelope.specs.Records.{ArriveRecord, DepartRecord};
 ghost use Rattle.lrc_envelope.specs.declared.message.Message.TheVariants.{Arrive, Depart};
 ghost use Rattle.lrc_protocol.specs.declared.event.Event.{Event};
-ghost use Rattle.lrc_protocol.specs.Expected.{is_expected};
 ghost use Rattle.lrc_protocol.specs.Node.{OptionsRecord};
-ghost use Rattle.lrc_protocol.specs.Log.{Logged};
-ghost use Rattle.lrc_protocol.specs.World.{World, pending, run_of};
+ghost use Rattle.lrc_protocol.specs.Turn.{is_expected};
+ghost use Rattle.lrc_protocol.specs.Run.{Logged, World, pending, run_of};
 
 /// In every run each pending arrival would be accepted by its receiver now, the manager of barriers: it is the next of that node,
 /// and tells of just the node's own intervals above the last that came with an arrival and up to the node's time. (Keleher, Cox

@@ -7,8 +7,7 @@ ghost use Rattle.lrc_store.specs.Interval.{IntervalRecord};
 ghost use Rattle.lrc_store.specs.Store.{StoredRecord};
 ghost use Rattle.lrc_protocol.specs.declared.event.Event.{Event};
 ghost use Rattle.lrc_protocol.specs.Node.{OptionsRecord};
-ghost use Rattle.lrc_protocol.specs.Log.{Logged};
-ghost use Rattle.lrc_protocol.specs.World.{World, run_of};
+ghost use Rattle.lrc_protocol.specs.Run.{Logged, World, run_of};
 ghost use Rattle.lrc_reading_laws.specs.Made.{AreMade, StoresJust};
 ghost use Rattle.lrc_reading_laws.specs.Known.{AreKnown};
 

@@ -8,12 +8,10 @@ ghost use Rattle.lrc_envelope.specs.Envelope.{EnvelopeRecord};
 ghost use Rattle.lrc_envelope.specs.Records.{ChangesRequestRecord, ChangesReplyRecord, IndexedChangesRecord, PageReplyRecord};
 ghost use Rattle.lrc_envelope.specs.declared.message.Message.TheVariants.{ChangesRequest, ChangesReply, PageRequest, PageReply};
 ghost use Rattle.lrc_protocol.specs.declared.event.Event.{Event};
-ghost use Rattle.lrc_protocol.specs.Expected.{is_expected};
-ghost use Rattle.lrc_protocol.specs.Fetch.{Need, due, awaits_changes};
-ghost use Rattle.lrc_protocol.specs.Mail.{access, needs_of};
-ghost use Rattle.lrc_protocol.specs.Node.{OptionsRecord};
-ghost use Rattle.lrc_protocol.specs.Log.{Logged};
-ghost use Rattle.lrc_protocol.specs.World.{World, pending, run_of};
+ghost use Rattle.lrc_protocol.specs.Pages.{Need, due, awaits_changes};
+ghost use Rattle.lrc_protocol.specs.Node.{access, needs_of, OptionsRecord};
+ghost use Rattle.lrc_protocol.specs.Turn.{is_expected};
+ghost use Rattle.lrc_protocol.specs.Run.{Logged, World, pending, run_of};
 ghost use Rattle.lrc_reading_laws.specs.Requested.{Wish, asks_for, brings, awaits};
 
 /// In every run each thing that a node awaits of another for a page, a base copy of a keeper or the changes of a maker, is on its

@@ -10,7 +10,7 @@ ghost use Rattle.lrc_plain_laws.specs.Follows.{nodes_of};
 ghost use Rattle.lrc_plain_laws.specs.Racing.{HasNoRace, PlainToRace};
 ghost use Rattle.lrc_protocol.specs.declared.event.Event.{Event};
 ghost use Rattle.lrc_protocol.specs.Node.{OptionsRecord};
-ghost use Rattle.lrc_protocol.specs.World.{World, run_of};
+ghost use Rattle.lrc_protocol.specs.Run.{World, run_of};
 
 /// In every run, also one with races and with collections, each read is lazy: it gives 0 or the value of a write that happens
 /// before it; and where any two of the writes that happen before it are ordered, the value of the last of them, or 0 where

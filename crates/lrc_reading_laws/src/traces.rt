@@ -11,7 +11,7 @@ ghost use Rattle.lrc_race.specs.OfRun.{AreOfRun};
 ghost use Rattle.lrc_race.specs.Races.{AreTracesOf, IsRaceOf, RisesAlong};
 ghost use Rattle.lrc_protocol.specs.declared.event.Event.{Event};
 ghost use Rattle.lrc_protocol.specs.Node.{OptionsRecord};
-ghost use Rattle.lrc_protocol.specs.World.{World, run_of};
+ghost use Rattle.lrc_protocol.specs.Run.{World, run_of};
 ghost use Rattle.lrc_protocol.specs.Traced.{traces_of};
 
 /// In every run the traces that the nodes keep are those of the run: a segment for each interval with an access, with the stamp

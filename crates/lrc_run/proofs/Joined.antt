@@ -5,7 +5,7 @@ use Rattle.std.specs.Prelude.{slice_get}
 use Rattle.std.proofs.lemmas.List.{length-map, length_push, map-append}
 use Rattle.lrc_lang.specs.declared.program.Program.{Program}
 use Rattle.lrc_protocol.specs.Node.{OptionsRecord, fresh_node}
-use Rattle.lrc_protocol.specs.Log.{EntryRecord}
+use Rattle.lrc_protocol.specs.Run.{EntryRecord}
 use Rattle.lrc_weave.specs.Logs.{AreLogs}
 use Rattle.lrc_run.specs.declared.nodes.LogOf.{LogOf}
 use Rattle.lrc_run.specs.Threads.{AreFirstLogs, AreOwedFrom, IsOwed}

@@ -1,7 +1,7 @@
 -- Turns of a node, and the log that they leave.
 use Rattle.std.proofs.Common.{◌≡◌, ◌∙◌, ℕ, List, [], ◌∷◌, ◌++◌, refl, sym, ap, subst, append-nil, append_assoc}
 use Rattle.lrc_protocol.specs.Node.{Node}
-use Rattle.lrc_protocol.specs.Log.{Input, EntryRecord, Logged, logged, logs}
+use Rattle.lrc_protocol.specs.Run.{Input, EntryRecord, Logged, logged, logs}
 use Rattle.lrc_protocol.proofs.Worlds.{Entries, IsEntry, logs-entries}
 use Rattle.lrc_weave.specs.Logs.{MayCome, GoesOnBy}
 use Rattle.lrc_run.specs.Worker.{Turns, none, more, unmade}

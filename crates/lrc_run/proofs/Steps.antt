@@ -1,7 +1,7 @@
 -- Steps of a thread, one after another.
 use Rattle.std.proofs.Common.{◌≡◌, List, Result, Ok, Err, refl, subst}
 use Rattle.lrc_post.specs.declared.parcel.Parcel.{Parcel}
-use Rattle.lrc_protocol.specs.Log.{run, taken, Logged}
+use Rattle.lrc_protocol.specs.Run.{run, taken, Logged}
 use Rattle.lrc_node.specs.Logged.{LoggedNode, sound}
 use Rattle.lrc_run.specs.declared.stop.Stop.{Stop}
 use Rattle.lrc_run.specs.declared.stop.Stop.TheVariants.{Closed, Worn, NoMemory}

@@ -5,7 +5,7 @@ use Rattle.lrc_wire.specs.declared.fault.WireFault.{WireFault}
 use Rattle.lrc_envelope.specs.Envelope.{EnvelopeRecord}
 use Rattle.lrc_wire.specs.Reading.{envelope_of}
 use Rattle.lrc_post.specs.declared.parcel.Parcel.{Parcel}
-use Rattle.lrc_protocol.specs.Log.{Input, run, taken, EntryRecord, Logged, logged, refused, logs}
+use Rattle.lrc_protocol.specs.Run.{Input, run, taken, EntryRecord, Logged, logged, refused, logs}
 use Rattle.lrc_protocol.proofs.Worlds.{Entries, IsEntry, logs-entries}
 use Rattle.lrc_node.specs.Logged.{LoggedNode, sound, Logs, LogsTo}
 use Rattle.lrc_node.specs.declared.fault.NodeFault.{NodeFault}

@@ -6,8 +6,7 @@ use Rattle.lrc_post.specs.Mailbox.{MailboxRecord}
 use Rattle.lrc_post.specs.Post.{AreOf, AreWires}
 use Rattle.lrc_protocol.specs.declared.event.Event.{Event}
 use Rattle.lrc_protocol.specs.Node.{OptionsRecord}
-use Rattle.lrc_protocol.specs.Log.{EntryRecord}
-use Rattle.lrc_protocol.specs.World.{Flying}
+use Rattle.lrc_protocol.specs.Run.{EntryRecord, Flying}
 use Rattle.lrc_weave.specs.declared.fault.WeaveFault.{WeaveFault}
 use Rattle.lrc_weave.specs.declared.fault.WeaveFault.TheVariants as weaving
 use Rattle.lrc_weave.specs.Matched.{AreMatched}

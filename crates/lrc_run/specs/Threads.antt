@@ -2,7 +2,7 @@
 use Rattle.std.specs.Prelude.{◌≡◌, ℕ, ◌+◌, Some, List, slice_get}
 use Rattle.lrc_lang.specs.declared.program.Program.{Program}
 use Rattle.lrc_protocol.specs.Node.{OptionsRecord, fresh_node}
-use Rattle.lrc_protocol.specs.Log.{EntryRecord}
+use Rattle.lrc_protocol.specs.Run.{EntryRecord}
 use Rattle.lrc_run.specs.declared.nodes.LogOf.{LogOf}
 use Rattle.lrc_run.specs.Worker.{IsLogOf}
 

@@ -6,7 +6,7 @@ use Rattle.lrc_wire.specs.Reading.{envelope_of}
 use Rattle.lrc_post.specs.declared.parcel.Wire.{Wire}
 use Rattle.lrc_post.specs.declared.parcel.Wire.TheVariants.{Put, Took}
 use Rattle.lrc_post.specs.Mailbox.{MailboxRecord}
-use Rattle.lrc_protocol.specs.Log.{Input, run, taken, EntryRecord}
+use Rattle.lrc_protocol.specs.Run.{Input, run, taken, EntryRecord}
 use Rattle.lrc_weave.specs.Matched.{place_taken}
 
 -- a message was taken in a turn

@@ -8,7 +8,7 @@ use Rattle.lrc_post.specs.declared.fault.PostFault.TheVariants as PostFaults
 use Rattle.lrc_post.specs.declared.parcel.Parcel.{Parcel}
 use Rattle.lrc_protocol.specs.Node.{Node}
 use Rattle.lrc_protocol.specs.Turn.{is_ready}
-use Rattle.lrc_protocol.specs.Log.{Input, run, taken, EntryRecord, Logged, logged, refused, logs}
+use Rattle.lrc_protocol.specs.Run.{Input, run, taken, EntryRecord, Logged, logged, refused, logs}
 use Rattle.lrc_node.specs.Logged.{LoggedNode, sound}
 use Rattle.lrc_node.specs.declared.fault.NodeFault.{NodeFault}
 use Rattle.lrc_node.specs.declared.fault.NodeFault.TheVariants as NodeFaults

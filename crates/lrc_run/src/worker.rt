@@ -1,8 +1,8 @@
 // One node's thread.
 
 ghost use Rattle.std.specs.Prelude.{List, ◌≡◌, ◌++◌, ◌∷◌, [], IfOk, OnOk, Ok, map, MatchOption, is_err, true, false, IfErr, IfSome, IfNone};
-ghost use Rattle.lrc_protocol.specs.Log as log;
-ghost use Rattle.lrc_protocol.specs.Log.{EntryRecord};
+ghost use Rattle.lrc_protocol.specs.Run as log;
+ghost use Rattle.lrc_protocol.specs.Run.{EntryRecord};
 ghost use Rattle.lrc_node.specs.Logged.{sound};
 ghost use Rattle.lrc_wire.specs.Reading.{envelope_of};
 ghost use Rattle.lrc_run.specs.declared.stop.Stop.TheVariants.{NoMemory};

@@ -6,7 +6,7 @@ use Rattle.std.specs.declared.alloc.Global.{Global}
 use Rattle.std.proofs.lemmas.List.{map_more}
 use Rattle.std.proofs.lemmas.List.Sums.{sum_by-append}
 use Rattle.std.proofs.lemmas.List.Concat.{flat_map-append}
-use Rattle.lrc_protocol.specs.Log.{EntryRecord}
+use Rattle.lrc_protocol.specs.Run.{EntryRecord}
 
 abbrev pub Log : Type 0
 Log = Vec EntryRecord Global

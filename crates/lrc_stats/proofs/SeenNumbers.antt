@@ -8,7 +8,7 @@ use Rattle.std.proofs.lemmas.List.{get_or-set_same, get_or-set_other, get_or_def
 use Rattle.std.proofs.lemmas.List.Folds.{list_any-append}
 use Rattle.lrc_store.specs.Order.{placed}
 use Rattle.lrc_envelope.specs.Envelope.{EnvelopeRecord}
-use Rattle.lrc_protocol.specs.Log.{EntryRecord, Input, run, taken}
+use Rattle.lrc_protocol.specs.Run.{EntryRecord, Input, run, taken}
 use Rattle.lrc_stats.specs.Learned.{is_taking, takes_repeat, took}
 use Rattle.lrc_stats.specs.Seen.{HasSeen, has_seen}
 use Rattle.lrc_stats.specs.declared.seen.Seen.{Seen}

@@ -4,7 +4,7 @@ use Rattle.std.proofs.Common.{length, take, get_or}
 use Rattle.std.specs.Prelude.{count_by, sum_by}
 use Rattle.std.proofs.lemmas.List.{length_push}
 use Rattle.std.proofs.lemmas.List.Sums.{fold_more, sum_by-append}
-use Rattle.lrc_protocol.specs.Log.{EntryRecord}
+use Rattle.lrc_protocol.specs.Run.{EntryRecord}
 use Rattle.lrc_stats.specs.Learned.{IsLearned, a_repeat, brought, brought_after, discards, first_takings, interval_count}
 use Rattle.lrc_stats.specs.Learned.{takes_repeat, notice_count, nothing, together, with_entry}
 use Rattle.lrc_stats.specs.declared.learned.Learned.{Learned}

@@ -5,7 +5,7 @@ use Rattle.std.specs.List.{list_any}
 use Rattle.lrc_store.specs.Interval.{IntervalRecord}
 use Rattle.lrc_envelope.specs.declared.message.Message.{Message}
 use Rattle.lrc_envelope.specs.declared.message.Message.TheVariants.{LockGrant, Depart, Discard}
-use Rattle.lrc_protocol.specs.Log.{EntryRecord, Input, run, taken}
+use Rattle.lrc_protocol.specs.Run.{EntryRecord, Input, run, taken}
 use Rattle.lrc_stats.specs.declared.learned.Learned.{Learned}
 
 -- a turn takes the message with this number from this node

@@ -1,7 +1,7 @@
 -- The numbers of the messages that turns took, by their senders.
 use Rattle.std.specs.Prelude.{◌≡◌, ℕ, ◌==◌, Bool, false, List, [], slice_index_or}
 use Rattle.std.specs.List.{list_any}
-use Rattle.lrc_protocol.specs.Log.{EntryRecord, Input, run, taken}
+use Rattle.lrc_protocol.specs.Run.{EntryRecord, Input, run, taken}
 use Rattle.lrc_stats.specs.declared.seen.Seen.{Seen}
 use Rattle.lrc_stats.specs.Learned.{took}
 

@@ -1,7 +1,7 @@
 -- The counts of a run in words, a line for each.
 use Rattle.std.specs.Prelude.{ℕ, ◌-◌, ◌==◌, List, ◌++◌, codes, decimal, if◌then◌else◌}
 use Rattle.std.specs.List.{flat_map, range_with_len}
-use Rattle.lrc_protocol.specs.Log.{EntryRecord}
+use Rattle.lrc_protocol.specs.Run.{EntryRecord}
 use Rattle.lrc_stats.specs.declared.sent.Sent.{Sent}
 use Rattle.lrc_stats.specs.declared.sent.Wanted.{Wanted}
 use Rattle.lrc_stats.specs.declared.sent.Wanted.TheVariants.{Kind, Each, ToItself}

@@ -6,7 +6,7 @@ use Rattle.lrc_trace.specs.declared.act.Deed.{Deed}
 use Rattle.lrc_trace.specs.declared.act.Deed.TheVariants.{Quiet, Print, Read, Write, Acquire, Release, Arrive, Depart, Trap, End}
 use Rattle.lrc_envelope.specs.declared.message.Message.{Message}
 use Rattle.lrc_envelope.specs.declared.message.Message.TheVariants.{ChangesRequest, PageRequest}
-use Rattle.lrc_protocol.specs.Log.{EntryRecord, Input, run, taken}
+use Rattle.lrc_protocol.specs.Run.{EntryRecord, Input, run, taken}
 
 -- how many turns the nodes made, and how many of these pass a test
 abbrev pub turn_count : List (List EntryRecord) → ℕ

@@ -1,7 +1,7 @@
 // What messages brought, each counted once.
 
 ghost use Rattle.std.specs.Prelude.{◌≡◌, IfOk, List, length, map, sum_by};
-ghost use Rattle.lrc_protocol.specs.Log.{EntryRecord};
+ghost use Rattle.lrc_protocol.specs.Run.{EntryRecord};
 ghost use Rattle.lrc_stats.specs.Learned.{IsLearned, brought, brought_after, collections, discards, intervals_told, is_discard};
 ghost use Rattle.lrc_stats.specs.Learned.{learned_intervals, learned_notices, repeats, told, with_entry};
 ghost use Rattle.lrc_stats.specs.Seen.{HasSeen};

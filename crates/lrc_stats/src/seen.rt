@@ -16,7 +16,7 @@ pub(crate) struct Seen {
 }
 
 impl Seen {
-    ghost use Rattle.lrc_protocol.specs.Log.{EntryRecord};
+    ghost use Rattle.lrc_protocol.specs.Run.{EntryRecord};
     ghost use Rattle.lrc_stats.specs.Seen.{HasSeen, has_seen};
 
     /// None.

@@ -6,7 +6,7 @@ ghost use Rattle.lrc_lang.specs.declared.program.Program.{Program};
 ghost use Rattle.lrc_clock.specs.Keeping.{KeepsTime};
 ghost use Rattle.lrc_protocol.specs.declared.event.Event.{Event};
 ghost use Rattle.lrc_protocol.specs.Node.{OptionsRecord};
-ghost use Rattle.lrc_protocol.specs.World.{World, run_of};
+ghost use Rattle.lrc_protocol.specs.Run.{World, run_of};
 
 /// Of every run's acts each is of one of the nodes, and what `times_of_acts` answers for them are the times that the nodes have just
 /// after their acts.

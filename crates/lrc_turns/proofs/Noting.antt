@@ -8,7 +8,7 @@ use Rattle.std.proofs.lemmas.List.Folds.{list_any-append}
 use Rattle.std.proofs.lemmas.List.Sums.{sum_by-append}
 use Rattle.std.proofs.lemmas.List.{get_or-replicate}
 use Rattle.lrc_envelope.specs.Envelope.{EnvelopeRecord}
-use Rattle.lrc_protocol.specs.Log.{EntryRecord, Input, run, taken}
+use Rattle.lrc_protocol.specs.Run.{EntryRecord, Input, run, taken}
 use Rattle.lrc_turns.specs.declared.told.Told.{Told}
 use Rattle.lrc_turns.specs.Told.{Tells, holds_input, holds_key}
 use Rattle.lrc_turns.specs.Turns.{Made, made_by}

@@ -4,7 +4,7 @@ use Rattle.std.proofs.Common.{sym, append_assoc, append-nil, fold, map, zero, su
 use Rattle.std.specs.Prelude.{Some, None, Result, Ok, Err, OnOk, slice_get}
 use Rattle.std.proofs.lemmas.Option.{same_Some}
 use Rattle.std.proofs.lemmas.List.{take_more}
-use Rattle.lrc_protocol.specs.Log.{EntryRecord}
+use Rattle.lrc_protocol.specs.Run.{EntryRecord}
 use Rattle.lrc_turns.specs.Turns.{Made, log_entry, made_by, next, turns_of}
 use Rattle.lrc_turns.specs.TurnsText.{text_behind, texts_behind}
 

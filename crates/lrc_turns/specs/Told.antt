@@ -1,7 +1,7 @@
 -- What the code keeps of the turns that were told.
 use Rattle.std.specs.Prelude.{◌≡◌, ℕ, ◌<◌, ◌==◌, ◌&&◌, Bool, false, List, slice_index}
 use Rattle.std.specs.List.{list_any}
-use Rattle.lrc_protocol.specs.Log.{Input, run, taken}
+use Rattle.lrc_protocol.specs.Run.{Input, run, taken}
 use Rattle.lrc_turns.specs.declared.told.Told.{Told}
 use Rattle.lrc_turns.specs.Turns.{Made, made_by}
 use Rattle.lrc_turns.specs.TurnsText.{acts_in, has_taken}

@@ -3,7 +3,7 @@ use Rattle.std.specs.Prelude.{ℕ, ◌==◌, ◌&&◌, Bool, false, Option, None
 use Rattle.std.specs.List.{count_by, list_any}
 use Rattle.lrc_trace.specs.declared.act.Act.{Act}
 use Rattle.lrc_text.specs.ActText.{act_line}
-use Rattle.lrc_protocol.specs.Log.{Input, run, taken, EntryRecord}
+use Rattle.lrc_protocol.specs.Run.{Input, run, taken, EntryRecord}
 use Rattle.lrc_messages.specs.TurnText.{sent_texts, taken_text}
 use Rattle.lrc_turns.specs.Turns.{Made, turns_of}
 

@@ -12,8 +12,7 @@ use Rattle.std.proofs.Math.Seq.{drop-length}
 use Rattle.lrc_envelope.specs.Envelope.{EnvelopeRecord}
 use Rattle.lrc_post.specs.declared.parcel.Wire.{Wire}
 use Rattle.lrc_post.specs.declared.parcel.Wire.TheVariants.{Put, Took}
-use Rattle.lrc_protocol.specs.Log.{Input, run, taken, EntryRecord, last_stamp}
-use Rattle.lrc_protocol.specs.World.{Flying, sent_by}
+use Rattle.lrc_protocol.specs.Run.{Input, run, taken, EntryRecord, last_stamp, Flying, sent_by}
 use Rattle.lrc_weave.specs.Logs.{all_sent, sent_to}
 use Rattle.lrc_weave.specs.Matched.{message_of, is_put_by, puts_by, message_if, message_at, takes_in, Takes, takes_none, takes_not, takes_one, IsMatched}
 use Rattle.lrc_weave.specs.Compared.{sent_as, only_to, sends_to, is_by_node, AreByNodes, ArePuts, AreNext, IsNextTake, IsTakenAs, taken_in, Leaves, IsLeft}

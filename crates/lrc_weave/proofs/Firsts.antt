@@ -8,7 +8,7 @@ use Rattle.std.proofs.Math.Seq.{take-length}
 use Rattle.std.proofs.lemmas.List.{length-drop}
 use Rattle.std.proofs.lemmas.List.Quantifiers.{position-Some}
 use Rattle.lrc_post.specs.declared.parcel.Wire.{Wire}
-use Rattle.lrc_protocol.specs.World.{Flying}
+use Rattle.lrc_protocol.specs.Run.{Flying}
 use Rattle.lrc_weave.specs.Matched.{message_of, is_put_by, puts_by, place_taken}
 use Rattle.lrc_weave.specs.Compared.{AreNext, IsNextTake, is_take}
 

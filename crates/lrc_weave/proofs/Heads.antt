@@ -2,7 +2,7 @@
 use Rattle.std.proofs.Common.{◌≡◌, ℕ, zero, suc, ◌+◌, ◌<◌, ◌≤◌, inl, inr, Bool, true, false, List, length, refl, ap, subst, arith}
 use Rattle.std.specs.Prelude.{Option, Some, None, option_map, nat_le, cond}
 use Rattle.std.proofs.lemmas.Bool.{cases_eq, leb-true, leb-false}
-use Rattle.lrc_protocol.specs.Log.{EntryRecord}
+use Rattle.lrc_protocol.specs.Run.{EntryRecord}
 use Rattle.lrc_weave.specs.declared.order.Head.{Head}
 use Rattle.lrc_weave.specs.Woven.{IsUpTo, come_of, next_entry}
 use Rattle.lrc_weave.specs.Next.{earlier_of, IsBest, IsNextOf}

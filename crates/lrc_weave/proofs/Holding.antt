@@ -11,8 +11,7 @@ use Rattle.lrc_envelope.specs.Envelope.{EnvelopeRecord}
 use Rattle.lrc_post.specs.Mailbox.{MailboxRecord}
 use Rattle.lrc_protocol.specs.declared.event.Event.{Event}
 use Rattle.lrc_protocol.specs.Node.{OptionsRecord}
-use Rattle.lrc_protocol.specs.Log.{taken, EntryRecord, next_stamp}
-use Rattle.lrc_protocol.specs.World.{Flying, marked, sent_by}
+use Rattle.lrc_protocol.specs.Run.{taken, EntryRecord, next_stamp, Flying, marked, sent_by}
 use Rattle.lrc_weave.specs.Logs.{AreLogs}
 use Rattle.lrc_weave.specs.Matched.{AreMatched}
 use Rattle.lrc_weave.specs.Woven.{IsUpTo, log_of, come_of, next_entry, IsNext, takes_same, is_taken_among, IsTakenAt, Makes, runs, takes_last, takes_again}

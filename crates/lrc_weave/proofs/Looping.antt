@@ -7,7 +7,7 @@ use Rattle.std.proofs.Math.Seq.{take-length}
 use Rattle.lrc_envelope.specs.Envelope.{EnvelopeRecord}
 use Rattle.lrc_post.specs.declared.parcel.Wire.{Wire}
 use Rattle.lrc_post.specs.Mailbox.{MailboxRecord}
-use Rattle.lrc_protocol.specs.Log.{Input, EntryRecord}
+use Rattle.lrc_protocol.specs.Run.{Input, EntryRecord}
 use Rattle.lrc_weave.specs.Logs.{sent_to}
 use Rattle.lrc_weave.specs.Matched.{puts_by, takes_in, Takes, IsMatched, AreMatched}
 use Rattle.lrc_weave.specs.Compared.{sends_to, ArePuts, AreNext, taken_in, IsLeft}

@@ -7,8 +7,7 @@ use Rattle.lrc_envelope.specs.Envelope.{EnvelopeRecord}
 use Rattle.lrc_post.specs.declared.parcel.Wire.{Wire}
 use Rattle.lrc_post.specs.declared.parcel.Wire.TheVariants.{Put, Took}
 use Rattle.lrc_post.specs.Mailbox.{MailboxRecord}
-use Rattle.lrc_protocol.specs.Log.{Input, run, taken, EntryRecord, next_stamp}
-use Rattle.lrc_protocol.specs.World.{Flying, sent_by}
+use Rattle.lrc_protocol.specs.Run.{Input, run, taken, EntryRecord, next_stamp, Flying, sent_by}
 use Rattle.lrc_weave.specs.Logs.{all_sent, sent_to}
 use Rattle.lrc_weave.specs.Matched.{message_of, is_put_by, puts_by, place_taken, message_if, message_at, Takes}
 use Rattle.lrc_weave.specs.Matched.{takes_none, takes_not, takes_one, IsMatched, AreMatched}

@@ -12,9 +12,9 @@ use Rattle.lrc_lang.specs.declared.program.Program.{Program}
 use Rattle.lrc_protocol.specs.declared.event.Event.{Event}
 use Rattle.lrc_protocol.specs.Node.{Node, OptionsRecord, fresh_node}
 use Rattle.lrc_protocol.specs.Turn.{TurnRecord, Outcome, done, not_ready, unexpected, worn}
-use Rattle.lrc_protocol.specs.Log.{Input, run, taken, EntryRecord, Logged, logged, too_large, logs as logs', logging, next_stamp, outcome_of, MOST_STAMP}
-use Rattle.lrc_protocol.specs.World.{World, Flying, fresh_world, with_turn, with_mark, sent_by, inputs}
-use Rattle.lrc_protocol.specs.World.{input_to, after_input, delivers, event_on, step_of, run_of}
+use Rattle.lrc_protocol.specs.Run.{Input, run, taken, EntryRecord, Logged, logged, too_large, logs as logs', logging, next_stamp, outcome_of}
+use Rattle.lrc_protocol.specs.Run.{MOST_STAMP, World, Flying, fresh_world, with_turn, with_mark, sent_by, inputs, input_to, after_input}
+use Rattle.lrc_protocol.specs.Run.{delivers, event_on, step_of, run_of}
 use Rattle.lrc_protocol.proofs.Worlds.{get_set_same, get_set_other}
 use Rattle.lrc_weave.specs.Logs.{GoesOnBy, MayCome, AreLogs}
 use Rattle.lrc_weave.specs.Woven.{log_of, come_of, next_entry, IsTakenAt, Makes, runs, takes_last, takes_again, Woven, nothing_yet, then_one, AreWoven}

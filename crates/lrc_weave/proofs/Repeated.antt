@@ -8,7 +8,7 @@ use Rattle.std.proofs.Math.Seq.{drop-length}
 use Rattle.std.proofs.lemmas.Option.{slice_get-get_or, slice_get_within, slice_get_read, same_Some}
 use Rattle.lrc_envelope.specs.Envelope.{EnvelopeRecord}
 use Rattle.lrc_protocol.specs.declared.event.Event.{Event}
-use Rattle.lrc_protocol.specs.Log.{Input, run, taken, EntryRecord}
+use Rattle.lrc_protocol.specs.Run.{Input, run, taken, EntryRecord}
 use Rattle.lrc_weave.specs.declared.events.MessageName.{MessageName}
 use Rattle.lrc_weave.specs.Woven.{takes_same, is_taken_among}
 use Rattle.lrc_weave.specs.Again.{has_key, is_noted, is_again, AreAgain, AreAllAgain}

@@ -3,7 +3,7 @@ use Rattle.std.proofs.Common.{◌≡◌, ℕ, zero, suc, ◌<◌, ◌≤◌, Lis
 use Rattle.std.specs.Prelude.{Some, slice_get}
 use Rattle.std.proofs.Math.Nat.{le-max_left, le-max_right}
 use Rattle.std.proofs.lemmas.Grind.{fold-append}
-use Rattle.lrc_protocol.specs.Log.{EntryRecord, Logged, last_stamp, next_stamp}
+use Rattle.lrc_protocol.specs.Run.{EntryRecord, Logged, last_stamp, next_stamp}
 use Rattle.lrc_weave.specs.Logs.{GoesOnBy}
 use Rattle.lrc_weave.proofs.Played.{IsLogged, is_logged}
 

@@ -10,7 +10,7 @@ use Rattle.lrc_wire.specs.Runs.{runs_of}
 use Rattle.lrc_wire.specs.Reading.{envelope_of}
 use Rattle.lrc_wire.specs.Spelling.{Spells, body}
 use Rattle.lrc_wire.proofs.Envelopes.{envelope_again, only_spelling, plain}
-use Rattle.lrc_protocol.specs.World.{Flying}
+use Rattle.lrc_protocol.specs.Run.{Flying}
 use Rattle.lrc_weave.specs.Matched.{read_with}
 use Rattle.lrc_weave.specs.Compared.{sent_as, IsTakenAs}
 

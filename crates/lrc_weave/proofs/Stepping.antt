@@ -14,8 +14,8 @@ use Rattle.lrc_post.specs.Mailbox.{MailboxRecord}
 use Rattle.lrc_protocol.specs.declared.event.Event.{Event}
 use Rattle.lrc_protocol.specs.Node.{OptionsRecord}
 use Rattle.lrc_protocol.specs.Turn.{Outcome, unexpected, is_addressed, is_repeat, take_anew, empty_turn, done}
-use Rattle.lrc_protocol.specs.Log.{Input, run, taken, EntryRecord, Logged, logged, logs as logs', logging, next_stamp}
-use Rattle.lrc_protocol.specs.World.{Flying, marked, with_mark, sent_by}
+use Rattle.lrc_protocol.specs.Run.{Input, run, taken, EntryRecord, Logged, logged, logs as logs', logging, next_stamp, Flying, marked}
+use Rattle.lrc_protocol.specs.Run.{with_mark, sent_by}
 use Rattle.lrc_order_laws.specs.Numbers.{numbers_between, Rises}
 use Rattle.lrc_order_laws.proofs.InFlight.{Sends, all_send}
 use Rattle.lrc_weave.specs.declared.events.MessageName.{MessageName}

@@ -8,8 +8,7 @@ use Rattle.lrc_post.specs.Mailbox.{MailboxRecord}
 use Rattle.lrc_protocol.specs.declared.event.Event.{Event}
 use Rattle.lrc_protocol.specs.declared.event.Event.TheVariants.{Run, Deliver, Repeat}
 use Rattle.lrc_protocol.specs.Node.{OptionsRecord}
-use Rattle.lrc_protocol.specs.Log.{Input, run, taken, EntryRecord}
-use Rattle.lrc_protocol.specs.World.{Flying, sent_by, with_mark}
+use Rattle.lrc_protocol.specs.Run.{Input, run, taken, EntryRecord, Flying, sent_by, with_mark}
 use Rattle.lrc_weave.specs.Logs.{AreLogs}
 use Rattle.lrc_weave.specs.Matched.{AreMatched}
 use Rattle.lrc_weave.specs.Woven.{log_of, come_of, next_entry, IsNext, is_taken_among, IsTakenAt, Makes, runs}

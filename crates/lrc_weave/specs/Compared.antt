@@ -4,8 +4,7 @@ use Rattle.std.specs.Prelude.{◌++◌, map, max, filter, filter_map, is_some, n
 use Rattle.lrc_envelope.specs.Envelope.{EnvelopeRecord}
 use Rattle.lrc_post.specs.declared.parcel.Wire.{Wire}
 use Rattle.lrc_post.specs.declared.parcel.Wire.TheVariants.{Put, Took}
-use Rattle.lrc_protocol.specs.Log.{Input, run, taken, EntryRecord}
-use Rattle.lrc_protocol.specs.World.{Flying}
+use Rattle.lrc_protocol.specs.Run.{Input, run, taken, EntryRecord, Flying}
 use Rattle.lrc_weave.specs.Logs.{sent_to}
 use Rattle.lrc_weave.specs.Matched.{puts_by, place_taken, message_at}
 

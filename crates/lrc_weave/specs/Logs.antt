@@ -2,8 +2,7 @@
 use Rattle.std.specs.Prelude.{◌≡◌, ℕ, ◌==◌, Some, List, [], ◌∷◌, length, filter, flat_map, slice_get}
 use Rattle.lrc_lang.specs.declared.program.Program.{Program}
 use Rattle.lrc_protocol.specs.Node.{OptionsRecord, fresh_node}
-use Rattle.lrc_protocol.specs.Log.{Input, run, taken, EntryRecord, Logged, logged, logs}
-use Rattle.lrc_protocol.specs.World.{Flying, sent_by}
+use Rattle.lrc_protocol.specs.Run.{Input, run, taken, EntryRecord, Logged, logged, logs, Flying, sent_by}
 
 -- the stamp with which an input may come: a message comes with that of some turn, and a run with 0
 abbrev pub MayCome : Input → ℕ → Type 0

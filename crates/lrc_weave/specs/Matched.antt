@@ -7,8 +7,7 @@ use Rattle.lrc_wire.specs.Reading.{envelope_of}
 use Rattle.lrc_post.specs.declared.parcel.Wire.{Wire}
 use Rattle.lrc_post.specs.declared.parcel.Wire.TheVariants.{Put, Took}
 use Rattle.lrc_post.specs.Mailbox.{MailboxRecord}
-use Rattle.lrc_protocol.specs.Log.{run, taken, EntryRecord, next_stamp}
-use Rattle.lrc_protocol.specs.World.{Flying}
+use Rattle.lrc_protocol.specs.Run.{run, taken, EntryRecord, next_stamp, Flying}
 use Rattle.lrc_weave.specs.Logs.{sent_to}
 
 -- a message that was read, with its stamp

@@ -1,6 +1,6 @@
 -- Whose turn is next.
 use Rattle.std.specs.Prelude.{◌≡◌, ℕ, ◌<◌, Option, Some, None, List, nat_le, if◌then◌else◌}
-use Rattle.lrc_protocol.specs.Log.{EntryRecord}
+use Rattle.lrc_protocol.specs.Run.{EntryRecord}
 use Rattle.lrc_weave.specs.declared.order.Head.{Head}
 use Rattle.lrc_weave.specs.Woven.{IsUpTo, next_entry, IsNext}
 

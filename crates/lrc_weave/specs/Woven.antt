@@ -5,8 +5,7 @@ use Rattle.std.specs.List.{list_any}
 use Rattle.lrc_envelope.specs.Envelope.{EnvelopeRecord}
 use Rattle.lrc_protocol.specs.declared.event.Event.{Event}
 use Rattle.lrc_protocol.specs.declared.event.Event.TheVariants.{Run, Deliver, Repeat}
-use Rattle.lrc_protocol.specs.Log.{Input, run, taken, EntryRecord, next_stamp}
-use Rattle.lrc_protocol.specs.World.{Flying, sent_by, with_mark}
+use Rattle.lrc_protocol.specs.Run.{Input, run, taken, EntryRecord, next_stamp, Flying, sent_by, with_mark}
 
 -- a stamp and its node come before another stamp and its node, or are the same
 abbrev pub IsUpTo : ℕ → ℕ → ℕ → ℕ → Type 0

@@ -2,7 +2,7 @@
 
 ghost use Rattle.std.specs.Prelude.{◌≡◌, ◌<◌, ◌∷◌, ◌↔◌, [], IfOk, IsTrue, Some, length, map};
 ghost use Rattle.lrc_node.specs.Logged.{seen_input};
-ghost use Rattle.lrc_protocol.specs.Log.{taken};
+ghost use Rattle.lrc_protocol.specs.Run.{taken};
 ghost use Rattle.lrc_weave.specs.Compared.{AreByNodes, AreNext, ArePuts, IsLeft, only_to, sends_to, sent_as, taken_in};
 ghost use Rattle.lrc_weave.specs.Logs.{sent_to};
 ghost use Rattle.lrc_weave.specs.Matched.{AreMatched, IsMatched, Takes, puts_by, takes_in};

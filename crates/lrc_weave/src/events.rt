@@ -2,7 +2,7 @@
 
 ghost use Rattle.std.specs.Prelude.{◌≡◌, ◌<◌, ◌≤◌, ◌++◌, Err, IfOk, OnOk, length, map, position};
 ghost use Rattle.lrc_node.specs.Logged.{seen_input};
-ghost use Rattle.lrc_protocol.specs.Log.{taken};
+ghost use Rattle.lrc_protocol.specs.Run.{taken};
 ghost use Rattle.lrc_weave.specs.declared.fault.WeaveFault.TheVariants.{Mismatch};
 ghost use Rattle.lrc_weave.specs.Again.{AreAgain};
 ghost use Rattle.lrc_weave.specs.Events.{has_name, message_name, IsMadeByEvent, IsTakenFrom, IsTurnOf, IsUnsent, LacksMessage};

@@ -11,7 +11,7 @@ use Rattle.std.proofs.lemmas.Option.{slice_get-get_or, slice_get-map}
 use Rattle.lrc_trace.proofs.Positions.{slice_get-front}
 use Rattle.lrc_protocol.specs.declared.event.Event.{Event}
 use Rattle.lrc_protocol.specs.declared.event.Event.TheVariants as events
-use Rattle.lrc_protocol.specs.World.{World as Run}
+use Rattle.lrc_protocol.specs.Run.{World as Run}
 use Rattle.lrc_world.specs.declared.report.SimFault.{SimFault}
 use Rattle.lrc_world.specs.declared.report.TheConstants.{MOST_EVENTS}
 use Rattle.lrc_world.specs.declared.rounds.Driver.{Driver}

@@ -4,9 +4,10 @@ use Rattle.std.proofs.Common.{refl, sym, ap, subst, map, option_map}
 use Rattle.std.specs.Prelude.{max, nat_le, slice_get, slice_set, if◌then◌else◌}
 use Rattle.std.specs.List.{list_any}
 use Rattle.std.specs.Option.{option_map_or}
-use Rattle.lrc_protocol.specs.Log.{Input, EntryRecord, Logged, Logging, logged, refused, too_large, logging, logs, last_stamp, next_stamp, outcome_of, MOST_STAMP}
 use Rattle.lrc_protocol.specs.Node.{Node}
 use Rattle.lrc_protocol.specs.Turn.{Outcome, done, not_ready, unexpected, worn, is_ready}
+use Rattle.lrc_protocol.specs.Run.{Input, EntryRecord, Logged, Logging, logged, refused, too_large, logging, logs, last_stamp, next_stamp}
+use Rattle.lrc_protocol.specs.Run.{outcome_of, MOST_STAMP}
 use Rattle.lrc_node.specs.Logged.{TracedLog, newest}
 use Rattle.lrc_node.specs.declared.fault.NodeFault.{NodeFault}
 use Rattle.lrc_node.specs.declared.fault.NodeFault.TheVariants as NodeFaults

@@ -10,8 +10,7 @@ use Rattle.lrc_envelope.specs.declared.picker.Picker.{Picker}
 use Rattle.lrc_protocol.specs.declared.event.Event.{Event}
 use Rattle.lrc_protocol.specs.declared.event.Event.TheVariants as events
 use Rattle.lrc_protocol.specs.Turn.{is_ready}
-use Rattle.lrc_protocol.specs.Log.{Logged}
-use Rattle.lrc_protocol.specs.World.{World as Run, step_of, played}
+use Rattle.lrc_protocol.specs.Run.{Logged, World as Run, step_of, played}
 use Rattle.lrc_world.specs.declared.report.SimFault.{SimFault}
 use Rattle.lrc_world.specs.declared.report.SimFault.TheVariants.{BadNodes, BadSteps, Worn, NoMemory}
 use Rattle.lrc_world.specs.declared.report.TheConstants.{MOST_EVENTS}

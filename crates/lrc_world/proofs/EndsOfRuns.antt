@@ -14,10 +14,8 @@ use Rattle.lrc_trace.specs.declared.act.Deed.{Deed}
 use Rattle.lrc_trace.specs.Run.{act_of}
 use Rattle.lrc_exec.specs.Meaning.{Setting, Next, quiet, prints, reads, writes, acquires, releases, arrives, departs, traps, ends, next_of}
 use Rattle.lrc_protocol.specs.declared.event.Event.{Event}
-use Rattle.lrc_protocol.specs.Course.{Course, going, trapped, ended, deed_of, course_of}
-use Rattle.lrc_protocol.specs.Node.{OptionsRecord, fresh_node}
-use Rattle.lrc_protocol.specs.Log.{Input, EntryRecord, Logged}
-use Rattle.lrc_protocol.specs.World.{World as Run, Flying, fresh_world, with_turn, run_of}
+use Rattle.lrc_protocol.specs.Node.{Course, going, trapped, ended, deed_of, course_of, OptionsRecord, fresh_node}
+use Rattle.lrc_protocol.specs.Run.{Input, EntryRecord, Logged, World as Run, Flying, fresh_world, with_turn, run_of}
 use Rattle.lrc_protocol.proofs.Induction.{by_turns}
 use Rattle.lrc_protocol.proofs.Turned.{Turned, Turns, turns}
 use Rattle.lrc_protocol.proofs.Worlds.{IsEntry, fresh_at, get_set_same, get_set_other, run-whole}

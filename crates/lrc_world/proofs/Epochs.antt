@@ -12,9 +12,8 @@ use Rattle.lrc_trace.specs.Run.{departs_before}
 use Rattle.lrc_trace.specs.Trace.{NotedAccess}
 use Rattle.lrc_protocol.specs.declared.event.Event.{Event}
 use Rattle.lrc_protocol.specs.Node.{OptionsRecord, fresh_node}
-use Rattle.lrc_protocol.specs.Log.{Logged}
+use Rattle.lrc_protocol.specs.Run.{Logged, World as Run, run_of}
 use Rattle.lrc_protocol.specs.Traced.{trace_of}
-use Rattle.lrc_protocol.specs.World.{World as Run, run_of}
 use Rattle.lrc_order_laws.proofs.Reached.{IsReached}
 use Rattle.lrc_reading_laws.proofs.Traced.Notes.{HasSome}
 use Rattle.lrc_reading_laws.proofs.Traced.Runs.{IsTraceIn, IsAccessAt}

@@ -5,8 +5,8 @@ use Rattle.std.proofs.lemmas.Option.{same_Some}
 use Rattle.std.specs.Prelude.{slice_get, slice_set, option_map}
 use Rattle.std.specs.List.{enumerate_from, range_with_len}
 use Rattle.lrc_protocol.specs.Follows.{inputs_of}
-use Rattle.lrc_protocol.specs.Log.{Input, EntryRecord, Logged}
 use Rattle.lrc_protocol.specs.Node.{Node}
+use Rattle.lrc_protocol.specs.Run.{Input, EntryRecord, Logged}
 use Rattle.lrc_protocol.specs.Traced.{Traced, traced, trace_of, with_act}
 use Rattle.lrc_protocol.proofs.Traces.{traced_entry}
 use Rattle.lrc_protocol.proofs.Worlds.{IsEntry, get_set_same, get_set_other}

@@ -8,10 +8,11 @@ use Rattle.std.proofs.lemmas.List.Sums.{fold-append}
 use Rattle.lrc_protocol.specs.declared.event.Event.{Event}
 use Rattle.lrc_protocol.specs.declared.event.Event.TheVariants as events
 use Rattle.lrc_protocol.specs.Turn.{TurnRecord, Outcome, done, not_ready, unexpected, worn}
-use Rattle.lrc_protocol.specs.Log.{Input, EntryRecord, Logged, Logging, logged, refused, too_large, logs, logging, outcome_of, next_stamp, MOST_STAMP}
-use Rattle.lrc_protocol.specs.Log as log
+use Rattle.lrc_protocol.specs.Run.{Input, EntryRecord, Logged, Logging, logged, refused, too_large, logs, logging, outcome_of, next_stamp}
+use Rattle.lrc_protocol.specs.Run.{MOST_STAMP, World as Run, Flying as Sent, with_turn, with_mark, after_input, input_to, delivers, event_on}
+use Rattle.lrc_protocol.specs.Run.{step_of, played}
+use Rattle.lrc_protocol.specs.Run as log
 use Rattle.lrc_protocol.specs.Node.{Node}
-use Rattle.lrc_protocol.specs.World.{World as Run, Flying as Sent, with_turn, with_mark, after_input, input_to, delivers, event_on, step_of, played}
 use Rattle.lrc_protocol.proofs.Worlds.{IsEntry, Entries, logs-entries, get_set_same, get_set_other}
 use Rattle.lrc_world.specs.declared.turned.Turned.{Turned}
 use Rattle.lrc_world.specs.Turned.{node_if, node_by, taker, turner, turned_by, turned_from, events_in}

@@ -3,7 +3,7 @@ use Rattle.std.proofs.Common.{◌≡◌, ◌∙◌, ℕ, zero, suc, ◌+◌, ◌
 use Rattle.std.specs.Prelude.{slice_get, slice_set, ◌==◌}
 use Rattle.std.specs.List.{enumerate_from}
 use Rattle.std.proofs.lemmas.Bool.{eq-eqb, eqb-true}
-use Rattle.lrc_protocol.specs.World.{Flying as Sent, marked, with_mark}
+use Rattle.lrc_protocol.specs.Run.{Flying as Sent, marked, with_mark}
 
 -- the messages with the one at a number marked, where they are counted from another
 marked_from : List Sent → ℕ → ℕ → List Sent

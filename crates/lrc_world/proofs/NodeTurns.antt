@@ -4,8 +4,8 @@ use Rattle.std.proofs.Common.{Some, None, Result, Ok, Err, refl, sym, ap, subst,
 use Rattle.std.specs.Prelude.{slice_get, slice_set, slice_index_or, option_map}
 use Rattle.std.proofs.lemmas.List.{set-get_or}
 use Rattle.std.proofs.lemmas.Option.{get_or_from_slice_get, same_Some, slice_get-get_or, slice_get_past}
-use Rattle.lrc_protocol.specs.Log.{Input, EntryRecord, Logged, logs}
 use Rattle.lrc_protocol.specs.Node.{Node}
+use Rattle.lrc_protocol.specs.Run.{Input, EntryRecord, Logged, logs}
 use Rattle.lrc_node.specs.declared.fault.NodeFault.{NodeFault}
 use Rattle.lrc_node.specs.declared.fault.NodeFault.TheVariants.{Failed, NotReady, Unexpected, Worn, NoMemory}
 use Rattle.lrc_trace.specs.Trace.{TraceRecord}

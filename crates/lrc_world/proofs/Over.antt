@@ -2,9 +2,8 @@
 use Rattle.std.proofs.Common.{◌≡◌, ◌∙◌, ℕ, zero, suc, ◌+◌, ◌≤◌, List, [], ◌∷◌, Bool, true, false, ◌||◌, Some, refl, sym, ap, arith, length, take}
 use Rattle.std.specs.Prelude.{not, slice_get}
 use Rattle.std.specs.List.{list_any}
-use Rattle.lrc_protocol.specs.Log.{Logged}
 use Rattle.lrc_protocol.specs.Turn.{is_ready}
-use Rattle.lrc_protocol.specs.World.{World as Run}
+use Rattle.lrc_protocol.specs.Run.{Logged, World as Run}
 use Rattle.lrc_plain_laws.proofs.Ahead.{take_ahead}
 use Rattle.lrc_world.specs.Report.{IsOver}
 use Rattle.lrc_world.specs.World.{Starts, Shows, seen_flying, seen_sent}

@@ -6,8 +6,8 @@ use Rattle.std.specs.List.{enumerate_from, list_any}
 use Rattle.std.specs.Option.{option_to_list}
 use Rattle.lrc_envelope.specs.Envelope.{EnvelopeRecord}
 use Rattle.lrc_wire.specs.Reading.{envelope_of}
-use Rattle.lrc_protocol.specs.Log.{Input, taken, EntryRecord, Logged, Logging, logged, refused, too_large, logs}
-use Rattle.lrc_protocol.specs.World.{World as Run, Flying as Sent, inputs, delivers, input_to, after_input, with_turn, sent_by}
+use Rattle.lrc_protocol.specs.Run.{Input, taken, EntryRecord, Logged, Logging, logged, refused, too_large, logs, World as Run, Flying as Sent}
+use Rattle.lrc_protocol.specs.Run.{inputs, delivers, input_to, after_input, with_turn, sent_by}
 use Rattle.lrc_protocol.proofs.Worlds.{IsEntry, get_set_same}
 use Rattle.lrc_node.specs.Logged.{TracedLog}
 use Rattle.lrc_node.specs.declared.fault.NodeFault.{NodeFault}

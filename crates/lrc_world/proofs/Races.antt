@@ -14,7 +14,7 @@ use Rattle.lrc_race.specs.Races.{AreTracesOf, AreRacesOf, IsRaceOf}
 use Rattle.lrc_protocol.specs.declared.event.Event.{Event}
 use Rattle.lrc_protocol.specs.Node.{OptionsRecord}
 use Rattle.lrc_protocol.specs.Traced.{traces_of}
-use Rattle.lrc_protocol.specs.World.{World as Run, run_of}
+use Rattle.lrc_protocol.specs.Run.{World as Run, run_of}
 use Rattle.lrc_reading_laws.proofs.Traced.Laws.{are_traces, races_named}
 use Rattle.lrc_node.specs.Logged.{TracedLog}
 use Rattle.lrc_world.specs.declared.world.World.{World}

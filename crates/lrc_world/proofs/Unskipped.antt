@@ -15,16 +15,14 @@ use Rattle.lrc_envelope.specs.declared.picker.Picker.TheVariants.{Oldest, Newest
 use Rattle.lrc_envelope.specs.Envelope.{EnvelopeRecord}
 use Rattle.lrc_protocol.specs.declared.event.Event.{Event}
 use Rattle.lrc_protocol.specs.declared.event.Event.TheVariants as events
-use Rattle.lrc_protocol.specs.Node.{Node, OptionsRecord, Effect, begins}
-use Rattle.lrc_protocol.specs.Run.{run_effect, charged}
-use Rattle.lrc_protocol.specs.Take.{take_effect}
-use Rattle.lrc_protocol.specs.Expected.{is_expected}
-use Rattle.lrc_protocol.specs.Turn.{TurnRecord, Outcome, done, not_ready, unexpected, worn, turn_with, turn_of, turn_if, turn_by, run_turn, take_turn}
-use Rattle.lrc_protocol.specs.Turn.{is_ready, is_addressed, is_repeat, taking, empty_turn}
-use Rattle.lrc_protocol.specs.Log.{Input, EntryRecord, Logged, Logging, logged, refused, too_large, logs, logging, next_stamp, MOST_STAMP}
-use Rattle.lrc_protocol.specs.Log as log
-use Rattle.lrc_protocol.specs.World.{World as Run, Flying as Sent, fresh_world, marked, sent_by, with_turn, with_mark, after_input, input_to, delivers}
-use Rattle.lrc_protocol.specs.World.{event_on, step_of, played, run_of}
+use Rattle.lrc_protocol.specs.Node.{Node, OptionsRecord, Effect}
+use Rattle.lrc_protocol.specs.Turn.{begins, run_effect, charged, TurnRecord, Outcome, done, not_ready, unexpected, worn, turn_with, turn_of}
+use Rattle.lrc_protocol.specs.Turn.{turn_if, turn_by, run_turn, take_turn, is_ready, is_addressed, is_repeat, taking, empty_turn, turn_taking}
+use Rattle.lrc_protocol.specs.Turn.{takes}
+use Rattle.lrc_protocol.specs.Run.{Input, EntryRecord, Logged, Logging, logged, refused, too_large, logs, logging, next_stamp, MOST_STAMP}
+use Rattle.lrc_protocol.specs.Run.{World as Run, Flying as Sent, fresh_world, marked, sent_by, with_turn, with_mark, after_input, input_to}
+use Rattle.lrc_protocol.specs.Run.{delivers, event_on, step_of, played, run_of}
+use Rattle.lrc_protocol.specs.Run as log
 use Rattle.lrc_protocol.proofs.Skips.{ready-goes_on}
 use Rattle.lrc_order_laws.proofs.Timely.{get_within}
 use Rattle.lrc_world.specs.Led.{Schedule, Led, begins as starts, plays, passes, AreLed}
@@ -70,18 +68,20 @@ by-expected : (node : Node) (o : Option Next) → turn_by node o ≡ unexpected 
 by-expected node None e = cc
 by-expected node (Some next) e = if-expected (run_effect (charged node next) next) e
 
-take_by : (addressed repeated expected : Bool) (node : Node) (effect : Effect)
-    → cond addressed (cond repeated (done empty_turn node) (cond expected (turn_of effect) unexpected)) unexpected ≡ not_ready → ⊥
-take_by true true expected node effect e = cc
-take_by true false true node effect e = with-ready effect _ e
-take_by true false false node effect e = cc
-take_by false repeated expected node effect e = cc
+taking-ready : (o : Option Effect) → turn_taking o ≡ not_ready → ⊥
+taking-ready None e = cc
+taking-ready (Some effect) e = with-ready effect _ e
+
+take_by : (addressed repeated : Bool) (node : Node) (o : Option Effect)
+    → cond addressed (cond repeated (done empty_turn node) (turn_taking o)) unexpected ≡ not_ready → ⊥
+take_by true true node o e = cc
+take_by true false node o e = taking-ready o e
+take_by false repeated node o e = cc
 
 -- a node may take a message at any time
 take-ready : (node : Node) (envelope : EnvelopeRecord) → take_turn node envelope ≡ not_ready → ⊥
 take-ready node envelope e =
-    take_by (is_addressed node envelope) (is_repeat node envelope) (is_expected node envelope.from envelope.message) node
-    (take_effect (taking node envelope) envelope.from envelope.message) e
+    take_by (is_addressed node envelope) (is_repeat node envelope) node (takes (taking node envelope) envelope.from envelope.message) e
 
 own_made : (l : Logged) → is_ready l.node ≡ true → logs l log.run 0 ≡ refused → ⊥
 own_made l ready e =

@@ -13,10 +13,10 @@ use Rattle.lrc_plain_laws.proofs.Ahead.{take_ahead}
 use Rattle.lrc_protocol.specs.declared.event.Event.{Event}
 use Rattle.lrc_protocol.specs.declared.event.Event.TheVariants as events
 use Rattle.lrc_protocol.specs.Node.{Node, OptionsRecord, fresh_node}
-use Rattle.lrc_protocol.specs.Log.{Input, EntryRecord, Logged, Logging, logged, refused, too_large, logs as logs'}
-use Rattle.lrc_protocol.specs.Log as log
-use Rattle.lrc_protocol.specs.World.{World as Run, Flying as Sent, fresh_world, marked, sent_by, with_turn, with_mark, after_input, input_to, delivers}
-use Rattle.lrc_protocol.specs.World.{event_on, step_of, played, run_of}
+use Rattle.lrc_protocol.specs.Run.{Input, EntryRecord, Logged, Logging, logged, refused, too_large, logs as logs', World as Run, Flying as Sent}
+use Rattle.lrc_protocol.specs.Run.{fresh_world, marked, sent_by, with_turn, with_mark, after_input, input_to, delivers, event_on, step_of}
+use Rattle.lrc_protocol.specs.Run.{played, run_of}
+use Rattle.lrc_protocol.specs.Run as log
 use Rattle.lrc_protocol.proofs.Worlds.{run-whole, get_set_same}
 use Rattle.lrc_world.specs.declared.turned.Turned.{Turned}
 use Rattle.lrc_world.specs.Moments.{RefusesNone}

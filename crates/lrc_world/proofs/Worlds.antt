@@ -7,7 +7,7 @@ use Rattle.lrc_protocol.specs.Node.{Node, OptionsRecord, fresh_node}
 use Rattle.lrc_world.proofs.Kept.{unlogged}
 use Rattle.lrc_trace.specs.declared.act.Act.{Act}
 use Rattle.lrc_protocol.specs.declared.event.Event.{Event}
-use Rattle.lrc_protocol.specs.World.{World as Run, fresh_world, run_of}
+use Rattle.lrc_protocol.specs.Run.{World as Run, fresh_world, run_of}
 use Rattle.lrc_protocol.proofs.Worlds.{run-whole}
 use Rattle.lrc_protocol.specs.Traced.{trace_of}
 use Rattle.lrc_node.specs.Logged.{TracedLog, sound}

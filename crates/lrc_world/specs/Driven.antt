@@ -1,7 +1,7 @@
 -- What is driven, as its functions say it.
 use Rattle.std.specs.Prelude.{◌≡◌, ◌⊎◌, ◌<◌, ◌≤◌, ℕ, false, [], ◌∷◌, ◌++◌, Result, Ok, Err, OnOk, length}
 use Rattle.lrc_protocol.specs.declared.event.Event.{Event}
-use Rattle.lrc_protocol.specs.World.{World as Run, event_on}
+use Rattle.lrc_protocol.specs.Run.{World as Run, event_on}
 use Rattle.lrc_world.specs.declared.report.SimFault.{SimFault}
 use Rattle.lrc_world.specs.declared.report.SimFault.TheVariants.{Worn, NoMemory}
 use Rattle.lrc_world.specs.declared.report.TheConstants.{MOST_EVENTS}

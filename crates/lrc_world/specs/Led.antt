@@ -3,7 +3,7 @@ use Rattle.std.specs.Prelude.{◌≡◌, ◌⊎◌, ℕ, true, Some, None, List,
 use Rattle.lrc_lang.specs.declared.program.Program.{Program}
 use Rattle.lrc_protocol.specs.declared.event.Event.{Event}
 use Rattle.lrc_protocol.specs.Node.{OptionsRecord}
-use Rattle.lrc_protocol.specs.World.{World as Run, event_on, fresh_world}
+use Rattle.lrc_protocol.specs.Run.{World as Run, event_on, fresh_world}
 use Rattle.lrc_world.specs.World.{sends_long}
 
 -- What leads a run: where it may stand, and where it stands at first; which event is due where it stands so, and where it stands after

@@ -11,7 +11,7 @@ use Rattle.lrc_plain_laws.specs.Racing.{HasNoRace, PlainToRace}
 use Rattle.lrc_node.specs.declared.end.End.{End}
 use Rattle.lrc_protocol.specs.declared.event.Event.{Event}
 use Rattle.lrc_protocol.specs.Node.{OptionsRecord}
-use Rattle.lrc_protocol.specs.World.{World as Run, run_of}
+use Rattle.lrc_protocol.specs.Run.{World as Run, run_of}
 use Rattle.lrc_world.specs.Ends.{ends_of}
 use Rattle.lrc_world.specs.Moments.{AreCovered, HasEachToken, RefusesNone, Throughout}
 

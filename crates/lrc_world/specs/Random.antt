@@ -5,7 +5,7 @@ use Rattle.lrc_lang.specs.declared.program.Program.{Program}
 use Rattle.lrc_protocol.specs.declared.event.Event.{Event}
 use Rattle.lrc_protocol.specs.declared.event.Event.TheVariants as events
 use Rattle.lrc_protocol.specs.Node.{OptionsRecord}
-use Rattle.lrc_protocol.specs.World.{World as Run, fresh_world}
+use Rattle.lrc_protocol.specs.Run.{World as Run, fresh_world}
 use Rattle.lrc_world.specs.Led.{Schedule, AreLed, WearsOut}
 use Rattle.lrc_world.specs.Rounds.{ready_at}
 

@@ -6,8 +6,7 @@ use Rattle.lrc_trace.specs.Conflict.{IsFirstRace, IsRaceFree}
 use Rattle.lrc_protocol.specs.declared.event.Event.{Event}
 use Rattle.lrc_protocol.specs.Node.{OptionsRecord}
 use Rattle.lrc_protocol.specs.Turn.{is_ready}
-use Rattle.lrc_protocol.specs.World.{World as Run, event_on, fresh_world, played, run_of}
-use Rattle.lrc_protocol.specs.Log.{Logged}
+use Rattle.lrc_protocol.specs.Run.{World as Run, event_on, fresh_world, played, run_of, Logged}
 use Rattle.lrc_node.specs.declared.end.End.{End}
 use Rattle.lrc_node.specs.Text.{end_of}
 use Rattle.lrc_world.specs.declared.keep.Keep.{Keep}

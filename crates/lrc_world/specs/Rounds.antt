@@ -9,7 +9,7 @@ use Rattle.lrc_protocol.specs.declared.event.Event.TheVariants as events
 use Rattle.lrc_protocol.specs.declared.event.Event.TheVariants.{Deliver, Repeat}
 use Rattle.lrc_protocol.specs.Node.{OptionsRecord}
 use Rattle.lrc_protocol.specs.Turn.{is_ready}
-use Rattle.lrc_protocol.specs.World.{World as Run, Flying as Sent, fresh_world}
+use Rattle.lrc_protocol.specs.Run.{World as Run, Flying as Sent, fresh_world}
 use Rattle.lrc_world.specs.Led.{Schedule, AreLed, WearsOut}
 
 -- the place of the newest message, as far as an event can name it

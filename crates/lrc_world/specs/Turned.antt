@@ -4,9 +4,8 @@ use Rattle.lrc_lang.specs.declared.program.Program.{Program}
 use Rattle.lrc_protocol.specs.declared.event.Event.{Event}
 use Rattle.lrc_protocol.specs.declared.event.Event.TheVariants as events
 use Rattle.lrc_protocol.specs.Node.{OptionsRecord}
-use Rattle.lrc_protocol.specs.Log.{Input, EntryRecord, Logged, Logging, logs}
-use Rattle.lrc_protocol.specs.Log as log
-use Rattle.lrc_protocol.specs.World.{World as Run, Flying as Sent, event_on, fresh_world, run_of}
+use Rattle.lrc_protocol.specs.Run.{Input, EntryRecord, Logged, Logging, logs, World as Run, Flying as Sent, event_on, fresh_world, run_of}
+use Rattle.lrc_protocol.specs.Run as log
 use Rattle.lrc_world.specs.declared.turned.Turned.{Turned}
 
 -- the node, where what came of an input to it is a turn

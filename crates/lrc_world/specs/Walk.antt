@@ -3,8 +3,8 @@ use Rattle.std.specs.Prelude.{◌≡◌, ℕ, ◌+◌, ◌++◌, ◌&&◌, Bool,
 use Rattle.std.specs.Prelude.{remove, slice_get, slice_index_or, slice_set, if◌then◌else◌}
 use Rattle.lrc_protocol.specs.declared.event.Event.{Event}
 use Rattle.lrc_protocol.specs.declared.event.Event.TheVariants as events
-use Rattle.lrc_protocol.specs.Log.{Input, EntryRecord}
-use Rattle.lrc_protocol.specs.Log as log
+use Rattle.lrc_protocol.specs.Run.{Input, EntryRecord}
+use Rattle.lrc_protocol.specs.Run as log
 use Rattle.lrc_world.specs.declared.turned.Turned.{Turned}
 
 -- how many turns of a node have come

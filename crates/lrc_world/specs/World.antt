@@ -10,12 +10,11 @@ use Rattle.lrc_wire.specs.Spelling.{body}
 use Rattle.lrc_wire.specs.declared.fault.WireFault.{WireFault}
 use Rattle.lrc_wire.specs.declared.limits.TheConstants.{MOST_BODY_BYTES}
 use Rattle.lrc_wire.specs.declared.version.Version.TheVariants.{Two}
-use Rattle.lrc_protocol.specs.Log.{EntryRecord, Logged, Input, taken, logged, refused, too_large, logs}
+use Rattle.lrc_protocol.specs.Run.{EntryRecord, Logged, Input, taken, logged, refused, too_large, logs, World as Run, Flying as Sent, delivers}
 use Rattle.lrc_protocol.specs.Follows.{inputs_of}
 use Rattle.lrc_lang.specs.declared.program.Program.{Program}
 use Rattle.lrc_protocol.specs.Node.{Node, OptionsRecord, fresh_node}
 use Rattle.lrc_protocol.specs.Traced.{traced, trace_of, with_act}
-use Rattle.lrc_protocol.specs.World.{World as Run, Flying as Sent, delivers}
 use Rattle.lrc_node.specs.declared.fault.NodeFault.{NodeFault}
 use Rattle.lrc_node.specs.declared.fault.NodeFault.TheVariants as NodeFaults
 use Rattle.lrc_node.specs.declared.fault.NodeFault.TheVariants.{Failed, NotReady, Unexpected}

@@ -5,10 +5,9 @@ ghost use Rattle.lrc_lang.specs.declared.program.Program.{Program};
 ghost use Rattle.lrc_trace.specs.Conflict.{Accesses};
 ghost use Rattle.lrc_trace.specs.declared.trace.Segment.{Segment};
 ghost use Rattle.lrc_protocol.specs.declared.event.Event.{Event};
-ghost use Rattle.lrc_protocol.specs.Log.{Logged};
 ghost use Rattle.lrc_protocol.specs.Node.{OptionsRecord, fresh_node};
+ghost use Rattle.lrc_protocol.specs.Run.{Logged, World as Run, run_of};
 ghost use Rattle.lrc_protocol.specs.Traced.{trace_of};
-ghost use Rattle.lrc_protocol.specs.World.{World as Run, run_of};
 ghost use Rattle.lrc_world.specs.Epochs.{IsOfAccess};
 
 /// The epoch of a segment of a node's trace is the number of departs that the node has made before the accesses of the segment.

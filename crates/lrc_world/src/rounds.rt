@@ -3,7 +3,7 @@
 ghost use Rattle.std.specs.Prelude.{◌≡◌, ◌⊎◌, ℕ, ◌+◌, ◌<◌, ◌≤◌, [], All, IfOk, OnOk, length, map};
 ghost use Rattle.lrc_race.specs.Races.{AreRacesOf, AreTracesOf};
 ghost use Rattle.lrc_judge.specs.declared.TheConstants.{NODES};
-ghost use Rattle.lrc_protocol.specs.World.{World as Run};
+ghost use Rattle.lrc_protocol.specs.Run.{World as Run};
 ghost use Rattle.lrc_world.specs.Report.{IsKeptReport};
 ghost use Rattle.lrc_trace.specs.Conflict.{IsRaceFree};
 ghost use Rattle.lrc_world.specs.Driven.{DrivesTo, IsAsleep, IsDrivenBy, IsFull, IsRunOver, IsStill, NoneReady, PlaysOne, schedule_of};

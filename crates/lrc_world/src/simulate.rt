@@ -3,7 +3,7 @@
 ghost use Rattle.std.specs.Prelude.{◌≡◌, ◌<◌, ◌≤◌, ◌↔◌, List, length, IfOk, Err, true};
 ghost use Rattle.lrc_judge.specs.Races.{AreNamedRaces};
 ghost use Rattle.lrc_protocol.specs.declared.event.Event.{Event as AnyEvent};
-ghost use Rattle.lrc_protocol.specs.World.{fresh_world};
+ghost use Rattle.lrc_protocol.specs.Run.{fresh_world};
 ghost use Rattle.lrc_world.specs.Driven.{schedule_of};
 ghost use Rattle.lrc_world.specs.Led.{AreLed, WearsOut};
 ghost use Rattle.lrc_world.specs.Random.{IsWandering, WanderingWearsOut};

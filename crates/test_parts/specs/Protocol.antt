@@ -16,7 +16,7 @@ use Rattle.lrc_protocol.specs.declared.event.Event.{Event}
 use Rattle.lrc_protocol.specs.declared.event.Event.TheVariants.{Run, Deliver, Repeat}
 use Rattle.lrc_protocol.specs.Node.{Node, OptionsRecord, first_node}
 use Rattle.lrc_protocol.specs.Follows.{turns_of, sent_in}
-use Rattle.lrc_protocol.specs.World.{World, world_of, played}
+use Rattle.lrc_protocol.specs.Run.{World, world_of, played}
 
 -- ---- texts
 

@@ -3,8 +3,7 @@
 ghost use Rattle.std.specs.Prelude.{◌≡◌, ℕ, true, false, List, [], ◌∷◌, Some, None, length};
 ghost use Rattle.lrc_trace.specs.declared.act.Deed.TheVariants.{Quiet, Print, Read, Write, Acquire, Release, Arrive, Depart, End};
 ghost use Rattle.lrc_envelope.specs.declared.message.Message.TheVariants as message;
-ghost use Rattle.lrc_protocol.specs.Copy.{is_readable};
-ghost use Rattle.lrc_protocol.specs.Memory.{copy_at, lacking};
+ghost use Rattle.lrc_protocol.specs.Pages.{is_readable, copy_at, lacking};
 ghost use Rattle.test_parts.specs.Protocol.{deeds, deeds_by, sent, messages, of_nodes, interval, key, part, change, barrier_run, late_grant_run};
 ghost use Rattle.test_parts.specs.Protocol.{repeated_run, third_node_run, silent_run, repair_run, unread_run, collecting_run, collected_run, counted_run};
 ghost use Rattle.test_parts.specs.Protocol.{uncollected_run, late_repeat_run, worn_run};

@@ -2,9 +2,8 @@
 
 ghost use Rattle.std.specs.Prelude.{◌≡◌, ◌<◌, All, IfOk, Some, length, slice_set};
 ghost use Rattle.lrc_exec.specs.declared.machine.Ask.TheVariants.{Barrier};
-ghost use Rattle.lrc_protocol.specs.Letters.{asks_for_collection, own_news};
-ghost use Rattle.lrc_protocol.specs.Mail.{MOST_NUMBER};
-ghost use Rattle.lrc_protocol.specs.Run.{arrive_at};
+ghost use Rattle.lrc_protocol.specs.Times.{MOST_NUMBER};
+ghost use Rattle.lrc_protocol.specs.Turn.{asks_for_collection, own_news, arrive_at};
 ghost use Rattle.lrc_node.specs.State.{seen_effect, AreFor};
 ghost use Rattle.lrc_node.specs.Text.{asked_in};
 

@@ -1,12 +1,11 @@
 // A node's part in barriers.
 
 ghost use Rattle.std.specs.Prelude.{◌≡◌, ℕ, ◌<◌, ◌≤◌, IfOk, IfSome, IsTrue, OnErr, Some, length, false, option_map, unwrap_or};
-ghost use Rattle.lrc_barrier.specs.Barrier.{is_accepted, IsArrival};
+ghost use Rattle.lrc_barrier.specs.Barrier.{is_accepted, IsArrival, is_clean};
 ghost use Rattle.lrc_barrier.specs.declared.arrival.Arrival.{Arrival as ArrivalRecord};
-ghost use Rattle.lrc_protocol.specs.Expected.{is_clean};
-ghost use Rattle.lrc_protocol.specs.Barrier.{arrive_step, clean_step, fresh_barrier, last_from, with_arrive};
-ghost use Rattle.lrc_protocol.specs.Mail.{MOST_NUMBER};
-ghost use Rattle.lrc_node.specs.Barrier.{arrival_taken, clean_taken, AreDepartures, IsOfNodes, SameBarrier};
+ghost use Rattle.lrc_protocol.specs.Times.{MOST_NUMBER};
+ghost use Rattle.lrc_protocol.specs.Barriers.{fresh_barrier, last_from, with_arrive};
+ghost use Rattle.lrc_node.specs.Barrier.{arrival_taken, clean_taken, AreDepartures, IsOfNodes, SameBarrier, arrive_step, clean_step};
 
 use lrc_barrier::{Arrival, BarrierFault, Departures, Manager};
 use std::alloc::{AllocError, Global};
@@ -23,7 +22,7 @@ pub(crate) struct Barrier {
 
 impl Model for Barrier {
     ghost use Rattle.std.specs.Prelude.{IfSome};
-    ghost use Rattle.lrc_protocol.specs.Barrier.{Barrier as BarrierRecord};
+    ghost use Rattle.lrc_protocol.specs.Barriers.{Barrier as BarrierRecord};
     ghost use Rattle.lrc_node.specs.Barrier.{KeepsEpisodes};
 
     ghost Value = { BarrierRecord };

@@ -1,17 +1,14 @@
 // Arrivals and departures: when a node expects them, and what it does with them.
 
-ghost use Rattle.std.specs.Prelude.{◌≡◌, ◌<◌, [], IfOk, IsTrue, Some, false, if◌then◌else◌, length, map, option_map, unwrap_or};
+ghost use Rattle.std.specs.Prelude.{◌≡◌, ◌<◌, [], IfOk, IsTrue, Some, false, if◌then◌else◌, length, map, option_map, unwrap_or, ◌&&◌};
+ghost use Rattle.std.specs.Prelude.{option_and_then};
 ghost use Rattle.lrc_barrier.specs.Barrier.{IsArrival, is_accepted};
-ghost use Rattle.lrc_envelope.specs.declared.message.Message.TheVariants as messages;
 ghost use Rattle.lrc_exec.specs.declared.machine.Ask.TheVariants.{Barrier};
 ghost use Rattle.lrc_memory.specs.Turns.{CanBeAdded};
-ghost use Rattle.lrc_protocol.specs.Barrier.{arrive_step};
-ghost use Rattle.lrc_protocol.specs.Expected.{are_arriving, is_expected};
-ghost use Rattle.lrc_protocol.specs.Letters.{departure_of};
-ghost use Rattle.lrc_protocol.specs.Mail.{nothing};
-ghost use Rattle.lrc_protocol.specs.Node.{acts, waiting};
-ghost use Rattle.lrc_protocol.specs.Take.{arrive_by, collects, learns, take_departure};
-ghost use Rattle.lrc_node.specs.Barrier.{arrival_in, AreDepartures};
+ghost use Rattle.lrc_protocol.specs.Node.{nothing, acts, waiting};
+ghost use Rattle.lrc_protocol.specs.Turn.{are_arriving, departure_of, arrive_by, collects, learns, take_departure, is_departure};
+ghost use Rattle.lrc_protocol.specs.Barriers.{arrival_in};
+ghost use Rattle.lrc_node.specs.Barrier.{AreDepartures, arrive_step};
 ghost use Rattle.lrc_node.specs.Keeping.{CanCollect};
 ghost use Rattle.lrc_node.specs.State.{seen_effect, AreFor};
 ghost use Rattle.lrc_node.specs.Text.{asked_in};
@@ -52,7 +49,8 @@ impl NodeState<'_> {
     /// Whether an arrival is expected: the manager is here and accepts it, with its sender's own intervals.
     pub(crate) fn expects_arrival(&self, from: u8, m: &Arrive) -> bool
         requires { from < self.now.setting.nodes }
-        ensures { result ≡ is_expected self.now from (messages.Arrive m.now) }
+        ensures { result ≡ (unwrap_or (option_map is_accepted (arrive_step self.now.barrier from (arrival_in m.now))) false
+            && are_arriving self.now from m.now.time m.now.intervals) }
     {
         self.barrier.accepts(from, m.episode) && self.are_arriving(from, &m.news)
     }
@@ -74,7 +72,7 @@ impl NodeState<'_> {
         requires from { from < self.old.setting.nodes }
         requires accepted { IsTrue (unwrap_or (option_map is_accepted (arrive_step self.old.barrier from (arrival_in arrive.now))) false) }
         requires own { IsArrival self.old.setting.nodes from (arrival_in arrive.now) }
-        ensures effect { IfOk result (λ effect. arrive_by self.old (arrive_step self.old.barrier from (arrival_in arrive.now)) ≡ seen_effect effect self.new) }
+        ensures effect { IfOk result (λ effect. option_and_then (arrive_by self.old) (arrive_step self.old.barrier from (arrival_in arrive.now)) ≡ Some (seen_effect effect self.new)) }
         ensures to { IfOk result (λ effect. AreFor self.new.setting.nodes effect.letters.items) }
     {
         let arrival = Arrival {
@@ -93,7 +91,7 @@ impl NodeState<'_> {
     /// Whether a departure is expected: it is from node 0, for the episode from which the node awaits to depart; its time
     /// covers the node's, and the node can learn the news.
     pub(crate) fn expects_departure(&self, from: u8, m: &Depart) -> bool
-        ensures { result ≡ is_expected self.now from (messages.Depart m.now) }
+        ensures { result ≡ is_departure self.now from m.now }
     {
         from == 0
             && self.mail.wait().awaits_departure()

@@ -1,11 +1,10 @@
 // How a node begins a collection.
 
 ghost use Rattle.std.specs.Prelude.{◌≡◌, ◌<◌, All, IfOk, filter, length, map, not};
-ghost use Rattle.lrc_protocol.specs.Copy.{is_readable};
-ghost use Rattle.lrc_protocol.specs.Fetch.{need_of};
-ghost use Rattle.lrc_protocol.specs.Memory.{copy_at, kept_pages, with_keepers};
+ghost use Rattle.lrc_protocol.specs.Pages.{is_readable, need_of, copy_at};
+ghost use Rattle.lrc_protocol.specs.Barriers.{kept_pages, with_keepers};
 ghost use Rattle.lrc_protocol.specs.Node.{with_memory as with_node_memory};
-ghost use Rattle.lrc_protocol.specs.Take.{collects, needs_to_keep};
+ghost use Rattle.lrc_protocol.specs.Turn.{collects, needs_to_keep};
 ghost use Rattle.lrc_node.specs.Keeping.{CanCollect};
 ghost use Rattle.lrc_node.specs.State.{seen_effect, AreFor};
 

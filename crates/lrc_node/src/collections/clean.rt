@@ -3,10 +3,10 @@
 ghost use Rattle.std.specs.Prelude.{◌≡◌, ◌≢◌, All, AllPairs, IfOk, OnOk, [], fold};
 ghost use Rattle.std.specs.List.{list_all};
 ghost use Rattle.lrc_memory.specs.View.{SameMemory, with_memory};
-ghost use Rattle.lrc_protocol.specs.Fetch.{is_met, mended};
-ghost use Rattle.lrc_protocol.specs.Mail.{upkeep};
-ghost use Rattle.lrc_protocol.specs.Memory.{with_base};
-ghost use Rattle.lrc_protocol.specs.Waits.{cleans, waits_or_goes_on};
+ghost use Rattle.lrc_protocol.specs.Pages.{is_met, mended};
+ghost use Rattle.lrc_protocol.specs.Barriers.{with_base};
+ghost use Rattle.lrc_protocol.specs.Node.{upkeep};
+ghost use Rattle.lrc_protocol.specs.Turn.{cleans, waits_or_goes_on};
 ghost use Rattle.lrc_node.specs.Effects.{CanGoOn};
 ghost use Rattle.lrc_node.specs.Keeping.{CanClean, CanKeep, CanMend};
 ghost use Rattle.lrc_node.specs.State.{seen_effect, AreFor};

@@ -1,16 +1,16 @@
 // Cleans, and the word to discard: when a node expects them, and what it does with them.
 
-ghost use Rattle.std.specs.Prelude.{◌≡◌, ◌<◌, ◌≤◌, IfOk, IsTrue, Some, false, length, option_map, unwrap_or};
+ghost use Rattle.std.specs.Prelude.{◌≡◌, ◌<◌, ◌≤◌, IfOk, IsTrue, Some, false, length, option_map, unwrap_or, ◌&&◌, ◌==◌};
+ghost use Rattle.std.specs.Prelude.{option_and_then};
 ghost use Rattle.std.specs.List.{range_with_len};
 ghost use Rattle.lrc_time.specs.Time.{entry};
-ghost use Rattle.lrc_envelope.specs.declared.message.Message.TheVariants as messages;
 ghost use Rattle.lrc_exec.specs.declared.machine.Ask.TheVariants.{Barrier};
 ghost use Rattle.lrc_memory.specs.Turns.{IsClosed};
-ghost use Rattle.lrc_protocol.specs.Barrier.{clean_step};
-ghost use Rattle.lrc_protocol.specs.Expected.{is_clean, is_expected};
-ghost use Rattle.lrc_protocol.specs.Letters.{discards_to};
-ghost use Rattle.lrc_protocol.specs.Mail.{Collection as CollectionRecord, awaits_discard, collection_of, discard};
-ghost use Rattle.lrc_protocol.specs.Take.{clean_by, discard_by};
+ghost use Rattle.lrc_barrier.specs.Barrier.{is_clean};
+ghost use Rattle.lrc_protocol.specs.Barriers.{Collection as CollectionRecord};
+ghost use Rattle.lrc_protocol.specs.Node.{awaits_discard, collection_of, discard};
+ghost use Rattle.lrc_protocol.specs.Turn.{discards_to, clean_by, discard_by};
+ghost use Rattle.lrc_node.specs.Barrier.{clean_step};
 ghost use Rattle.lrc_node.specs.State.{seen_effect, AreFor};
 ghost use Rattle.lrc_node.specs.Text.{asked_in};
 
@@ -38,7 +38,7 @@ impl NodeState<'_> {
     /// Whether a Clean is expected: the manager is here and accepts it.
     pub(crate) fn expects_clean(&self, from: u8, m: &Clean) -> bool
         requires { from < self.now.setting.nodes }
-        ensures { result ≡ is_expected self.now from (messages.Clean m.now) }
+        ensures { result ≡ unwrap_or (option_map is_clean (clean_step self.now.barrier from m.now)) false }
     {
         self.barrier.accepts_clean(from, m.episode)
     }
@@ -48,7 +48,7 @@ impl NodeState<'_> {
         requires from { from < self.old.setting.nodes }
         requires accepted { IsTrue (unwrap_or (option_map is_clean (clean_step self.old.barrier from episode)) false) }
         requires episode { 1 ≤ episode }
-        ensures effect { IfOk result (λ effect. clean_by self.old (clean_step self.old.barrier from episode) ≡ seen_effect effect self.new) }
+        ensures effect { IfOk result (λ effect. option_and_then (clean_by self.old) (clean_step self.old.barrier from episode) ≡ Some (seen_effect effect self.new)) }
         ensures to { IfOk result (λ effect. AreFor self.new.setting.nodes effect.letters.items) }
     {
         let letters = match self.barrier.take_clean(from, episode) {
@@ -60,7 +60,7 @@ impl NodeState<'_> {
 
     /// Whether the word to discard is expected: it is from node 0, for the collection for which this node has sent its Clean.
     pub(crate) fn expects_discard(&self, from: u8, m: &Discard) -> bool
-        ensures { result ≡ is_expected self.now from (messages.Discard m.now) }
+        ensures { result ≡ ((from == 0) && awaits_discard self.now.mail.wait && (m.now == self.now.barrier.episode)) }
     {
         from == 0 && self.mail.wait().awaits_discard() && m.episode == self.barrier.episode()
     }
@@ -73,7 +73,7 @@ impl NodeState<'_> {
         requires time { (collection : CollectionRecord) → self.old.mail.wait ≡ discard collection
             → (length collection.time ≡ self.old.setting.nodes)
             × (entry self.old.memory.store.last self.old.setting.me ≤ entry collection.time self.old.setting.me) }
-        ensures effect { IfOk result (λ effect. discard_by self.old (collection_of self.old.mail.wait) ≡ seen_effect effect self.new) }
+        ensures effect { IfOk result (λ effect. discard_by self.old (collection_of self.old.mail.wait) ≡ Some (seen_effect effect self.new)) }
         ensures to { IfOk result (λ effect. AreFor self.new.setting.nodes effect.letters.items) }
     {
         let Wait::Discard(collection) = self.mail.stop_waiting() else {

@@ -2,9 +2,9 @@
 
 ghost use Rattle.std.specs.Prelude.{◌≡◌, ◌⊎◌, ◌+◌, ◌<◌, ◌≤◌, IfErr, IfOk};
 ghost use Rattle.lrc_time.specs.Time.{entry};
-ghost use Rattle.lrc_protocol.specs.Locks.{next_time};
-ghost use Rattle.lrc_protocol.specs.Mail.{MOST_NUMBER};
-ghost use Rattle.lrc_protocol.specs.Run.{closes, own_index};
+ghost use Rattle.lrc_protocol.specs.Times.{next_time, MOST_NUMBER};
+ghost use Rattle.lrc_protocol.specs.Node.{own_index};
+ghost use Rattle.lrc_protocol.specs.Turn.{closes};
 ghost use Rattle.lrc_node.specs.declared.fault.NodeFault.TheVariants.{NoMemory, Worn};
 
 use crate::fault::NodeFault;

@@ -2,8 +2,7 @@
 
 ghost use Rattle.std.specs.Prelude.{◌≡◌, OnOk, length};
 ghost use Rattle.lrc_memory.specs.Turns.{CanBeAdded};
-ghost use Rattle.lrc_protocol.specs.Expected.{is_learnable, is_news};
-ghost use Rattle.lrc_protocol.specs.Take.{learns};
+ghost use Rattle.lrc_protocol.specs.Turn.{is_learnable, is_news, learns};
 
 use super::ranges::{fits, leads};
 use crate::state::NodeState;

@@ -3,7 +3,7 @@
 ghost use Rattle.std.specs.Prelude.{◌≡◌, ◌<◌, All, IfNone, IfSome, length};
 ghost use Rattle.std.specs.List.{list_all, range_with_len};
 ghost use Rattle.lrc_time.specs.Time.{entry};
-ghost use Rattle.lrc_protocol.specs.Expected.{are_between};
+ghost use Rattle.lrc_protocol.specs.Times.{are_between};
 ghost use Rattle.lrc_node.specs.News.{AreRuns, IsBroken};
 
 use lrc_store::Interval;

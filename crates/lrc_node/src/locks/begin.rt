@@ -4,7 +4,7 @@ ghost use Rattle.std.specs.Prelude.{◌≡◌, ◌<◌, false, IfOk, IsTrue, Som
 ghost use Rattle.lrc_exec.specs.declared.machine.Ask.TheVariants.{Acquire, Release};
 ghost use Rattle.lrc_lock.specs.Held.{is_free, is_held, lock_at};
 ghost use Rattle.lrc_lock.specs.declared.state.LockState.TheVariants.{Away};
-ghost use Rattle.lrc_protocol.specs.Run.{acquire_at, release_at};
+ghost use Rattle.lrc_protocol.specs.Turn.{acquire_at, release_at};
 ghost use Rattle.lrc_node.specs.State.{seen_effect, AreFor};
 ghost use Rattle.lrc_node.specs.Text.{asked_in};
 

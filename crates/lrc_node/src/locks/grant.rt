@@ -3,7 +3,7 @@
 ghost use Rattle.std.specs.Prelude.{◌≡◌, ◌<◌, IfOk, IfSome};
 ghost use Rattle.lrc_envelope.specs.declared.limits.TheConstants.{MOST_LOCKS};
 ghost use Rattle.lrc_lock.specs.Lock.{IsPass};
-ghost use Rattle.lrc_protocol.specs.Letters.{grants_of};
+ghost use Rattle.lrc_protocol.specs.Turn.{grants_of};
 ghost use Rattle.lrc_node.specs.State.{AreFor};
 
 use crate::state::NodeState;

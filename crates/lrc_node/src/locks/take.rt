@@ -1,15 +1,12 @@
 // Messages about locks: when a node expects them, and what it does with them.
 
-ghost use Rattle.std.specs.Prelude.{◌≡◌, ℕ, ◌<◌, IfOk, IsTrue, Some, length};
-ghost use Rattle.lrc_envelope.specs.declared.message.Message.TheVariants as messages;
+ghost use Rattle.std.specs.Prelude.{◌≡◌, ℕ, ◌<◌, IfOk, IsTrue, Some, length, ◌&&◌};
 ghost use Rattle.lrc_exec.specs.declared.machine.Ask.TheVariants.{Acquire};
 ghost use Rattle.lrc_order_laws.specs.Tokens.{is_awaited};
-ghost use Rattle.lrc_lock.specs.Held.{forwarded, lock_at};
+ghost use Rattle.lrc_lock.specs.Held.{forwarded, lock_at, is_taken};
 ghost use Rattle.lrc_lock.specs.Lock.{manager_of};
-ghost use Rattle.lrc_lock.specs.Managed.{requested};
 ghost use Rattle.lrc_memory.specs.Turns.{CanBeAdded};
-ghost use Rattle.lrc_protocol.specs.Expected.{is_expected, is_taken};
-ghost use Rattle.lrc_protocol.specs.Take.{forward_by, request_by, take_grant};
+ghost use Rattle.lrc_protocol.specs.Turn.{forward_by, take_grant, is_request, is_forward, is_grant, passes_on};
 ghost use Rattle.lrc_node.specs.State.{seen_effect, AreFor};
 ghost use Rattle.lrc_node.specs.Text.{asked_in};
 
@@ -23,7 +20,7 @@ use std::alloc::AllocError;
 impl NodeState<'_> {
     /// Whether a request of a lock is expected: this node manages it.
     pub(crate) fn expects_request(&self, m: &LockRequest) -> bool
-        ensures { (from : ℕ) → result ≡ is_expected self.now from (messages.LockRequest m.now) }
+        ensures { result ≡ is_request self.now m.now }
     {
         m.lock < self.locks && m.time.nodes() == self.nodes && m.lock % self.nodes == self.me
     }
@@ -37,8 +34,7 @@ impl NodeState<'_> {
         requires from { from < self.old.setting.nodes }
         requires lock { request.now.lock < self.old.setting.locks }
         requires managed { manager_of self.old.locks.managed.nodes request.now.lock ≡ self.old.locks.managed.me }
-        ensures effect { IfOk result (λ effect. request_by self.old from request.now.lock request.now.time
-            (requested self.old.locks.managed request.now.lock from) ≡ seen_effect effect self.new) }
+        ensures effect { IfOk result (λ effect. passes_on self.old from request.now ≡ seen_effect effect self.new) }
         ensures to { IfOk result (λ effect. AreFor self.new.setting.nodes effect.letters.items) }
     {
         let lock = request.lock;
@@ -55,7 +51,8 @@ impl NodeState<'_> {
     /// Whether a forwarded request is expected: its sender manages the lock, and the token is here or awaited, with no
     /// successor yet.
     pub(crate) fn expects_forward(&self, from: u8, m: &LockForward) -> bool
-        ensures { result ≡ is_expected self.now from (messages.LockForward m.now) }
+        ensures { result ≡ (is_forward self.now from m.now
+            && is_taken (forwarded self.now.locks.held m.now.lock m.now.asker m.now.time)) }
     {
         m.lock < self.locks
             && m.asker < self.nodes
@@ -71,7 +68,7 @@ impl NodeState<'_> {
         requires counted { length forward.now.time ≡ self.old.setting.nodes }
         requires taken { IsTrue (is_taken (forwarded self.old.locks.held forward.now.lock forward.now.asker forward.now.time)) }
         ensures effect { IfOk result (λ effect. forward_by self.old forward.now.lock
-            (forwarded self.old.locks.held forward.now.lock forward.now.asker forward.now.time) ≡ seen_effect effect self.new) }
+            (forwarded self.old.locks.held forward.now.lock forward.now.asker forward.now.time) ≡ Some (seen_effect effect self.new)) }
         ensures to { IfOk result (λ effect. AreFor self.new.setting.nodes effect.letters.items) }
     {
         let time = forward.time.copy();
@@ -82,7 +79,7 @@ impl NodeState<'_> {
 
     /// Whether a grant is expected: this node awaits it, and can learn the news.
     pub(crate) fn expects_grant(&self, m: &LockGrant) -> bool
-        ensures { (from : ℕ) → result ≡ is_expected self.now from (messages.LockGrant m.now) }
+        ensures { result ≡ is_grant self.now m.now }
     {
         m.lock < self.locks && self.mail.wait().awaits_grant(m.lock) && self.can_learn(&m.news)
     }
@@ -94,7 +91,7 @@ impl NodeState<'_> {
         requires next { asked_in self.old.course ≡ Some (Acquire grant.now.lock) }
         requires counted { length grant.now.time ≡ self.old.setting.nodes }
         requires intervals { CanBeAdded self.old.memory.store grant.now.intervals }
-        ensures effect { IfOk result (λ effect. take_grant self.old grant.now.lock grant.now.time grant.now.intervals ≡ seen_effect effect self.new) }
+        ensures effect { IfOk result (λ effect. take_grant self.old grant.now ≡ seen_effect effect self.new) }
         ensures to { IfOk result (λ effect. AreFor self.new.setting.nodes effect.letters.items) }
     {
         self.clock.granted(grant.lock);

@@ -2,12 +2,9 @@
 
 ghost use Rattle.std.specs.Prelude.{◌≡◌, ◌<◌, All, IfOk, length, true, false};
 ghost use Rattle.lrc_memory.specs.Turns.{is_mendable};
-ghost use Rattle.lrc_protocol.specs.Fetch.{is_met, mended};
-ghost use Rattle.lrc_protocol.specs.Mail.{access, nothing};
-ghost use Rattle.lrc_protocol.specs.Memory.{copy_at};
-ghost use Rattle.lrc_protocol.specs.Node.{acts, waiting, with_memory};
-ghost use Rattle.lrc_protocol.specs.Run.{reaches};
-ghost use Rattle.lrc_protocol.specs.Waits.{waits_or_goes_on};
+ghost use Rattle.lrc_protocol.specs.Pages.{is_met, mended, copy_at};
+ghost use Rattle.lrc_protocol.specs.Node.{access, nothing, acts, waiting, with_memory};
+ghost use Rattle.lrc_protocol.specs.Turn.{reaches, waits_or_goes_on};
 ghost use Rattle.lrc_node.specs.Effects.{AccessesPage};
 ghost use Rattle.lrc_node.specs.State.{seen_effect, AreFor};
 ghost use Rattle.lrc_node.specs.Text.{asked_in};

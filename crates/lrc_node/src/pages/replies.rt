@@ -2,14 +2,11 @@
 
 ghost use Rattle.std.specs.Prelude.{◌≡◌, ◌≢◌, AllPairs, IfOk, [], nat_lt};
 ghost use Rattle.std.specs.List.{list_all};
-ghost use Rattle.lrc_envelope.specs.declared.message.Message.TheVariants as messages;
 ghost use Rattle.lrc_mail.specs.Wait.{seen_wait};
 ghost use Rattle.lrc_memory.specs.Turns.{AreAwaited};
-ghost use Rattle.lrc_protocol.specs.Expected.{is_expected};
-ghost use Rattle.lrc_protocol.specs.Fetch.{with_changes, with_page};
-ghost use Rattle.lrc_protocol.specs.Mail.{access, needs_of};
-ghost use Rattle.lrc_protocol.specs.Take.{take_changes, take_page};
-ghost use Rattle.lrc_protocol.specs.Waits.{waits_or_goes_on, with_needs};
+ghost use Rattle.lrc_protocol.specs.Pages.{with_changes, with_page};
+ghost use Rattle.lrc_protocol.specs.Node.{access, needs_of};
+ghost use Rattle.lrc_protocol.specs.Turn.{take_changes, take_page, waits_or_goes_on, with_needs, is_changes_reply, is_page_reply};
 ghost use Rattle.lrc_node.specs.Effects.{CanGoOn, with_parts};
 ghost use Rattle.lrc_node.specs.State.{seen_effect, AreFor};
 
@@ -73,7 +70,7 @@ impl NodeState<'_> {
 
     /// Whether changes are expected: just these of that page are awaited from their sender.
     pub(crate) fn expects_changes(&self, from: u8, m: &ChangesReply) -> bool
-        ensures { result ≡ is_expected self.now from (messages.ChangesReply m.now) }
+        ensures { result ≡ is_changes_reply self.now from m.now }
     {
         let parts = m.parts.as_slice();
         m.page < self.pages()
@@ -100,7 +97,7 @@ impl NodeState<'_> {
 
     /// Whether a base copy is expected: it is awaited from its sender, and has a value for each word of a page.
     pub(crate) fn expects_page(&self, from: u8, m: &PageReply) -> bool
-        ensures { result ≡ is_expected self.now from (messages.PageReply m.now) }
+        ensures { result ≡ is_page_reply self.now from m.now }
     {
         m.page < self.pages()
             && m.copy.words().len() == usize::from(self.options.size.words())
@@ -111,7 +108,7 @@ impl NodeState<'_> {
     pub(crate) fn take_page(&mut self, reply: &PageReply) -> Result<Effect, AllocError>
         requires apart { AllPairs (λ a b. a.page ≢ b.page) (needs_of self.old.mail.wait) }
         requires ready { CanGoOn self.old (with_needs (with_page reply.now.page reply.now.values) self.old.mail.wait) }
-        ensures effect { IfOk result (λ effect. take_page self.old reply.now.page reply.now.values ≡ seen_effect effect self.new) }
+        ensures effect { IfOk result (λ effect. take_page self.old reply.now ≡ seen_effect effect self.new) }
         ensures to { IfOk result (λ effect. AreFor self.new.setting.nodes effect.letters.items) }
     {
         let copy = Box::new(self.alloc, reply.copy.copy())?;

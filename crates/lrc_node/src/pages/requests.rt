@@ -1,14 +1,11 @@
 // What others ask of a node: when it expects that, and what it gives them.
 
-ghost use Rattle.std.specs.Prelude.{◌≡◌, ℕ, ◌<◌, ◌∷◌, [], IfOk, OnOk, is_some, length, map};
+ghost use Rattle.std.specs.Prelude.{◌≡◌, ℕ, ◌<◌, ◌∷◌, [], IfOk, OnOk, is_some, length, map, ◌&&◌, Some};
 ghost use Rattle.std.specs.List.{list_all};
-ghost use Rattle.lrc_envelope.specs.declared.message.Message.TheVariants as messages;
 ghost use Rattle.lrc_store.specs.Store.{notice_at};
-ghost use Rattle.lrc_protocol.specs.Expected.{is_expected};
-ghost use Rattle.lrc_protocol.specs.Letters.{changes_reply_to};
-ghost use Rattle.lrc_protocol.specs.Memory.{base_at};
+ghost use Rattle.lrc_protocol.specs.Barriers.{base_at};
 ghost use Rattle.lrc_protocol.specs.Node.{sends};
-ghost use Rattle.lrc_protocol.specs.Take.{page_reply_by};
+ghost use Rattle.lrc_protocol.specs.Turn.{changes_reply_to, page_reply_by, is_changes_request, is_page_request};
 ghost use Rattle.lrc_memory.specs.View.{SameMemory};
 ghost use Rattle.lrc_node.specs.Requests.{part_in};
 ghost use Rattle.lrc_node.specs.State.{seen_effect, AreFor};
@@ -63,7 +60,7 @@ fn parts_of(
 impl NodeState<'_> {
     /// Whether a request of changes is expected: each index is of a stored interval of this node that names the page.
     pub(crate) fn expects_changes_request(&self, m: &ChangesRequest) -> bool
-        ensures { (from : ℕ) → result ≡ is_expected self.now from (messages.ChangesRequest m.now) }
+        ensures { result ≡ is_changes_request self.now m.now }
     {
         m.page < self.pages() && has_notices(&self.memory, self.me, m.page, m.indices.as_slice())
     }
@@ -89,7 +86,7 @@ impl NodeState<'_> {
 
     /// Whether a request of a base copy is expected: it is from another node, and one is kept here.
     pub(crate) fn expects_page_request(&self, from: u8, m: &PageRequest) -> bool
-        ensures { result ≡ is_expected self.now from (messages.PageRequest m.now) }
+        ensures { result ≡ (is_page_request self.now from m.now && is_some (base_at self.now.memory m.now)) }
     {
         m.page < self.pages() && from != self.me && self.memory.base(m.page).is_some()
     }
@@ -102,7 +99,7 @@ impl NodeState<'_> {
     ) -> Result<Effect, AllocError>
         requires from { from < self.old.setting.nodes }
         requires page { request.now < length self.old.memory.copies }
-        ensures effect { IfOk result (λ effect. page_reply_by self.old from request.now (base_at self.old.memory request.now) ≡ seen_effect effect self.new) }
+        ensures effect { IfOk result (λ effect. page_reply_by self.old from request.now (base_at self.old.memory request.now) ≡ Some (seen_effect effect self.new)) }
         ensures to { IfOk result (λ effect. AreFor self.new.setting.nodes effect.letters.items) }
     {
         let page = request.page;

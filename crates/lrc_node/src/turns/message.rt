@@ -1,10 +1,9 @@
 // Each kind of message: whether a node expects it, and what it does with it.
 
-ghost use Rattle.std.specs.Prelude.{◌≡◌, ◌<◌, IfOk};
-ghost use Rattle.lrc_protocol.specs.Expected.{is_expected};
-ghost use Rattle.lrc_protocol.specs.Take.{take_effect};
+ghost use Rattle.std.specs.Prelude.{◌≡◌, ◌<◌, IfOk, Some};
+ghost use Rattle.lrc_protocol.specs.Turn.{is_expected};
 ghost use Rattle.lrc_node.specs.State.{seen_effect, AreFor};
-ghost use Rattle.lrc_node.specs.Taking.{CanTake};
+ghost use Rattle.lrc_node.specs.Taking.{CanTake, effect_of};
 
 use crate::state::NodeState;
 use crate::turn::Effect;
@@ -36,7 +35,7 @@ impl NodeState<'_> {
     pub(crate) fn take_message(&mut self, from: u8, message: &Message) -> Result<Effect, AllocError>
         requires from { from < self.old.setting.nodes }
         requires can { CanTake self.old from message.now }
-        ensures effect { IfOk result (λ effect. take_effect self.old from message.now ≡ seen_effect effect self.new) }
+        ensures effect { IfOk result (λ effect. effect_of self.old from message.now ≡ Some (seen_effect effect self.new)) }
         ensures to { IfOk result (λ effect. AreFor self.new.setting.nodes effect.letters.items) }
     {
         match message {

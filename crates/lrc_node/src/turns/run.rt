@@ -2,8 +2,7 @@
 
 ghost use Rattle.std.specs.Prelude.{◌≡◌, ◌⊎◌, ◌+◌, ◌<◌, IfErr, IfNone, IfOk, Some, None, OnOk, option_map};
 ghost use Rattle.lrc_exec.specs.Ask.{ask_of};
-ghost use Rattle.lrc_protocol.specs.Node.{begins};
-ghost use Rattle.lrc_protocol.specs.Turn.{done, is_ready, not_ready, run_turn};
+ghost use Rattle.lrc_protocol.specs.Turn.{begins, done, is_ready, not_ready, run_turn};
 ghost use Rattle.lrc_node.specs.Effects.{begun_node, effect_asked, CanBegin, CanRun, RefusesRun};
 ghost use Rattle.lrc_node.specs.State.{seen_effect, AreFor};
 ghost use Rattle.lrc_node.specs.Text.{asked_in};

@@ -1,7 +1,7 @@
 // How the messages of a turn get their numbers.
 
 ghost use Rattle.std.specs.Prelude.{◌≡◌, ◌⊎◌, IfErr, IfOk, None, OnOk, Some};
-ghost use Rattle.lrc_protocol.specs.Mail.{numbered};
+ghost use Rattle.lrc_protocol.specs.Node.{numbered};
 ghost use Rattle.lrc_protocol.specs.Turn.{done, turn_of, with_sent, worn};
 ghost use Rattle.lrc_node.specs.State.{seen_effect, AreFor};
 ghost use Rattle.lrc_node.specs.declared.fault.NodeFault.TheVariants.{NoMemory, Worn};

@@ -4,7 +4,7 @@ ghost use Rattle.std.specs.Prelude.{◌≡◌, ◌≤◌, IfNone, IfSome, false,
 ghost use Rattle.lrc_exec.specs.Ask.{ask_of, cost_asked};
 ghost use Rattle.lrc_exec.specs.Meaning.{next_of};
 ghost use Rattle.lrc_exec.specs.Plain.{start_of};
-ghost use Rattle.lrc_protocol.specs.Course.{going, course_of, deed_of};
+ghost use Rattle.lrc_protocol.specs.Node.{going, course_of, deed_of};
 ghost use Rattle.lrc_node.specs.Text.{asked_in, begun, begun_by, deed_in, end_of, gone_on, course_in};
 ghost use Rattle.lrc_node.specs.Text.{allowed_with, standing_after};
 

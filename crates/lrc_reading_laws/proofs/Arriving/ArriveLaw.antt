@@ -13,12 +13,14 @@ use Rattle.lrc_store.specs.Interval.{IntervalRecord, index_of}
 use Rattle.lrc_store.specs.Store.{StoredRecord, interval_of}
 use Rattle.lrc_copies.proofs.Members.{none_Contains}
 use Rattle.lrc_barrier.specs.Barrier.{ManagerRecord}
-use Rattle.lrc_protocol.specs.Barrier.{last_from}
-use Rattle.lrc_protocol.specs.Expected.{is_expected, is_arrival, are_between, are_arriving}
+use Rattle.lrc_protocol.specs.Times.{are_between}
+use Rattle.lrc_protocol.specs.Barriers.{last_from}
 use Rattle.lrc_protocol.specs.Node.{OptionsRecord}
-use Rattle.lrc_protocol.specs.Log.{Logged}
-use Rattle.lrc_protocol.specs.World.{World, pending, run_of}
+use Rattle.lrc_protocol.specs.Turn.{is_expected, are_arriving}
+use Rattle.lrc_protocol.specs.Run.{Logged, World, pending, run_of}
 use Rattle.lrc_protocol.specs.declared.event.Event.{Event}
+use Rattle.lrc_protocol.proofs.Expecting.{conditions}
+use Rattle.lrc_order_laws.specs.Barriers.{accepts_arrival}
 use Rattle.lrc_order_laws.proofs.Addressed.{all_addressed}
 use Rattle.lrc_order_laws.proofs.AllTimely.{all_timely}
 use Rattle.lrc_order_laws.proofs.BarrierExpected.{arrival_accepted}
@@ -98,6 +100,7 @@ module _ (program : Program) (nodes : ℕ) (options : OptionsRecord) (events : L
       ap (slice_get world.nodes) (sym ((all_addressed program nodes options events world runs).arrive e m there says).0) ∙ at in
       let sender : (x : Logged) × (slice_get world.nodes e.from ≡ Some x) = asker program nodes options world r e there in
       ap (is_expected l.node e.from) says
-      ∙ and_from (is_arrival l.node e.from m) (are_arriving l.node e.from m.time m.intervals)
+      ∙ conditions l.node e.from (Arrive m)
+      ∙ and_from (accepts_arrival l.node e.from m) (are_arriving l.node e.from m.time m.intervals)
       (arrival_accepted program nodes options events world runs l sender.0 e m first there says sender.1)
       (arriving_by h.0 h.1 e m l there says at)

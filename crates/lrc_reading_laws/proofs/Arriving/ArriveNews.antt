@@ -15,14 +15,11 @@ use Rattle.lrc_envelope.specs.declared.message.Message.TheVariants.{LockRequest,
 use Rattle.lrc_envelope.specs.declared.message.Message.TheVariants.{ChangesRequest, ChangesReply, PageRequest, PageReply}
 use Rattle.lrc_lock.specs.declared.state.Pass.{Pass}
 use Rattle.lrc_copies.proofs.Members.{cases_Contains, none_Contains}
-use Rattle.lrc_protocol.specs.Letters.{grant_of, grants_of, changes_reply_to, arrival_of, own_news}
-use Rattle.lrc_protocol.specs.Locks.{next_time}
-use Rattle.lrc_protocol.specs.Mail.{Letter}
-use Rattle.lrc_protocol.specs.Memory.{copy_at}
-use Rattle.lrc_protocol.specs.Node.{Node}
-use Rattle.lrc_protocol.specs.Run.{closes}
-use Rattle.lrc_protocol.specs.Turn.{TurnRecord}
-use Rattle.lrc_protocol.specs.Log.{Input}
+use Rattle.lrc_protocol.specs.Times.{next_time}
+use Rattle.lrc_protocol.specs.Pages.{copy_at}
+use Rattle.lrc_protocol.specs.Node.{Letter, Node}
+use Rattle.lrc_protocol.specs.Turn.{grant_of, grants_of, changes_reply_to, arrival_of, own_news, closes, TurnRecord}
+use Rattle.lrc_protocol.specs.Run.{Input}
 use Rattle.lrc_order_laws.proofs.Sends.{letter_in}
 use Rattle.lrc_node_laws.specs.Stored.{StoresExactly}
 use Rattle.lrc_node_laws.proofs.Exact.{closes-exact}

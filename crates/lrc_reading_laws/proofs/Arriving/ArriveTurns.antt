@@ -8,16 +8,15 @@ use Rattle.lrc_envelope.specs.Envelope.{EnvelopeRecord}
 use Rattle.lrc_envelope.specs.Records.{ArriveRecord}
 use Rattle.lrc_envelope.specs.declared.message.Message.TheVariants.{LockRequest, LockForward, LockGrant, Arrive, Depart, Discard}
 use Rattle.lrc_barrier.specs.Barrier.{ManagerRecord}
-use Rattle.lrc_protocol.specs.Barrier.{Barrier}
 use Rattle.lrc_protocol.specs.Locks.{Locks}
-use Rattle.lrc_protocol.specs.Mail.{Letter, Wait, nothing}
-use Rattle.lrc_protocol.specs.Node.{Node}
+use Rattle.lrc_protocol.specs.Barriers.{arrival_in, Barrier}
+use Rattle.lrc_protocol.specs.Node.{Letter, Wait, nothing, Node}
 use Rattle.lrc_protocol.specs.Turn.{TurnRecord}
 use Rattle.lrc_order_laws.proofs.Shift.{AllFrom}
 use Rattle.lrc_order_laws.proofs.Managers.{Gathered, gathered, LetGo, let_go, Noted, noted, LetDiscard, let_discard}
 use Rattle.lrc_order_laws.proofs.Flows.{Brings, IsFromNode, Stepped, again, once}
 use Rattle.lrc_order_laws.proofs.Pending.{Goes}
-use Rattle.lrc_order_laws.proofs.Sends.{Came, by_itself, comes, Site, site_of, letter_in, arrival_in, Sends, plain, misses, takes, asks}
+use Rattle.lrc_order_laws.proofs.Sends.{Came, by_itself, comes, Site, site_of, letter_in, Sends, plain, misses, takes, asks}
 use Rattle.lrc_order_laws.proofs.Sends.{releasing, arriving, manages, forwarding, grants, gathers, lets_depart, departing, collecting}
 use Rattle.lrc_order_laws.proofs.Sends.{clean_at_once, notes_clean, lets_discard, discarding, serves, accessing, still_misses, still_collects}
 use Rattle.lrc_order_laws.proofs.Sends.{cleaning}

@@ -15,12 +15,9 @@ use Rattle.lrc_envelope.specs.declared.message.Message.TheVariants.{LockRequest,
 use Rattle.lrc_envelope.specs.declared.message.Message.TheVariants.{ChangesRequest, ChangesReply, PageRequest, PageReply}
 use Rattle.lrc_copies.proofs.Members.{cases_Contains, none_Contains}
 use Rattle.lrc_barrier.specs.Barrier.{ManagerRecord, first_manager}
-use Rattle.lrc_protocol.specs.Letters.{own_news}
-use Rattle.lrc_protocol.specs.Run.{closes}
-use Rattle.lrc_protocol.specs.Mail.{Letter, nothing}
-use Rattle.lrc_protocol.specs.Node.{OptionsRecord}
-use Rattle.lrc_protocol.specs.Log.{Input, EntryRecord, Logged}
-use Rattle.lrc_protocol.specs.World.{World, Flying, fresh_world, with_turn, pending}
+use Rattle.lrc_protocol.specs.Node.{Letter, nothing, OptionsRecord}
+use Rattle.lrc_protocol.specs.Turn.{own_news, closes}
+use Rattle.lrc_protocol.specs.Run.{Input, EntryRecord, Logged, World, Flying, fresh_world, with_turn, pending}
 use Rattle.lrc_protocol.proofs.Worlds.{IsEntry, get_set_same, get_set_other, fresh_at}
 use Rattle.lrc_protocol.proofs.Induction.{Comes}
 use Rattle.lrc_protocol.proofs.Turned.{Turned, Turns, turns}

@@ -21,18 +21,17 @@ use Rattle.lrc_barrier.specs.Barrier.{ManagerRecord, arrivals_of, is_news, inter
 use Rattle.lrc_copies.specs.Stamps.{index_of}
 use Rattle.lrc_copies.proofs.Stamping.{covered-le, le-covered}
 use Rattle.lrc_protocol.specs.declared.event.Event.{Event}
-use Rattle.lrc_protocol.specs.Expected.{indices_by, is_learnable, is_expected}
-use Rattle.lrc_protocol.specs.Letters.{departure_of}
+use Rattle.lrc_protocol.specs.Times.{indices_by}
 use Rattle.lrc_protocol.specs.Locks.{Locks}
-use Rattle.lrc_protocol.specs.Barrier.{Barrier}
-use Rattle.lrc_protocol.specs.Mail.{Letter, Wait, nothing, departure}
-use Rattle.lrc_protocol.specs.Node.{OptionsRecord}
-use Rattle.lrc_protocol.specs.Log.{Input, EntryRecord, Logged}
-use Rattle.lrc_protocol.specs.World.{World, Flying, with_turn, pending, run_of}
+use Rattle.lrc_protocol.specs.Barriers.{arrival_in, Barrier}
+use Rattle.lrc_protocol.specs.Node.{Letter, Wait, nothing, departure, OptionsRecord}
+use Rattle.lrc_protocol.specs.Turn.{is_learnable, is_expected, departure_of}
+use Rattle.lrc_protocol.specs.Run.{Input, EntryRecord, Logged, World, Flying, with_turn, pending, run_of}
 use Rattle.lrc_protocol.proofs.Worlds.{IsEntry, get_set_same, get_set_other}
 use Rattle.lrc_protocol.proofs.Induction.{Comes}
+use Rattle.lrc_protocol.proofs.Expecting.{conditions}
 use Rattle.lrc_order_laws.specs.Barriers.{says_depart, arrive_from, depart_to, kept_of, awaits_depart}
-use Rattle.lrc_order_laws.proofs.Sends.{Came, Site, arrival_in, site_of, letter_in}
+use Rattle.lrc_order_laws.proofs.Sends.{Came, Site, site_of, letter_in}
 use Rattle.lrc_order_laws.proofs.Flows.{IsFromNode}
 use Rattle.lrc_order_laws.proofs.Managers.{LetGo}
 use Rattle.lrc_order_laws.proofs.Moves.{in-now, Brought, brought, among_letters}
@@ -400,6 +399,7 @@ module _ (program : Program) (nodes : ℕ) (options : OptionsRecord) where
       let h : (made : List StoredRecord) × History program nodes options world made = history_of program nodes options events world runs in
       let accepted : _ = depart_accepted program nodes options events world runs l e m c is at in
       ap (is_expected l.node e.from) is
+      ∙ conditions l.node e.from (Depart m)
       ∙ and_from _ _
       (and_from _ _ (and_from _ _ (and_from _ _ (eq-eqb e.from 0 accepted.0) accepted.1) (eq-eqb m.episode l.node.barrier.episode accepted.2)) accepted.3)
       (depart_learnable world h.0 h.1 e m l c is at)

@@ -14,19 +14,19 @@ use Rattle.lrc_envelope.specs.Records.{ArriveRecord}
 use Rattle.lrc_envelope.specs.declared.message.Message.TheVariants.{Arrive}
 use Rattle.lrc_barrier.specs.declared.arrival.Arrival.{Arrival}
 use Rattle.lrc_barrier.specs.Barrier.{ManagerRecord, is_accepted, arrived}
-use Rattle.lrc_protocol.specs.Expected.{indices_by, is_expected}
-use Rattle.lrc_protocol.specs.Mail.{Letter}
-use Rattle.lrc_protocol.specs.Node.{Node, OptionsRecord}
-use Rattle.lrc_protocol.specs.Turn.{TurnRecord, is_repeat, empty_turn, done}
-use Rattle.lrc_protocol.specs.Log.{Input, EntryRecord, Logged, outcome_of}
-use Rattle.lrc_protocol.specs.World.{World, Flying, with_turn, pending}
+use Rattle.lrc_protocol.specs.Times.{indices_by}
+use Rattle.lrc_protocol.specs.Node.{Letter, Node, OptionsRecord}
+use Rattle.lrc_protocol.specs.Turn.{is_expected, TurnRecord, is_repeat, empty_turn, done}
+use Rattle.lrc_protocol.specs.Run.{Input, EntryRecord, Logged, outcome_of, World, Flying, with_turn, pending}
 use Rattle.lrc_protocol.specs.Follows.{turns_of}
 use Rattle.lrc_protocol.proofs.Worlds.{IsEntry}
 use Rattle.lrc_protocol.proofs.Induction.{Comes}
+use Rattle.lrc_protocol.specs.Barriers.{arrival_in}
+use Rattle.lrc_protocol.proofs.Expecting.{fulfilled}
 use Rattle.lrc_order_laws.specs.Shape.{HasShape}
 use Rattle.lrc_order_laws.proofs.Shift.{AllFrom}
 use Rattle.lrc_order_laws.proofs.Shape.{NodeShape, shape_at}
-use Rattle.lrc_order_laws.proofs.Sends.{Came, by_itself, comes, arrival_in, site_of, letter_in, Sent, Sending}
+use Rattle.lrc_order_laws.proofs.Sends.{Came, by_itself, comes, site_of, letter_in, Sent, Sending}
 use Rattle.lrc_order_laws.proofs.Sends.{alone as sent_alone, repeats, anew as sent_anew, SendingIf, sendings}
 use Rattle.lrc_order_laws.proofs.Flows.{Brings, IsFromNode}
 use Rattle.lrc_order_laws.proofs.Pending.{new_of, Took, took, Goes, pending-goes, all_pending}
@@ -87,7 +87,7 @@ pub arrives_own : (node : Node) (from : ℕ) (m : ArriveRecord) (manager : Manag
     → ((x : ManagerRecord) → node.barrier.manager ≡ Some x → x ≡ manager)
     → is_expected node from (Arrive m) ≡ true → IsOwn (entry manager.last) (entry m.time) from m.intervals
 arrives_own node from m manager is e =
-    let outer : _ = and_parts _ _ e in
+    let outer : _ = and_parts _ _ (fulfilled node from (Arrive m) e) in
     let between : _ = and_parts _ _ outer.1 in
     let own : _ = and_parts _ _ between.0 in
     let here : (x : ManagerRecord) × (node.barrier.manager ≡ Some x) = manager_here node.barrier.manager (arrival_in m) from outer.0 in

@@ -12,13 +12,12 @@ use Rattle.lrc_page.specs.Place.{pages_of}
 use Rattle.lrc_envelope.specs.Envelope.{EnvelopeRecord}
 use Rattle.lrc_envelope.specs.Records.{ChangesReplyRecord, IndexedChangesRecord, PageReplyRecord}
 use Rattle.lrc_envelope.specs.declared.message.Message.TheVariants.{ChangesReply, PageReply}
-use Rattle.lrc_protocol.specs.Fetch.{Need, awaits_changes, awaits_page}
-use Rattle.lrc_protocol.specs.Mail.{needs_of}
-use Rattle.lrc_protocol.specs.Expected.{is_page, are_changes, is_expected}
-use Rattle.lrc_protocol.specs.Node.{Node, OptionsRecord}
-use Rattle.lrc_protocol.specs.Log.{Logged}
-use Rattle.lrc_protocol.specs.World.{World, pending}
+use Rattle.lrc_protocol.specs.Pages.{Need, awaits_changes, awaits_page}
+use Rattle.lrc_protocol.specs.Node.{needs_of, Node, OptionsRecord}
+use Rattle.lrc_protocol.specs.Turn.{is_page, are_changes, is_expected}
+use Rattle.lrc_protocol.specs.Run.{Logged, World, pending}
 use Rattle.lrc_protocol.specs.Follows.{turns_of}
+use Rattle.lrc_protocol.proofs.Expecting.{conditions}
 use Rattle.lrc_order_laws.proofs.Shape.{NodeShape, shape_at}
 use Rattle.lrc_order_laws.proofs.Reached.{IsReached}
 use Rattle.lrc_node_laws.specs.Needs.{FitsNeed}
@@ -64,7 +63,8 @@ module _ (program : Program) (nodes : ℕ) (options : OptionsRecord) (world : Wo
       page_reply-awaited program nodes options world r e m l there is at in
       let long : length m.values ≡ words_of options.size = subst (IsSound (words_of options.size)) is (sound.each e there) in
       let words : words_of l.node.options.size ≡ words_of options.size = ap (λ (o : OptionsRecord). words_of o.size) (shaped e.to l at).options in
-      and_from (is_page l.node m.page && (length m.values == words_of l.node.options.size)) (list_any (awaits_page m.page e.from) (needs_of l.node.mail.wait))
+      conditions l.node e.from (PageReply m)
+      ∙ and_from (is_page l.node m.page && (length m.values == words_of l.node.options.size)) (list_any (awaits_page m.page e.from) (needs_of l.node.mail.wait))
       (and_from (is_page l.node m.page) (length m.values == words_of l.node.options.size)
       (needed_page l.node (node_at e.to l at) m.page (awaits_page m.page e.from)
       (λ need is. eqb-true need.page m.page (and_parts _ _ is).0) awaits)
@@ -81,7 +81,8 @@ module _ (program : Program) (nodes : ℕ) (options : OptionsRecord) (world : Wo
       let sized : All (λ (part : IndexedChangesRecord). AreInPage (words_of options.size) part.changes) m.parts =
       subst (IsSound (words_of options.size)) is (sound.each e there) in
       let words : words_of options.size ≡ words_of l.node.options.size = sym (ap (λ (o : OptionsRecord). words_of o.size) (shaped e.to l at).options) in
-      and_from (is_page l.node m.page && list_all (are_changes l.node) m.parts) (list_any (awaits_changes m.page e.from indices) (needs_of l.node.mail.wait))
+      conditions l.node e.from (ChangesReply m)
+      ∙ and_from (is_page l.node m.page && list_all (are_changes l.node) m.parts) (list_any (awaits_changes m.page e.from indices) (needs_of l.node.mail.wait))
       (and_from (is_page l.node m.page) (list_all (are_changes l.node) m.parts)
       (needed_page l.node (node_at e.to l at) m.page (awaits_changes m.page e.from indices)
       (λ need is. eqb-true need.page m.page (and_parts _ _ is).0) awaits)

@@ -9,14 +9,12 @@ use Rattle.lrc_page.specs.Page.{words_of}
 use Rattle.lrc_page.specs.Place.{pages_of}
 use Rattle.lrc_envelope.specs.Envelope.{EnvelopeRecord}
 use Rattle.lrc_envelope.specs.declared.message.Message.TheVariants.{PageRequest}
-use Rattle.lrc_protocol.specs.Copy.{Copy, valid, written, invalid, absent}
-use Rattle.lrc_protocol.specs.Memory.{copy_at, base_at}
-use Rattle.lrc_protocol.specs.Fetch.{due, awaits_page}
-use Rattle.lrc_protocol.specs.Mail.{needs_of}
-use Rattle.lrc_protocol.specs.Expected.{is_page, is_expected}
-use Rattle.lrc_protocol.specs.Node.{Node, OptionsRecord}
-use Rattle.lrc_protocol.specs.Log.{Logged}
-use Rattle.lrc_protocol.specs.World.{World, pending}
+use Rattle.lrc_protocol.specs.Pages.{Copy, valid, written, invalid, absent, copy_at, due, awaits_page}
+use Rattle.lrc_protocol.specs.Barriers.{base_at}
+use Rattle.lrc_protocol.specs.Node.{needs_of, Node, OptionsRecord}
+use Rattle.lrc_protocol.specs.Turn.{is_page, is_expected}
+use Rattle.lrc_protocol.specs.Run.{Logged, World, pending}
+use Rattle.lrc_protocol.proofs.Expecting.{conditions}
 use Rattle.lrc_order_laws.proofs.Reached.{IsReached}
 use Rattle.lrc_node_laws.specs.Needs.{FitsBase, FitsNeed}
 use Rattle.lrc_node_laws.specs.Reached.{IsReached as IsReachedNode}
@@ -73,7 +71,8 @@ module _ (program : Program) (nodes : ℕ) (options : OptionsRecord) (world : Wo
       needed_page l.node asker_reached page (awaits_page page e.to) (λ need is. eqb-true need.page page (and_parts _ _ is).0)
       (page_request-awaited program nodes options world r e page l there is by.1) in
       let apart : e.from ≡ k.node.setting.me → ⊥ = λ same_node. keeper_other l.node asker_reached page e.to waits (its ∙ same_node ∙ me) in
-      and_from (is_page k.node page && not (e.from == k.node.setting.me)) (is_some (base_at k.node.memory page))
+      conditions k.node e.from (PageRequest page)
+      ∙ and_from (is_page k.node page && not (e.from == k.node.setting.me)) (is_some (base_at k.node.memory page))
       (and_from (is_page k.node page) (not (e.from == k.node.setting.me))
       (subst (λ (o : OptionsRecord). nat_lt page (pages_of k.node.setting.words o.size) ≡ true) same
       (subst (λ w. nat_lt page (pages_of w l.node.options.size) ≡ true) words in_range))

@@ -10,7 +10,7 @@ use Rattle.lrc_store.specs.Interval.{IntervalRecord, index_of}
 use Rattle.lrc_store.proofs.Orders.{Contains-first, Contains-later, cases_Contains, none_Contains}
 use Rattle.lrc_barrier.specs.declared.arrival.Arrival.{Arrival}
 use Rattle.lrc_barrier.specs.Barrier.{is_news, intervals_of}
-use Rattle.lrc_protocol.specs.Expected.{indices_by}
+use Rattle.lrc_protocol.specs.Times.{indices_by}
 use Rattle.lrc_node_laws.proofs.Indices.{indices-append, indices-here, indices-there}
 
 -- ---- ranges

@@ -13,14 +13,12 @@ use Rattle.lrc_store.specs.Store.{notice_at}
 use Rattle.lrc_envelope.specs.Envelope.{EnvelopeRecord}
 use Rattle.lrc_envelope.specs.Records.{ChangesRequestRecord}
 use Rattle.lrc_envelope.specs.declared.message.Message.TheVariants.{ChangesRequest}
-use Rattle.lrc_protocol.specs.Memory.{lacking}
-use Rattle.lrc_protocol.specs.Fetch.{Need, awaits_changes, indices_of, unknown_of}
-use Rattle.lrc_protocol.specs.Mail.{Wait, nothing, grant, departure, access, upkeep, discard, needs_of}
-use Rattle.lrc_protocol.specs.Expected.{is_page, is_expected}
-use Rattle.lrc_protocol.specs.Node.{OptionsRecord}
-use Rattle.lrc_protocol.specs.Log.{Logged}
-use Rattle.lrc_protocol.specs.World.{World, pending}
+use Rattle.lrc_protocol.specs.Pages.{lacking, Need, awaits_changes, indices_of, unknown_of}
+use Rattle.lrc_protocol.specs.Node.{Wait, nothing, grant, departure, access, upkeep, discard, needs_of, OptionsRecord}
+use Rattle.lrc_protocol.specs.Turn.{is_page, is_expected}
+use Rattle.lrc_protocol.specs.Run.{Logged, World, pending}
 use Rattle.lrc_protocol.proofs.Worlds.{run-whole}
+use Rattle.lrc_protocol.proofs.Expecting.{conditions}
 use Rattle.lrc_order_laws.proofs.Pending.{get_within}
 use Rattle.lrc_order_laws.proofs.Reached.{IsReached}
 use Rattle.lrc_node_laws.proofs.Replies.{asked-exactly}
@@ -92,7 +90,8 @@ module _ (program : Program) (nodes : ℕ) (options : OptionsRecord) (world : Wo
       (λ i there mine.
       subst (λ q. index_of i ≤ entry k.node.locks.time q) (sym me) (upto made are e.to k at i there (mine ∙ me)))
       (covers k.node.setting.me) m.page) in
-      and_from (is_page k.node m.page)
+      conditions k.node e.from (ChangesRequest m)
+      ∙ and_from (is_page k.node m.page)
       (list_all (λ index. is_some (notice_at k.node.memory.store (record { node = k.node.setting.me; index = index; page = m.page }))) m.indices)
       (subst (λ (o : OptionsRecord). nat_lt m.page (pages_of k.node.setting.words o.size) ≡ true) same
       (subst (λ w. nat_lt m.page (pages_of w l.node.options.size) ≡ true) words page))

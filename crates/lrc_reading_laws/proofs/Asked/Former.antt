@@ -17,17 +17,16 @@ use Rattle.lrc_envelope.specs.declared.message.Message.TheVariants.{ChangesReque
 use Rattle.lrc_barrier.specs.declared.arrival.Arrival.{Arrival}
 use Rattle.lrc_barrier.specs.declared.departure.Departure.{Departure}
 use Rattle.lrc_barrier.specs.Barrier.{ManagerRecord, first_manager, with_arrival, arrivals_of, departed}
-use Rattle.lrc_protocol.specs.Letters.{departure_of}
-use Rattle.lrc_protocol.specs.Mail.{Letter, nothing, departure}
-use Rattle.lrc_protocol.specs.Node.{OptionsRecord, fresh_node}
-use Rattle.lrc_protocol.specs.Log.{Input, EntryRecord, Logged}
-use Rattle.lrc_protocol.specs.World.{World, Flying, fresh_world, with_turn, pending}
+use Rattle.lrc_protocol.specs.Node.{Letter, nothing, departure, OptionsRecord, fresh_node}
+use Rattle.lrc_protocol.specs.Turn.{departure_of}
+use Rattle.lrc_protocol.specs.Run.{Input, EntryRecord, Logged, World, Flying, fresh_world, with_turn, pending}
 use Rattle.lrc_protocol.specs.Follows.{turns_of}
 use Rattle.lrc_protocol.proofs.Worlds.{IsEntry, get_set_same, get_set_other, fresh_at}
 use Rattle.lrc_protocol.proofs.Induction.{Comes}
 use Rattle.lrc_protocol.proofs.Turned.{Turned, Turns, turns}
+use Rattle.lrc_protocol.specs.Barriers.{arrival_in}
 use Rattle.lrc_order_laws.specs.Barriers.{says_depart, arrive_from, depart_to, kept_of}
-use Rattle.lrc_order_laws.proofs.Sends.{Came, by_itself, comes, arrival_in, site_of, letter_in}
+use Rattle.lrc_order_laws.proofs.Sends.{Came, by_itself, comes, site_of, letter_in}
 use Rattle.lrc_order_laws.proofs.Flows.{IsFromNode, came_count, count-cons, counts}
 use Rattle.lrc_order_laws.proofs.Managers.{LetGo, kept-departed, departs-once}
 use Rattle.lrc_order_laws.proofs.Arrivals.{lets_or_not}

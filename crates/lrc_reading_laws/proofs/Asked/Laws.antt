@@ -8,12 +8,10 @@ use Rattle.lrc_lang.specs.declared.program.Program.{Program}
 use Rattle.lrc_envelope.specs.Envelope.{EnvelopeRecord}
 use Rattle.lrc_envelope.specs.Records.{ChangesRequestRecord, ChangesReplyRecord, IndexedChangesRecord, PageReplyRecord}
 use Rattle.lrc_envelope.specs.declared.message.Message.TheVariants.{ChangesRequest, ChangesReply, PageRequest, PageReply}
-use Rattle.lrc_protocol.specs.Fetch.{Base, unneeded, due, come, Asked, Need, asks, awaits_changes, is_due_from, awaits_page}
-use Rattle.lrc_protocol.specs.Mail.{Letter, Wait, nothing, grant, departure, access, upkeep, discard, needs_of}
-use Rattle.lrc_protocol.specs.Letters.{letter, changes_request_of, page_request_of, requests_of}
-use Rattle.lrc_protocol.specs.Node.{Node, OptionsRecord}
-use Rattle.lrc_protocol.specs.Log.{Logged}
-use Rattle.lrc_protocol.specs.World.{World, pending}
+use Rattle.lrc_protocol.specs.Pages.{Base, unneeded, due, come, Asked, Need, asks, awaits_changes, is_due_from, awaits_page}
+use Rattle.lrc_protocol.specs.Node.{Letter, Wait, nothing, grant, departure, access, upkeep, discard, needs_of, Node, OptionsRecord}
+use Rattle.lrc_protocol.specs.Turn.{letter, changes_request_of, page_request_of, requests_of}
+use Rattle.lrc_protocol.specs.Run.{Logged, World, pending}
 use Rattle.lrc_order_laws.proofs.Sends.{letter_in}
 use Rattle.lrc_order_laws.proofs.Flows.{count_of, count-append, count-cons}
 use Rattle.lrc_order_laws.proofs.Moves.{counted_in}

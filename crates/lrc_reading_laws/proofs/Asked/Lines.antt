@@ -10,13 +10,13 @@ use Rattle.lrc_envelope.specs.declared.message.Message.{Message}
 use Rattle.lrc_envelope.specs.declared.message.Message.TheVariants.{LockRequest, LockForward, LockGrant, Arrive, Depart, Clean, Discard}
 use Rattle.lrc_barrier.specs.declared.departure.Departure.{Departure}
 use Rattle.lrc_barrier.specs.Barrier.{ManagerRecord}
-use Rattle.lrc_protocol.specs.Mail.{Letter, Wait}
-use Rattle.lrc_protocol.specs.Letters.{departure_of}
 use Rattle.lrc_protocol.specs.Locks.{Locks}
-use Rattle.lrc_protocol.specs.Barrier.{Barrier}
+use Rattle.lrc_protocol.specs.Barriers.{arrival_in, Barrier}
+use Rattle.lrc_protocol.specs.Node.{Letter, Wait}
+use Rattle.lrc_protocol.specs.Turn.{departure_of}
 use Rattle.lrc_order_laws.proofs.Managers.{Gathered, gathered, LetGo, let_go, Noted, noted, LetDiscard, let_discard}
 use Rattle.lrc_order_laws.proofs.LockMoves.{covers-next}
-use Rattle.lrc_order_laws.proofs.Sends.{is_other, Came, by_itself, comes, Site, arrival_in, Sends, plain, misses, takes, asks, releasing}
+use Rattle.lrc_order_laws.proofs.Sends.{is_other, Came, by_itself, comes, Site, Sends, plain, misses, takes, asks, releasing}
 use Rattle.lrc_order_laws.proofs.Sends.{arriving, manages, forwarding, grants, gathers, lets_depart, departing, collecting, clean_at_once}
 use Rattle.lrc_order_laws.proofs.Sends.{notes_clean, lets_discard, discarding, serves, accessing, still_misses, still_collects, cleaning}
 

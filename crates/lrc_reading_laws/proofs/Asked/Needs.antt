@@ -7,11 +7,10 @@ use Rattle.std.proofs.lemmas.Option.{same_Some}
 use Rattle.std.proofs.lemmas.List.Elements.{All-head, All-tail, All-map}
 use Rattle.lrc_store.specs.declared.key.Key.{Key}
 use Rattle.lrc_envelope.specs.declared.message.Message.TheVariants.{ChangesRequest, PageRequest}
-use Rattle.lrc_protocol.specs.Memory.{Memory}
-use Rattle.lrc_protocol.specs.Fetch.{Base, unneeded, due, come, Asked, Need, indices_of, some_asked, asked_of, unknown_of, asks}
-use Rattle.lrc_protocol.specs.Fetch.{awaits_changes, is_due, is_due_from, awaits_page, is_nothing, is_met, with_changes, with_page}
-use Rattle.lrc_protocol.specs.Mail.{Letter}
-use Rattle.lrc_protocol.specs.Letters.{letter, changes_request_of, page_request_of, requests_of}
+use Rattle.lrc_protocol.specs.Pages.{Memory, Base, unneeded, due, come, Asked, Need, indices_of, some_asked, asked_of, unknown_of, asks}
+use Rattle.lrc_protocol.specs.Pages.{awaits_changes, is_due, is_due_from, awaits_page, is_nothing, is_met, with_changes, with_page}
+use Rattle.lrc_protocol.specs.Node.{Letter}
+use Rattle.lrc_protocol.specs.Turn.{letter, changes_request_of, page_request_of, requests_of}
 use Rattle.lrc_node_laws.specs.Needs.{FitsNeed}
 use Rattle.lrc_node_laws.proofs.Tests.{same_numbers}
 use Rattle.lrc_node_laws.proofs.Lists.{All-chosen}

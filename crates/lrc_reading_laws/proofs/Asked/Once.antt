@@ -8,12 +8,10 @@ use Rattle.lrc_lang.specs.declared.program.Program.{Program}
 use Rattle.lrc_page.specs.Page.{words_of}
 use Rattle.lrc_page.specs.Place.{pages_of}
 use Rattle.lrc_envelope.specs.declared.message.Message.TheVariants.{ChangesRequest, PageRequest}
-use Rattle.lrc_protocol.specs.Fetch.{come, Asked, Need, asks, awaits_changes, is_due_from, awaits_page, with_changes, with_page}
-use Rattle.lrc_protocol.specs.Mail.{Letter, needs_of}
-use Rattle.lrc_protocol.specs.Letters.{letter, requests_of}
-use Rattle.lrc_protocol.specs.Node.{Node, OptionsRecord}
-use Rattle.lrc_protocol.specs.Log.{Logged}
-use Rattle.lrc_protocol.specs.World.{World, pending}
+use Rattle.lrc_protocol.specs.Pages.{come, Asked, Need, asks, awaits_changes, is_due_from, awaits_page, with_changes, with_page}
+use Rattle.lrc_protocol.specs.Node.{Letter, needs_of, Node, OptionsRecord}
+use Rattle.lrc_protocol.specs.Turn.{letter, requests_of}
+use Rattle.lrc_protocol.specs.Run.{Logged, World, pending}
 use Rattle.lrc_order_laws.proofs.Reached.{IsReached}
 use Rattle.lrc_node_laws.specs.Reached.{IsReached as IsReachedNode}
 use Rattle.lrc_node_laws.proofs.Always.{needed_at}

@@ -8,21 +8,17 @@ use Rattle.lrc_envelope.specs.Records.{ChangesRequestRecord}
 use Rattle.lrc_envelope.specs.declared.message.Message.{Message}
 use Rattle.lrc_envelope.specs.declared.message.Message.TheVariants.{ChangesRequest, PageRequest}
 use Rattle.lrc_lock.specs.Held.{LockStep, released, pass_of, held_after}
-use Rattle.lrc_protocol.specs.Memory.{base_at}
-use Rattle.lrc_protocol.specs.Fetch.{Need}
-use Rattle.lrc_protocol.specs.Mail.{Letter}
-use Rattle.lrc_protocol.specs.Node.{Node, Effect, with_tokens, acts}
-use Rattle.lrc_protocol.specs.Letters.{arrival_of, grants_of, requests_of, changes_reply_to, page_reply_to}
-use Rattle.lrc_protocol.specs.Expected.{is_expected}
-use Rattle.lrc_protocol.specs.Run.{charged}
-use Rattle.lrc_protocol.specs.Turn.{TurnRecord, taking}
-use Rattle.lrc_protocol.specs.Log.{Input}
-use Rattle.lrc_protocol.specs.Rules.{page_at, need_at, closed_for, upkeep_at}
-use Rattle.lrc_protocol.specs.Rules.{RunRule, run_hit, run_miss, run_repair, run_acquire, run_ask, run_release, run_barrier, run_other}
-use Rattle.lrc_protocol.specs.Rules.{TakeRule, take_request, take_request_unnoted, take_forward, take_token, take_arrive}
+use Rattle.lrc_protocol.specs.Pages.{Need}
+use Rattle.lrc_protocol.specs.Barriers.{base_at}
+use Rattle.lrc_protocol.specs.Node.{Letter, Node, Effect, with_tokens, acts}
+use Rattle.lrc_protocol.specs.Turn.{arrival_of, grants_of, requests_of, changes_reply_to, page_reply_to, is_expected, charged, TurnRecord}
+use Rattle.lrc_protocol.specs.Turn.{taking}
+use Rattle.lrc_protocol.specs.Run.{Input}
+use Rattle.lrc_protocol.specs.Rules.{take_request, page_at, need_at, closed_for, upkeep_at, RunRule, run_hit, run_miss, run_repair, run_acquire}
+use Rattle.lrc_protocol.specs.Rules.{run_ask, run_release, run_barrier, run_other, TakeRule, take_forward, take_token, take_arrive}
 use Rattle.lrc_protocol.specs.Rules.{take_last_arrive, take_depart, take_collect, take_collect_at_once, take_reply, take_last_reply}
-use Rattle.lrc_protocol.specs.Rules.{take_kept_reply, take_last_kept_reply, take_clean, take_last_clean, take_discard}
-use Rattle.lrc_protocol.specs.Rules.{take_changes_request, take_page_request, TurnRule, by_run, by_repeat, by_message}
+use Rattle.lrc_protocol.specs.Rules.{take_kept_reply, take_last_kept_reply, take_clean, take_last_clean, take_discard, take_changes_request}
+use Rattle.lrc_protocol.specs.Rules.{take_page_request, TurnRule, by_run, by_repeat, by_message}
 use Rattle.lrc_protocol.proofs.Allowed.{expected_by_rule}
 use Rattle.lrc_order_laws.proofs.Sends.{letter_in, sent-letters}
 use Rattle.lrc_reading_laws.proofs.Asked.Turns.{grants-calm, departs-calm, discards-calm}
@@ -70,8 +66,7 @@ module _ (node : Node) (envelope : EnvelopeRecord) (from : ℕ) where
   now = taking node envelope
 
   take-replies : (message : Message) (e : Effect) → is_expected node from message ≡ true → TakeRule now from message e → Replies node e.letters
-  take-replies message e x (take_request m to managed lt counted mine is) = brings_nothing (refl, tt)
-  take-replies message e x (take_request_unnoted m fault lt counted mine is) = brings_nothing tt
+  take-replies message e x (take_request m lt counted mine) = brings_nothing (refl, tt)
   take-replies message e x (take_forward m lt asker counted managed accepted) = brings_nothing (calm-asks _ (grants-calm now _))
   take-replies message e x (take_token m lt at news) = brings_nothing (acts-ask [] _ tt)
   take-replies message e x (take_arrive m before after at news is) = brings_nothing tt

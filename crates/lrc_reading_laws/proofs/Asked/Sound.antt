@@ -24,10 +24,9 @@ use Rattle.lrc_envelope.specs.declared.message.Message.{Message}
 use Rattle.lrc_envelope.specs.declared.message.Message.TheVariants.{LockRequest, LockForward, LockGrant, Arrive, Depart, Clean, Discard}
 use Rattle.lrc_envelope.specs.declared.message.Message.TheVariants.{ChangesRequest, ChangesReply, PageRequest, PageReply}
 use Rattle.lrc_protocol.specs.declared.event.Event.{Event}
-use Rattle.lrc_protocol.specs.Mail.{Letter}
-use Rattle.lrc_protocol.specs.Letters.{own_part, changes_reply_to, page_reply_to}
-use Rattle.lrc_protocol.specs.Node.{Node, OptionsRecord}
-use Rattle.lrc_protocol.specs.World.{World, fresh_world, with_turn, pending, run_of}
+use Rattle.lrc_protocol.specs.Node.{Letter, Node, OptionsRecord}
+use Rattle.lrc_protocol.specs.Turn.{own_part, changes_reply_to, page_reply_to}
+use Rattle.lrc_protocol.specs.Run.{World, fresh_world, with_turn, pending, run_of}
 use Rattle.lrc_protocol.specs.Follows.{turns_of}
 use Rattle.lrc_order_laws.proofs.Shape.{NodeShape, shape_at}
 use Rattle.lrc_order_laws.proofs.Sends.{letter_in}

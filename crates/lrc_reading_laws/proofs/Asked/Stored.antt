@@ -10,9 +10,7 @@ use Rattle.lrc_store.specs.Interval.{IntervalRecord, index_of, by_weight}
 use Rattle.lrc_store.specs.Order.{placed, ascending_part}
 use Rattle.lrc_store.specs.Store.{intervals_of, notice_at, changes_at, is_missing, key_of, missing_of}
 use Rattle.lrc_store.proofs.Orders.{Contains-first, Contains-later, cases_Contains, none_Contains}
-use Rattle.lrc_protocol.specs.Copy.{Copy, valid, written, invalid, absent}
-use Rattle.lrc_protocol.specs.Memory.{copy_at, lacking, lacking_in}
-use Rattle.lrc_protocol.specs.Fetch.{indices_of, unknown_of}
+use Rattle.lrc_protocol.specs.Pages.{Copy, valid, written, invalid, absent, copy_at, lacking, lacking_in, indices_of, unknown_of}
 use Rattle.lrc_protocol.specs.Node.{Node}
 use Rattle.lrc_node_laws.specs.Reached.{IsReached}
 use Rattle.lrc_node_laws.specs.Remembered.{IsBetween}

@@ -9,8 +9,8 @@ use Rattle.lrc_envelope.specs.declared.message.Message.{Message}
 use Rattle.lrc_envelope.specs.declared.message.Message.TheVariants.{Depart}
 use Rattle.lrc_barrier.specs.declared.arrival.Arrival.{Arrival}
 use Rattle.lrc_barrier.specs.Barrier.{is_news, joined_time, intervals_of, departure_to}
-use Rattle.lrc_protocol.specs.Mail.{Letter}
-use Rattle.lrc_protocol.specs.Letters.{departure_of}
+use Rattle.lrc_protocol.specs.Node.{Letter}
+use Rattle.lrc_protocol.specs.Turn.{departure_of}
 
 time_in : Message → List ℕ
 time_in (Depart d) = d.time

@@ -12,22 +12,18 @@ use Rattle.lrc_envelope.specs.declared.message.Message.TheVariants.{ChangesReque
 use Rattle.lrc_lock.specs.declared.state.Pass.{Pass}
 use Rattle.lrc_lock.specs.Held.{LockStep, released, pass_of, held_after}
 use Rattle.lrc_barrier.specs.declared.departure.Departure.{Departure}
-use Rattle.lrc_protocol.specs.Memory.{Memory}
-use Rattle.lrc_protocol.specs.Fetch.{Need, with_changes, with_page}
-use Rattle.lrc_protocol.specs.Mail.{Letter, Wait, nothing, access, upkeep, needs_of}
-use Rattle.lrc_protocol.specs.Course.{Course, going, trapped, ended}
-use Rattle.lrc_protocol.specs.Node.{Node, Effect, with_tokens, acts, acts_by}
-use Rattle.lrc_protocol.specs.Letters.{letter, arrival_of, grants_of, departure_of, discards_to, requests_of, own_part}
-use Rattle.lrc_protocol.specs.Waits.{with_needs}
-use Rattle.lrc_protocol.specs.Run.{charged}
+use Rattle.lrc_protocol.specs.Pages.{Memory, Need, with_changes, with_page}
+use Rattle.lrc_protocol.specs.Node.{Letter, Wait, nothing, access, upkeep, needs_of, Course, going, trapped, ended, Node, Effect, with_tokens}
+use Rattle.lrc_protocol.specs.Node.{acts, acts_by}
+use Rattle.lrc_protocol.specs.Turn.{letter, arrival_of, grants_of, departure_of, discards_to, requests_of, own_part, with_needs, charged}
 use Rattle.lrc_protocol.specs.Turn.{TurnRecord, taking, is_repeat}
-use Rattle.lrc_protocol.specs.Log.{Input, run, taken}
-use Rattle.lrc_protocol.specs.Rules.{Brings, brings_changes, brings_base_copy, page_at, need_at, closed_for, upkeep_at}
-use Rattle.lrc_protocol.specs.Rules.{RunRule, run_hit, run_miss, run_repair, run_acquire, run_ask, run_release, run_barrier, run_other}
-use Rattle.lrc_protocol.specs.Rules.{TakeRule, take_request, take_request_unnoted, take_forward, take_token, take_arrive}
-use Rattle.lrc_protocol.specs.Rules.{take_last_arrive, take_depart, take_collect, take_collect_at_once, take_reply, take_last_reply}
-use Rattle.lrc_protocol.specs.Rules.{take_kept_reply, take_last_kept_reply, take_clean, take_last_clean, take_discard}
-use Rattle.lrc_protocol.specs.Rules.{take_changes_request, take_page_request, IsSent, with_numbers, TurnRule, by_run, by_repeat, by_message}
+use Rattle.lrc_protocol.specs.Run.{Input, run, taken}
+use Rattle.lrc_protocol.specs.Rules.{take_request, Brings, brings_changes, brings_base_copy, page_at, need_at, closed_for, upkeep_at, RunRule}
+use Rattle.lrc_protocol.specs.Rules.{run_hit, run_miss, run_repair, run_acquire, run_ask, run_release, run_barrier, run_other, TakeRule}
+use Rattle.lrc_protocol.specs.Rules.{take_forward, take_token, take_arrive, take_last_arrive, take_depart, take_collect, take_collect_at_once}
+use Rattle.lrc_protocol.specs.Rules.{take_reply, take_last_reply, take_kept_reply, take_last_kept_reply, take_clean, take_last_clean}
+use Rattle.lrc_protocol.specs.Rules.{take_discard, take_changes_request, take_page_request, IsSent, with_numbers, TurnRule, by_run, by_repeat}
+use Rattle.lrc_protocol.specs.Rules.{by_message}
 use Rattle.lrc_order_laws.proofs.Sends.{Came, by_itself, comes, letter_in, sent-letters}
 use Rattle.lrc_node_laws.specs.Reached.{IsReached}
 use Rattle.lrc_node_laws.proofs.Change.{view_of, pages_in}
@@ -142,8 +138,7 @@ module _ (node : Node) where
         subst (λ w. Steady me (comes from message) letters was (awaited (with_needs change w))) at (gets-keep message memory change b letters l)
 
     take-keep : (message : Message) (e : Effect) → TakeRule now from message e → Keeps me (comes from message) was e
-    take-keep message e (take_request m to managed lt counted mine is) = calm me _ _ was was (refl, refl) ((refl, refl), tt) refl
-    take-keep message e (take_request_unnoted m fault lt counted mine is) = calm me _ [] was was (refl, refl) tt refl
+    take-keep message e (take_request m lt counted mine) = calm me _ _ was was (refl, refl) ((refl, refl), tt) refl
     take-keep message e (take_forward m lt asker counted managed accepted) = calm me _ _ was was (refl, refl) (grants-calm now _) refl
     take-keep message e (take_token m lt at news) = acts-keep me _ was [] _ (calm me _ [] was [] (refl, refl) tt (sym (ap awaited at)))
     take-keep message e (take_arrive m before after at news is) = calm me _ [] was was (refl, refl) tt refl

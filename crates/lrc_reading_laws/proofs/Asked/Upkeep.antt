@@ -10,12 +10,12 @@ use Rattle.std.proofs.lemmas.List.Elements.{All-head, All-tail, All-map, All-fil
 use Rattle.lrc_lang.specs.declared.program.Program.{Program}
 use Rattle.lrc_store.specs.Interval.{IntervalRecord, index_of}
 use Rattle.lrc_store.specs.Store.{intervals_of}
-use Rattle.lrc_protocol.specs.Copy.{Copy, valid, written, invalid, absent, is_readable}
-use Rattle.lrc_protocol.specs.Memory.{Memory, copy_at, is_named, least, namers_of, keeper_at, kept_pages, with_keepers}
-use Rattle.lrc_protocol.specs.Fetch.{unneeded, Asked, Need, base_of, need_of, is_due_from, awaits_page, with_changes, with_page}
-use Rattle.lrc_protocol.specs.Mail.{Wait, nothing, grant, departure, access, upkeep, discard, needs_of}
-use Rattle.lrc_protocol.specs.Node.{Node, OptionsRecord}
-use Rattle.lrc_protocol.specs.Waits.{with_needs}
+use Rattle.lrc_protocol.specs.Times.{is_named}
+use Rattle.lrc_protocol.specs.Pages.{Copy, valid, written, invalid, absent, is_readable, Memory, copy_at, keeper_at, unneeded, Asked, Need}
+use Rattle.lrc_protocol.specs.Pages.{base_of, need_of, is_due_from, awaits_page, with_changes, with_page}
+use Rattle.lrc_protocol.specs.Barriers.{least, namers_of, kept_pages, with_keepers}
+use Rattle.lrc_protocol.specs.Node.{Wait, nothing, grant, departure, access, upkeep, discard, needs_of, Node, OptionsRecord}
+use Rattle.lrc_protocol.specs.Turn.{with_needs}
 use Rattle.lrc_node_laws.specs.Own.{HasOwn, OwnCopied}
 use Rattle.lrc_node_laws.specs.Reached.{IsReached}
 use Rattle.lrc_node_laws.proofs.Lists.{All-chosen, length-placed}

@@ -4,9 +4,9 @@ use Rattle.std.proofs.Common.{◌≡◌, ℕ, ◌+◌, List, [], ◌∷◌, ◌+
 use Rattle.std.specs.Prelude.{Option, Some, None, ◌==◌, count_by, flat_map}
 use Rattle.std.proofs.lemmas.Bool.{eq-eqb, ne_eqb}
 use Rattle.lrc_envelope.specs.declared.message.Message.{Message}
-use Rattle.lrc_protocol.specs.Fetch.{Base, unneeded, due, come, Asked, Need}
-use Rattle.lrc_protocol.specs.Mail.{Letter, Wait, needs_of}
-use Rattle.lrc_protocol.specs.Letters.{letter, changes_request_of, page_request_of, requests_of}
+use Rattle.lrc_protocol.specs.Pages.{Base, unneeded, due, come, Asked, Need}
+use Rattle.lrc_protocol.specs.Node.{Letter, Wait, needs_of}
+use Rattle.lrc_protocol.specs.Turn.{letter, changes_request_of, page_request_of, requests_of}
 use Rattle.lrc_reading_laws.specs.Requested.{Wish, asked_in, told_in, is_wish}
 use Rattle.lrc_order_laws.proofs.Sends.{Came, by_itself, comes}
 use Rattle.lrc_order_laws.proofs.Flows.{came_count, count-cons}

@@ -5,11 +5,10 @@ use Rattle.lrc_lang.specs.declared.program.Program.{Program}
 use Rattle.lrc_time.specs.Time.{entry}
 use Rattle.lrc_store.specs.Store.{StoredRecord}
 use Rattle.lrc_protocol.specs.declared.event.Event.{Event}
-use Rattle.lrc_protocol.specs.Locks.{next_time}
-use Rattle.lrc_protocol.specs.Memory.{all_changes}
+use Rattle.lrc_protocol.specs.Times.{next_time}
+use Rattle.lrc_protocol.specs.Pages.{all_changes}
 use Rattle.lrc_protocol.specs.Node.{Node, OptionsRecord}
-use Rattle.lrc_protocol.specs.Log.{Input, EntryRecord, Logged}
-use Rattle.lrc_protocol.specs.World.{World, Flying, fresh_world, with_turn, run_of}
+use Rattle.lrc_protocol.specs.Run.{Input, EntryRecord, Logged, World, Flying, fresh_world, with_turn, run_of}
 use Rattle.lrc_protocol.proofs.Worlds.{IsEntry}
 use Rattle.lrc_protocol.proofs.Induction.{Comes}
 use Rattle.lrc_order_laws.proofs.Reached.{IsReached, KeptByReached, by_reached}

@@ -15,21 +15,15 @@ use Rattle.lrc_envelope.specs.declared.message.Message.{Message}
 use Rattle.lrc_envelope.specs.declared.message.Message.TheVariants.{LockRequest, LockForward, LockGrant, Arrive, Depart, Clean, Discard}
 use Rattle.lrc_envelope.specs.declared.message.Message.TheVariants.{ChangesRequest, ChangesReply, PageRequest, PageReply}
 use Rattle.lrc_copies.proofs.Members.{Contains-first, Contains-later, cases_Contains, none_Contains}
-use Rattle.lrc_protocol.specs.Copy.{Copy, valid, written, invalid, absent}
-use Rattle.lrc_protocol.specs.Expected.{indices_by, is_expected}
+use Rattle.lrc_protocol.specs.Times.{indices_by, next_time}
+use Rattle.lrc_protocol.specs.Pages.{Copy, valid, written, invalid, absent, copy_at, with_interval, changes_or_none, with_part}
+use Rattle.lrc_protocol.specs.Turn.{is_expected, closes, grants_of, own_part, changes_reply_to, TurnRecord}
 use Rattle.lrc_lock.specs.declared.state.Pass.{Pass}
 use Rattle.lrc_exec.specs.Meaning.{Next, quiet, prints, reads, writes, acquires, releases, arrives, departs, traps, ends}
-use Rattle.lrc_protocol.specs.Run.{closes}
-use Rattle.lrc_protocol.specs.Letters.{grants_of, own_part, changes_reply_to}
-use Rattle.lrc_protocol.specs.Locks.{next_time}
-use Rattle.lrc_protocol.specs.Mail.{Letter}
-use Rattle.lrc_protocol.specs.Memory.{copy_at, with_interval, changes_or_none}
-use Rattle.lrc_protocol.specs.Node.{Node, OptionsRecord}
-use Rattle.lrc_protocol.specs.Take.{with_part}
-use Rattle.lrc_protocol.specs.Turn.{TurnRecord}
-use Rattle.lrc_protocol.specs.Log.{Input, Logged}
-use Rattle.lrc_protocol.specs.World.{World, fresh_world, with_turn, pending}
+use Rattle.lrc_protocol.specs.Node.{Letter, Node, OptionsRecord}
+use Rattle.lrc_protocol.specs.Run.{Input, Logged, World, fresh_world, with_turn, pending}
 use Rattle.lrc_protocol.proofs.Worlds.{get_set_same, fresh_at}
+use Rattle.lrc_protocol.proofs.Expecting.{fulfilled}
 use Rattle.lrc_order_laws.proofs.Shift.{AllFrom}
 use Rattle.lrc_order_laws.proofs.Sends.{Came, by_itself, comes, letter_in}
 use Rattle.lrc_node_laws.proofs.Tests.{each_passes}
@@ -204,7 +198,7 @@ module _ (nodes n : ℕ) (node : Node) (made : List StoredRecord) (p : Placed no
       only_letter (changes_reply_to node from m.page m.indices) (letter_in e) (subst (λ ls. Contains ls (letter_in e)) is (letter_out out e c)) in
       let message_is : ChangesReply sent ≡ ChangesReply m' = ap (λ (x : Letter). x.message) letter_is ∙ e' in
       let same : sent ≡ m' = cc in
-      let parts : _ = and_parts _ _ expected in
+      let parts : _ = and_parts _ _ (fulfilled node from (ChangesRequest m) expected) in
       let noticed : All (λ index. is_some (notice_at node.memory.store (record { node = me; index = index; page = m.page })) ≡ true) m.indices =
       each_passes (λ index. is_some (notice_at node.memory.store (record { node = me; index = index; page = m.page })))
       (λ index. is_some (notice_at node.memory.store (record { node = me; index = index; page = m.page })) ≡ true) (λ index b. b) m.indices parts.1 in

@@ -16,10 +16,9 @@ use Rattle.lrc_store.proofs.Lookups.{passes-find}
 use Rattle.lrc_envelope.specs.Records.{IndexedChangesRecord}
 use Rattle.lrc_copies.specs.Stamps.{index_of}
 use Rattle.lrc_copies.proofs.Members.{Contains-first, Contains-later, cases_Contains, none_Contains, AllPairs-first, AllPairs-rest}
-use Rattle.lrc_protocol.specs.Locks.{next_time}
-use Rattle.lrc_protocol.specs.Memory.{all_changes, closed_interval, with_own, with_interval}
+use Rattle.lrc_protocol.specs.Times.{next_time}
+use Rattle.lrc_protocol.specs.Pages.{all_changes, closed_interval, with_own, with_interval, with_part}
 use Rattle.lrc_protocol.specs.Node.{Node}
-use Rattle.lrc_protocol.specs.Take.{with_part}
 use Rattle.lrc_reading_laws.specs.Made.{AllMade}
 use Rattle.lrc_reading_laws.specs.Written.{made_stamps, made_changes}
 use Rattle.lrc_reading_laws.proofs.Closed.History.{closed_record}

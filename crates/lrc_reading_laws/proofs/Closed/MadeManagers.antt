@@ -12,15 +12,14 @@ use Rattle.lrc_lock.specs.declared.state.Pass.{Pass}
 use Rattle.lrc_barrier.specs.declared.fault.BarrierFault.TheVariants.{WrongEpisode, Twice}
 use Rattle.lrc_barrier.specs.declared.arrival.Arrival.{Arrival}
 use Rattle.lrc_barrier.specs.declared.departure.Departure.{Departure}
-use Rattle.lrc_barrier.specs.Barrier.{ManagerRecord, ArriveStep, refuses, waits, departs, is_next, has_arrived, with_arrival}
-use Rattle.lrc_barrier.specs.Barrier.{arrivals_of, accepted, arrived, departed, departures_of, departure_to, is_news}
-use Rattle.lrc_barrier.specs.Barrier.{intervals_of as intervals_told, CleanStep, refuses_clean, awaits, discards, cleaned_with}
-use Rattle.lrc_barrier.specs.Barrier.{cleaned_by, cleaned}
-use Rattle.lrc_protocol.specs.Mail.{Letter, Wait}
+use Rattle.lrc_barrier.specs.Barrier.{ManagerRecord, ArriveStep, refuses, waits, departs, is_next, has_arrived, with_arrival, arrivals_of}
+use Rattle.lrc_barrier.specs.Barrier.{accepted, arrived, departed, departures_of, departure_to, is_news, intervals_of as intervals_told}
+use Rattle.lrc_barrier.specs.Barrier.{CleanStep, refuses_clean, awaits, discards, cleaned_with, cleaned_by, cleaned}
 use Rattle.lrc_protocol.specs.Locks.{Locks}
-use Rattle.lrc_protocol.specs.Barrier.{Barrier}
-use Rattle.lrc_protocol.specs.Letters.{departure_of, discards_to}
-use Rattle.lrc_order_laws.proofs.Sends.{is_other, AreOthers, Grants, Came, by_itself, comes, arrival_in, Site, Sends, plain, misses, takes, asks}
+use Rattle.lrc_protocol.specs.Barriers.{arrival_in, Barrier}
+use Rattle.lrc_protocol.specs.Node.{Letter, Wait}
+use Rattle.lrc_protocol.specs.Turn.{departure_of, discards_to}
+use Rattle.lrc_order_laws.proofs.Sends.{is_other, AreOthers, Grants, Came, by_itself, comes, Site, Sends, plain, misses, takes, asks}
 use Rattle.lrc_order_laws.proofs.Sends.{releasing, arriving, manages, forwarding, grants, gathers, lets_depart, departing, collecting}
 use Rattle.lrc_order_laws.proofs.Sends.{clean_at_once, notes_clean, lets_discard, discarding, serves, accessing, still_misses, still_collects}
 use Rattle.lrc_order_laws.proofs.Sends.{cleaning}

@@ -13,11 +13,9 @@ use Rattle.lrc_envelope.specs.Records.{LockGrantRecord, DepartRecord}
 use Rattle.lrc_envelope.specs.declared.message.Message.{Message}
 use Rattle.lrc_envelope.specs.declared.message.Message.TheVariants.{LockRequest, LockForward, LockGrant, Arrive, Depart, Clean, Discard}
 use Rattle.lrc_envelope.specs.declared.message.Message.TheVariants.{ChangesRequest, ChangesReply, PageRequest, PageReply}
-use Rattle.lrc_protocol.specs.Expected.{indices_by}
-use Rattle.lrc_protocol.specs.Locks.{next_time}
-use Rattle.lrc_protocol.specs.Mail.{Letter}
-use Rattle.lrc_protocol.specs.Memory.{Memory, closed_interval, all_changes, with_own}
-use Rattle.lrc_protocol.specs.Take.{with_part}
+use Rattle.lrc_protocol.specs.Times.{indices_by, next_time}
+use Rattle.lrc_protocol.specs.Pages.{Memory, closed_interval, all_changes, with_own, with_part}
+use Rattle.lrc_protocol.specs.Node.{Letter}
 use Rattle.lrc_order_laws.proofs.Sends.{Came, comes, letter_in}
 use Rattle.lrc_node_laws.proofs.Stores.{SameIntervals, own-same, parts-same, Longer, learned-longer}
 use Rattle.lrc_node_laws.proofs.Indices.{range-join, indices-append, indices-here, indices-there}

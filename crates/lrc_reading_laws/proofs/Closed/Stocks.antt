@@ -11,24 +11,19 @@ use Rattle.lrc_envelope.specs.declared.message.Message.{Message}
 use Rattle.lrc_envelope.specs.declared.message.Message.TheVariants.{LockGrant, Arrive, Depart, Discard, ChangesReply}
 use Rattle.lrc_lock.specs.declared.state.Pass.{Pass}
 use Rattle.lrc_barrier.specs.declared.departure.Departure.{Departure}
-use Rattle.lrc_protocol.specs.Memory.{Memory, with_interval, with_base, changes_or_none}
-use Rattle.lrc_protocol.specs.Fetch.{Base, unneeded, due, come, Asked, Need, mended}
-use Rattle.lrc_protocol.specs.Mail.{Letter, Collection}
-use Rattle.lrc_protocol.specs.Course.{Course, going, trapped, ended}
-use Rattle.lrc_protocol.specs.Locks.{next_time}
-use Rattle.lrc_protocol.specs.Node.{Node, Effect, sends, acts, acts_by, memory_after, with_memory}
-use Rattle.lrc_protocol.specs.Letters.{requests_of, page_request_of, changes_request_of, grants_of, departure_of, discards_to}
-use Rattle.lrc_protocol.specs.Waits.{cleans, clean_memory}
-use Rattle.lrc_protocol.specs.Run.{charged}
-use Rattle.lrc_protocol.specs.Take.{with_part}
+use Rattle.lrc_protocol.specs.Times.{next_time}
+use Rattle.lrc_protocol.specs.Pages.{Memory, with_interval, changes_or_none, Base, unneeded, due, come, Asked, Need, mended, with_part}
+use Rattle.lrc_protocol.specs.Barriers.{with_base, Collection, clean_memory}
+use Rattle.lrc_protocol.specs.Node.{Letter, Course, going, trapped, ended, Node, Effect, sends, acts, acts_by, memory_after, with_memory}
+use Rattle.lrc_protocol.specs.Turn.{requests_of, page_request_of, changes_request_of, grants_of, departure_of, discards_to, cleans, charged}
 use Rattle.lrc_protocol.specs.Turn.{TurnRecord, taking, is_repeat, empty_turn}
-use Rattle.lrc_protocol.specs.Log.{Input, run, taken}
-use Rattle.lrc_protocol.specs.Rules.{Brings, brings_changes, brings_base_copy, page_at, need_at, closed_for, keeping, collection_at, upkeep_at}
-use Rattle.lrc_protocol.specs.Rules.{RunRule, run_hit, run_miss, run_repair, run_acquire, run_ask, run_release, run_barrier, run_other}
-use Rattle.lrc_protocol.specs.Rules.{TakeRule, take_request, take_request_unnoted, take_forward, take_token, take_arrive}
-use Rattle.lrc_protocol.specs.Rules.{take_last_arrive, take_depart, take_collect, take_collect_at_once, take_reply, take_last_reply}
-use Rattle.lrc_protocol.specs.Rules.{take_kept_reply, take_last_kept_reply, take_clean, take_last_clean, take_discard}
-use Rattle.lrc_protocol.specs.Rules.{take_changes_request, take_page_request, IsSent, with_numbers, TurnRule, by_run, by_repeat, by_message}
+use Rattle.lrc_protocol.specs.Run.{Input, run, taken}
+use Rattle.lrc_protocol.specs.Rules.{take_request, Brings, brings_changes, brings_base_copy, page_at, need_at, closed_for, keeping}
+use Rattle.lrc_protocol.specs.Rules.{collection_at, upkeep_at, RunRule, run_hit, run_miss, run_repair, run_acquire, run_ask, run_release}
+use Rattle.lrc_protocol.specs.Rules.{run_barrier, run_other, TakeRule, take_forward, take_token, take_arrive, take_last_arrive, take_depart}
+use Rattle.lrc_protocol.specs.Rules.{take_collect, take_collect_at_once, take_reply, take_last_reply, take_kept_reply, take_last_kept_reply}
+use Rattle.lrc_protocol.specs.Rules.{take_clean, take_last_clean, take_discard, take_changes_request, take_page_request, IsSent, with_numbers}
+use Rattle.lrc_protocol.specs.Rules.{TurnRule, by_run, by_repeat, by_message}
 use Rattle.lrc_order_laws.proofs.Sends.{Came, by_itself, comes, letter_in, sent-letters}
 
 -- ---- words
@@ -196,8 +191,7 @@ module _ (node : Node) (from : ℕ) where
   brings-store message memory change (brings_base_copy m lt counted some) = same
 
   take-stocks : (message : Message) (e : Effect) → TakeRule node from message e → Stocks node (comes from message) e
-  take-stocks message e (take_request m to managed lt counted mine is) = rested node _ _ _ same (tt, tt)
-  take-stocks message e (take_request_unnoted m fault lt counted mine is) = rested node _ [] _ same tt
+  take-stocks message e (take_request m lt counted mine) = rested node _ _ _ same (tt, tt)
   take-stocks message e (take_forward m lt asker counted managed accepted) = rested node _ _ _ same (grants-tell node node.setting.me _)
   take-stocks message e (take_token m lt at news) = acted node _ [] _ (granted from m) tt
   take-stocks message e (take_arrive m before after at news is) = rested node _ [] _ same tt

@@ -10,11 +10,10 @@ use Rattle.lrc_time.specs.Time.{entry}
 use Rattle.lrc_store.specs.Interval.{IntervalRecord, index_of}
 use Rattle.lrc_store.specs.Store.{intervals_of}
 use Rattle.lrc_protocol.specs.declared.event.Event.{Event}
-use Rattle.lrc_protocol.specs.Expected.{indices_by}
+use Rattle.lrc_protocol.specs.Times.{indices_by}
 use Rattle.lrc_protocol.specs.Follows.{inputs_of, turns_of}
 use Rattle.lrc_protocol.specs.Node.{OptionsRecord}
-use Rattle.lrc_protocol.specs.Log.{Logged}
-use Rattle.lrc_protocol.specs.World.{World, run_of}
+use Rattle.lrc_protocol.specs.Run.{Logged, World, run_of}
 use Rattle.lrc_protocol.proofs.Worlds.{run-whole}
 use Rattle.lrc_order_laws.proofs.Pending.{get_within}
 use Rattle.lrc_order_laws.proofs.Shape.{shape_at}

@@ -14,12 +14,10 @@ use Rattle.lrc_store.specs.Store.{StoredRecord, NoticeRecord, interval_of, inter
 use Rattle.lrc_store.proofs.Orders.{cases_Contains, none_Contains}
 use Rattle.lrc_copies.specs.Stamps.{is_covered, IsBetween}
 use Rattle.lrc_copies.proofs.Stamping.{covered-le, le-covered}
-use Rattle.lrc_protocol.specs.Fetch.{Need}
-use Rattle.lrc_protocol.specs.Mail.{Wait, nothing, grant, departure, access, upkeep, discard, Collection}
-use Rattle.lrc_protocol.specs.Memory.{keeper_at, kept_pages}
-use Rattle.lrc_protocol.specs.Node.{Node, OptionsRecord}
-use Rattle.lrc_protocol.specs.Log.{Logged}
-use Rattle.lrc_protocol.specs.World.{World}
+use Rattle.lrc_protocol.specs.Pages.{Need, keeper_at}
+use Rattle.lrc_protocol.specs.Barriers.{Collection, kept_pages}
+use Rattle.lrc_protocol.specs.Node.{Wait, nothing, grant, departure, access, upkeep, discard, Node, OptionsRecord}
+use Rattle.lrc_protocol.specs.Run.{Logged, World}
 use Rattle.lrc_order_laws.specs.Counts.{is_inside}
 use Rattle.lrc_order_laws.proofs.Shape.{shape_at}
 use Rattle.lrc_order_laws.proofs.Reached.{IsReached}

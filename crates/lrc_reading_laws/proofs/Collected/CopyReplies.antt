@@ -12,21 +12,16 @@ use Rattle.lrc_exec.specs.Meaning.{releases, arrives}
 use Rattle.lrc_lock.specs.declared.state.Pass.{Pass}
 use Rattle.lrc_lock.specs.Held.{pass_of, released}
 use Rattle.lrc_barrier.specs.declared.departure.Departure.{Departure}
-use Rattle.lrc_protocol.specs.Memory.{base_at}
-use Rattle.lrc_protocol.specs.Fetch.{Base, unneeded, due, come, Asked, Need}
-use Rattle.lrc_protocol.specs.Mail.{Letter}
-use Rattle.lrc_protocol.specs.Course.{Course, going, trapped, ended}
-use Rattle.lrc_protocol.specs.Node.{Node, Effect, acts, acts_by}
-use Rattle.lrc_protocol.specs.Letters.{grants_of, departure_of, discards_to, requests_of, page_request_of, page_reply_to}
-use Rattle.lrc_protocol.specs.Letters.{letter, forward_to, arrival_of, changes_reply_to, changes_request_of}
-use Rattle.lrc_protocol.specs.Log.{Input, run, taken as taken_in}
-use Rattle.lrc_protocol.specs.Turn.{TurnRecord, taking}
-use Rattle.lrc_protocol.specs.Rules.{need_at, page_at, closed_for, upkeep_at}
-use Rattle.lrc_protocol.specs.Rules.{RunRule, run_miss, run_repair, run_ask, run_release, run_barrier}
-use Rattle.lrc_protocol.specs.Rules.{TakeRule, take_request, take_forward, take_token, take_last_arrive}
-use Rattle.lrc_protocol.specs.Rules.{take_depart, take_collect, take_collect_at_once, take_last_reply}
-use Rattle.lrc_protocol.specs.Rules.{take_last_kept_reply, take_last_clean, take_discard, take_changes_request, take_page_request}
-use Rattle.lrc_protocol.specs.Rules.{IsSent, with_numbers, TurnRule, by_run, by_repeat, by_message}
+use Rattle.lrc_protocol.specs.Pages.{Base, unneeded, due, come, Asked, Need}
+use Rattle.lrc_protocol.specs.Barriers.{base_at}
+use Rattle.lrc_protocol.specs.Node.{Letter, Course, going, trapped, ended, Node, Effect, acts, acts_by}
+use Rattle.lrc_protocol.specs.Turn.{grants_of, departure_of, discards_to, requests_of, page_request_of, page_reply_to, letter, forward_to}
+use Rattle.lrc_protocol.specs.Turn.{arrival_of, changes_reply_to, changes_request_of, TurnRecord, taking}
+use Rattle.lrc_protocol.specs.Run.{Input, run, taken as taken_in}
+use Rattle.lrc_protocol.specs.Rules.{take_request, need_at, page_at, closed_for, upkeep_at, RunRule, run_miss, run_repair, run_ask, run_release}
+use Rattle.lrc_protocol.specs.Rules.{run_barrier, TakeRule, take_forward, take_token, take_last_arrive, take_depart, take_collect}
+use Rattle.lrc_protocol.specs.Rules.{take_collect_at_once, take_last_reply, take_last_kept_reply, take_last_clean, take_discard}
+use Rattle.lrc_protocol.specs.Rules.{take_changes_request, take_page_request, IsSent, with_numbers, TurnRule, by_run, by_repeat, by_message}
 use Rattle.lrc_order_laws.proofs.Sends.{letter_in, LettersIf, numbered-letters}
 use Rattle.lrc_reading_laws.proofs.Fitting.Repair.{into_map}
 
@@ -142,7 +137,7 @@ page-answers node from page values b letter m c e = elim (cases_Contains _ [] le
 ]
 
 take-answers : (node : Node) (from : ℕ) (message : Message) (e : Effect) → TakeRule node from message e → AllAnswer node from message e.letters
-take-answers node from message e (take_request m to managed lt counted mine is) =
+take-answers node from message e (take_request m lt counted mine) =
     none-answer node from message (forward_to to m.lock from m.time ∷ []) (tt, tt)
 take-answers node from message e (take_forward m lt asker counted managed taken) = none-answer node from message _ (grants-none node _)
 take-answers node from message e (take_last_arrive m before after departures at news is) =

@@ -5,13 +5,10 @@ use Rattle.lrc_lang.specs.declared.program.Program.{Program}
 use Rattle.lrc_time.specs.Time.{Covers}
 use Rattle.lrc_time.proofs.Times.{covers-refl, covers-trans}
 use Rattle.lrc_store.proofs.Orders.{none_Contains}
-use Rattle.lrc_protocol.specs.Copy.{invalid}
-use Rattle.lrc_protocol.specs.Memory.{copy_at}
-use Rattle.lrc_protocol.specs.Fetch.{Need}
-use Rattle.lrc_protocol.specs.Mail.{Wait, nothing, grant, departure, access, upkeep, discard, Collection, needs_of}
-use Rattle.lrc_protocol.specs.Node.{OptionsRecord}
-use Rattle.lrc_protocol.specs.Log.{Logged}
-use Rattle.lrc_protocol.specs.World.{World}
+use Rattle.lrc_protocol.specs.Pages.{invalid, copy_at, Need}
+use Rattle.lrc_protocol.specs.Barriers.{Collection}
+use Rattle.lrc_protocol.specs.Node.{Wait, nothing, grant, departure, access, upkeep, discard, needs_of, OptionsRecord}
+use Rattle.lrc_protocol.specs.Run.{Logged, World}
 use Rattle.lrc_order_laws.specs.Counts.{is_inside}
 use Rattle.lrc_order_laws.specs.Barriers.{is_collecting}
 use Rattle.lrc_order_laws.proofs.Reached.{IsReached}

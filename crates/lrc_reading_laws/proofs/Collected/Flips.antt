@@ -11,12 +11,10 @@ use Rattle.lrc_envelope.specs.Envelope.{EnvelopeRecord}
 use Rattle.lrc_envelope.specs.declared.message.Message.TheVariants.{Arrive, Clean}
 use Rattle.lrc_store.proofs.Orders.{Contains-first}
 use Rattle.lrc_barrier.specs.Barrier.{ManagerRecord}
-use Rattle.lrc_protocol.specs.Barrier.{Barrier}
-use Rattle.lrc_protocol.specs.Mail.{departure}
-use Rattle.lrc_protocol.specs.Node.{OptionsRecord}
+use Rattle.lrc_protocol.specs.Barriers.{Barrier}
+use Rattle.lrc_protocol.specs.Node.{departure, OptionsRecord}
 use Rattle.lrc_protocol.specs.Turn.{done, is_repeat}
-use Rattle.lrc_protocol.specs.Log.{Input, taken, outcome_of, EntryRecord, Logged}
-use Rattle.lrc_protocol.specs.World.{World, Flying, with_turn, pending}
+use Rattle.lrc_protocol.specs.Run.{Input, taken, outcome_of, EntryRecord, Logged, World, Flying, with_turn, pending}
 use Rattle.lrc_protocol.proofs.Worlds.{IsEntry, get_set_same}
 use Rattle.lrc_protocol.proofs.Induction.{Comes}
 use Rattle.lrc_order_laws.specs.Barriers.{says_clean, clean_from, discard_to, noted_of, awaits_depart, awaits_word}

@@ -11,14 +11,11 @@ use Rattle.lrc_page.specs.Page.{zero_page, words_of}
 use Rattle.lrc_page.specs.Place.{pages_of}
 use Rattle.lrc_store.specs.Store.{intervals_of}
 use Rattle.lrc_protocol.specs.declared.event.Event.{Event}
-use Rattle.lrc_protocol.specs.Copy.{Copy, valid, written, invalid, absent, is_readable}
-use Rattle.lrc_protocol.specs.Fetch.{due}
-use Rattle.lrc_protocol.specs.Mail.{discard, Collection, needs_of}
-use Rattle.lrc_protocol.specs.Memory.{copy_at, keeper_at, base_at}
-use Rattle.lrc_protocol.specs.Node.{Node, OptionsRecord}
-use Rattle.lrc_protocol.specs.Log.{Input, EntryRecord, Logged}
+use Rattle.lrc_protocol.specs.Pages.{Copy, valid, written, invalid, absent, is_readable, due, copy_at, keeper_at}
+use Rattle.lrc_protocol.specs.Barriers.{Collection, base_at}
+use Rattle.lrc_protocol.specs.Node.{discard, needs_of, Node, OptionsRecord}
+use Rattle.lrc_protocol.specs.Run.{Input, EntryRecord, Logged, World, Flying, fresh_world, with_turn, run_of}
 use Rattle.lrc_protocol.specs.Follows.{turns_of}
-use Rattle.lrc_protocol.specs.World.{World, Flying, fresh_world, with_turn, run_of}
 use Rattle.lrc_protocol.proofs.Worlds.{IsEntry, fresh_at}
 use Rattle.lrc_protocol.proofs.Induction.{Comes}
 use Rattle.lrc_order_laws.proofs.Shape.{NodeShape, shape_at}

@@ -9,7 +9,9 @@ use Rattle.std.proofs.lemmas.List.FromFn.{get_or-enumerate_from, length-enumerat
 use Rattle.lrc_store.specs.Interval.{IntervalRecord}
 use Rattle.lrc_store.specs.Store.{intervals_of}
 use Rattle.lrc_store.proofs.Orders.{Contains-first, Contains-later, cases_Contains, none_Contains, filter-Contains}
-use Rattle.lrc_protocol.specs.Memory.{Memory, is_named, least, keeper_at, kept_pages}
+use Rattle.lrc_protocol.specs.Times.{is_named}
+use Rattle.lrc_protocol.specs.Pages.{Memory, keeper_at}
+use Rattle.lrc_protocol.specs.Barriers.{least, kept_pages}
 use Rattle.lrc_node_laws.proofs.Lists.{length-placed}
 use Rattle.lrc_reading_laws.proofs.Closed.Stored.{in_range, from_range}
 use Rattle.lrc_reading_laws.proofs.Collected.Turns.{keepers_after}

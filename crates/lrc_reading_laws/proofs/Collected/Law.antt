@@ -2,10 +2,9 @@
 use Rattle.std.proofs.Common.{◌≡◌, ℕ, true}
 use Rattle.std.specs.Prelude.{Some, is_some, slice_get}
 use Rattle.lrc_lang.specs.declared.program.Program.{Program}
-use Rattle.lrc_protocol.specs.Memory.{base_at}
+use Rattle.lrc_protocol.specs.Barriers.{base_at}
 use Rattle.lrc_protocol.specs.Node.{OptionsRecord}
-use Rattle.lrc_protocol.specs.Log.{Logged}
-use Rattle.lrc_protocol.specs.World.{World}
+use Rattle.lrc_protocol.specs.Run.{Logged, World}
 use Rattle.lrc_order_laws.proofs.Reached.{IsReached}
 use Rattle.lrc_reading_laws.proofs.Laws.{AwaitsBase, BasesLaw}
 use Rattle.lrc_reading_laws.proofs.Stamped.Law.{stamps_law}

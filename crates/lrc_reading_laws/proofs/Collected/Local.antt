@@ -11,13 +11,13 @@ use Rattle.lrc_page.specs.Place.{page_of, offset_of, pages_of}
 use Rattle.lrc_store.specs.Interval.{IntervalRecord, index_of}
 use Rattle.lrc_store.specs.Store.{intervals_of, is_missing}
 use Rattle.lrc_store.proofs.Orders.{cases_Contains, none_Contains}
-use Rattle.lrc_protocol.specs.Copy.{Copy, valid, written, invalid, absent, is_readable, values_of, closed, invalidated, dropped}
-use Rattle.lrc_protocol.specs.Memory.{Memory, copy_at, with_word, with_interval, is_named, learned, keeper_at, kept_pages, with_keepers, with_base, base_at}
-use Rattle.lrc_protocol.specs.Fetch.{due, come, Need, base_of, mended, with_changes, with_page}
-use Rattle.lrc_protocol.specs.Locks.{next_time}
-use Rattle.lrc_protocol.specs.Mail.{Wait, nothing, grant, departure, access, upkeep, discard, Collection}
-use Rattle.lrc_protocol.specs.Node.{Node, OptionsRecord}
-use Rattle.lrc_protocol.specs.Waits.{clean_memory, with_needs}
+use Rattle.lrc_protocol.specs.Times.{is_named, next_time}
+use Rattle.lrc_protocol.specs.Pages.{Copy, valid, written, invalid, absent, is_readable, values_of, closed, invalidated, dropped, Memory}
+use Rattle.lrc_protocol.specs.Pages.{copy_at, with_word, with_interval, learned, keeper_at, due, come, Need, base_of, mended, with_changes}
+use Rattle.lrc_protocol.specs.Pages.{with_page}
+use Rattle.lrc_protocol.specs.Barriers.{kept_pages, with_keepers, with_base, base_at, Collection, clean_memory}
+use Rattle.lrc_protocol.specs.Node.{Wait, nothing, grant, departure, access, upkeep, discard, Node, OptionsRecord}
+use Rattle.lrc_protocol.specs.Turn.{with_needs}
 use Rattle.lrc_lang.specs.declared.program.Program.{Program}
 use Rattle.lrc_node_laws.specs.Own.{HasOwn, OwnCopied}
 use Rattle.lrc_node_laws.specs.Reached.{IsReached}

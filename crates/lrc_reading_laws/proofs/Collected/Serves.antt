@@ -4,8 +4,9 @@ use Rattle.std.proofs.Common.{◌≡◌, ℕ, ◌<◌, List, Bool, true, false, 
 use Rattle.std.specs.Prelude.{slice_index}
 use Rattle.std.proofs.lemmas.Bool.{cases_Bool, eq-eqb}
 use Rattle.lrc_store.specs.Store.{intervals_of}
-use Rattle.lrc_protocol.specs.Copy.{absent, is_readable}
-use Rattle.lrc_protocol.specs.Memory.{copy_at, is_named, keeper_at, base_at}
+use Rattle.lrc_protocol.specs.Times.{is_named}
+use Rattle.lrc_protocol.specs.Pages.{absent, is_readable, copy_at, keeper_at}
+use Rattle.lrc_protocol.specs.Barriers.{base_at}
 use Rattle.lrc_protocol.specs.Node.{Node}
 use Rattle.lrc_reading_laws.proofs.Collected.Turns.{in_collection, Steady, Begun, Ended}
 use Rattle.lrc_reading_laws.proofs.Collected.Keepers.{keeper-unnamed}

@@ -14,22 +14,18 @@ use Rattle.lrc_envelope.specs.Envelope.{EnvelopeRecord}
 use Rattle.lrc_envelope.specs.Records.{DepartRecord}
 use Rattle.lrc_envelope.specs.declared.message.Message.{Message}
 use Rattle.lrc_envelope.specs.declared.message.Message.TheVariants.{Depart, Discard}
-use Rattle.lrc_protocol.specs.Copy.{Copy, valid, written, invalid, absent, is_readable, values_of, after_write, closed, invalidated, dropped}
-use Rattle.lrc_protocol.specs.Memory.{Memory, copy_at, with_interval, is_named, learned, least, keeper_at, with_base, base_at, collected_at}
-use Rattle.lrc_protocol.specs.Fetch.{Need, mended}
-use Rattle.lrc_protocol.specs.Mail.{Letter, Wait, nothing, grant, departure, access, upkeep, discard, Collection}
-use Rattle.lrc_protocol.specs.Course.{Course, going}
-use Rattle.lrc_protocol.specs.Locks.{next_time}
-use Rattle.lrc_protocol.specs.Node.{Node, Effect, makes, sends, acts, acts_by}
-use Rattle.lrc_protocol.specs.Waits.{clean_memory}
-use Rattle.lrc_protocol.specs.Run.{closes}
-use Rattle.lrc_protocol.specs.Turn.{TurnRecord, taking, is_repeat}
-use Rattle.lrc_protocol.specs.Log.{Input, run, taken}
-use Rattle.lrc_protocol.specs.Rules.{page_at, need_at, Brings, brings_changes, brings_base_copy, keeping, collection_at, upkeep_at}
-use Rattle.lrc_protocol.specs.Rules.{RunRule, run_miss, run_repair, run_acquire, run_ask, run_release, run_barrier}
-use Rattle.lrc_protocol.specs.Rules.{TakeRule, take_token, take_depart, take_collect, take_collect_at_once, take_reply, take_last_reply}
-use Rattle.lrc_protocol.specs.Rules.{take_kept_reply, take_last_kept_reply, take_discard}
-use Rattle.lrc_protocol.specs.Rules.{IsSent, with_numbers, TurnRule, by_run, by_repeat, by_message}
+use Rattle.lrc_protocol.specs.Times.{is_named, next_time}
+use Rattle.lrc_protocol.specs.Pages.{Copy, valid, written, invalid, absent, is_readable, values_of, after_write, closed, invalidated, dropped}
+use Rattle.lrc_protocol.specs.Pages.{Memory, copy_at, with_interval, learned, keeper_at, Need, mended}
+use Rattle.lrc_protocol.specs.Barriers.{least, with_base, base_at, collected_at, Collection, clean_memory}
+use Rattle.lrc_protocol.specs.Node.{Letter, Wait, nothing, grant, departure, access, upkeep, discard, Course, going, Node, Effect, makes, sends}
+use Rattle.lrc_protocol.specs.Node.{acts, acts_by}
+use Rattle.lrc_protocol.specs.Turn.{closes, TurnRecord, taking, is_repeat}
+use Rattle.lrc_protocol.specs.Run.{Input, run, taken}
+use Rattle.lrc_protocol.specs.Rules.{page_at, need_at, Brings, brings_changes, brings_base_copy, keeping, collection_at, upkeep_at, RunRule}
+use Rattle.lrc_protocol.specs.Rules.{run_miss, run_repair, run_acquire, run_ask, run_release, run_barrier, TakeRule, take_token, take_depart}
+use Rattle.lrc_protocol.specs.Rules.{take_collect, take_collect_at_once, take_reply, take_last_reply, take_kept_reply, take_last_kept_reply}
+use Rattle.lrc_protocol.specs.Rules.{take_discard, IsSent, with_numbers, TurnRule, by_run, by_repeat, by_message}
 use Rattle.lrc_order_laws.proofs.Sends.{Came, by_itself, comes}
 use Rattle.lrc_node_laws.proofs.Stores.{parts-same}
 use Rattle.lrc_node_laws.proofs.Ranges.{SameRest, clean-same}

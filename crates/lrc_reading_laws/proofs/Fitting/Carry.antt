@@ -12,10 +12,8 @@ use Rattle.lrc_copies.proofs.Members.{Contains-from_filter}
 use Rattle.lrc_copies.proofs.Paging.{page_fits_agreed, page_sound_agreed, page_untouched}
 use Rattle.lrc_copies.proofs.Stamping.{added_last, cut_longer}
 use Rattle.lrc_copies.proofs.Timing.{uncovered_fits, closed_sound}
-use Rattle.lrc_protocol.specs.Copy.{Copy, valid, written, invalid, absent, changes_of}
-use Rattle.lrc_protocol.specs.Fetch.{Base, unneeded, due, come, Need}
-use Rattle.lrc_protocol.specs.Mail.{Wait, nothing, grant, departure, access, upkeep, discard, needs_of}
-use Rattle.lrc_protocol.specs.Memory.{Memory, copy_at}
+use Rattle.lrc_protocol.specs.Pages.{Copy, valid, written, invalid, absent, changes_of, Base, unneeded, due, come, Need, Memory, copy_at}
+use Rattle.lrc_protocol.specs.Node.{Wait, nothing, grant, departure, access, upkeep, discard, needs_of}
 use Rattle.lrc_node_laws.specs.Ranges.{CollectsAt}
 use Rattle.lrc_node_laws.proofs.Change.{View}
 use Rattle.lrc_reading_laws.specs.Written.{made_stamps, changes_on}

@@ -12,11 +12,11 @@ use Rattle.lrc_store.specs.Store.{StoredRecord, StoreRecord, IsStore, interval_o
 use Rattle.lrc_copies.specs.Page.{PageHistory, PageFits, IsPageSound}
 use Rattle.lrc_copies.specs.Stamps.{index_of as stamp_index, covered, page_of_stamps, IsCut, AreStamped, IsBetween}
 use Rattle.lrc_copies.proofs.Timing.{untouched_fits}
-use Rattle.lrc_protocol.specs.Copy.{Copy, valid, written, invalid, absent, is_readable, values_of, changes_of, after_write}
-use Rattle.lrc_protocol.specs.Fetch.{Base, unneeded, due, come, Need}
-use Rattle.lrc_protocol.specs.Mail.{Wait, nothing, grant, departure, access, upkeep, discard, needs_of}
-use Rattle.lrc_protocol.specs.Memory.{Memory, copy_at, base_at, with_base}
-use Rattle.lrc_protocol.specs.Waits.{with_needs}
+use Rattle.lrc_protocol.specs.Pages.{Copy, valid, written, invalid, absent, is_readable, values_of, changes_of, after_write, Base, unneeded}
+use Rattle.lrc_protocol.specs.Pages.{due, come, Need, Memory, copy_at}
+use Rattle.lrc_protocol.specs.Barriers.{base_at, with_base}
+use Rattle.lrc_protocol.specs.Node.{Wait, nothing, grant, departure, access, upkeep, discard, needs_of}
+use Rattle.lrc_protocol.specs.Turn.{with_needs}
 use Rattle.lrc_node_laws.proofs.OwnCopies.{set-copy}
 use Rattle.lrc_node_laws.proofs.Change.{is_settled, is_open}
 use Rattle.lrc_reading_laws.specs.Written.{made_stamps, made_changes, changes_on}

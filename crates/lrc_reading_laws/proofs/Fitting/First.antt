@@ -16,12 +16,11 @@ use Rattle.lrc_copies.specs.Page.{IsClosedWith}
 use Rattle.lrc_copies.specs.Stamps.{index_of as stamp_index, is_covered, IsCut, IsClosedAt, IsBetween}
 use Rattle.lrc_copies.proofs.Stamping.{covered-le, le-covered, cut_longer}
 use Rattle.lrc_copies.proofs.Timing.{uncovered_fits, untouched_fits_closed, closed_fits}
-use Rattle.lrc_protocol.specs.Copy.{Copy, valid, written, invalid, absent, changes_of, closed, invalidated}
-use Rattle.lrc_protocol.specs.Fetch.{come, Need, base_of, need_of, with_changes, with_page}
-use Rattle.lrc_protocol.specs.Locks.{next_time}
-use Rattle.lrc_protocol.specs.Mail.{Wait, nothing, needs_of}
-use Rattle.lrc_protocol.specs.Memory.{Memory, copy_at, keeper_at, is_named, with_interval, learned}
-use Rattle.lrc_protocol.specs.Waits.{with_needs}
+use Rattle.lrc_protocol.specs.Times.{next_time, is_named}
+use Rattle.lrc_protocol.specs.Pages.{Copy, valid, written, invalid, absent, changes_of, closed, invalidated, come, Need, base_of, need_of}
+use Rattle.lrc_protocol.specs.Pages.{with_changes, with_page, Memory, copy_at, keeper_at, with_interval, learned}
+use Rattle.lrc_protocol.specs.Node.{Wait, nothing, needs_of}
+use Rattle.lrc_protocol.specs.Turn.{with_needs}
 use Rattle.lrc_node_laws.specs.Ranges.{IsWhole}
 use Rattle.lrc_node_laws.specs.Remembered.{IsBetween as IsRemembered}
 use Rattle.lrc_node_laws.specs.Waits.{NoneWritten}

@@ -13,12 +13,10 @@ use Rattle.lrc_page.specs.Page.{words_of}
 use Rattle.lrc_page.specs.Place.{page_of, offset_of}
 use Rattle.lrc_store.specs.declared.key.Key.{Key}
 use Rattle.lrc_store.specs.Store.{StoredRecord, changes_at}
-use Rattle.lrc_protocol.specs.Copy.{Copy, valid, written, invalid, absent, is_readable, values_of}
-use Rattle.lrc_protocol.specs.Fetch.{Base, unneeded, due, come, Need, is_due, is_met, first_values, mended}
-use Rattle.lrc_protocol.specs.Mail.{nothing, access, upkeep, discard, Collection, needs_of}
-use Rattle.lrc_protocol.specs.Memory.{Memory, copy_at, base_at, lacking_in, repaired}
-use Rattle.lrc_protocol.specs.Node.{OptionsRecord}
-use Rattle.lrc_protocol.specs.Waits.{clean_memory}
+use Rattle.lrc_protocol.specs.Pages.{Copy, valid, written, invalid, absent, is_readable, values_of, Base, unneeded, due, come, Need, is_due}
+use Rattle.lrc_protocol.specs.Pages.{is_met, first_values, mended, Memory, copy_at, lacking_in, repaired}
+use Rattle.lrc_protocol.specs.Barriers.{Collection, base_at, clean_memory}
+use Rattle.lrc_protocol.specs.Node.{nothing, access, upkeep, discard, needs_of, OptionsRecord}
 use Rattle.lrc_node_laws.specs.Needs.{FitsBase, FitsNeed}
 use Rattle.lrc_node_laws.specs.Ranges.{CollectsAt}
 use Rattle.lrc_node_laws.specs.Remembered.{IsBetween}

@@ -14,11 +14,9 @@ use Rattle.lrc_copies.specs.Stamps.{index_of, is_covered, covered}
 use Rattle.lrc_copies.proofs.Members.{Contains-from_filter}
 use Rattle.lrc_copies.proofs.Paging.{zero_page_of_size_fits, page_fits_more, page_open}
 use Rattle.lrc_copies.proofs.Stamping.{covered-le, below-covered}
-use Rattle.lrc_protocol.specs.Copy.{Copy, valid, written, invalid, absent, is_readable, values_of, changes_of}
-use Rattle.lrc_protocol.specs.Memory.{copy_at}
+use Rattle.lrc_protocol.specs.Pages.{Copy, valid, written, invalid, absent, is_readable, values_of, changes_of, copy_at}
 use Rattle.lrc_protocol.specs.Node.{Node, OptionsRecord, fresh_node}
-use Rattle.lrc_protocol.specs.Log.{Logged}
-use Rattle.lrc_protocol.specs.World.{World, fresh_world, with_turn}
+use Rattle.lrc_protocol.specs.Run.{Logged, World, fresh_world, with_turn}
 use Rattle.lrc_protocol.proofs.Ruled.{by_rule}
 use Rattle.lrc_protocol.proofs.Worlds.{fresh_at}
 use Rattle.lrc_order_laws.proofs.Reached.{IsReached}

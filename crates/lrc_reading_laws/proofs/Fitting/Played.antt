@@ -9,7 +9,7 @@ use Rattle.lrc_store.specs.Interval.{IntervalRecord}
 use Rattle.lrc_store.specs.Store.{StoredRecord, interval_of}
 use Rattle.lrc_envelope.specs.Records.{PageReplyRecord}
 use Rattle.lrc_envelope.specs.declared.message.Message.TheVariants.{PageReply}
-use Rattle.lrc_protocol.specs.Locks.{next_time}
+use Rattle.lrc_protocol.specs.Times.{next_time}
 use Rattle.lrc_protocol.specs.Node.{OptionsRecord}
 use Rattle.lrc_order_laws.proofs.Sends.{Came, comes}
 use Rattle.lrc_node_laws.proofs.Change.{View, Walk}

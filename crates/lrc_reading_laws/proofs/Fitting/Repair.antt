@@ -22,7 +22,7 @@ use Rattle.lrc_copies.specs.Stamps.{index_of as stamp_index}
 use Rattle.lrc_copies.proofs.Members.{Contains-filter, Contains-from_filter}
 use Rattle.lrc_copies.proofs.Stamping.{covered-le, le-covered}
 use Rattle.lrc_copies.proofs.Timing.{parts_lacking, repaired_fits}
-use Rattle.lrc_protocol.specs.Memory.{changes_or_none, repaired}
+use Rattle.lrc_protocol.specs.Pages.{changes_or_none, repaired}
 use Rattle.lrc_node_laws.proofs.Awaited.{All-unmap}
 use Rattle.lrc_reading_laws.specs.Written.{made_stamps, changes_on, made_changes}
 

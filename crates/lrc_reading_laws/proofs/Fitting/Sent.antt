@@ -10,14 +10,12 @@ use Rattle.lrc_store.proofs.Orders.{Contains-later}
 use Rattle.lrc_envelope.specs.Envelope.{EnvelopeRecord}
 use Rattle.lrc_envelope.specs.Records.{PageReplyRecord}
 use Rattle.lrc_envelope.specs.declared.message.Message.TheVariants.{PageReply}
-use Rattle.lrc_protocol.specs.Mail.{Wait, access, discard, Collection}
-use Rattle.lrc_protocol.specs.Fetch.{Need}
-use Rattle.lrc_protocol.specs.Node.{Node, OptionsRecord}
-use Rattle.lrc_protocol.specs.Log.{Input, taken, EntryRecord, Logged}
-use Rattle.lrc_protocol.specs.Rules.{TurnRule}
+use Rattle.lrc_protocol.specs.Pages.{Need}
+use Rattle.lrc_protocol.specs.Barriers.{Collection, clean_memory}
+use Rattle.lrc_protocol.specs.Node.{Wait, access, discard, Node, OptionsRecord}
 use Rattle.lrc_protocol.specs.Turn.{TurnRecord, taking}
-use Rattle.lrc_protocol.specs.Waits.{clean_memory}
-use Rattle.lrc_protocol.specs.World.{World, Flying, with_turn, pending}
+use Rattle.lrc_protocol.specs.Run.{Input, taken, EntryRecord, Logged, World, Flying, with_turn, pending}
+use Rattle.lrc_protocol.specs.Rules.{TurnRule}
 use Rattle.lrc_protocol.proofs.Worlds.{get_set_same, get_set_other}
 use Rattle.lrc_protocol.proofs.Induction.{Comes}
 use Rattle.lrc_order_laws.proofs.Sends.{Came}

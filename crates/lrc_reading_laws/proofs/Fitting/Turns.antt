@@ -14,13 +14,12 @@ use Rattle.lrc_envelope.specs.Records.{PageReplyRecord}
 use Rattle.lrc_envelope.specs.declared.message.Message.TheVariants.{PageReply}
 use Rattle.lrc_copies.specs.Stamps.{IsBetween}
 use Rattle.lrc_copies.proofs.Stamping.{covered-le}
-use Rattle.lrc_protocol.specs.Copy.{Copy, valid, written, invalid, absent, dropped}
-use Rattle.lrc_protocol.specs.Fetch.{need_of, with_changes, with_page}
-use Rattle.lrc_protocol.specs.Locks.{next_time}
-use Rattle.lrc_protocol.specs.Mail.{Wait, nothing, grant, departure, access, upkeep, discard, Collection}
-use Rattle.lrc_protocol.specs.Memory.{Memory, copy_at, base_at, keeper_at, kept_pages, is_named, learned, with_interval, collected_at, with_keepers}
-use Rattle.lrc_protocol.specs.Take.{with_part}
-use Rattle.lrc_protocol.specs.Waits.{with_needs}
+use Rattle.lrc_protocol.specs.Times.{next_time, is_named}
+use Rattle.lrc_protocol.specs.Pages.{Copy, valid, written, invalid, absent, dropped, need_of, with_changes, with_page, Memory, copy_at}
+use Rattle.lrc_protocol.specs.Pages.{keeper_at, learned, with_interval, with_part}
+use Rattle.lrc_protocol.specs.Barriers.{Collection, base_at, kept_pages, collected_at, with_keepers}
+use Rattle.lrc_protocol.specs.Node.{Wait, nothing, grant, departure, access, upkeep, discard}
+use Rattle.lrc_protocol.specs.Turn.{with_needs}
 use Rattle.lrc_order_laws.proofs.Sends.{Came, comes}
 use Rattle.lrc_node_laws.specs.Needs.{FitsKept}
 use Rattle.lrc_node_laws.specs.Ranges.{IsWholeBase, CollectsAt}

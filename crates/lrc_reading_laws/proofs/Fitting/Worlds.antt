@@ -18,11 +18,11 @@ use Rattle.lrc_envelope.specs.declared.message.Message.TheVariants.{ChangesReque
 use Rattle.lrc_copies.specs.Page.{IsPageSound, AgreeOnPage}
 use Rattle.lrc_copies.specs.Stamps.{index_of, is_covered, IsClosedAt}
 use Rattle.lrc_copies.proofs.Stamping.{le-covered}
-use Rattle.lrc_protocol.specs.Memory.{copy_at, base_at}
+use Rattle.lrc_protocol.specs.Pages.{copy_at}
+use Rattle.lrc_protocol.specs.Barriers.{base_at}
 use Rattle.lrc_protocol.specs.Node.{Node, OptionsRecord}
-use Rattle.lrc_protocol.specs.Log.{Input, run, taken, EntryRecord, Logged}
 use Rattle.lrc_protocol.specs.Turn.{is_repeat, taking}
-use Rattle.lrc_protocol.specs.World.{World, Flying, with_turn, pending}
+use Rattle.lrc_protocol.specs.Run.{Input, run, taken, EntryRecord, Logged, World, Flying, with_turn, pending}
 use Rattle.lrc_protocol.proofs.Worlds.{IsEntry, get_set_same}
 use Rattle.lrc_protocol.proofs.Induction.{Comes, named, delivered, repeated}
 use Rattle.lrc_order_laws.proofs.Pending.{Lost, Goes, new_of, pending-goes, all_pending}

@@ -5,8 +5,7 @@ use Rattle.lrc_time.specs.Time.{entry}
 use Rattle.lrc_store.specs.Interval.{IntervalRecord, index_of as index_of_interval}
 use Rattle.lrc_store.specs.Store.{StoredRecord, interval_of}
 use Rattle.lrc_copies.specs.Stamps.{index_of}
-use Rattle.lrc_protocol.specs.Log.{Logged}
-use Rattle.lrc_protocol.specs.World.{World}
+use Rattle.lrc_protocol.specs.Run.{Logged, World}
 use Rattle.lrc_reading_laws.specs.Made.{AreMade}
 use Rattle.lrc_reading_laws.specs.Written.{made_stamps}
 use Rattle.lrc_reading_laws.proofs.Closed.Stored.{Member, in_index, in_range}

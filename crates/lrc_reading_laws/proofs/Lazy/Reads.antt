@@ -35,12 +35,10 @@ use Rattle.lrc_copies.specs.Reading.{IsLastWriteIn, ListsWrites}
 use Rattle.lrc_copies.proofs.Members.{Contains-first, Contains-later, cases_Contains, Contains-filter, Contains-from_filter}
 use Rattle.lrc_copies.proofs.Stamping.{covered-le, le-covered}
 use Rattle.lrc_copies.proofs.Lazily.{copy_may_read}
-use Rattle.lrc_protocol.specs.Copy.{Copy, absent, is_readable, values_of}
-use Rattle.lrc_protocol.specs.Locks.{next_time}
-use Rattle.lrc_protocol.specs.Memory.{copy_at, value_at}
+use Rattle.lrc_protocol.specs.Times.{next_time}
+use Rattle.lrc_protocol.specs.Pages.{Copy, absent, is_readable, values_of, copy_at, value_at}
 use Rattle.lrc_protocol.specs.Node.{OptionsRecord}
-use Rattle.lrc_protocol.specs.Log.{Input, EntryRecord, Logged}
-use Rattle.lrc_protocol.specs.World.{World, Flying, fresh_world, with_turn}
+use Rattle.lrc_protocol.specs.Run.{Input, EntryRecord, Logged, World, Flying, fresh_world, with_turn}
 use Rattle.lrc_protocol.specs.Follows.{turns_of}
 use Rattle.lrc_protocol.proofs.Ruled.{by_rule}
 use Rattle.lrc_protocol.proofs.Worlds.{IsEntry, get_set_same, run-whole}

@@ -11,7 +11,7 @@ use Rattle.lrc_plain_laws.specs.Racing.{HasNoRace, PlainToRace}
 use Rattle.lrc_plain_laws.proofs.UpToRace.{without_race}
 use Rattle.lrc_plain_laws.proofs.Racing.{plain_to_race, race_free}
 use Rattle.lrc_protocol.specs.Node.{OptionsRecord}
-use Rattle.lrc_protocol.specs.World.{World}
+use Rattle.lrc_protocol.specs.Run.{World}
 use Rattle.lrc_protocol.proofs.Texts.{text}
 use Rattle.lrc_order_laws.proofs.Timed.{synchronized}
 use Rattle.lrc_order_laws.proofs.Reached.{IsReached}

@@ -10,19 +10,15 @@ use Rattle.lrc_page.specs.Page.{words_of}
 use Rattle.lrc_page.specs.Place.{page_of, pages_of}
 use Rattle.lrc_exec.specs.Meaning.{Next, reads, acquires, releases, arrives, next_of}
 use Rattle.lrc_envelope.specs.declared.message.Message.{Message}
-use Rattle.lrc_protocol.specs.Copy.{is_readable}
-use Rattle.lrc_protocol.specs.Memory.{Memory, copy_at, value_at}
-use Rattle.lrc_protocol.specs.Fetch.{Need}
-use Rattle.lrc_protocol.specs.Mail.{Letter, Wait, grant, departure, discard, needs_of}
-use Rattle.lrc_protocol.specs.Course.{Course, going, trapped, ended}
-use Rattle.lrc_protocol.specs.Node.{Node, Effect, makes, acts, acts_by}
+use Rattle.lrc_protocol.specs.Pages.{is_readable, Memory, copy_at, value_at, Need}
+use Rattle.lrc_protocol.specs.Node.{Letter, Wait, grant, departure, discard, needs_of, Course, going, trapped, ended, Node, Effect, makes, acts}
+use Rattle.lrc_protocol.specs.Node.{acts_by}
 use Rattle.lrc_protocol.specs.Turn.{TurnRecord, taking}
-use Rattle.lrc_protocol.specs.Log.{Input}
-use Rattle.lrc_protocol.specs.Rules.{IsReadyFor, Accesses, access_read, access_write, IsOwn, own_quiet, page_at, need_at}
-use Rattle.lrc_protocol.specs.Rules.{Brings, brings_changes, brings_base_copy}
-use Rattle.lrc_protocol.specs.Rules.{RunRule, run_hit, run_repair, run_acquire, run_release, run_barrier, run_other}
-use Rattle.lrc_protocol.specs.Rules.{TakeRule, take_token, take_depart, take_last_reply, take_discard}
-use Rattle.lrc_protocol.specs.Rules.{IsSent, with_numbers, TurnRule, by_run, by_repeat, by_message}
+use Rattle.lrc_protocol.specs.Run.{Input}
+use Rattle.lrc_protocol.specs.Rules.{IsReadyFor, Accesses, access_read, access_write, IsOwn, own_quiet, page_at, need_at, Brings}
+use Rattle.lrc_protocol.specs.Rules.{brings_changes, brings_base_copy, RunRule, run_hit, run_repair, run_acquire, run_release, run_barrier}
+use Rattle.lrc_protocol.specs.Rules.{run_other, TakeRule, take_token, take_depart, take_last_reply, take_discard, IsSent, with_numbers}
+use Rattle.lrc_protocol.specs.Rules.{TurnRule, by_run, by_repeat, by_message}
 use Rattle.lrc_order_laws.specs.Waiting.{next_in, is_departing, FixesNext}
 use Rattle.lrc_order_laws.proofs.Shift.{deed_made, deed_back, next-ready}
 use Rattle.lrc_order_laws.proofs.Counts.{lock_next, departure_next}

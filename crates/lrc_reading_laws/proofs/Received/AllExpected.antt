@@ -11,12 +11,11 @@ use Rattle.lrc_envelope.specs.declared.message.Message.TheVariants.{LockRequest,
 use Rattle.lrc_envelope.specs.declared.message.Message.TheVariants.{ChangesRequest, ChangesReply, PageRequest, PageReply}
 use Rattle.lrc_copies.proofs.Members.{Contains-filter}
 use Rattle.lrc_protocol.specs.declared.event.Event.{Event}
-use Rattle.lrc_protocol.specs.Expected.{is_expected}
-use Rattle.lrc_protocol.specs.Mail.{numbered}
-use Rattle.lrc_protocol.specs.Node.{Node, Effect, OptionsRecord}
-use Rattle.lrc_protocol.specs.Turn.{done, unexpected, empty_turn, is_addressed, is_repeat, turn_with, turn_of, take_turn}
-use Rattle.lrc_protocol.specs.Log.{Logged}
-use Rattle.lrc_protocol.specs.World.{World, Flying, pending, run_of}
+use Rattle.lrc_protocol.specs.Node.{numbered, Node, Effect, OptionsRecord}
+use Rattle.lrc_protocol.specs.Turn.{is_expected, done, unexpected, empty_turn, is_addressed, is_repeat, turn_with, take_turn, turn_taking}
+use Rattle.lrc_protocol.specs.Turn.{takes, taking}
+use Rattle.lrc_protocol.specs.Run.{Logged, World, Flying, pending, run_of}
+use Rattle.lrc_protocol.proofs.Expecting.{still_expected}
 use Rattle.lrc_order_laws.proofs.Addressed.{all_addressed}
 use Rattle.lrc_order_laws.proofs.BarrierExpected.{clean_expected, discard_expected}
 use Rattle.lrc_order_laws.proofs.LockExpected.{request_expected, forward_expected}
@@ -42,18 +41,23 @@ turned : (effect : Effect) (o : Option _) → turn_with effect o ≡ unexpected 
 turned effect None e = cc
 turned effect (Some sent) e = cc
 
-by_tests : (node : Node) (effect : Effect) (a b c : Bool) → a ≡ true → (b ≡ false → c ≡ true)
-    → (if a then (if b then done empty_turn node else (if c then turn_of effect else unexpected)) else unexpected) ≡ unexpected → ⊥
-by_tests node effect true true c is h e = cc
-by_tests node effect true false true is h e =
+taking-expected : (o : Option Effect) → is_some o ≡ true → turn_taking o ≡ unexpected → ⊥
+taking-expected None some e = cc
+taking-expected (Some effect) some e =
     turned effect (numbered effect.node.setting.me effect.node.options.first effect.node.mail.sent effect.letters) e
-by_tests node effect true false false is h e = absurd (false≢true (h refl))
-by_tests node effect false b c is h e = absurd (false≢true is)
+
+by_tests : (node : Node) (o : Option Effect) (a b : Bool) → a ≡ true → (b ≡ false → is_some o ≡ true)
+    → (if a then (if b then done empty_turn node else turn_taking o) else unexpected) ≡ unexpected → ⊥
+by_tests node o true true is h e = cc
+by_tests node o true false is h e = taking-expected o (h refl) e
+by_tests node o false b is h e = absurd (false≢true is)
 
 -- a message for a node from one of the nodes that it expects, where it hasn't taken it, is not refused
 pub not_refused : (node : Node) (e : EnvelopeRecord) → is_addressed node e ≡ true
     → (is_repeat node e ≡ false → is_expected node e.from e.message ≡ true) → take_turn node e ≡ unexpected → ⊥
-not_refused node e to expected = search (by_tests)
+not_refused node e to expected =
+    by_tests node (takes (taking node e) e.from e.message) (is_addressed node e) (is_repeat node e) to
+    (λ new. still_expected node e e.from e.message ∙ expected new)
 
 -- who sent what was taken has a place
 taken-within : (taken : List (List ℕ)) (from number : ℕ) → list_any (λ k. k == number) (slice_index_or taken from []) ≡ true → from < length taken

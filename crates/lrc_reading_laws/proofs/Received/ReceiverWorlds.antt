@@ -13,8 +13,7 @@ use Rattle.lrc_barrier.specs.Barrier.{ManagerRecord}
 use Rattle.lrc_protocol.specs.declared.event.Event.{Event}
 use Rattle.lrc_protocol.specs.Node.{Node, OptionsRecord}
 use Rattle.lrc_protocol.specs.Turn.{TurnRecord, done}
-use Rattle.lrc_protocol.specs.Log.{Input, run, taken, Logged, outcome_of}
-use Rattle.lrc_protocol.specs.World.{World, Flying, fresh_world, run_of}
+use Rattle.lrc_protocol.specs.Run.{Input, run, taken, Logged, outcome_of, World, Flying, fresh_world, run_of}
 use Rattle.lrc_protocol.proofs.Induction.{Comes, named, delivered, repeated}
 use Rattle.lrc_protocol.proofs.Ruled.{by_rule}
 use Rattle.lrc_protocol.proofs.Turned.{Turned, Turns, turns}

@@ -20,18 +20,16 @@ use Rattle.lrc_lock.specs.declared.state.LockState.TheVariants.{Away, Awaited, F
 use Rattle.lrc_lock.specs.Held.{refuses, lock_at, released, released_at, forwarded, forwarded_at, pass_of, pass_to}
 use Rattle.lrc_barrier.specs.declared.arrival.Arrival.{Arrival}
 use Rattle.lrc_barrier.specs.Barrier.{ManagerRecord, with_arrival, arrivals_of, departure_to}
-use Rattle.lrc_protocol.specs.Barrier.{Barrier}
-use Rattle.lrc_protocol.specs.Copy.{Copy, valid, written, invalid, absent}
-use Rattle.lrc_protocol.specs.Memory.{copy_at}
-use Rattle.lrc_protocol.specs.Fetch.{Base, unneeded, due, come, Asked, Need}
-use Rattle.lrc_protocol.specs.Letters.{letter, departure_of, discards_to, changes_request_of, page_request_of, requests_of}
-use Rattle.lrc_protocol.specs.Locks.{Locks, next_time}
-use Rattle.lrc_protocol.specs.Mail.{Letter, Wait, needs_of}
-use Rattle.lrc_protocol.specs.Node.{Node}
+use Rattle.lrc_protocol.specs.Times.{next_time}
+use Rattle.lrc_protocol.specs.Pages.{Copy, valid, written, invalid, absent, copy_at, Base, unneeded, due, come, Asked, Need}
+use Rattle.lrc_protocol.specs.Locks.{Locks}
+use Rattle.lrc_protocol.specs.Barriers.{arrival_in, Barrier}
+use Rattle.lrc_protocol.specs.Node.{Letter, Wait, needs_of, Node}
+use Rattle.lrc_protocol.specs.Turn.{letter, departure_of, discards_to, changes_request_of, page_request_of, requests_of}
 use Rattle.lrc_order_laws.proofs.Flows.{IsFromNode, came_count, count-cons}
 use Rattle.lrc_order_laws.proofs.Managers.{LetGo, let_go, as_many, failing}
 use Rattle.lrc_order_laws.proofs.Moves.{counted_in}
-use Rattle.lrc_order_laws.proofs.Sends.{is_other, AreOthers, Grants, Came, by_itself, comes, arrival_in, Site, Sends, plain, misses, takes, asks}
+use Rattle.lrc_order_laws.proofs.Sends.{is_other, AreOthers, Grants, Came, by_itself, comes, Site, Sends, plain, misses, takes, asks}
 use Rattle.lrc_order_laws.proofs.Sends.{releasing, arriving, manages, forwarding, grants, gathers, lets_depart, departing, collecting}
 use Rattle.lrc_order_laws.proofs.Sends.{clean_at_once, notes_clean, lets_discard, discarding, serves, accessing, still_misses, still_collects}
 use Rattle.lrc_order_laws.proofs.Sends.{cleaning}

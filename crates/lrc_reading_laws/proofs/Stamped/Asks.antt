@@ -15,14 +15,15 @@ use Rattle.lrc_lock.specs.declared.state.Waiter.{Waiter}
 use Rattle.lrc_lock.specs.declared.state.LockState.{LockState}
 use Rattle.lrc_lock.specs.declared.state.LockState.TheVariants.{Away, Awaited, Free, Held}
 use Rattle.lrc_lock.specs.Lock.{manager_of}
-use Rattle.lrc_lock.specs.Held.{HeldRecord, LockStep, refuses, stays, passes, lock_at, with_lock, first_state, is_free, released}
-use Rattle.lrc_lock.specs.Held.{released_at, forwarded, forwarded_at, granted, granted_at, held_after}
+use Rattle.lrc_lock.specs.Held.{HeldRecord, LockStep, refuses, stays, passes, lock_at, with_lock, first_state, is_free, released, released_at}
+use Rattle.lrc_lock.specs.Held.{forwarded, forwarded_at, granted, granted_at, held_after}
 use Rattle.lrc_barrier.specs.declared.departure.Departure.{Departure}
 use Rattle.lrc_copies.proofs.Members.{cases_Contains, none_Contains}
-use Rattle.lrc_protocol.specs.Barrier.{Barrier}
-use Rattle.lrc_protocol.specs.Letters.{departure_of, discards_to}
-use Rattle.lrc_protocol.specs.Locks.{Locks, next_time}
-use Rattle.lrc_protocol.specs.Mail.{Letter, Wait, nothing, grant, departure, access, upkeep, discard}
+use Rattle.lrc_protocol.specs.Times.{next_time}
+use Rattle.lrc_protocol.specs.Locks.{Locks}
+use Rattle.lrc_protocol.specs.Barriers.{Barrier}
+use Rattle.lrc_protocol.specs.Node.{Letter, Wait, nothing, grant, departure, access, upkeep, discard}
+use Rattle.lrc_protocol.specs.Turn.{departure_of, discards_to}
 use Rattle.lrc_order_laws.proofs.Sends.{is_other, AreOthers, Grants, Came, by_itself, comes, Site, Sends, plain, misses, takes, asks, releasing}
 use Rattle.lrc_order_laws.proofs.Sends.{arriving, manages, forwarding, grants, gathers, lets_depart, departing, collecting, clean_at_once}
 use Rattle.lrc_order_laws.proofs.Sends.{notes_clean, lets_discard, discarding, serves, accessing, still_misses, still_collects, cleaning}

@@ -13,8 +13,7 @@ use Rattle.lrc_store.specs.Store.{StoredRecord, interval_of}
 use Rattle.lrc_copies.specs.Stamps.{index_of, is_covered, IsCut, AreStamped, IsClosedAt}
 use Rattle.lrc_copies.proofs.Members.{none_Contains}
 use Rattle.lrc_copies.proofs.Stamping.{covered-le, le-covered, cut_longer, stamped_longer}
-use Rattle.lrc_protocol.specs.Expected.{indices_by}
-use Rattle.lrc_protocol.specs.Locks.{next_time}
+use Rattle.lrc_protocol.specs.Times.{indices_by, next_time}
 use Rattle.lrc_protocol.specs.Node.{Node}
 use Rattle.lrc_reading_laws.specs.Made.{AllMade}
 use Rattle.lrc_reading_laws.specs.Written.{made_stamps}

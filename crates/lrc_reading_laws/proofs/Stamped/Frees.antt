@@ -11,12 +11,13 @@ use Rattle.lrc_lock.specs.declared.fault.LockFault.TheVariants.{NotMine}
 use Rattle.lrc_lock.specs.declared.state.Waiter.{Waiter}
 use Rattle.lrc_lock.specs.declared.state.LockState.{LockState}
 use Rattle.lrc_lock.specs.declared.state.LockState.TheVariants.{Away, Awaited, Free, Held}
-use Rattle.lrc_lock.specs.Held.{HeldRecord, LockStep, refuses, stays, passes, lock_at, with_lock, is_free, released}
-use Rattle.lrc_lock.specs.Held.{released_at, forwarded, forwarded_at, granted, granted_at, held_after}
+use Rattle.lrc_lock.specs.Held.{HeldRecord, LockStep, refuses, stays, passes, lock_at, with_lock, is_free, released, released_at, forwarded}
+use Rattle.lrc_lock.specs.Held.{forwarded_at, granted, granted_at, held_after}
 use Rattle.lrc_copies.proofs.Members.{cases_Contains, none_Contains}
-use Rattle.lrc_protocol.specs.Barrier.{Barrier}
-use Rattle.lrc_protocol.specs.Locks.{Locks, next_time}
-use Rattle.lrc_protocol.specs.Mail.{Letter, Wait}
+use Rattle.lrc_protocol.specs.Times.{next_time}
+use Rattle.lrc_protocol.specs.Locks.{Locks}
+use Rattle.lrc_protocol.specs.Barriers.{Barrier}
+use Rattle.lrc_protocol.specs.Node.{Letter, Wait}
 use Rattle.lrc_order_laws.proofs.Sends.{is_other, AreOthers, Came, by_itself, Site, Sends, plain, misses, takes, asks, releasing, arriving}
 use Rattle.lrc_order_laws.proofs.Sends.{manages, forwarding, grants, gathers, lets_depart, departing, collecting, clean_at_once}
 use Rattle.lrc_order_laws.proofs.Sends.{notes_clean, lets_discard, discarding, serves, accessing, still_misses, still_collects, cleaning}

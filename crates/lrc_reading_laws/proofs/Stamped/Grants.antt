@@ -26,21 +26,18 @@ use Rattle.lrc_lock.specs.declared.state.LockState.TheVariants.{Away, Awaited, F
 use Rattle.lrc_lock.specs.Lock.{manager_of}
 use Rattle.lrc_lock.specs.Held.{refuses, lock_at, first_state, released, released_at, forwarded, forwarded_at, pass_of, pass_to}
 use Rattle.lrc_copies.proofs.Members.{Contains-first, Contains-later, cases_Contains, none_Contains}
-use Rattle.lrc_protocol.specs.Copy.{Copy, valid, written, invalid, absent}
-use Rattle.lrc_protocol.specs.Expected.{indices_by, is_learnable, is_expected}
-use Rattle.lrc_protocol.specs.Letters.{grant_of, grants_of, changes_reply_to, arrival_of}
-use Rattle.lrc_protocol.specs.Locks.{next_time}
-use Rattle.lrc_protocol.specs.Mail.{Letter, Wait, nothing, grant, departure, access, upkeep, discard, is_idle, awaits_grant}
-use Rattle.lrc_protocol.specs.Memory.{Memory, copy_at}
-use Rattle.lrc_protocol.specs.Node.{Node, OptionsRecord, begins_of}
-use Rattle.lrc_protocol.specs.Run.{closes}
-use Rattle.lrc_protocol.specs.Turn.{TurnRecord, done, run_turn, turn_by}
-use Rattle.lrc_protocol.specs.Log.{Input, run, EntryRecord, Logged}
+use Rattle.lrc_protocol.specs.Times.{indices_by, next_time}
+use Rattle.lrc_protocol.specs.Pages.{Copy, valid, written, invalid, absent, Memory, copy_at}
+use Rattle.lrc_protocol.specs.Node.{Letter, Wait, nothing, grant, departure, access, upkeep, discard, is_idle, awaits_grant, Node}
+use Rattle.lrc_protocol.specs.Node.{OptionsRecord}
+use Rattle.lrc_protocol.specs.Turn.{is_learnable, is_expected, grant_of, grants_of, changes_reply_to, arrival_of, begins_of, closes, TurnRecord}
+use Rattle.lrc_protocol.specs.Turn.{done, run_turn, turn_by}
+use Rattle.lrc_protocol.specs.Run.{Input, run, EntryRecord, Logged, World, Flying, fresh_world, with_turn, pending, run_of}
 use Rattle.lrc_protocol.specs.declared.event.Event.{Event}
-use Rattle.lrc_protocol.specs.World.{World, Flying, fresh_world, with_turn, pending, run_of}
 use Rattle.lrc_protocol.specs.Follows.{turns_of}
 use Rattle.lrc_protocol.proofs.Worlds.{IsEntry, get_set_same, get_set_other, fresh_at}
 use Rattle.lrc_protocol.proofs.Induction.{Comes}
+use Rattle.lrc_protocol.proofs.Expecting.{conditions}
 use Rattle.lrc_order_laws.specs.Shape.{HasShape}
 use Rattle.lrc_order_laws.proofs.Shape.{NodeShape, shape_at}
 use Rattle.lrc_order_laws.proofs.Sends.{Came, by_itself, comes, letter_in, site_of, Sent, Sending, SendingIf, sendings, alone as sent_alone}
@@ -520,6 +517,7 @@ module _ (program : Program) (nodes : ℕ) (options : OptionsRecord) where
       let shape : NodeShape (setting_of program nodes e.to) options (record { node = l.node; turns = turns_of l.log }) =
       shape_at program nodes options events world e.to l runs at in
       ap (is_expected l.node e.from) is
+      ∙ conditions l.node e.from (LockGrant m)
       ∙ and_from _ _
       (and_from _ _ (lt-ltb m.lock l.node.setting.locks (subst (λ (s : Setting). m.lock < s.locks) (sym shape.setting) awaited.0)) awaited.1)
       (grant_learnable world h.0 h.1 e m l c is at)

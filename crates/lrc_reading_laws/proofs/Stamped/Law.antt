@@ -5,7 +5,7 @@ use Rattle.std.proofs.lemmas.List.Elements.{All-contains}
 use Rattle.lrc_lang.specs.declared.program.Program.{Program}
 use Rattle.lrc_store.specs.Store.{interval_of}
 use Rattle.lrc_envelope.specs.Records.{IndexedChangesRecord}
-use Rattle.lrc_protocol.specs.Memory.{copy_at}
+use Rattle.lrc_protocol.specs.Pages.{copy_at}
 use Rattle.lrc_protocol.specs.Node.{OptionsRecord}
 use Rattle.lrc_order_laws.proofs.Reached.{IsReached}
 use Rattle.lrc_reading_laws.specs.Made.{AreMade}

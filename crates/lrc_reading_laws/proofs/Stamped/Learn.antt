@@ -17,10 +17,10 @@ use Rattle.lrc_store.specs.Store.{StoredRecord, interval_of}
 use Rattle.lrc_copies.specs.Stamps.{index_of}
 use Rattle.lrc_copies.proofs.Members.{Contains-first, Contains-later, none_Contains}
 use Rattle.lrc_copies.proofs.Stamping.{le-covered}
-use Rattle.lrc_protocol.specs.Expected.{is_page, is_interval, is_news, indices_by, are_between, is_learnable}
+use Rattle.lrc_protocol.specs.Times.{indices_by, are_between}
 use Rattle.lrc_protocol.specs.Node.{OptionsRecord}
-use Rattle.lrc_protocol.specs.Log.{Logged}
-use Rattle.lrc_protocol.specs.World.{World}
+use Rattle.lrc_protocol.specs.Turn.{is_page, is_interval, is_news, is_learnable}
+use Rattle.lrc_protocol.specs.Run.{Logged, World}
 use Rattle.lrc_protocol.specs.Follows.{turns_of}
 use Rattle.lrc_order_laws.proofs.Shape.{NodeShape, shape_at}
 use Rattle.lrc_order_laws.proofs.Reached.{IsReached}

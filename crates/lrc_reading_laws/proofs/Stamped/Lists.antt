@@ -14,10 +14,8 @@ use Rattle.lrc_store.proofs.Orders.{map-map}
 use Rattle.lrc_store.proofs.Lookups.{find-push_other, find-push_here}
 use Rattle.lrc_copies.specs.Stamps.{index_of}
 use Rattle.lrc_copies.proofs.Members.{Contains-first, Contains-later, cases_Contains, none_Contains}
-use Rattle.lrc_protocol.specs.Copy.{Copy, changes_of}
-use Rattle.lrc_protocol.specs.Expected.{indices_by}
-use Rattle.lrc_protocol.specs.Locks.{next_time}
-use Rattle.lrc_protocol.specs.Memory.{all_changes, closed_interval}
+use Rattle.lrc_protocol.specs.Times.{indices_by, next_time}
+use Rattle.lrc_protocol.specs.Pages.{Copy, changes_of, all_changes, closed_interval}
 use Rattle.lrc_protocol.specs.Node.{Node}
 use Rattle.lrc_node_laws.specs.Own.{IsAttached}
 use Rattle.lrc_reading_laws.specs.Written.{made_stamps}

@@ -11,9 +11,9 @@ use Rattle.lrc_time.proofs.Times.{entry-set_same}
 use Rattle.lrc_store.specs.Store.{StoredRecord, NoticeRecord, interval_of}
 use Rattle.lrc_copies.specs.Stamps.{index_of}
 use Rattle.lrc_copies.proofs.Members.{none_Contains}
-use Rattle.lrc_protocol.specs.Expected.{indices_by}
+use Rattle.lrc_protocol.specs.Times.{indices_by}
 use Rattle.lrc_protocol.specs.Node.{Node, OptionsRecord}
-use Rattle.lrc_protocol.specs.World.{World, with_turn}
+use Rattle.lrc_protocol.specs.Run.{World, with_turn}
 use Rattle.lrc_node_laws.specs.Own.{IsAttached}
 use Rattle.lrc_reading_laws.specs.Made.{AreMade}
 use Rattle.lrc_reading_laws.specs.Written.{made_stamps}

@@ -8,8 +8,8 @@ use Rattle.lrc_time.specs.Time.{entry}
 use Rattle.lrc_store.specs.Interval.{IntervalRecord, index_of, by_node}
 use Rattle.lrc_store.specs.Order.{placed, ascending_part}
 use Rattle.lrc_store.specs.Store.{intervals_of, is_newer, newer_of}
-use Rattle.lrc_protocol.specs.Expected.{indices_by}
-use Rattle.lrc_protocol.specs.Memory.{Memory}
+use Rattle.lrc_protocol.specs.Times.{indices_by}
+use Rattle.lrc_protocol.specs.Pages.{Memory}
 use Rattle.lrc_node_laws.specs.Stored.{StoresExactly}
 use Rattle.lrc_node_laws.proofs.Indices.{Ascends, range-ascends, indices-here, indices-there}
 

@@ -5,12 +5,12 @@ use Rattle.lrc_lang.specs.declared.program.Program.{Program}
 use Rattle.lrc_time.specs.Time.{entry, zeros, Covers}
 use Rattle.lrc_time.proofs.Times.{entry-zeros, entry-set_same}
 use Rattle.lrc_envelope.specs.Envelope.{EnvelopeRecord}
-use Rattle.lrc_protocol.specs.Locks.{Locks, next_time}
-use Rattle.lrc_protocol.specs.Mail.{Wait, nothing, discard, Collection}
-use Rattle.lrc_protocol.specs.Node.{Node, OptionsRecord}
+use Rattle.lrc_protocol.specs.Times.{next_time}
+use Rattle.lrc_protocol.specs.Locks.{Locks}
+use Rattle.lrc_protocol.specs.Barriers.{Collection}
+use Rattle.lrc_protocol.specs.Node.{Wait, nothing, discard, Node, OptionsRecord}
 use Rattle.lrc_protocol.specs.Turn.{TurnRecord}
-use Rattle.lrc_protocol.specs.Log.{Input, Logged}
-use Rattle.lrc_protocol.specs.World.{World, fresh_world, with_turn, pending}
+use Rattle.lrc_protocol.specs.Run.{Input, Logged, World, fresh_world, with_turn, pending}
 use Rattle.lrc_protocol.proofs.Ruled.{by_rule}
 use Rattle.lrc_protocol.proofs.Worlds.{fresh_at}
 use Rattle.lrc_order_laws.specs.Counts.{is_inside}

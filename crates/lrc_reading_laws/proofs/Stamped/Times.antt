@@ -14,14 +14,12 @@ use Rattle.lrc_envelope.specs.declared.message.Message.{Message}
 use Rattle.lrc_envelope.specs.declared.message.Message.TheVariants.{LockGrant, Depart}
 use Rattle.lrc_copies.specs.Stamps.{AreStamped}
 use Rattle.lrc_copies.proofs.Members.{none_Contains}
-use Rattle.lrc_protocol.specs.Copy.{Copy, valid, written, invalid, absent}
-use Rattle.lrc_protocol.specs.Memory.{Memory, copy_at}
-use Rattle.lrc_protocol.specs.Expected.{is_expected, is_learnable}
+use Rattle.lrc_protocol.specs.Pages.{Copy, valid, written, invalid, absent, Memory, copy_at}
 use Rattle.lrc_protocol.specs.Node.{Node, OptionsRecord}
-use Rattle.lrc_protocol.specs.Turn.{TurnRecord}
-use Rattle.lrc_protocol.specs.Log.{Input, Logged}
-use Rattle.lrc_protocol.specs.World.{World, fresh_world, with_turn, pending}
+use Rattle.lrc_protocol.specs.Turn.{is_expected, is_learnable, TurnRecord}
+use Rattle.lrc_protocol.specs.Run.{Input, Logged, World, fresh_world, with_turn, pending}
 use Rattle.lrc_protocol.proofs.Worlds.{fresh_at}
+use Rattle.lrc_protocol.proofs.Expecting.{fulfilled}
 use Rattle.lrc_order_laws.proofs.Sends.{Came, by_itself, comes}
 use Rattle.lrc_node_laws.proofs.Change.{News, news, view_of}
 use Rattle.lrc_node_laws.proofs.Always.{ranged_at}
@@ -84,12 +82,12 @@ module _ (nodes n : ℕ) (node : Node) (made : List StoredRecord) (p : Placed no
     grant = λ from' m is.
         let it : message ≡ LockGrant m = came_message from from' message (LockGrant m) is in
         let expected : is_expected node from (LockGrant m) ≡ true = subst (λ x. is_expected node from x ≡ true) it e in
-        let outer : _ = and_parts _ _ expected in
+        let outer : _ = and_parts _ _ (fulfilled node from (LockGrant m) expected) in
         told_by m.time m.intervals outer.1 (subst (λ x. AllMade (map interval_of made) (intervals_in x)) it h);
     depart = λ from' m is.
         let it : message ≡ Depart m = came_message from from' message (Depart m) is in
         let expected : is_expected node from (Depart m) ≡ true = subst (λ x. is_expected node from x ≡ true) it e in
-        let outer : _ = and_parts _ _ expected in
+        let outer : _ = and_parts _ _ (fulfilled node from (Depart m) expected) in
         told_by m.time m.intervals outer.1 (subst (λ x. AllMade (map interval_of made) (intervals_in x)) it h);
   }
 

@@ -15,25 +15,19 @@ use Rattle.lrc_envelope.specs.declared.message.Message.TheVariants.{LockForward,
 use Rattle.lrc_lock.specs.declared.state.Pass.{Pass}
 use Rattle.lrc_lock.specs.Held.{released, forwarded, pass_of}
 use Rattle.lrc_barrier.specs.declared.departure.Departure.{Departure}
-use Rattle.lrc_protocol.specs.Copy.{Copy, valid, written, invalid, absent, after_write, closed, invalidated, dropped}
-use Rattle.lrc_protocol.specs.Memory.{Memory, copy_at, with_copy, with_interval, is_named, learned, with_base, collected_at}
-use Rattle.lrc_protocol.specs.Fetch.{Base, unneeded, due, come, Asked, Need, mended}
-use Rattle.lrc_protocol.specs.Mail.{Letter}
-use Rattle.lrc_protocol.specs.Course.{Course, going, trapped, ended}
-use Rattle.lrc_protocol.specs.Locks.{next_time}
-use Rattle.lrc_protocol.specs.Node.{Node, Effect, acts, acts_by, memory_after}
-use Rattle.lrc_protocol.specs.Letters.{requests_of, page_request_of, changes_request_of}
-use Rattle.lrc_protocol.specs.Letters.{changes_reply_to, grants_of, departure_of, discards_to, arrival_of}
-use Rattle.lrc_protocol.specs.Waits.{clean_memory}
-use Rattle.lrc_protocol.specs.Run.{charged, closes}
-use Rattle.lrc_protocol.specs.Turn.{TurnRecord, done, run_turn, taking}
-use Rattle.lrc_protocol.specs.Rules.{Accesses, access_read, access_write, IsOwn, own_quiet, own_print, own_trap, own_end}
-use Rattle.lrc_protocol.specs.Rules.{Brings, brings_changes, brings_base_copy, page_at, need_at, closed_for, keeping, collection_at, upkeep_at}
-use Rattle.lrc_protocol.specs.Rules.{RunRule, run_hit, run_miss, run_repair, run_acquire, run_ask, run_release, run_barrier, run_other}
-use Rattle.lrc_protocol.specs.Rules.{TakeRule, take_request, take_request_unnoted, take_forward, take_token, take_arrive}
-use Rattle.lrc_protocol.specs.Rules.{take_last_arrive, take_depart, take_collect, take_collect_at_once, take_reply, take_last_reply}
-use Rattle.lrc_protocol.specs.Rules.{take_kept_reply, take_last_kept_reply, take_clean, take_last_clean, take_discard}
-use Rattle.lrc_protocol.specs.Rules.{take_changes_request, take_page_request, IsSent, with_numbers}
+use Rattle.lrc_protocol.specs.Times.{is_named, next_time}
+use Rattle.lrc_protocol.specs.Pages.{Copy, valid, written, invalid, absent, after_write, closed, invalidated, dropped, Memory, copy_at}
+use Rattle.lrc_protocol.specs.Pages.{with_copy, with_interval, learned, Base, unneeded, due, come, Asked, Need, mended}
+use Rattle.lrc_protocol.specs.Barriers.{with_base, collected_at, clean_memory}
+use Rattle.lrc_protocol.specs.Node.{Letter, Course, going, trapped, ended, Node, Effect, acts, acts_by, memory_after}
+use Rattle.lrc_protocol.specs.Turn.{requests_of, page_request_of, changes_request_of, changes_reply_to, grants_of, departure_of, discards_to}
+use Rattle.lrc_protocol.specs.Turn.{arrival_of, charged, closes, TurnRecord, done, run_turn, taking}
+use Rattle.lrc_protocol.specs.Rules.{take_request, Accesses, access_read, access_write, IsOwn, own_quiet, own_print, own_trap, own_end, Brings}
+use Rattle.lrc_protocol.specs.Rules.{brings_changes, brings_base_copy, page_at, need_at, closed_for, keeping, collection_at, upkeep_at, RunRule}
+use Rattle.lrc_protocol.specs.Rules.{run_hit, run_miss, run_repair, run_acquire, run_ask, run_release, run_barrier, run_other, TakeRule}
+use Rattle.lrc_protocol.specs.Rules.{take_forward, take_token, take_arrive, take_last_arrive, take_depart, take_collect, take_collect_at_once}
+use Rattle.lrc_protocol.specs.Rules.{take_reply, take_last_reply, take_kept_reply, take_last_kept_reply, take_clean, take_last_clean}
+use Rattle.lrc_protocol.specs.Rules.{take_discard, take_changes_request, take_page_request, IsSent, with_numbers}
 use Rattle.lrc_order_laws.proofs.Shift.{AllFrom}
 use Rattle.lrc_order_laws.proofs.Sends.{letter_in, sent-letters, sent-from}
 use Rattle.lrc_order_laws.proofs.Pending.{Ran, ran, Took}
@@ -288,8 +282,7 @@ module _ (C : List ℕ → Type 0) where
     brings-timely message memory change (brings_base_copy m lt counted some) h = h
 
     take-says : (message : Message) (e : Effect) → TakeRule node from message e → Says node from message e.letters
-    take-says message e (take_request m to managed lt counted mine is) = (refl, refl, refl, tt)
-    take-says message e (take_request_unnoted m fault lt counted mine is) = tt
+    take-says message e (take_request m lt counted mine) = (refl, refl, refl, tt)
     take-says message e (take_forward m lt asker counted managed accepted) = refl
     take-says message e (take_token m lt at news) = acts-silent [] _ tt
     take-says message e (take_arrive m before after at news is) = tt
@@ -317,8 +310,7 @@ module _ (C : List ℕ → Type 0) where
         record { collected = now.collected; since = now.since }
 
     take-timely : (message : Message) (e : Effect) → TakeRule node from message e → Timely e.node.memory
-    take-timely message e (take_request m to managed lt counted mine is) = h
-    take-timely message e (take_request_unnoted m fault lt counted mine is) = h
+    take-timely message e (take_request m lt counted mine) = h
     take-timely message e (take_forward m lt asker counted managed accepted) = h
     take-timely message e (take_token m lt at news) =
         acts-timely [] _ node.course (learned-timely node.locks.time m.intervals node.memory c h)

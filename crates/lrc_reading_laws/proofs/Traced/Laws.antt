@@ -19,8 +19,7 @@ use Rattle.lrc_race.specs.Races.{IsRaceOf, AreTracesOf, RisesAlong}
 use Rattle.lrc_race.proofs.OfRuns.{race_segments, segments_race}
 use Rattle.lrc_protocol.specs.declared.event.Event.{Event}
 use Rattle.lrc_protocol.specs.Node.{OptionsRecord, fresh_node}
-use Rattle.lrc_protocol.specs.Log.{Logged}
-use Rattle.lrc_protocol.specs.World.{World, run_of}
+use Rattle.lrc_protocol.specs.Run.{Logged, World, run_of}
 use Rattle.lrc_protocol.specs.Traced.{trace_of, traces_of}
 use Rattle.lrc_protocol.proofs.Worlds.{run-whole}
 use Rattle.lrc_order_laws.proofs.OwnEntry.{in_range}

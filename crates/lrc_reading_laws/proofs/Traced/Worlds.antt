@@ -22,11 +22,9 @@ use Rattle.lrc_judge.specs.Segments.{AccessesBy}
 use Rattle.lrc_clock.specs.Times.{time_at, raised}
 use Rattle.lrc_clock.specs.Keeping.{KeepsTime}
 use Rattle.lrc_clock.proofs.Intervals.{interval_of_other}
-use Rattle.lrc_protocol.specs.Locks.{next_time}
-use Rattle.lrc_protocol.specs.Node.{Node, OptionsRecord, fresh_node}
-use Rattle.lrc_protocol.specs.Run.{own_index}
-use Rattle.lrc_protocol.specs.Log.{Logged}
-use Rattle.lrc_protocol.specs.World.{World, fresh_world, with_turn}
+use Rattle.lrc_protocol.specs.Times.{next_time}
+use Rattle.lrc_protocol.specs.Node.{Node, OptionsRecord, fresh_node, own_index}
+use Rattle.lrc_protocol.specs.Run.{Logged, World, fresh_world, with_turn}
 use Rattle.lrc_protocol.specs.Traced.{with_act, trace_of}
 use Rattle.lrc_protocol.proofs.Worlds.{get_set_same, get_set_other, fresh_at}
 use Rattle.lrc_protocol.proofs.Texts.{follows_at}

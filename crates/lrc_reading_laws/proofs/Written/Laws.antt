@@ -16,13 +16,10 @@ use Rattle.lrc_plain_laws.specs.Follows.{deeds_of}
 use Rattle.lrc_copies.specs.Page.{IsUntouchedBy, IsMadeOf, IsClosedWith}
 use Rattle.lrc_copies.specs.Stamps.{index_of}
 use Rattle.lrc_store.specs.Store.{StoredRecord, notice_of}
-use Rattle.lrc_protocol.specs.Copy.{written}
-use Rattle.lrc_protocol.specs.Memory.{copy_at}
-use Rattle.lrc_protocol.specs.Mail.{grant}
-use Rattle.lrc_protocol.specs.Node.{OptionsRecord}
+use Rattle.lrc_protocol.specs.Pages.{written, copy_at}
+use Rattle.lrc_protocol.specs.Node.{grant, OptionsRecord}
 use Rattle.lrc_protocol.specs.Turn.{TurnRecord}
-use Rattle.lrc_protocol.specs.Log.{Input, EntryRecord, Logged}
-use Rattle.lrc_protocol.specs.World.{World, Flying, with_turn}
+use Rattle.lrc_protocol.specs.Run.{Input, EntryRecord, Logged, World, Flying, with_turn}
 use Rattle.lrc_protocol.specs.Follows.{turns_of, deeds_in}
 use Rattle.lrc_protocol.proofs.Worlds.{IsEntry, get_set_same, get_set_other}
 use Rattle.lrc_order_laws.specs.Counts.{closes, count, awaits_acquire}

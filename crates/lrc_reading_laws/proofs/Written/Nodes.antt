@@ -15,12 +15,9 @@ use Rattle.lrc_exec.specs.Plain.{setting_of, start_of}
 use Rattle.lrc_plain_laws.specs.Follows.{deeds_of}
 use Rattle.lrc_copies.specs.Page.{IsMadeOf, IsUntouchedBy}
 use Rattle.lrc_copies.specs.Stamps.{index_of}
-use Rattle.lrc_protocol.specs.Copy.{Copy, valid, written, invalid, absent}
-use Rattle.lrc_protocol.specs.Memory.{copy_at}
-use Rattle.lrc_protocol.specs.Mail.{Wait, nothing, grant, departure, access, upkeep, discard}
-use Rattle.lrc_protocol.specs.Node.{OptionsRecord}
-use Rattle.lrc_protocol.specs.Log.{Logged}
-use Rattle.lrc_protocol.specs.World.{World}
+use Rattle.lrc_protocol.specs.Pages.{Copy, valid, written, invalid, absent, copy_at}
+use Rattle.lrc_protocol.specs.Node.{Wait, nothing, grant, departure, access, upkeep, discard, OptionsRecord}
+use Rattle.lrc_protocol.specs.Run.{Logged, World}
 use Rattle.lrc_protocol.specs.Follows.{inputs_of, turns_of, deeds_in}
 use Rattle.lrc_protocol.proofs.Worlds.{Follows}
 use Rattle.lrc_protocol.proofs.Texts.{follows_at}

@@ -6,8 +6,7 @@ use Rattle.std.proofs.lemmas.Bool.{eq-eqb, ne_eqb}
 use Rattle.lrc_page.specs.declared.changes.Change.{Change}
 use Rattle.lrc_page.specs.Changes.{changes_between}
 use Rattle.lrc_store.specs.Store.{NoticeRecord, notice_of}
-use Rattle.lrc_protocol.specs.Copy.{Copy, valid, written, invalid, absent, changes_of}
-use Rattle.lrc_protocol.specs.Memory.{copy_at}
+use Rattle.lrc_protocol.specs.Pages.{Copy, valid, written, invalid, absent, changes_of, copy_at}
 use Rattle.lrc_protocol.specs.Node.{Node}
 use Rattle.lrc_reading_laws.specs.Written.{changes_on}
 use Rattle.lrc_reading_laws.proofs.Closed.History.{closed_record}

@@ -4,9 +4,9 @@ use Rattle.std.specs.Prelude.{Option, Some, None}
 use Rattle.lrc_time.specs.Time.{entry}
 use Rattle.lrc_trace.specs.declared.act.Deed.{Deed}
 use Rattle.lrc_exec.specs.Meaning.{Thread, Next, acquires, releases, arrives}
-use Rattle.lrc_protocol.specs.Course.{Course, deed_of}
-use Rattle.lrc_protocol.specs.Mail.{Wait, nothing, grant, departure, access, upkeep, discard}
-use Rattle.lrc_protocol.specs.Locks.{Locks, next_time}
+use Rattle.lrc_protocol.specs.Times.{next_time}
+use Rattle.lrc_protocol.specs.Locks.{Locks}
+use Rattle.lrc_protocol.specs.Node.{Course, deed_of, Wait, nothing, grant, departure, access, upkeep, discard}
 use Rattle.lrc_order_laws.specs.Waiting.{next_in, acquiring}
 use Rattle.lrc_order_laws.specs.Counts.{awaits_acquire}
 use Rattle.lrc_order_laws.proofs.Shift.{Part, Acted, Rested, Moved, Shift, plain, misses, takes, asks, releasing, arriving, manages, forwarding, grants}

@@ -1,7 +1,7 @@
 use Rattle.std.proofs.Common.{◌≡◌, ◌+◌, ◌≤◌, List, ◌++◌, length, sym, ap, ◌∙◌, subst}
 use Rattle.std.specs.List.{All}
 use Rattle.std.specs.Option.{option_to_list}
-use Rattle.lrc_protocol.specs.Fetch.{Asked, some_asked, asked_of}
+use Rattle.lrc_protocol.specs.Pages.{Asked, some_asked, asked_of}
 use Rattle.lrc_mail.proofs.Asking.{asked_of-more, asks-some}
 use Rattle.lrc_mail.proofs.asked.ask.Goals as goal
 

@@ -1,6 +1,6 @@
 use Rattle.std.proofs.Common.{◌≡◌, ◌≤◌, length}
 use Rattle.std.specs.Prelude.{All}
-use Rattle.lrc_protocol.specs.Fetch.{asked_of}
+use Rattle.lrc_protocol.specs.Pages.{asked_of}
 use Rattle.lrc_mail.proofs.asked.ask.Given as goal
 
 abbrev pub invariant-loop-maker : goal.invariant-loop-maker

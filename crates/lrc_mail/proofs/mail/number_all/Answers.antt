@@ -1,7 +1,7 @@
 use Rattle.std.proofs.Common.{◌≡◌, List, ◌∷◌, sym, ap, ◌∙◌, subst}
 use Rattle.std.specs.Vec.Iter.{into_iter_items}
 use Rattle.lrc_envelope.specs.Envelope.{EnvelopeRecord}
-use Rattle.lrc_protocol.specs.Mail.{Letter}
+use Rattle.lrc_protocol.specs.Node.{Letter}
 use Rattle.lrc_mail.proofs.Numbering.{Midway, continues}
 use Rattle.lrc_mail.proofs.mail.number_all.Goals as goal
 

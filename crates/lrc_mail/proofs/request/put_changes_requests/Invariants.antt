@@ -1,6 +1,6 @@
 use Rattle.std.proofs.Common.{◌≡◌, ◌++◌, map}
 use Rattle.std.specs.Prelude.{take}
-use Rattle.lrc_protocol.specs.Letters.{changes_request_of}
+use Rattle.lrc_protocol.specs.Turn.{changes_request_of}
 use Rattle.lrc_mail.proofs.request.put_changes_requests.Given as goal
 
 abbrev pub invariant-loop-asked : goal.invariant-loop-asked

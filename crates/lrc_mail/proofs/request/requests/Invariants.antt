@@ -1,6 +1,6 @@
 use Rattle.std.proofs.Common.{◌≡◌}
 use Rattle.std.specs.Prelude.{take, flat_map}
-use Rattle.lrc_protocol.specs.Letters.{requests_of}
+use Rattle.lrc_protocol.specs.Turn.{requests_of}
 use Rattle.lrc_mail.proofs.request.requests.Given as goal
 
 abbrev pub invariant-loop-need : goal.invariant-loop-need

@@ -1,6 +1,6 @@
 use Rattle.std.proofs.Common.{◌≡◌, ◌++◌, map, take, drop, add-one, sym, ap, ◌∙◌, subst}
 use Rattle.std.specs.Prelude.{slice_index_or, slice_set}
-use Rattle.lrc_protocol.specs.Fetch.{Need, with_changes}
+use Rattle.lrc_protocol.specs.Pages.{Need, with_changes}
 use Rattle.lrc_mail.proofs.Lists.{changed_at, changed_more}
 use Rattle.lrc_mail.proofs.wait.take_changes_of_all.Goals as goal
 

@@ -1,6 +1,6 @@
 use Rattle.std.proofs.Common.{◌≡◌, ◌++◌, map}
 use Rattle.std.specs.Prelude.{take, drop}
-use Rattle.lrc_protocol.specs.Fetch.{with_changes}
+use Rattle.lrc_protocol.specs.Pages.{with_changes}
 use Rattle.lrc_mail.proofs.wait.take_changes_of_all.Given as goal
 
 abbrev pub invariant-loop-need : goal.invariant-loop-need

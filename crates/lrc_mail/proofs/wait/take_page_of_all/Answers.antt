@@ -1,6 +1,6 @@
 use Rattle.std.proofs.Common.{◌≡◌, ◌≢◌, arith, sym, ap, ◌∙◌, ⊎_elim}
 use Rattle.std.specs.Prelude.{slice_index_or, slice_set}
-use Rattle.lrc_protocol.specs.Fetch.{Need, with_page}
+use Rattle.lrc_protocol.specs.Pages.{Need, with_page}
 use Rattle.std.proofs.lemmas.List.{get_or_default, set-get_or}
 use Rattle.std.proofs.lemmas.Bool.{cases_eq}
 use Rattle.lrc_mail.proofs.Lists.{map-same, page-one, page-other}

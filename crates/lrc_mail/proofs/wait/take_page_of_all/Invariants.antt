@@ -1,6 +1,6 @@
 use Rattle.std.proofs.Common.{◌≡◌, ◌≢◌, ℕ, ◌<◌}
 use Rattle.std.specs.Prelude.{slice_index_or}
-use Rattle.lrc_protocol.specs.Fetch.{Need}
+use Rattle.lrc_protocol.specs.Pages.{Need}
 use Rattle.lrc_mail.proofs.wait.take_page_of_all.Given as goal
 
 abbrev pub invariant-loop-need : goal.invariant-loop-need

@@ -1,7 +1,7 @@
 use Rattle.std.proofs.Common.{◌≡◌, ◌∙◌, ◌&&◌, eqb, get_or, true, false, ap, sym, arith}
 use Rattle.std.specs.Prelude.{is_some}
 use Rattle.lrc_store.specs.Store.{intervals_of}
-use Rattle.lrc_protocol.specs.Memory.{is_named}
+use Rattle.lrc_protocol.specs.Times.{is_named}
 use Rattle.lrc_memory.specs.Notes.{keepers_of}
 use Rattle.lrc_memory.proofs.Noting.{keeper-read}
 use Rattle.lrc_memory.proofs.Keepers.{first-named}

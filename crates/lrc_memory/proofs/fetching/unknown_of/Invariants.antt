@@ -1,5 +1,5 @@
 use Rattle.std.proofs.Common.{◌≡◌, take}
-use Rattle.lrc_protocol.specs.Fetch.{unknown_of}
+use Rattle.lrc_protocol.specs.Pages.{unknown_of}
 use Rattle.lrc_memory.proofs.fetching.unknown_of.Given as goal
 
 abbrev pub invariant-loop-key : goal.invariant-loop-key

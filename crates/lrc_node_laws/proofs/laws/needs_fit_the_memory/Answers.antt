@@ -1,6 +1,6 @@
 use Rattle.std.specs.Prelude.{map}
-use Rattle.lrc_protocol.specs.Fetch.{Need}
-use Rattle.lrc_protocol.specs.Mail.{needs_of}
+use Rattle.lrc_protocol.specs.Pages.{Need}
+use Rattle.lrc_protocol.specs.Node.{needs_of}
 use Rattle.lrc_node_laws.proofs.Always.{needed_at, reaching_at}
 use Rattle.lrc_node_laws.proofs.Awaited.{ascends-pairs}
 use Rattle.lrc_node_laws.proofs.laws.needs_fit_the_memory.Goals as goal

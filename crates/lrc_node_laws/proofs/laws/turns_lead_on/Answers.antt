@@ -1,5 +1,5 @@
 use Rattle.std.proofs.Common.{[]}
-use Rattle.lrc_protocol.specs.Log.{run, taken}
+use Rattle.lrc_protocol.specs.Run.{run, taken}
 use Rattle.lrc_node_laws.proofs.Leads.{at_start, one_more, reached}
 use Rattle.lrc_node_laws.proofs.laws.turns_lead_on.Goals as goal
 

@@ -1,5 +1,5 @@
 use Rattle.std.proofs.Common.{◌≡◌, List, map, sym, subst, rules}
-use Rattle.lrc_protocol.specs.World.{Flying}
+use Rattle.lrc_protocol.specs.Run.{Flying}
 use Rattle.lrc_weave.specs.Woven.{AreWoven}
 use Rattle.lrc_run.specs.Run.{IsWovenReport}
 use Rattle.lrc_run.proofs.Told.{is_woven, still_matched}

@@ -1,5 +1,5 @@
 use Rattle.std.proofs.Common.{◌≡◌, Ok, true, false, refl, rules}
-use Rattle.lrc_protocol.specs.Log as log
+use Rattle.lrc_protocol.specs.Run as log
 use Rattle.lrc_run.specs.Worker.{made_of}
 use Rattle.lrc_run.proofs.Turned.{turned, unturned, sent_run, unmoved}
 use Rattle.lrc_run.proofs.worker.run_once.Goals as goal

@@ -1,7 +1,7 @@
 use Rattle.std.proofs.Common.{◌≡◌, Ok, true, false, sym, subst, rules}
 use Rattle.std.specs.Prelude.{is_err}
 use Rattle.lrc_wire.specs.Reading.{envelope_of}
-use Rattle.lrc_protocol.specs.Log as log
+use Rattle.lrc_protocol.specs.Run as log
 use Rattle.lrc_run.specs.Worker.{IsRefused, made_of}
 use Rattle.lrc_run.proofs.Turned.{turned, unturned, sent_take, dropped, unread}
 use Rattle.lrc_run.proofs.worker.take_in.Goals as goal

@@ -1,5 +1,5 @@
 use Rattle.std.proofs.Common.{◌≡◌}
-use Rattle.lrc_protocol.specs.Log.{Logged}
+use Rattle.lrc_protocol.specs.Run.{Logged}
 use Rattle.lrc_node.specs.Logged.{sound}
 use Rattle.lrc_run.specs.Worker.{Goes}
 use Rattle.lrc_run.proofs.worker.work.Given as goal

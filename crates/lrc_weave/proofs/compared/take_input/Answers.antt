@@ -1,5 +1,5 @@
 use Rattle.std.proofs.Common.{ap, sym}
-use Rattle.lrc_protocol.specs.Log.{taken}
+use Rattle.lrc_protocol.specs.Run.{taken}
 use Rattle.lrc_node.specs.Logged.{seen_input}
 use Rattle.lrc_weave.proofs.Comparing.{input_is}
 use Rattle.lrc_weave.proofs.compared.take_input.Goals as goal

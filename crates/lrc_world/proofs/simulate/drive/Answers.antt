@@ -1,5 +1,5 @@
 use Rattle.std.proofs.lemmas.Result.{IfOk-weaker}
-use Rattle.lrc_protocol.specs.World.{fresh_world}
+use Rattle.lrc_protocol.specs.Run.{fresh_world}
 use Rattle.lrc_world.specs.Rounds.{schedule_of_rounds}
 use Rattle.lrc_world.proofs.Driven.{worn_by}
 use Rattle.lrc_world.proofs.Unskipped.{rounds_unskipped}

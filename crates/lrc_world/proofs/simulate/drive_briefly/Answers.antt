@@ -1,5 +1,5 @@
 use Rattle.std.proofs.Common.{◌≡◌, ◌∙◌, Err, ap}
-use Rattle.lrc_protocol.specs.World.{fresh_world}
+use Rattle.lrc_protocol.specs.Run.{fresh_world}
 use Rattle.lrc_world.specs.declared.report.SimFault.TheVariants.{Worn}
 use Rattle.lrc_world.specs.Rounds.{schedule_of_rounds}
 use Rattle.lrc_world.proofs.Briefly.{ok_of, brief_kept, brief_races, brief_report}

@@ -1,7 +1,7 @@
 use Rattle.std.proofs.Common.{◌≡◌, ◌∙◌, ◌<◌, ℕ, [], length, Ok, Err, ap, subst, sym, arith}
 use Rattle.lrc_lang.specs.declared.program.Program.{Program}
 use Rattle.lrc_protocol.specs.Node.{OptionsRecord}
-use Rattle.lrc_protocol.specs.World.{fresh_world, played}
+use Rattle.lrc_protocol.specs.Run.{fresh_world, played}
 use Rattle.lrc_protocol.proofs.Worlds.{run-whole}
 use Rattle.lrc_world.specs.declared.report.SimFault.TheVariants.{BadNodes, BadSteps, Worn}
 use Rattle.lrc_world.specs.declared.rounds.Driver.{Driver}

@@ -1,7 +1,7 @@
 use Rattle.std.proofs.Common.{◌≡◌, ◌∙◌, sym, ap, rules, arith, take}
 use Rattle.lrc_world.specs.declared.keep.Keep.TheVariants.{All}
 use Rattle.lrc_world.specs.World.{starts_of}
-use Rattle.lrc_protocol.specs.World.{run_of}
+use Rattle.lrc_protocol.specs.Run.{run_of}
 use Rattle.lrc_world.specs.declared.report.SimFault.TheVariants.{Worn}
 use Rattle.lrc_world.proofs.Events.{goes_on, wears_out, handed_on, take_whole, get_at}
 use Rattle.lrc_world.proofs.Theorem.{report_kept}

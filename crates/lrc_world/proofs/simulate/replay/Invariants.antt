@@ -1,6 +1,6 @@
 use Rattle.std.proofs.Common.{◌≡◌, Some, take}
 use Rattle.lrc_world.specs.declared.keep.Keep.TheVariants.{All}
-use Rattle.lrc_protocol.specs.World.{World as Run, run_of}
+use Rattle.lrc_protocol.specs.Run.{World as Run, run_of}
 use Rattle.lrc_world.specs.World.{Shows, starts_of}
 use Rattle.lrc_world.proofs.simulate.replay.Given as goal
 

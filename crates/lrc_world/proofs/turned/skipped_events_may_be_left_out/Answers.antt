@@ -1,4 +1,4 @@
-use Rattle.lrc_protocol.specs.World.{fresh_world}
+use Rattle.lrc_protocol.specs.Run.{fresh_world}
 use Rattle.lrc_world.proofs.Made.{alone, still_turned}
 use Rattle.lrc_world.proofs.turned.skipped_events_may_be_left_out.Goals as goal
 

@@ -1,5 +1,5 @@
 use Rattle.std.proofs.Common.{◌≡◌, List, take, map}
-use Rattle.lrc_protocol.specs.Log.{Logged}
+use Rattle.lrc_protocol.specs.Run.{Logged}
 use Rattle.lrc_node.specs.Logged.{sound}
 use Rattle.lrc_world.specs.Report.{end_of_logged}
 use Rattle.lrc_world.proofs.world.ends_of.Given as goal

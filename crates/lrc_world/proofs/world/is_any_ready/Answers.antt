@@ -1,6 +1,6 @@
 use Rattle.std.proofs.Common.{◌∙◌, sym, arith}
-use Rattle.lrc_protocol.specs.Log.{Logged}
 use Rattle.lrc_protocol.specs.Turn.{is_ready}
+use Rattle.lrc_protocol.specs.Run.{Logged}
 use Rattle.lrc_world.proofs.Over.{none_more, one_is}
 use Rattle.lrc_world.proofs.NodeTurns.{stands_at}
 use Rattle.lrc_world.proofs.world.is_any_ready.Goals as goal

@@ -1,7 +1,7 @@
 use Rattle.std.proofs.Common.{◌≡◌, List, false, take, map}
 use Rattle.std.specs.List.{list_any}
-use Rattle.lrc_protocol.specs.Log.{Logged}
 use Rattle.lrc_protocol.specs.Turn.{is_ready}
+use Rattle.lrc_protocol.specs.Run.{Logged}
 use Rattle.lrc_node.specs.Logged.{sound}
 use Rattle.lrc_world.proofs.world.is_any_ready.Given as goal
 

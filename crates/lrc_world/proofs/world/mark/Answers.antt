@@ -1,7 +1,7 @@
 use Rattle.std.proofs.Common.{◌∙◌, sym, ap, arith, map, length, ◌≤◌, true}
 use Rattle.std.specs.Prelude.{slice_set}
 use Rattle.lrc_wire.specs.Reading.{envelope_of}
-use Rattle.lrc_protocol.specs.World.{marked}
+use Rattle.lrc_protocol.specs.Run.{marked}
 use Rattle.lrc_world.specs.World.{Seen, seen_flying, seen_sent}
 use Rattle.lrc_world.proofs.Lists.{map-set, same_length}
 use Rattle.lrc_world.proofs.Marks.{mark-set, mark-past}

@@ -1,5 +1,5 @@
 use Rattle.std.proofs.Common.{arith}
-use Rattle.lrc_protocol.specs.Log as log
+use Rattle.lrc_protocol.specs.Run as log
 use Rattle.lrc_world.proofs.NodeTurns.{turned, unturned}
 use Rattle.lrc_world.proofs.world.run_at.Goals as goal
 

@@ -1,7 +1,7 @@
 use Rattle.std.proofs.Common.{◌≤◌, List, length, not, sym, subst}
 use Rattle.std.specs.Prelude.{◌==◌, All}
 use Rattle.std.proofs.lemmas.List.Elements.{All-filter}
-use Rattle.lrc_protocol.specs.Fetch.{Asked}
+use Rattle.lrc_protocol.specs.Pages.{Asked}
 use Rattle.lrc_mail.proofs.need.Need.take_changes.Goals as goal
 
 pub invariant_of-self : goal.invariant_of-self

@@ -6,7 +6,7 @@ use Rattle.lrc_page.specs.declared.changes.Change.{Change}
 use Rattle.lrc_page.specs.Page.{words_of}
 use Rattle.lrc_store.specs.Store.{StoreRecord, notice_at, unread, attached}
 use Rattle.lrc_envelope.specs.Records.{IndexedChangesRecord, AreParts}
-use Rattle.lrc_protocol.specs.Take.{with_part}
+use Rattle.lrc_protocol.specs.Pages.{with_part}
 use Rattle.lrc_memory.specs.View.{NodeMemory, with_memory}
 use Rattle.lrc_memory.proofs.Attaches.{part_key, still-awaited}
 use Rattle.lrc_memory.proofs.Learns.{same-same, same-trans}

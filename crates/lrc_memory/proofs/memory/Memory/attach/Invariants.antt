@@ -1,6 +1,6 @@
 use Rattle.std.proofs.Common.{◌≡◌, take}
 use Rattle.std.specs.Prelude.{fold}
-use Rattle.lrc_protocol.specs.Take.{with_part}
+use Rattle.lrc_protocol.specs.Pages.{with_part}
 use Rattle.lrc_memory.specs.View.{SameMemory, with_memory}
 use Rattle.lrc_memory.proofs.memory.Memory.attach.Given as goal
 

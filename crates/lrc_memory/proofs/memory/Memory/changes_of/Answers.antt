@@ -6,7 +6,7 @@ use Rattle.lrc_memory.proofs.Copies.{within-seen}
 use Rattle.lrc_memory.proofs.Settling.{after-settle, kept-settled, seen-settled}
 use Rattle.lrc_memory.proofs.Noting.{long-named, noticed}
 use Rattle.lrc_memory.proofs.Attaches.{known-settled, part_key, ok_then, on_ok}
-use Rattle.lrc_protocol.specs.Memory.{changes_or_none}
+use Rattle.lrc_protocol.specs.Pages.{changes_or_none}
 use Rattle.lrc_memory.proofs.memory.Memory.changes_of.Goals as goal
 
 pub settle_page-requires-clause-page : goal.settle_page-requires-clause-page

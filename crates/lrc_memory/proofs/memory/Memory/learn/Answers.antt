@@ -3,7 +3,7 @@ use Rattle.std.specs.Prelude.{fold}
 use Rattle.std.proofs.lemmas.List.{take_all}
 use Rattle.std.proofs.lemmas.List.Sums.{fold_more}
 use Rattle.lrc_store.specs.Interval.{IntervalRecord}
-use Rattle.lrc_protocol.specs.Memory.{Memory}
+use Rattle.lrc_protocol.specs.Pages.{Memory}
 use Rattle.lrc_memory.specs.Steps.{learned_one}
 use Rattle.lrc_memory.specs.Turns.{CanBeAdded}
 use Rattle.lrc_memory.specs.View.{NodeMemory, WasLast, with_memory}

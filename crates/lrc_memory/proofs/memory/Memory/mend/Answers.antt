@@ -2,9 +2,9 @@ use Rattle.std.proofs.Common.{◌≡◌, ◌<◌, ◌∙◌, List, true, ap, len
 use Rattle.std.specs.Prelude.{All}
 use Rattle.lrc_store.specs.declared.key.Key.{Key}
 use Rattle.lrc_table.specs.Table.{Table}
-use Rattle.lrc_protocol.specs.Copy as copy
-use Rattle.lrc_protocol.specs.Fetch.{first_values}
-use Rattle.lrc_protocol.specs.Memory as memory
+use Rattle.lrc_protocol.specs.Pages as copy
+use Rattle.lrc_protocol.specs.Pages.{first_values}
+use Rattle.lrc_protocol.specs.Pages as memory
 use Rattle.lrc_mail.specs.Seen.{seen_base}
 use Rattle.lrc_memory.specs.Turns.{is_mendable}
 use Rattle.lrc_memory.specs.View.{NodeMemory, IsKept, node_seen, with_memory}

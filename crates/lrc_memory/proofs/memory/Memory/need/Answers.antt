@@ -2,8 +2,7 @@ use Rattle.std.proofs.Common.{◌≡◌, ◌∙◌, ◌<◌, get_or, ap, length,
 use Rattle.std.specs.Prelude.{is_none}
 use Rattle.lrc_store.specs.declared.key.Key.{Key}
 use Rattle.lrc_store.specs.Store.{changes_at}
-use Rattle.lrc_protocol.specs.Memory.{keeper_at}
-use Rattle.lrc_protocol.specs.Fetch.{unknown_of}
+use Rattle.lrc_protocol.specs.Pages.{keeper_at, unknown_of}
 use Rattle.lrc_memory.specs.Steps.{base_in}
 use Rattle.lrc_mail.specs.Seen.{seen_base}
 use Rattle.lrc_mail.specs.Need.{AreAskable}

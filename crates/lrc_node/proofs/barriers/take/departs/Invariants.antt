@@ -1,5 +1,5 @@
 use Rattle.std.proofs.Common.{◌≡◌, map}
-use Rattle.lrc_protocol.specs.Letters.{departure_of}
+use Rattle.lrc_protocol.specs.Turn.{departure_of}
 use Rattle.lrc_node.specs.State.{AreFor}
 use Rattle.lrc_node.proofs.barriers.take.departs.Given as goal
 

@@ -1,8 +1,6 @@
 use Rattle.std.proofs.Common.{◌≡◌, length, take, map}
 use Rattle.std.specs.Prelude.{filter, not}
-use Rattle.lrc_protocol.specs.Copy.{is_readable}
-use Rattle.lrc_protocol.specs.Fetch.{need_of}
-use Rattle.lrc_protocol.specs.Memory.{copy_at}
+use Rattle.lrc_protocol.specs.Pages.{is_readable, need_of, copy_at}
 use Rattle.lrc_node.proofs.collections.begin.unread_needs.Given as goal
 
 abbrev pub invariant-loop-page : goal.invariant-loop-page

@@ -1,8 +1,7 @@
 use Rattle.std.proofs.Common.{◌≡◌, true, take, sym, subst}
 use Rattle.std.specs.Prelude.{None, slice_index_or}
 use Rattle.lrc_memory.specs.View.{NodeMemory}
-use Rattle.lrc_protocol.specs.Copy.{is_readable, changes_of}
-use Rattle.lrc_protocol.specs.Memory.{copy_at}
+use Rattle.lrc_protocol.specs.Pages.{is_readable, changes_of, copy_at}
 use Rattle.lrc_node.proofs.Keeping.{can_keep_next}
 use Rattle.lrc_node.proofs.collections.clean.keep_all.Goals as goal
 

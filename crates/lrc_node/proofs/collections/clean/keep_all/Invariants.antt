@@ -1,7 +1,7 @@
 use Rattle.std.proofs.Common.{◌≡◌, take}
 use Rattle.std.specs.Prelude.{fold}
 use Rattle.lrc_memory.specs.View.{SameMemory, with_memory}
-use Rattle.lrc_protocol.specs.Memory.{with_base}
+use Rattle.lrc_protocol.specs.Barriers.{with_base}
 use Rattle.lrc_node.proofs.collections.clean.keep_all.Given as goal
 
 abbrev pub invariant-loop-page : goal.invariant-loop-page

@@ -1,8 +1,7 @@
 use Rattle.std.proofs.Common.{◌≡◌, true, take, fold, sym, subst}
 use Rattle.lrc_memory.specs.Turns.{is_mendable}
 use Rattle.lrc_memory.specs.View.{NodeMemory}
-use Rattle.lrc_protocol.specs.Fetch.{mended}
-use Rattle.lrc_protocol.specs.Memory.{copy_at}
+use Rattle.lrc_protocol.specs.Pages.{mended, copy_at}
 use Rattle.lrc_node.specs.Keeping.{CanMend}
 use Rattle.lrc_node.proofs.Keeping.{can_mend_next}
 use Rattle.lrc_node.proofs.collections.clean.mend_all.Goals as goal

@@ -1,7 +1,7 @@
 use Rattle.std.proofs.Common.{◌≡◌, take}
 use Rattle.std.specs.Prelude.{fold}
 use Rattle.lrc_memory.specs.View.{SameMemory, with_memory}
-use Rattle.lrc_protocol.specs.Fetch.{mended}
+use Rattle.lrc_protocol.specs.Pages.{mended}
 use Rattle.lrc_node.proofs.collections.clean.mend_all.Given as goal
 
 abbrev pub invariant-loop-need : goal.invariant-loop-need

@@ -2,8 +2,8 @@ use Rattle.std.proofs.Common.{◌<◌, ◌++◌, ◌∷◌, [], sym, ◌∙◌, 
 use Rattle.std.proofs.lemmas.List.Elements.{All-push}
 use Rattle.std.proofs.lemmas.List.FromFn.{map-range_with_len_more}
 use Rattle.lrc_envelope.specs.declared.message.Message.TheVariants.{Discard}
-use Rattle.lrc_protocol.specs.Letters.{letter}
-use Rattle.lrc_protocol.specs.Mail.{Letter}
+use Rattle.lrc_protocol.specs.Node.{Letter}
+use Rattle.lrc_protocol.specs.Turn.{letter}
 use Rattle.lrc_node.proofs.collections.take.discards.Goals as goal
 
 pub loop-to-preserved : goal.loop-to-preserved

@@ -1,6 +1,6 @@
 use Rattle.std.proofs.Common.{◌≡◌}
 use Rattle.std.specs.List.{range_with_len}
-use Rattle.lrc_protocol.specs.Letters.{discards_to}
+use Rattle.lrc_protocol.specs.Turn.{discards_to}
 use Rattle.lrc_node.specs.State.{AreFor}
 use Rattle.lrc_node.proofs.collections.take.discards.Given as goal
 

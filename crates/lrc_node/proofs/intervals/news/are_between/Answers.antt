@@ -3,7 +3,7 @@ use Rattle.std.specs.Prelude.{◌==◌}
 use Rattle.std.proofs.lemmas.Bool.{cases_Bool, eqb-true, false≢true}
 use Rattle.std.proofs.lemmas.List.{take_all}
 use Rattle.lrc_store.specs.Interval.{IntervalRecord, index_of}
-use Rattle.lrc_protocol.specs.Expected.{are_between}
+use Rattle.lrc_protocol.specs.Times.{are_between}
 use Rattle.lrc_node.specs.News.{IsRunOf}
 use Rattle.lrc_node.proofs.Runs.{run-own, run-other, between-holds, between-only, between-broken, cut, one_more}
 use Rattle.lrc_node.proofs.intervals.news.are_between.Goals as goal

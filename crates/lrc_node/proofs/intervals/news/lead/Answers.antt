@@ -7,7 +7,7 @@ use Rattle.std.proofs.lemmas.Cmp.{nat_list_eq_equiv}
 use lib.Pointwise.{pointwise}
 use Rattle.lrc_time.specs.Time.{entry, joined}
 use Rattle.lrc_store.specs.Interval.{IntervalRecord}
-use Rattle.lrc_protocol.specs.Expected.{are_between}
+use Rattle.lrc_protocol.specs.Times.{are_between}
 use Rattle.lrc_node.specs.News.{AreRuns}
 use Rattle.lrc_node.proofs.Runs.{all_between, all_between-only, none_between}
 use Rattle.lrc_node.proofs.intervals.news.lead.Goals as goal

@@ -1,6 +1,6 @@
 use Rattle.std.proofs.Common.{◌≡◌, ◌∙◌, ◌-◌, ◌<◌, List, arith, ap, length, sym}
 use Rattle.std.specs.Prelude.{slice_index_or, vec_len}
-use Rattle.lrc_protocol.specs.Log.{EntryRecord}
+use Rattle.lrc_protocol.specs.Run.{EntryRecord}
 use Rattle.lrc_node.specs.Logged.{LoggedNode, TracedLog, newest}
 use Rattle.lrc_node.proofs.Newest.{newest-few, newest-first, newest-stamp}
 use Rattle.lrc_node.proofs.logged.Logged.forget.Goals as goal

@@ -1,6 +1,6 @@
 use Rattle.std.proofs.Common.{◌≡◌, ◌∙◌, Some, ap, rules}
 use Rattle.lrc_protocol.specs.Turn.{run_turn}
-use Rattle.lrc_protocol.specs.Log.{run, outcome_of}
+use Rattle.lrc_protocol.specs.Run.{run, outcome_of}
 use Rattle.lrc_node.specs.Logged.{LoggedNode, TracedLog, NotesFault, sound}
 use Rattle.lrc_node.proofs.Logging.{logs_settled, fails_settled, notes_settled, seen_made, some_of, may_settle, failing_settled, failing_roomless}
 use Rattle.lrc_node.proofs.Outcomes.{fault_up}

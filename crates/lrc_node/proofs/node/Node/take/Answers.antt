@@ -1,6 +1,6 @@
 use Rattle.std.proofs.Common.{◌≡◌, cond, None, Some, sym, ◌∙◌, subst}
 use Rattle.lrc_protocol.specs.Turn.{take_turn, done}
-use Rattle.lrc_protocol.specs.Log.{taken}
+use Rattle.lrc_protocol.specs.Run.{taken}
 use Rattle.lrc_node_laws.specs.Traced.{IsTraced}
 use Rattle.lrc_node_laws.proofs.Noting.{traced_turn}
 use Rattle.lrc_node.specs.Fault.{is_final}

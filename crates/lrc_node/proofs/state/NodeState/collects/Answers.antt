@@ -1,13 +1,10 @@
 use Rattle.std.proofs.Common.{◌≡◌, ◌<◌, ℕ, true, List, length, sym, ◌∙◌, ap, subst}
 use Rattle.std.specs.Prelude.{All, flat_map}
 use Rattle.std.specs.List.{list_all}
-use Rattle.lrc_protocol.specs.Fetch.{Need, is_met}
-use Rattle.lrc_protocol.specs.Letters.{requests_of}
-use Rattle.lrc_protocol.specs.Mail.{Letter, upkeep}
-use Rattle.lrc_protocol.specs.Memory.{kept_pages}
-use Rattle.lrc_protocol.specs.Node.{Node}
-use Rattle.lrc_protocol.specs.Take.{needs_to_keep}
-use Rattle.lrc_protocol.specs.Waits.{waits_or_goes_on}
+use Rattle.lrc_protocol.specs.Pages.{Need, is_met}
+use Rattle.lrc_protocol.specs.Barriers.{kept_pages}
+use Rattle.lrc_protocol.specs.Node.{Letter, upkeep, Node}
+use Rattle.lrc_protocol.specs.Turn.{requests_of, needs_to_keep, waits_or_goes_on}
 use Rattle.lrc_node.specs.Keeping.{CanClean}
 use Rattle.lrc_node.specs.State.{AreFor}
 use Rattle.lrc_node.proofs.Keeping.{kept_within, begins_clean, begins_for}

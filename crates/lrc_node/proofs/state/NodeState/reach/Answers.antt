@@ -1,14 +1,10 @@
 use Rattle.std.proofs.Common.{◌≡◌, ◌<◌, length, sym, ◌∙◌, ap, subst}
 use Rattle.std.specs.Prelude.{All}
 use Rattle.lrc_store.specs.declared.key.Key.{Key}
-use Rattle.lrc_protocol.specs.Fetch.{Need, need_of}
-use Rattle.lrc_protocol.specs.Letters.{requests_of}
-use Rattle.lrc_protocol.specs.Memory.{keeper_at}
+use Rattle.lrc_protocol.specs.Pages.{Need, need_of, keeper_at, mended}
+use Rattle.lrc_protocol.specs.Turn.{requests_of, reaches}
 use Rattle.lrc_exec.specs.Meaning.{Setting}
-use Rattle.lrc_protocol.specs.Fetch.{mended}
-use Rattle.lrc_protocol.specs.Mail.{nothing}
-use Rattle.lrc_protocol.specs.Node.{Node, acts, waiting, with_memory}
-use Rattle.lrc_protocol.specs.Run.{reaches}
+use Rattle.lrc_protocol.specs.Node.{nothing, Node, acts, waiting, with_memory}
 use Rattle.lrc_node.specs.Seen.{node_of}
 use Rattle.lrc_node.specs.State.{AreFor}
 use Rattle.lrc_node.proofs.Misses.{lacking_of_page, requests_for, reaches_missing, access_met}

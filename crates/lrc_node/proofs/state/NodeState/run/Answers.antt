@@ -2,8 +2,8 @@ use Rattle.std.proofs.Common.{◌≡◌, sym, ◌∙◌, ap, subst}
 use Rattle.std.specs.Prelude.{None, option_map}
 use Rattle.std.proofs.lemmas.Result.{IfErr-weaker}
 use Rattle.lrc_exec.specs.Ask.{ask_of}
-use Rattle.lrc_protocol.specs.Node.{Node, begins}
-use Rattle.lrc_protocol.specs.Turn.{turn_if, run_turn}
+use Rattle.lrc_protocol.specs.Node.{Node}
+use Rattle.lrc_protocol.specs.Turn.{begins, turn_if, run_turn}
 use Rattle.lrc_node.specs.declared.fault.NodeFault.TheVariants.{NotReady}
 use Rattle.lrc_node.specs.Effects.{effect_asked, CanBegin, RefusesRun, unready}
 use Rattle.lrc_node.specs.State.{seen_effect}

@@ -1,6 +1,6 @@
 use Rattle.std.proofs.Common.{sym, subst}
-use Rattle.lrc_protocol.specs.Log.{run}
 use Rattle.lrc_protocol.specs.Turn.{TurnRecord, run_turn}
+use Rattle.lrc_protocol.specs.Run.{run}
 use Rattle.lrc_node_laws.specs.Traced.{CanNoteAct}
 use Rattle.lrc_node_laws.proofs.Noting.{can_note_turn, traced_reached}
 use Rattle.lrc_node.specs.declared.fault.NodeFault.TheVariants.{NoMemory}

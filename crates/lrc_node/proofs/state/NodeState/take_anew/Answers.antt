@@ -1,6 +1,6 @@
 use Rattle.std.proofs.Common.{◌∙◌, ap, rules}
 use Rattle.lrc_envelope.specs.Envelope.{EnvelopeRecord}
-use Rattle.lrc_protocol.specs.Expected.{is_expected}
+use Rattle.lrc_protocol.specs.Turn.{is_expected}
 use Rattle.lrc_node.proofs.CanTake.{taking_can}
 use Rattle.lrc_node.proofs.state.NodeState.take_anew.Goals as goal
 

@@ -1,7 +1,7 @@
 use Rattle.std.proofs.Common.{◌≡◌, ◌≤◌, length, sym, ◌∙◌, ap, subst}
 use Rattle.lrc_time.specs.Time.{entry}
-use Rattle.lrc_protocol.specs.Mail.{Collection, discard}
-use Rattle.lrc_protocol.specs.Node.{Node}
+use Rattle.lrc_protocol.specs.Barriers.{Collection}
+use Rattle.lrc_protocol.specs.Node.{discard, Node}
 use Rattle.lrc_node.proofs.state.NodeState.take_discard.Goals as goal
 
 pub collect-requires-clause-time : goal.collect-requires-clause-time

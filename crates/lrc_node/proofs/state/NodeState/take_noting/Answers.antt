@@ -1,6 +1,6 @@
 use Rattle.std.proofs.Common.{sym, subst}
-use Rattle.lrc_protocol.specs.Log.{taken}
 use Rattle.lrc_protocol.specs.Turn.{TurnRecord, take_turn}
+use Rattle.lrc_protocol.specs.Run.{taken}
 use Rattle.lrc_node_laws.specs.Traced.{CanNoteAct}
 use Rattle.lrc_node_laws.proofs.Noting.{can_note_turn}
 use Rattle.lrc_node.specs.declared.fault.NodeFault.TheVariants.{NoMemory}

@@ -1,6 +1,6 @@
 use Rattle.std.proofs.Common.{rules, ◌≡◌, ◌<◌, refl, length}
 use Rattle.std.proofs.lemmas.Result.{on_ok_weaker}
-use Rattle.lrc_protocol.specs.Log.{taken}
+use Rattle.lrc_protocol.specs.Run.{taken}
 use Rattle.lrc_stats.proofs.SeenNumbers.{seen-added}
 use Rattle.lrc_stats.proofs.seen.Seen.add.Goals as goal
 

@@ -1,5 +1,5 @@
 use Rattle.std.proofs.Common.{refl, rules}
-use Rattle.lrc_protocol.specs.Log as log
+use Rattle.lrc_protocol.specs.Run as log
 use Rattle.lrc_world.proofs.Played.{goes, rests, fails}
 use Rattle.lrc_world.proofs.world.World.go_on.Goals as goal
 

@@ -1,6 +1,6 @@
 use Rattle.std.proofs.Common.{◌∙◌, sym, ap, rules, false}
 use Rattle.std.specs.Option.{option_map_or}
-use Rattle.lrc_protocol.specs.World.{Flying as Sent}
+use Rattle.lrc_protocol.specs.Run.{Flying as Sent}
 use Rattle.lrc_world.specs.World.{Seen}
 use Rattle.lrc_world.proofs.Played.{sent_at}
 use Rattle.lrc_world.proofs.world.World.is_oldest_delivered.Goals as goal

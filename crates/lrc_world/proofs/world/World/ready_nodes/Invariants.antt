@@ -1,7 +1,7 @@
 use Rattle.std.proofs.Common.{◌≡◌, ◌≤◌, length}
 use Rattle.std.specs.Prelude.{filter}
 use Rattle.std.specs.List.{range_with_len}
-use Rattle.lrc_protocol.specs.World.{World as Run}
+use Rattle.lrc_protocol.specs.Run.{World as Run}
 use Rattle.lrc_world.specs.Rounds.{ready_at}
 use Rattle.lrc_world.specs.World.{Starts, Shows}
 use Rattle.lrc_world.proofs.world.World.ready_nodes.Given as goal

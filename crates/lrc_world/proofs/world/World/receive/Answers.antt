@@ -1,5 +1,5 @@
 use Rattle.std.proofs.Common.{◌≡◌, refl, sym, subst, Ok, Err, true, false, rules, ℕ, Option, Result, IsErrAnd}
-use Rattle.lrc_protocol.specs.World.{World as Run}
+use Rattle.lrc_protocol.specs.Run.{World as Run}
 use Rattle.lrc_world.specs.declared.report.SimFault.{SimFault}
 use Rattle.lrc_world.specs.declared.world.World.{World}
 use Rattle.lrc_world.specs.World.{Starts, ReceivesTo, turn_made}

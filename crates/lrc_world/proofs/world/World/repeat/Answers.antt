@@ -1,5 +1,5 @@
 use Rattle.std.proofs.Common.{◌≡◌, ◌∙◌, refl, ap, subst, rules, map, Some, Ok}
-use Rattle.lrc_protocol.specs.World.{with_mark}
+use Rattle.lrc_protocol.specs.Run.{with_mark}
 use Rattle.lrc_world.specs.World.{IsTaken, ReceivesTo, seen_flying}
 use Rattle.lrc_world.proofs.Played.{delivered}
 use Rattle.lrc_world.proofs.world.World.repeat.Goals as goal

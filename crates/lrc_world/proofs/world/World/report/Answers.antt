@@ -1,6 +1,6 @@
 use Rattle.std.proofs.Common.{◌∙◌, MatchOption, sym, ap, subst, map}
 use Rattle.lrc_trace.specs.Conflict.{IsFirstRace, IsRaceFree}
-use Rattle.lrc_protocol.specs.Log.{Logged}
+use Rattle.lrc_protocol.specs.Run.{Logged}
 use Rattle.lrc_node.specs.Logged.{LoggedNode, TracedLog, sound}
 use Rattle.lrc_world.specs.Report.{end_of_logged}
 use Rattle.lrc_world.specs.World.{cut}
