@@ -19,8 +19,7 @@ use Rattle.lrc_table.specs.declared.slot.State.{State}
 use Rattle.lrc_table.specs.declared.slot.State.TheVariants.{Valid, Written, Invalid, Absent}
 use Rattle.lrc_table.specs.PageCopy.{PageCopy, fresh, pending_changes, without_twin, without_base, dropped}
 use Rattle.lrc_table.specs.Table.{Table, copy_at, with_each}
-use Rattle.lrc_protocol.specs.Pages as copy
-use Rattle.lrc_protocol.specs.Pages as memory
+use Rattle.lrc_protocol.specs.Pages as machine
 use Rattle.lrc_protocol.specs.Barriers as barriers
 use Rattle.lrc_memory.specs.View.{Kept, NodeMemory, AreSized, IsKept, SameMemory, seen, node_seen, seen_in}
 use Rattle.lrc_memory.specs.View.{seen_copy, unmade, notice_over, stored_over, store_over, with_memory}
@@ -48,16 +47,16 @@ pub not-written : (kept : Kept) (n : NodeMemory) → node_seen kept ≡ n → Is
 not-written kept n is closed page =
     ⊎_elim
     (λ (within : page < length kept.table.copies).
-    let here : copy.changes_of (memory.copy_at n.memory page) ≡ None =
-    closed page copy.absent (omega (arith, within, length-seen kept, ap (λ (n : NodeMemory). length n.memory.copies) is)) in
+    let here : machine.changes_of (machine.copy_at n.memory page) ≡ None =
+    closed page machine.absent (omega (arith, within, length-seen kept, ap (λ (n : NodeMemory). length n.memory.copies) is)) in
     by_state (copy_at kept.table page).state
-    (sym (ap copy.changes_of (copy-seen kept page within)) ∙ ap (λ (n : NodeMemory). copy.changes_of (memory.copy_at n.memory page)) is ∙ here))
+    (sym (ap machine.changes_of (copy-seen kept page within)) ∙ ap (λ (n : NodeMemory). machine.changes_of (machine.copy_at n.memory page)) is ∙ here))
     (λ (past : length kept.table.copies ≤ page).
     let none : copy_at kept.table page ≡ fresh [] = get_or_past kept.table.copies page (fresh []) past in
     λ written. let no_state : Valid ≡ Written = sym (ap (λ (c : PageCopy). c.state) none) ∙ written in cc)
     (cases_lt page (length kept.table.copies))
   where
-    by_state : (state : State) → copy.changes_of (seen_in state (get_or kept.since page []) (copy_at kept.table page)) ≡ None → state ≢ Written
+    by_state : (state : State) → machine.changes_of (seen_in state (get_or kept.since page []) (copy_at kept.table page)) ≡ None → state ≢ Written
     by_state Valid none written = cc
     by_state Written none written = absurd (cc)
     by_state Invalid none written = cc
@@ -119,7 +118,7 @@ module _ (kept : Kept) where
       either false state = by_state (clean page).state
 
   copies-swept : ((page : ℕ) → (copy_at kept.table page).state ≢ Written) → (page : ℕ) → page < length kept.table.copies
-      → seen_copy (swept kept) kept.since page ≡ copy.dropped (seen_copy kept.table kept.since page)
+      → seen_copy (swept kept) kept.since page ≡ machine.dropped (seen_copy kept.table kept.since page)
   copies-swept closed page within =
       ap (λ (c : PageCopy). seen_in c.state (get_or kept.since page []) c) (swept-at page within)
       ∙ either (eqb (get_or kept.keepers page 0) kept.me) (copy_at kept.table page).state (closed page)
@@ -127,7 +126,7 @@ module _ (kept : Kept) where
       by_state : (state : State) → state ≢ Written
           → seen_in (dropped (without_twin (record (copy_at kept.table page) { state = state }))).state (get_or kept.since page [])
           (dropped (without_twin (record (copy_at kept.table page) { state = state })))
-          ≡ copy.dropped (seen_in state (get_or kept.since page []) (copy_at kept.table page))
+          ≡ machine.dropped (seen_in state (get_or kept.since page []) (copy_at kept.table page))
       by_state Valid not = refl
       by_state Written not = absurd (not refl)
       by_state Invalid not = refl
@@ -141,7 +140,7 @@ module _ (kept : Kept) where
 
       either : (b : Bool) (state : State) → (copy_at kept.table page).state ≢ Written
           → seen_in (cond b (clean page) (without_base (clean page))).state (get_or kept.since page []) (cond b (clean page) (without_base (clean page)))
-          ≡ copy.dropped (seen_in (copy_at kept.table page).state (get_or kept.since page []) (copy_at kept.table page))
+          ≡ machine.dropped (seen_in (copy_at kept.table page).state (get_or kept.since page []) (copy_at kept.table page))
       either true state not = by_state (copy_at kept.table page).state not
       either false state not = bare (clean page) (clean page).state ∙ by_state (copy_at kept.table page).state not
 
@@ -274,18 +273,18 @@ seen-collected kept n time in_step is sound closed own =
     let test = eqb there.node kept.me && eqb (get_or kept.named page 0) (index_of (interval_of there)) in
     ap (λ found. cond test found None) (nothing-swept kept page) ∙ either test))
     ∙ sym (seen-rest kept time sound.store mine) in
-    let copies : (seen after).copies ≡ map copy.dropped (seen kept).copies =
+    let copies : (seen after).copies ≡ map machine.dropped (seen kept).copies =
     ap (λ n. map (seen_copy (swept kept) kept.since) (range_with_len 0 n)) (length-swept kept)
-    ∙ map-within (λ p. p < count) (seen_copy (swept kept) kept.since) (λ p. copy.dropped (seen_copy kept.table kept.since p)) (range_with_len 0 count)
+    ∙ map-within (λ p. p < count) (seen_copy (swept kept) kept.since) (λ p. machine.dropped (seen_copy kept.table kept.since p)) (range_with_len 0 count)
     (λ k d within.
     let below : k < count = omega (arith, length-range_with_len 0 count, within) in
     omega (arith, get_or-range_with_len 0 count k d below, below))
     (λ p within. copies-swept kept (not-written kept n is closed) p within)
-    ∙ sym (map-both (seen_copy kept.table kept.since) copy.dropped (range_with_len 0 count)) in
+    ∙ sym (map-both (seen_copy kept.table kept.since) machine.dropped (range_with_len 0 count)) in
     ap (λ s. with_memory (node_seen kept) (record (seen after) { store = s })) store
     ∙ ap (λ cs. with_memory (node_seen kept) (record (seen after) { store = discarded (seen kept).store time; copies = cs })) copies
     ∙ ap (λ bs. with_memory (node_seen kept)
-    (record (seen after) { store = discarded (seen kept).store time; copies = map copy.dropped (seen kept).copies; bases = bs }))
+    (record (seen after) { store = discarded (seen kept).store time; copies = map machine.dropped (seen kept).copies; bases = bs }))
     (bases-swept kept)
     ∙ ap (λ (n : NodeMemory). with_memory n (barriers.collected_at n.me time n.memory)) is
   where

@@ -22,10 +22,9 @@ use Rattle.lrc_table.specs.PageCopy as page_copy
 use Rattle.lrc_table.specs.Table.{Table, copy_at, with_copy}
 use Rattle.lrc_table.proofs.Copies.{copy_of}
 use Rattle.lrc_table.proofs.Tables.{copy_at-with_copy, copy_at-with_copy_other}
-use Rattle.lrc_protocol.specs.Pages as copy
+use Rattle.lrc_protocol.specs.Pages as machine
 use Rattle.lrc_protocol.specs.Times.{is_named, indices_by}
 use Rattle.lrc_protocol.specs.Pages.{Copy, absent, Memory, learned}
-use Rattle.lrc_protocol.specs.Pages as memory
 use Rattle.lrc_memory.specs.View.{Kept, NodeMemory, AreSized, IsKept, SameMemory, WasLast, seen, node_seen}
 use Rattle.lrc_memory.specs.View.{seen_in, seen_copy, settled_store, unmade, store_over, with_memory}
 use Rattle.lrc_memory.specs.Turns.{CanBeAdded, IsInRange}
@@ -39,45 +38,45 @@ use Rattle.lrc_memory.proofs.Writes.{nothing-settled, quiet-settled}
 
 -- ---- copies, page by page
 
-twice : (before : List ℕ) (c : Copy) → copy.invalidated before (copy.invalidated before c) ≡ copy.invalidated before c
-twice before (copy.valid vs) = refl
-twice before (copy.written vs tw) = refl
-twice before (copy.invalid vs since) = refl
-twice before copy.absent = refl
+twice : (before : List ℕ) (c : Copy) → machine.invalidated before (machine.invalidated before c) ≡ machine.invalidated before c
+twice before (machine.valid vs) = refl
+twice before (machine.written vs tw) = refl
+twice before (machine.invalid vs since) = refl
+twice before machine.absent = refl
 
 module _ (before : List ℕ) where
   pub length-invalidated : (pages : List ℕ) (copies : List Copy) → length (fold (invalidated_on before) copies pages) ≡ length copies
   length-invalidated [] copies = refl
   length-invalidated (p ∷ ps) copies =
-      length-invalidated ps (invalidated_on before copies p) ∙ length-set copies p (copy.invalidated before (get_or copies p absent))
+      length-invalidated ps (invalidated_on before copies p) ∙ length-set copies p (machine.invalidated before (get_or copies p absent))
 
   -- a page that is named becomes invalid, another stays
   invalid-at : (pages : List ℕ) (copies : List Copy) (p : ℕ) → p < length copies
       → get_or (fold (invalidated_on before) copies pages) p absent
-      ≡ cond (list_any (λ named. eqb named p) pages) (copy.invalidated before (get_or copies p absent)) (get_or copies p absent)
+      ≡ cond (list_any (λ named. eqb named p) pages) (machine.invalidated before (get_or copies p absent)) (get_or copies p absent)
   invalid-at [] copies p within = refl
   invalid-at (q ∷ qs) copies p within =
-      invalid-at qs (invalidated_on before copies q) p (omega (arith, length-set copies q (copy.invalidated before (get_or copies q absent)), within))
+      invalid-at qs (invalidated_on before copies q) p (omega (arith, length-set copies q (machine.invalidated before (get_or copies q absent)), within))
       ∙ by_test (eqb q p) refl (list_any (λ named. eqb named p) qs)
     where
       by_test : (b : Bool) → eqb q p ≡ b → (rest : Bool)
-          → cond rest (copy.invalidated before (get_or (invalidated_on before copies q) p absent)) (get_or (invalidated_on before copies q) p absent)
-          ≡ cond (b || rest) (copy.invalidated before (get_or copies p absent)) (get_or copies p absent)
+          → cond rest (machine.invalidated before (get_or (invalidated_on before copies q) p absent)) (get_or (invalidated_on before copies q) p absent)
+          ≡ cond (b || rest) (machine.invalidated before (get_or copies p absent)) (get_or copies p absent)
       by_test true same rest =
           let q_is : q ≡ p = eqb-true _ _ same in
-          let now : get_or (invalidated_on before copies q) p absent ≡ copy.invalidated before (get_or copies p absent) =
+          let now : get_or (invalidated_on before copies q) p absent ≡ machine.invalidated before (get_or copies p absent) =
           ap (λ q. get_or (invalidated_on before copies q) p absent) q_is
-          ∙ get_or-set_same copies p (copy.invalidated before (get_or copies p absent)) absent within in
-          ap (λ c. cond rest (copy.invalidated before c) c) now ∙ either rest
+          ∙ get_or-set_same copies p (machine.invalidated before (get_or copies p absent)) absent within in
+          ap (λ c. cond rest (machine.invalidated before c) c) now ∙ either rest
         where
           either : (b : Bool)
-              → cond b (copy.invalidated before (copy.invalidated before (get_or copies p absent))) (copy.invalidated before (get_or copies p absent))
-              ≡ copy.invalidated before (get_or copies p absent)
+              → cond b (machine.invalidated before (machine.invalidated before (get_or copies p absent))) (machine.invalidated before (get_or copies p absent))
+              ≡ machine.invalidated before (get_or copies p absent)
           either true = twice before (get_or copies p absent)
           either false = refl
       by_test false other rest =
-          ap (λ c. cond rest (copy.invalidated before c) c)
-          (get_or-set_other copies q p (copy.invalidated before (get_or copies q absent)) absent
+          ap (λ c. cond rest (machine.invalidated before c) c)
+          (get_or-set_other copies q p (machine.invalidated before (get_or copies q absent)) absent
           (λ same. true≢false (sym (eq-eqb q p (sym same)) ∙ other)))
 
   -- ---- intervals
@@ -90,17 +89,17 @@ module _ (before : List ℕ) where
 
   copies-at : (intervals : List IntervalRecord) (m : Memory) (p : ℕ) → p < length m.copies
       → get_or (fold (learned_one before) m intervals).copies p absent
-      ≡ cond (is_named intervals p) (copy.invalidated before (get_or m.copies p absent)) (get_or m.copies p absent)
+      ≡ cond (is_named intervals p) (machine.invalidated before (get_or m.copies p absent)) (get_or m.copies p absent)
   copies-at [] m p within = refl
   copies-at (i ∷ is) m p within =
       copies-at is (learned_one before m i) p (omega (arith, length-invalidated i.pages m.copies, within))
-      ∙ ap (λ c. cond (is_named is p) (copy.invalidated before c) c) (invalid-at i.pages m.copies p within)
+      ∙ ap (λ c. cond (is_named is p) (machine.invalidated before c) c) (invalid-at i.pages m.copies p within)
       ∙ either (is_named is p) (list_any (λ named. eqb named p) i.pages)
     where
       either : (rest first : Bool)
-          → cond rest (copy.invalidated before (cond first (copy.invalidated before (get_or m.copies p absent)) (get_or m.copies p absent)))
-          (cond first (copy.invalidated before (get_or m.copies p absent)) (get_or m.copies p absent))
-          ≡ cond (first || rest) (copy.invalidated before (get_or m.copies p absent)) (get_or m.copies p absent)
+          → cond rest (machine.invalidated before (cond first (machine.invalidated before (get_or m.copies p absent)) (get_or m.copies p absent)))
+          (cond first (machine.invalidated before (get_or m.copies p absent)) (get_or m.copies p absent))
+          ≡ cond (first || rest) (machine.invalidated before (get_or m.copies p absent)) (get_or m.copies p absent)
       either true true = twice before (get_or m.copies p absent)
       either true false = refl
       either false true = refl
@@ -113,7 +112,7 @@ module _ (before : List ℕ) where
   -- one after another they make what is learned
   pub learned-all : (intervals : List IntervalRecord) (m : Memory) → fold (learned_one before) m intervals ≡ learned before intervals m
   learned-all intervals m =
-      let f : ℕ × Copy → Copy = λ place. cond (is_named intervals place.0) (copy.invalidated before place.1) place.1 in
+      let f : ℕ × Copy → Copy = λ place. cond (is_named intervals place.0) (machine.invalidated before place.1) place.1 in
       let places = enumerate_from 0 m.copies in
       let long : length places ≡ length m.copies = length-enumerate_from 0 m.copies in
       let copies : (fold (learned_one before) m intervals).copies ≡ map f places =
@@ -182,13 +181,13 @@ module _ (kept : Kept) (page : ℕ) (before : List ℕ) (in_step : Bool) (within
       (unmade-changed kept page new within none nothing-invalid) in
       let since_is : get_or (set kept.since page before) page [] ≡ before =
       get_or-set_same kept.since page before [] (omega (arith, is.since, within)) in
-      let shown : memory.copy_at (seen kept) page ≡ copy.valid old.values =
+      let shown : machine.copy_at (seen kept) page ≡ machine.valid old.values =
       copy-seen kept page within ∙ ap (λ s. seen_in s (get_or kept.since page []) old) valid in
-      let copies = set_copies kept.table now kept.since (set kept.since page before) page (copy.invalidated before (memory.copy_at (seen kept) page))
+      let copies = set_copies kept.table now kept.since (set kept.since page before) page (machine.invalidated before (machine.copy_at (seen kept) page))
       (length-set kept.table.copies page new) within
       (ap (λ (c : PageCopy). seen_in c.state (get_or (set kept.since page before) page []) c) (copy_at-with_copy kept.table page new within ∙ invalid-copy)
-      ∙ ap (λ t. copy.invalid old.values t) since_is
-      ∙ sym (ap (copy.invalidated before) shown))
+      ∙ ap (λ t. machine.invalid old.values t) since_is
+      ∙ sym (ap (machine.invalidated before) shown))
       (λ p apart.
       ap (λ (c : PageCopy). seen_in c.state (get_or (set kept.since page before) p []) c) (copy_at-with_copy_other kept.table page p new apart)
       ∙ ap (λ t. seen_in (copy_at kept.table p).state t (copy_at kept.table p)) (get_or-set_other kept.since page p before [] apart)) in
@@ -257,15 +256,15 @@ module _ (kept : Kept) (page : ℕ) (before copied named : List ℕ) (in_step : 
 pub stays-seen : (kept : Kept) (n : NodeMemory) (page : ℕ) (before : List ℕ) → node_seen kept ≡ n → page < length kept.table.copies
     → (copy_at kept.table page).state ≢ Valid → n ≡ with_memory n (record n.memory { copies = invalidated_on before n.memory.copies page })
 stays-seen kept n page before is within not =
-    let shown : memory.copy_at n.memory page ≡ seen_copy kept.table kept.since page =
-    ap (λ (n : NodeMemory). memory.copy_at n.memory page) (sym is) ∙ copy-seen kept page within in
-    let same : copy.invalidated before (memory.copy_at n.memory page) ≡ memory.copy_at n.memory page =
-    ap (copy.invalidated before) shown ∙ by_state (copy_at kept.table page).state not ∙ sym shown in
+    let shown : machine.copy_at n.memory page ≡ seen_copy kept.table kept.since page =
+    ap (λ (n : NodeMemory). machine.copy_at n.memory page) (sym is) ∙ copy-seen kept page within in
+    let same : machine.invalidated before (machine.copy_at n.memory page) ≡ machine.copy_at n.memory page =
+    ap (machine.invalidated before) shown ∙ by_state (copy_at kept.table page).state not ∙ sym shown in
     sym (ap (λ c. with_memory n (record n.memory { copies = set n.memory.copies page c })) same
     ∙ ap (λ cs. with_memory n (record n.memory { copies = cs })) (set-get_or n.memory.copies page absent))
   where
     by_state : (state : State) → state ≢ Valid
-        → copy.invalidated before (seen_in state (get_or kept.since page []) (copy_at kept.table page)) ≡ seen_in state
+        → machine.invalidated before (seen_in state (get_or kept.since page []) (copy_at kept.table page)) ≡ seen_in state
         (get_or kept.since page []) (copy_at kept.table page)
     by_state Valid not = absurd (not refl)
     by_state Written not = refl

@@ -13,9 +13,8 @@ use Rattle.lrc_table.specs.declared.slot.State.TheVariants.{Valid, Written, Inva
 use Rattle.lrc_table.specs.PageCopy.{PageCopy, IsWhole, fresh, installed, is_readable, pending_changes, repaired}
 use Rattle.lrc_table.specs.Table.{Table, copy_at, with_copy}
 use Rattle.lrc_table.proofs.Tables.{copy_at-with_copy}
-use Rattle.lrc_protocol.specs.Pages as copy
+use Rattle.lrc_protocol.specs.Pages as machine
 use Rattle.lrc_protocol.specs.Pages.{changes_or_none, Base, unneeded, due, come, first_values}
-use Rattle.lrc_protocol.specs.Pages as memory
 use Rattle.lrc_memory.specs.View.{Kept, NodeMemory, IsKept, seen, node_seen, seen_in, unmade, store_over, with_memory}
 use Rattle.lrc_memory.specs.Turns.{is_mendable}
 use Rattle.lrc_memory.specs.Steps.{begun_with, patched_with}
@@ -142,14 +141,14 @@ module _ (kept : Kept) (page : ℕ) (base : Base) (missing : List Key) where
   pub seen-mended : page < length kept.table.copies → All (IsWhole kept.table.size) kept.table.copies → Fits
       → All (λ (key : Key). key.page ≡ page) missing
       → node_seen (changed kept page done)
-      ≡ with_memory (node_seen kept) (memory.with_copy (seen kept) page
-      (copy.valid (memory.repaired (seen kept).store (first_values (memory.copy_at (seen kept) page) base) missing)))
+      ≡ with_memory (node_seen kept) (machine.with_copy (seen kept) page
+      (machine.valid (machine.repaired (seen kept).store (first_values (machine.copy_at (seen kept) page) base) missing)))
   seen-mended within whole fit of_page =
       seen-changed kept page done within (nothing-before fit) (nothing-after (whole page (fresh []) within) fit) base-after
-      ∙ ap (λ vs. with_memory (node_seen kept) (memory.with_copy (seen kept) page (copy.valid vs)))
+      ∙ ap (λ vs. with_memory (node_seen kept) (machine.with_copy (seen kept) page (machine.valid vs)))
       (ap (λ vs. fold applied vs (map (changes_or_none kept.store) missing))
       (begins fit ∙ ap (λ c. first_values c base) (sym (copy-seen kept page within)))
-      ∙ ap (fold applied (first_values (memory.copy_at (seen kept) page) base)) (known-seen fit of_page))
+      ∙ ap (fold applied (first_values (machine.copy_at (seen kept) page) base)) (known-seen fit of_page))
 
   -- ---- after the calls
 
@@ -171,13 +170,13 @@ module _ (kept : Kept) (page : ℕ) (base : Base) (missing : List Key) where
 
 -- what a need has of a copy that is seen
 pub fits-seen : (kept : Kept) (n : NodeMemory) (page : ℕ) (base : Base) → node_seen kept ≡ n → page < length kept.table.copies
-    → is_mendable n.size (memory.copy_at n.memory page) base ≡ true
+    → is_mendable n.size (machine.copy_at n.memory page) base ≡ true
     → is_mendable kept.table.size (seen_in (copy_at kept.table page).state [] (copy_at kept.table page)) base ≡ true
 fits-seen kept n page base is within fit =
     let old = copy_at kept.table page in
     by_state old.state base
     ∙ sym (ap (λ c. is_mendable kept.table.size c base) (copy-seen kept page within))
-    ∙ ap (λ (n : NodeMemory). is_mendable n.size (memory.copy_at n.memory page) base) is ∙ fit
+    ∙ ap (λ (n : NodeMemory). is_mendable n.size (machine.copy_at n.memory page) base) is ∙ fit
   where
     by_state : (state : State) (base : Base) → is_mendable kept.table.size (seen_in state [] (copy_at kept.table page)) base
         ≡ is_mendable kept.table.size (seen_in state (get_or kept.since page []) (copy_at kept.table page)) base

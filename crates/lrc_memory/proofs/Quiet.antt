@@ -9,8 +9,7 @@ use Rattle.lrc_table.specs.declared.slot.State.TheVariants.{Valid, Written, Inva
 use Rattle.lrc_table.specs.PageCopy.{PageCopy, pending_changes, with_base}
 use Rattle.lrc_table.specs.Table.{Table, copy_at, with_copy}
 use Rattle.lrc_table.proofs.Tables.{copy_at-with_copy, copy_at-with_copy_other}
-use Rattle.lrc_protocol.specs.Pages as copy
-use Rattle.lrc_protocol.specs.Pages as memory
+use Rattle.lrc_protocol.specs.Pages as machine
 use Rattle.lrc_protocol.specs.Barriers as barriers
 use Rattle.lrc_memory.specs.View.{Kept, NodeMemory, IsKept, seen, node_seen, seen_in, seen_copy, unmade, store_over, with_memory}
 use Rattle.lrc_memory.proofs.Overlays.{over-alike}
@@ -108,20 +107,20 @@ module _ (kept : Kept) (page : ℕ) (within : page < length kept.table.copies) w
       ∙ ap (λ bs. with_memory (node_seen kept) (record (seen kept) { bases = bs }))
       (map-set (λ (c : PageCopy). c.base) kept.table.copies page (with_base (copy_at kept.table page))
       ∙ ap (λ vs. set (map (λ (c : PageCopy). c.base) kept.table.copies) page (Some vs))
-      (sym (ap copy.values_of (copy-seen kept page within ∙ ap (λ state. seen_in state (get_or kept.since page []) (copy_at kept.table page)) valid))))
+      (sym (ap machine.values_of (copy-seen kept page within ∙ ap (λ state. seen_in state (get_or kept.since page []) (copy_at kept.table page)) valid))))
       ∙ ap (λ (n : NodeMemory). with_memory n (barriers.with_base n.memory page)) is
 
 -- a readable copy that is not written is valid
 pub valid-seen : (kept : Kept) (n : NodeMemory) (page : ℕ) → node_seen kept ≡ n → page < length n.memory.copies
-    → copy.is_readable (memory.copy_at n.memory page) ≡ true → copy.changes_of (memory.copy_at n.memory page) ≡ None
+    → machine.is_readable (machine.copy_at n.memory page) ≡ true → machine.changes_of (machine.copy_at n.memory page) ≡ None
     → (copy_at kept.table page).state ≡ Valid
 valid-seen kept n page is within readable closed =
-    let shown : memory.copy_at n.memory page ≡ seen_copy kept.table kept.since page =
-    ap (λ (n : NodeMemory). memory.copy_at n.memory page) (sym is) ∙ copy-seen kept page (within-seen kept n page is within) in
-    by_state (copy_at kept.table page).state (ap copy.is_readable (sym shown) ∙ readable) (ap copy.changes_of (sym shown) ∙ closed)
+    let shown : machine.copy_at n.memory page ≡ seen_copy kept.table kept.since page =
+    ap (λ (n : NodeMemory). machine.copy_at n.memory page) (sym is) ∙ copy-seen kept page (within-seen kept n page is within) in
+    by_state (copy_at kept.table page).state (ap machine.is_readable (sym shown) ∙ readable) (ap machine.changes_of (sym shown) ∙ closed)
   where
-    by_state : (state : State) → copy.is_readable (seen_in state (get_or kept.since page []) (copy_at kept.table page)) ≡ true
-        → copy.changes_of (seen_in state (get_or kept.since page []) (copy_at kept.table page)) ≡ None → state ≡ Valid
+    by_state : (state : State) → machine.is_readable (seen_in state (get_or kept.since page []) (copy_at kept.table page)) ≡ true
+        → machine.changes_of (seen_in state (get_or kept.since page []) (copy_at kept.table page)) ≡ None → state ≡ Valid
     by_state Valid readable closed = refl
     by_state Written readable closed = absurd (cc)
     by_state Invalid readable closed = absurd (cc)

@@ -12,9 +12,8 @@ use Rattle.lrc_table.specs.PageCopy.{PageCopy, is_pending, is_readable as may_re
 use Rattle.lrc_table.specs.Table.{Table, copy_at, with_copy}
 use Rattle.lrc_table.proofs.Tables.{copy_at-with_copy}
 use Rattle.lrc_table.proofs.Copies.{copy_of, pending-settled, base-after_write}
-use Rattle.lrc_protocol.specs.Pages as copy
+use Rattle.lrc_protocol.specs.Pages as machine
 use Rattle.lrc_protocol.specs.Pages.{with_word}
-use Rattle.lrc_protocol.specs.Pages as memory
 use Rattle.lrc_memory.specs.View.{Kept, NodeMemory, IsKept, seen, node_seen, seen_in, settled_store, with_memory}
 use Rattle.lrc_memory.proofs.Copies.{copy-seen, readable_as}
 use Rattle.lrc_memory.proofs.Settling.{changed, settled_at, kept-changed, seen-changed, kept-settled, seen-settled, with_parts, after-settle}
@@ -28,7 +27,7 @@ pending-in Absent values twin base offset value none = none
 
 written-in : (state : State) (values : List ℕ) (twin base : Option (List ℕ)) (since : List ℕ) (offset value : ℕ)
     → seen_in (after_write (copy_of state values twin base) offset value).state since (after_write (copy_of state values twin base) offset value)
-    ≡ copy.after_write (seen_in state since (copy_of state values twin base)) offset value
+    ≡ machine.after_write (seen_in state since (copy_of state values twin base)) offset value
 written-in Valid values twin base since offset value = refl
 written-in Written values twin base since offset value = refl
 written-in Invalid values twin base since offset value = refl
@@ -79,15 +78,15 @@ module _ (kept : Kept) (page offset value : ℕ) (within : page < length kept.ta
       (kept-settled kept page within is fit) nothing-written
 
   pub seen-written : node_seen (written_at kept page offset value)
-      ≡ with_memory (node_seen kept) (memory.with_copy (seen kept) page (copy.after_write (memory.copy_at (seen kept) page) offset value))
+      ≡ with_memory (node_seen kept) (machine.with_copy (seen kept) page (machine.after_write (machine.copy_at (seen kept) page) offset value))
   seen-written =
       let mid = settled_at kept page in
       let old = copy_at mid.table page in
       seen-changed mid page (after_write old offset value) inside nothing-settled nothing-written (base-after_write old offset value)
-      ∙ ap (λ c. with_memory (node_seen mid) (memory.with_copy (seen mid) page c))
+      ∙ ap (λ c. with_memory (node_seen mid) (machine.with_copy (seen mid) page c))
       (written-in old.state old.values old.twin old.base (get_or kept.since page []) offset value
-      ∙ ap (λ c. copy.after_write c offset value) (sym (copy-seen mid page inside)))
-      ∙ ap (λ (n : NodeMemory). with_memory n (memory.with_copy n.memory page (copy.after_write (memory.copy_at n.memory page) offset value)))
+      ∙ ap (λ c. machine.after_write c offset value) (sym (copy-seen mid page inside)))
+      ∙ ap (λ (n : NodeMemory). with_memory n (machine.with_copy n.memory page (machine.after_write (machine.copy_at n.memory page) offset value)))
       (seen-settled kept page within)
 
 -- ---- after the call
@@ -160,12 +159,12 @@ module _ (kept : Kept) (word value page : ℕ) (named : List ℕ) (store : Store
       ap node_seen (done-parts done)
       ∙ seen-written kept page (offset_of word kept.table.size) value within
       ∙ ap (λ p. with_memory (node_seen kept)
-      (memory.with_copy (seen kept) p (copy.after_write (memory.copy_at (seen kept) p) (offset_of word kept.table.size) value))) page_is
+      (machine.with_copy (seen kept) p (machine.after_write (machine.copy_at (seen kept) p) (offset_of word kept.table.size) value))) page_is
       ∙ ap (λ (n : NodeMemory). with_memory n (with_word n.size word value n.memory)) is)
 
   pub readable-write : {E : Type 0} (r : Result Bool E) (n : NodeMemory) → node_seen kept ≡ n
       → IfOk r (λ done. done ≡ may_read (copy_at mid (page_of word mid.size)).state)
-      → IfOk r (λ done. done ≡ copy.is_readable (memory.copy_at n.memory (page_of word n.size)))
+      → IfOk r (λ done. done ≡ machine.is_readable (machine.copy_at n.memory (page_of word n.size)))
   readable-write (Err e) n is told = tt
   readable-write (Ok done) n is told =
       told
@@ -174,4 +173,4 @@ module _ (kept : Kept) (word value page : ℕ) (named : List ℕ) (store : Store
       ∙ ap (λ (c : PageCopy). may_read c.state) (copy_at-with_copy kept.table page (settled (copy_at kept.table page)) within)
       ∙ readable-settled (copy_at kept.table page)
       ∙ sym (readable_as kept n page is within)
-      ∙ ap (λ p. copy.is_readable (memory.copy_at n.memory p)) (page_is ∙ ap (λ (n : NodeMemory). page_of word n.size) is)
+      ∙ ap (λ p. machine.is_readable (machine.copy_at n.memory p)) (page_is ∙ ap (λ (n : NodeMemory). page_of word n.size) is)

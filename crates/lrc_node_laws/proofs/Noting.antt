@@ -81,7 +81,7 @@ module _ (p : Part) (segments : List Segment) (within : p.me < length p.locks.ti
   shift-fits _ _ _ _ (asks w n away) = older
   shift-fits _ _ _ _ (releasing lock next w n) = λ s is. inl (older s is)
   shift-fits _ _ _ _ (arriving next w n) = older
-  shift-fits _ _ _ _ (manages managed lock from to r) = h
+  shift-fits _ _ _ _ (manages lock from) = h
   shift-fits _ _ _ _ (forwarding lock asker time) = h
   shift-fits _ _ _ _ (grants lock time w k) = λ s is. inl (omega (arith, now (grant lock) w s is, known time k))
   shift-fits _ _ _ _ (departing time w k) = λ s is. inl (omega (arith, now departure w s is, known time k))
@@ -110,7 +110,7 @@ idle_at_access p deed course _ _ _ _ m (releasing lock next w n) one = refl
 idle_at_access p deed course _ _ _ _ m (arriving next w n) one =
     let arrives_so : deed ≡ Some Arrive = m.deed_is ∙ deed_next m.value p.course (arrives next) n in
     absurd (omega (arith, ap accesses arrives_so, one))
-idle_at_access p deed course _ _ _ _ m (manages managed lock from to r) one = absurd (no_access deed m.deed_is one)
+idle_at_access p deed course _ _ _ _ m (manages lock from) one = absurd (no_access deed m.deed_is one)
 idle_at_access p deed course _ _ _ _ m (forwarding lock asker time) one = absurd (no_access deed m.deed_is one)
 idle_at_access p deed course _ _ _ _ m (grants lock time w k) one = refl
 idle_at_access p deed course _ _ _ _ m (departing time w k) one = refl

@@ -102,7 +102,7 @@ module _ (p : Part) (fits : FixesNext p.wait (next_in p.course)) (last : List �
       rested (grant lock) locks.time deed after m (ap (λ t. raised t p.me) (now nothing w))
   present-kept _ _ locks _ deed after (releasing lock next w n) m = acted locks.time deed after (releases lock next) m n
   present-kept _ _ locks _ deed after (arriving next w n) m = acted locks.time deed after (arrives next) m n
-  present-kept _ _ locks _ deed after (manages managed lock from to e) m = rested p.wait locks.time deed after m present
+  present-kept _ _ locks _ deed after (manages lock from) m = rested p.wait locks.time deed after m present
   present-kept _ _ locks _ deed after (forwarding lock asker time) m = rested p.wait locks.time deed after m present
   present-kept _ _ locks _ deed after (grants lock time w k) m =
       let next : (x : Thread) × (next_in p.course ≡ Some (acquires lock x)) = lock_next (next_in p.course) lock (next_then (grant lock) w) in

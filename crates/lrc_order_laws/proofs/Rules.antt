@@ -75,7 +75,7 @@ module _ (p : Part) (fits : FixesNext p.wait (next_in p.course)) (last : List �
       acted locks.time deed after (releases lock next) d m n e (λ v. ap (λ t. raised t p.me) (now nothing w))
   rule-kept _ _ locks _ deed after d (arriving next w n) m e =
       acted locks.time deed after (arrives next) d m n e (λ v. ap (λ t. raised t p.me) (now nothing w))
-  rule-kept _ _ locks _ deed after d (manages managed lock from to r) m e = rested locks.time deed after d m e
+  rule-kept _ _ locks _ deed after d (manages lock from) m e = rested locks.time deed after d m e
   rule-kept _ _ locks _ deed after d (forwarding lock asker time) m e = rested locks.time deed after d m e
   rule-kept _ _ locks _ deed after d (grants lock time w k) m e =
       let next : (x : Thread) × (next_in p.course ≡ Some (acquires lock x)) = lock_next (next_in p.course) lock (next_then (grant lock) w) in

@@ -167,7 +167,7 @@ module _ (p : Part) (s : Setting) (few : s.locks ≤ 64) (count : length p.locks
       rested (asked p.locks.held lock) deed after m (set_kept is_held p.locks.held lock (Awaited None) (sym (not_held lock n)))
   holds-kept _ _ _ _ deed after (releasing lock next w n) m = releases_holds lock next (next_time p.me p.locks.time) deed after m n
   holds-kept _ _ _ _ deed after (arriving next w n) m = acted deed after (arrives next) m n (λ t x g. g)
-  holds-kept _ _ _ _ deed after (manages managed lock from to e) m = rested p.locks.held deed after m (λ l. refl)
+  holds-kept _ _ _ _ deed after (manages lock from) m = rested p.locks.held deed after m (λ l. refl)
   holds-kept _ _ _ _ deed after (forwarding lock asker time) m =
       rested (held_after p.locks.held lock (forwarded p.locks.held lock asker time)) deed after m (forward_held p.locks.held lock asker time)
   holds-kept _ _ _ _ deed after (grants lock time w k) m = grants_holds lock deed after m w

@@ -150,7 +150,7 @@ module _ (p : Part) (s : Setting) (count : length p.locks.held.locks ≡ s.locks
       (released_awaited lock (next_time p.me p.locks.time) (lock_at p.locks.held lock)))
       (awaits_for p nothing w a)
   awaits-kept below _ _ _ _ (arriving next w n) = awaits_for p nothing w a
-  awaits-kept below _ _ _ _ (manages managed lock from to e) = a
+  awaits-kept below _ _ _ _ (manages lock from) = a
   awaits-kept below _ _ _ _ (forwarding lock asker time) = λ l. forward_awaited p.locks.held lock asker time l ∙ a l
   awaits-kept below _ _ _ _ (grants lock time w k) =
       let it : AwaitsOne (grant lock) p.locks.held = awaits_for p (grant lock) w a in

@@ -156,7 +156,7 @@ fits-kept p _ _ _ _ deed after (takes lock w n free) m f = after_act p.course af
 fits-kept p _ _ _ _ deed after (asks {lock = lock} w n away) m f = rested (grant lock) p.course after deed m n
 fits-kept p _ _ _ _ deed after (releasing lock next w n) m f = after_act p.course after deed m ∙ ap is_arriving n
 fits-kept p _ _ _ _ deed after (arriving next w n) m f = after_act p.course after deed m ∙ ap is_arriving n
-fits-kept p _ _ _ _ deed after (manages managed lock from to e) m f = rested p.wait p.course after deed m f
+fits-kept p _ _ _ _ deed after (manages lock from) m f = rested p.wait p.course after deed m f
 fits-kept p _ _ _ _ deed after (forwarding lock asker time) m f = rested p.wait p.course after deed m f
 fits-kept p _ _ _ _ deed after (grants lock time w k) m f =
     after_act p.course after deed m ∙ not_by_lock (next_in p.course) lock (awaited p (grant lock) w f)

@@ -12,6 +12,7 @@ use Rattle.lrc_exec.specs.Meaning.{releases, arrives}
 use Rattle.lrc_lock.specs.declared.state.Pass.{Pass}
 use Rattle.lrc_lock.specs.Held.{pass_of, released}
 use Rattle.lrc_barrier.specs.declared.departure.Departure.{Departure}
+use Rattle.lrc_lock.specs.Managed.{recent_asker}
 use Rattle.lrc_protocol.specs.Pages.{Base, unneeded, due, come, Asked, Need}
 use Rattle.lrc_protocol.specs.Barriers.{base_at}
 use Rattle.lrc_protocol.specs.Node.{Letter, Course, going, trapped, ended, Node, Effect, acts, acts_by}
@@ -138,7 +139,7 @@ page-answers node from page values b letter m c e = elim (cases_Contains _ [] le
 
 take-answers : (node : Node) (from : ℕ) (message : Message) (e : Effect) → TakeRule node from message e → AllAnswer node from message e.letters
 take-answers node from message e (take_request m lt counted mine) =
-    none-answer node from message (forward_to to m.lock from m.time ∷ []) (tt, tt)
+    none-answer node from message (forward_to (recent_asker node.locks.managed m.lock) m.lock from m.time ∷ []) (tt, tt)
 take-answers node from message e (take_forward m lt asker counted managed taken) = none-answer node from message _ (grants-none node _)
 take-answers node from message e (take_last_arrive m before after departures at news is) =
     none-answer node from message _ (departures-none departures)

@@ -63,7 +63,7 @@ module _ (p : Part) (within : p.me < length p.locks.time) where
   own_moves _ _ _ _ deed after (arriving next w n) m = closes _ deed refl (by_next p.course after deed (arrives next) m n (λ value word. refl))
   own_moves _ _ _ _ deed after (plain next w n is) m = inl refl
   own_moves _ _ _ _ deed after (misses w n) m = inl refl
-  own_moves _ _ _ _ deed after (manages managed lock from to e) m = inl refl
+  own_moves _ _ _ _ deed after (manages lock from) m = inl refl
   own_moves _ _ _ _ deed after (forwarding lock asker time) m = inl refl
   own_moves _ _ _ _ deed after (grants lock time w l) m = inl (learned_entry p time l)
   own_moves _ _ _ _ deed after (departing time w l) m = inl (learned_entry p time l)

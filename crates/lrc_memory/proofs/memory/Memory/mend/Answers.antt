@@ -2,9 +2,8 @@ use Rattle.std.proofs.Common.{◌≡◌, ◌<◌, ◌∙◌, List, true, ap, len
 use Rattle.std.specs.Prelude.{All}
 use Rattle.lrc_store.specs.declared.key.Key.{Key}
 use Rattle.lrc_table.specs.Table.{Table}
-use Rattle.lrc_protocol.specs.Pages as copy
+use Rattle.lrc_protocol.specs.Pages as machine
 use Rattle.lrc_protocol.specs.Pages.{first_values}
-use Rattle.lrc_protocol.specs.Pages as memory
 use Rattle.lrc_mail.specs.Seen.{seen_base}
 use Rattle.lrc_memory.specs.Turns.{is_mendable}
 use Rattle.lrc_memory.specs.View.{NodeMemory, IsKept, node_seen, with_memory}
@@ -22,9 +21,9 @@ pub install_base-requires-clause-fit : goal.install_base-requires-clause-fit
 install_base-requires-clause-fit c =
     let k = kept c.self.inside in
     let page : c.page-page.result ≡ c.args.need.now.page = c.page-page.ensures.page in
-    let fit : is_mendable c.args.self.now.size (memory.copy_at c.args.self.now.memory c.page-page.result) (seen_base c.base.result.now) ≡ true =
-    ap (λ p. is_mendable c.args.self.now.size (memory.copy_at c.args.self.now.memory p) (seen_base c.base.result.now)) page
-    ∙ ap (is_mendable c.args.self.now.size (memory.copy_at c.args.self.now.memory c.args.need.now.page)) c.base.ensures
+    let fit : is_mendable c.args.self.now.size (machine.copy_at c.args.self.now.memory c.page-page.result) (seen_base c.base.result.now) ≡ true =
+    ap (λ p. is_mendable c.args.self.now.size (machine.copy_at c.args.self.now.memory p) (seen_base c.base.result.now)) page
+    ∙ ap (is_mendable c.args.self.now.size (machine.copy_at c.args.self.now.memory c.args.need.now.page)) c.base.ensures
     ∙ c.requires.fit in
     fits-seen k _ _ _ c.self.view_is (omega (arith, page, within-seen k _ _ c.self.view_is c.requires.in_range)) fit
 
@@ -35,9 +34,9 @@ invariant_of-self c =
     let base = seen_base c.base.result.now in
     let within : c.page-page.result < length c.self.inside.table.copies =
     omega (arith, page, within-seen k _ _ c.self.view_is c.requires.in_range) in
-    let fit : is_mendable c.args.self.now.size (memory.copy_at c.args.self.now.memory c.page-page.result) base ≡ true =
-    ap (λ p. is_mendable c.args.self.now.size (memory.copy_at c.args.self.now.memory p) base) page
-    ∙ ap (is_mendable c.args.self.now.size (memory.copy_at c.args.self.now.memory c.args.need.now.page)) c.base.ensures
+    let fit : is_mendable c.args.self.now.size (machine.copy_at c.args.self.now.memory c.page-page.result) base ≡ true =
+    ap (λ p. is_mendable c.args.self.now.size (machine.copy_at c.args.self.now.memory p) base) page
+    ∙ ap (is_mendable c.args.self.now.size (machine.copy_at c.args.self.now.memory c.args.need.now.page)) c.base.ensures
     ∙ c.requires.fit in
     let table = table-mended k c.page-page.result base c.missing.result.now c.install_base.new.table c.patch_all.new.table c.repair.new.self within
     c.install_base.ensures.copy c.patch_all.ensures c.repair.ensures in
@@ -53,9 +52,9 @@ returns-clause-mended c =
     let missing = c.missing.result.now in
     let within : c.page-page.result < length c.self.inside.table.copies =
     omega (arith, page, within-seen k _ _ c.self.view_is c.requires.in_range) in
-    let fit : is_mendable c.args.self.now.size (memory.copy_at c.args.self.now.memory c.page-page.result) base ≡ true =
-    ap (λ p. is_mendable c.args.self.now.size (memory.copy_at c.args.self.now.memory p) base) page
-    ∙ ap (is_mendable c.args.self.now.size (memory.copy_at c.args.self.now.memory c.args.need.now.page)) c.base.ensures
+    let fit : is_mendable c.args.self.now.size (machine.copy_at c.args.self.now.memory c.page-page.result) base ≡ true =
+    ap (λ p. is_mendable c.args.self.now.size (machine.copy_at c.args.self.now.memory p) base) page
+    ∙ ap (is_mendable c.args.self.now.size (machine.copy_at c.args.self.now.memory c.args.need.now.page)) c.base.ensures
     ∙ c.requires.fit in
     let table = table-mended k c.page-page.result base missing c.install_base.new.table c.patch_all.new.table c.repair.new.self within
     c.install_base.ensures.copy c.patch_all.ensures c.repair.ensures in
@@ -63,13 +62,13 @@ returns-clause-mended c =
     rw (page, c.missing.ensures) c.requires.of_page in
     ap (λ (t : Table). node_seen (with_table k t)) table
     ∙ seen-mended k c.page-page.result base missing within c.size-whole.ensures.whole (fits-seen k _ _ _ c.self.view_is within fit) of_page
-    ∙ ap (λ (n : NodeMemory). with_memory n (memory.with_copy n.memory c.page-page.result
-    (copy.valid (memory.repaired n.memory.store (first_values (memory.copy_at n.memory c.page-page.result) base) missing)))) c.self.view_is
-    ∙ ap (λ p. with_memory c.args.self.now (memory.with_copy c.args.self.now.memory p
-    (copy.valid (memory.repaired c.args.self.now.memory.store (first_values (memory.copy_at c.args.self.now.memory p) base) missing)))) page
-    ∙ ap (λ b. with_memory c.args.self.now (memory.with_copy c.args.self.now.memory c.args.need.now.page
-    (copy.valid (memory.repaired c.args.self.now.memory.store
-    (first_values (memory.copy_at c.args.self.now.memory c.args.need.now.page) b) missing)))) c.base.ensures
-    ∙ ap (λ (keys : List Key). with_memory c.args.self.now (memory.with_copy c.args.self.now.memory c.args.need.now.page
-    (copy.valid (memory.repaired c.args.self.now.memory.store
-    (first_values (memory.copy_at c.args.self.now.memory c.args.need.now.page) c.args.need.now.base) keys)))) c.missing.ensures
+    ∙ ap (λ (n : NodeMemory). with_memory n (machine.with_copy n.memory c.page-page.result
+    (machine.valid (machine.repaired n.memory.store (first_values (machine.copy_at n.memory c.page-page.result) base) missing)))) c.self.view_is
+    ∙ ap (λ p. with_memory c.args.self.now (machine.with_copy c.args.self.now.memory p
+    (machine.valid (machine.repaired c.args.self.now.memory.store (first_values (machine.copy_at c.args.self.now.memory p) base) missing)))) page
+    ∙ ap (λ b. with_memory c.args.self.now (machine.with_copy c.args.self.now.memory c.args.need.now.page
+    (machine.valid (machine.repaired c.args.self.now.memory.store
+    (first_values (machine.copy_at c.args.self.now.memory c.args.need.now.page) b) missing)))) c.base.ensures
+    ∙ ap (λ (keys : List Key). with_memory c.args.self.now (machine.with_copy c.args.self.now.memory c.args.need.now.page
+    (machine.valid (machine.repaired c.args.self.now.memory.store
+    (first_values (machine.copy_at c.args.self.now.memory c.args.need.now.page) c.args.need.now.base) keys)))) c.missing.ensures
