@@ -246,7 +246,9 @@ can_take node r from sender number (ChangesReply m) e = (
   whatever_mail (with_parts from m node) (with_taken sender number node.mail)
       (with_needs (with_changes m.page from) node.mail.wait) (changes_go_on node r from m (fulfilled node from (ChangesReply m) e)),
 )
-can_take node r from sender number (PageRequest page) e = below_copies node r page (and_parts _ _ (and_parts _ _ (fulfilled node from (PageRequest page) e)).0).0
+can_take node r from sender number (PageRequest page) e =
+    let a = and_parts _ _ (fulfilled node from (PageRequest page) e) in
+    (below_copies node r page (and_parts _ _ a.0).0, a.1)
 can_take node r from sender number (PageReply m) e =
     let a = and_parts _ _ (fulfilled node from (PageReply m) e) in (
       apart_pairs (needs_of node.mail.wait) (ascends-pairs (map (λ (need : Need). need.page) (needs_of node.mail.wait)) (needed_at node r).apart),

@@ -9,7 +9,7 @@ use Rattle.lrc_envelope.specs.declared.message.Message.TheVariants.{ChangesReque
 use Rattle.lrc_barrier.specs.Barrier.{ManagerRecord, arrived, cleaned}
 use Rattle.lrc_trace.specs.Trace.{TraceRecord}
 use Rattle.lrc_node_laws.specs.Traced.{IsTraced}
-use Rattle.lrc_protocol.specs.Node.{Node, Effect}
+use Rattle.lrc_protocol.specs.Node.{Node, Effect, awaits_discard}
 use Rattle.lrc_protocol.specs.Turn.{is_expected, Outcome, done, unexpected, worn, empty_turn, take_turn, take_anew, taking, is_addressed}
 use Rattle.lrc_protocol.specs.Turn.{is_repeat, is_request, is_forward, is_grant, are_arriving, arrive_by, is_departure, clean_by}
 use Rattle.lrc_protocol.specs.Turn.{is_changes_request, is_changes_reply, is_page_request, is_page_reply, takes, turn_taking}
@@ -63,8 +63,10 @@ takes-made node from (Arrive m) e =
 takes-made node from (Depart m) e = given-made (is_departure node from m) _ e
 takes-made node from (Clean episode) e = at_manager (λ manager. cleaned manager from episode) (clean_by node) node.barrier.manager
 takes-made node from (Discard episode) e =
-    let outer : _ = and_parts _ _ e in
-    given-made ((from == 0) && (episode == node.barrier.episode)) _ (and_from _ _ (and_parts _ _ outer.0).0 outer.1)
+    let outer = and_parts ((from == 0) && awaits_discard node.mail.wait) (episode == node.barrier.episode) e in
+    let first = and_parts (from == 0) (awaits_discard node.mail.wait) outer.0 in
+    given-made ((from == 0) && (episode == node.barrier.episode)) _
+    (and_from (from == 0) (episode == node.barrier.episode) first.0 outer.1)
 takes-made node from (ChangesRequest m) e = given-made (is_changes_request node m) _ e
 takes-made node from (ChangesReply m) e = given-made (is_changes_reply node from m) _ e
 takes-made node from (PageRequest page) e = given-made (is_page_request node from page) _ (and_parts _ _ e).0

@@ -1,5 +1,6 @@
 -- What a node has where it takes a message that it expects.
-use Rattle.std.specs.Prelude.{ℕ, ◌≡◌, ◌≢◌, ◌<◌, ◌≤◌, IsTrue, Option, Some, AllPairs, false, [], ◌∷◌, length, option_map, option_and_then, unwrap_or}
+use Rattle.std.specs.Prelude.{ℕ, ◌≡◌, ◌≢◌, ◌<◌, ◌≤◌, IsTrue, Option, Some, AllPairs, false, [], ◌∷◌, length, option_map}
+use Rattle.std.specs.Prelude.{option_and_then, unwrap_or, is_some}
 use Rattle.lrc_time.specs.Time.{entry}
 use Rattle.lrc_exec.specs.declared.machine.Ask.TheVariants.{Acquire, Barrier}
 use Rattle.lrc_envelope.specs.declared.message.Message.{Message}
@@ -50,7 +51,7 @@ CanTake node from (ChangesRequest m) = m.page < length node.memory.copies
 CanTake node from (ChangesReply m) =
     AreAwaited node.options.size node.memory.store from m.page m.parts
     × CanGoOn (with_parts from m node) (with_needs (with_changes m.page from) node.mail.wait)
-CanTake node from (PageRequest page) = page < length node.memory.copies
+CanTake node from (PageRequest page) = (page < length node.memory.copies) × IsTrue (is_some (base_at node.memory page))
 CanTake node from (PageReply m) =
     AllPairs (λ a b. a.page ≢ b.page) (needs_of node.mail.wait)
     × CanGoOn node (with_needs (with_page m.page m.values) node.mail.wait)

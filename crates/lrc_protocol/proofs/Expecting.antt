@@ -1,5 +1,5 @@
 -- When a message is expected, as tests of its conditions.
-use Rattle.std.proofs.Common.{◌≡◌, ℕ, Bool, true, false, refl, sym, ap, ◌∙◌}
+use Rattle.std.proofs.Common.{◌≡◌, ℕ, List, Bool, true, false, refl, sym, ap, ◌∙◌}
 use Rattle.std.specs.Prelude.{◌==◌, ◌&&◌, Option, Some, None, is_some, unwrap_or, option_map, option_and_then}
 use Rattle.lrc_envelope.specs.Envelope.{EnvelopeRecord}
 use Rattle.lrc_envelope.specs.Records.{ArriveRecord}
@@ -10,10 +10,11 @@ use Rattle.lrc_lock.specs.Held.{LockStep, refuses, stays, passes, forwarded, is_
 use Rattle.lrc_barrier.specs.Barrier.{ManagerRecord, ArriveStep, refuses as refuses_arrival, waits, departs as all_depart, arrived, is_accepted}
 use Rattle.lrc_barrier.specs.Barrier.{CleanStep, refuses_clean, awaits, discards, cleaned, is_clean}
 use Rattle.lrc_protocol.specs.Barriers.{Collection, arrival_in, base_at}
-use Rattle.lrc_protocol.specs.Node.{Node, Effect, Wait, nothing, grant, departure, access, upkeep, discard, awaits_discard, collection_of}
-use Rattle.lrc_protocol.specs.Turn.{given, forward_by, arrive_by, clean_by, discard_by, page_reply_by, takes, is_expected, taking, is_request}
-use Rattle.lrc_protocol.specs.Turn.{is_forward, is_grant, are_arriving, is_departure, is_changes_request, is_changes_reply, is_page_request}
-use Rattle.lrc_protocol.specs.Turn.{is_page_reply}
+use Rattle.lrc_protocol.specs.Node.{Node, Effect, Wait, nothing, grant, departure, access, upkeep, discard, awaits_discard}
+use Rattle.lrc_protocol.specs.Node.{collection_of, numbered}
+use Rattle.lrc_protocol.specs.Turn.{given, forward_by, arrive_by, clean_by, discard_by, page_reply_by, takes, is_expected, taking}
+use Rattle.lrc_protocol.specs.Turn.{is_request, is_forward, is_grant, are_arriving, is_departure, is_changes_request}
+use Rattle.lrc_protocol.specs.Turn.{is_changes_reply, is_page_request, is_page_reply, unexpected, turn_with, turn_taking, take_anew}
 
 -- the manager is here, and accepts the arrival
 abbrev pub accepts : Node → ℕ → ArriveRecord → Bool
@@ -135,3 +136,19 @@ pub still_expected : (node : Node) (envelope : EnvelopeRecord) (from : ℕ) (mes
     → is_expected (taking node envelope) from message ≡ is_expected node from message
 still_expected node envelope from message =
     conditions (taking node envelope) from message ∙ still_tested node envelope from message ∙ sym (conditions node from message)
+
+-- a turn that is made is no refusal
+with-letters : (effect : Effect) (sent : Option (List EnvelopeRecord × List ℕ)) → turn_with effect sent ≡ unexpected → ⊥
+with-letters effect None e = cc
+with-letters effect (Some sent) e = cc
+
+pub never-unexpected : (o : Option Effect) → is_some o ≡ true → turn_taking o ≡ unexpected → ⊥
+never-unexpected None some e = cc
+never-unexpected (Some effect) some e =
+    with-letters effect (numbered effect.node.setting.me effect.node.options.first effect.node.mail.sent effect.letters) e
+
+-- an expected message is not refused
+pub taken-anew : (node : Node) (envelope : EnvelopeRecord) → is_expected node envelope.from envelope.message ≡ true
+    → take_anew node envelope ≡ unexpected → ⊥
+taken-anew node envelope e =
+    never-unexpected (takes (taking node envelope) envelope.from envelope.message) (still_expected node envelope envelope.from envelope.message ∙ e)

@@ -1,6 +1,6 @@
 // What others ask of a node: when it expects that, and what it gives them.
 
-ghost use Rattle.std.specs.Prelude.{◌≡◌, ℕ, ◌<◌, ◌∷◌, [], IfOk, OnOk, is_some, length, map, ◌&&◌, Some};
+ghost use Rattle.std.specs.Prelude.{◌≡◌, ℕ, ◌<◌, ◌∷◌, [], IfOk, OnOk, is_some, length, map, ◌&&◌, Some, IsTrue};
 ghost use Rattle.std.specs.List.{list_all};
 ghost use Rattle.lrc_store.specs.Store.{notice_at};
 ghost use Rattle.lrc_protocol.specs.Barriers.{base_at};
@@ -99,21 +99,17 @@ impl NodeState<'_> {
     ) -> Result<Effect, AllocError>
         requires from { from < self.old.setting.nodes }
         requires page { request.now < length self.old.memory.copies }
+        requires kept { IsTrue (is_some (base_at self.old.memory request.now)) }
         ensures effect { IfOk result (λ effect. page_reply_by self.old from request.now (base_at self.old.memory request.now) ≡ Some (seen_effect effect self.new)) }
         ensures to { IfOk result (λ effect. AreFor self.new.setting.nodes effect.letters.items) }
     {
         let page = request.page;
-        let letters = match self.memory.base(page) {
-            Some(base) => {
-                let copy = Box::new(self.alloc, base.copy())?;
-                one(
-                    self.alloc,
-                    from,
-                    Message::PageReply(PageReply { page, copy }),
-                )?
-            }
-            None => Vec::new(self.alloc),
+        let Some(base) = self.memory.base(page) else {
+            unreachable!()
         };
+        let copy = Box::new(self.alloc, base.copy())?;
+        let reply = Message::PageReply(PageReply { page, copy });
+        let letters = one(self.alloc, from, reply)?;
         Ok(Effect::sending(letters))
     }
 }

@@ -11,11 +11,11 @@ use Rattle.lrc_envelope.specs.declared.message.Message.TheVariants.{LockRequest,
 use Rattle.lrc_envelope.specs.declared.message.Message.TheVariants.{ChangesRequest, ChangesReply, PageRequest, PageReply}
 use Rattle.lrc_copies.proofs.Members.{Contains-filter}
 use Rattle.lrc_protocol.specs.declared.event.Event.{Event}
-use Rattle.lrc_protocol.specs.Node.{numbered, Node, Effect, OptionsRecord}
-use Rattle.lrc_protocol.specs.Turn.{is_expected, done, unexpected, empty_turn, is_addressed, is_repeat, turn_with, take_turn, turn_taking}
-use Rattle.lrc_protocol.specs.Turn.{takes, taking}
+use Rattle.lrc_protocol.specs.Node.{Node, Effect, OptionsRecord}
+use Rattle.lrc_protocol.specs.Turn.{is_expected, done, unexpected, empty_turn, is_addressed, is_repeat, take_turn, turn_taking, takes}
+use Rattle.lrc_protocol.specs.Turn.{taking}
 use Rattle.lrc_protocol.specs.Run.{Logged, World, Flying, pending, run_of}
-use Rattle.lrc_protocol.proofs.Expecting.{still_expected}
+use Rattle.lrc_protocol.proofs.Expecting.{never-unexpected, still_expected}
 use Rattle.lrc_order_laws.proofs.Addressed.{all_addressed}
 use Rattle.lrc_order_laws.proofs.BarrierExpected.{clean_expected, discard_expected}
 use Rattle.lrc_order_laws.proofs.LockExpected.{request_expected, forward_expected}
@@ -36,20 +36,10 @@ use Rattle.lrc_reading_laws.proofs.Stamped.Worlds.{Placed, placed}
 
 -- ---- a turn with a message
 
--- the turn of an effect is no refusal
-turned : (effect : Effect) (o : Option _) → turn_with effect o ≡ unexpected → ⊥
-turned effect None e = cc
-turned effect (Some sent) e = cc
-
-taking-expected : (o : Option Effect) → is_some o ≡ true → turn_taking o ≡ unexpected → ⊥
-taking-expected None some e = cc
-taking-expected (Some effect) some e =
-    turned effect (numbered effect.node.setting.me effect.node.options.first effect.node.mail.sent effect.letters) e
-
 by_tests : (node : Node) (o : Option Effect) (a b : Bool) → a ≡ true → (b ≡ false → is_some o ≡ true)
     → (if a then (if b then done empty_turn node else turn_taking o) else unexpected) ≡ unexpected → ⊥
 by_tests node o true true is h e = cc
-by_tests node o true false is h e = taking-expected o (h refl) e
+by_tests node o true false is h e = never-unexpected o (h refl) e
 by_tests node o false b is h e = absurd (false≢true is)
 
 -- a message for a node from one of the nodes that it expects, where it hasn't taken it, is not refused

@@ -2,6 +2,7 @@ use Rattle.std.proofs.Common.{◌≡◌, true, false, IfErr, rules, sym, ap, ◌
 use Rattle.lrc_envelope.specs.Envelope.{EnvelopeRecord}
 use Rattle.lrc_protocol.specs.Node.{Node}
 use Rattle.lrc_protocol.specs.Turn.{is_expected, Outcome, unexpected, take_turn, taking, turn_taking, done}
+use Rattle.lrc_protocol.proofs.Expecting.{taken-anew}
 use Rattle.lrc_node.specs.Taken.{RefusesTake, unawaited}
 use Rattle.lrc_node.specs.declared.fault.NodeFault.TheVariants.{Unexpected}
 use Rattle.lrc_node.specs.Taking.{effect_of}
@@ -25,6 +26,17 @@ returns-clause-done c =
     let same : take_turn node envelope ≡ turn_taking (effect_of (taking node envelope) envelope.from envelope.message) =
     addressed node envelope (sym c.is_addressed.ensures.addressed ∙ e) (sym c.is_repeat.ensures ∙ c.if-is_repeat.false) ∙ awaited node envelope x in
     subst (λ (o : Outcome). IfOk c.take_anew.result (λ turn. o ≡ done turn c.take_anew.new.self)) (sym same) c.take_anew.ensures.done
+
+pub returns-clause-unexpected : goal.returns-clause-unexpected
+returns-clause-unexpected c u =
+    let node : Node = c.args.self.now in
+    let envelope : EnvelopeRecord = c.args.envelope.now in
+    let e : c.is_addressed.result ≡ true = search rules in
+    let y : c.expects.result ≡ true = search rules in
+    let x : is_expected node envelope.from envelope.message ≡ true =
+    ap (λ (v : EnvelopeRecord). is_expected node v.from v.message) (sym c.envelope.view_is) ∙ sym c.expects.ensures ∙ y in
+    absurd (taken-anew node envelope x
+    (sym (addressed node envelope (sym c.is_addressed.ensures.addressed ∙ e) (sym c.is_repeat.ensures ∙ c.if-is_repeat.false)) ∙ u))
 
 pub returns-clause-refused : goal.returns-clause-refused
 returns-clause-refused c =
