@@ -1,9 +1,9 @@
 -- What a turn sends, beside what it does to what a node waits for, its clock and tokens, and its barrier. One case for each
 -- kind of turn, by what came. The contents of letters on pages, and the intervals of others, are left open.
 use Rattle.std.proofs.Common.{◌≡◌, ℕ, ◌+◌, ◌<◌, List, [], ◌∷◌, ◌++◌, Bool, true, false, length, refl, sym, ap, subst, ◌∙◌}
-use Rattle.std.specs.Prelude.{Option, Some, None, ◌==◌, option_map, nat_le, if◌then◌else◌, map, flat_map, slice_index, slice_set}
+use Rattle.std.specs.Prelude.{Option, Some, None, option_map, nat_le, if◌then◌else◌, map, flat_map, slice_index, slice_set}
 use Rattle.std.specs.List.{range_with_len}
-use Rattle.std.proofs.lemmas.Bool.{and_parts, eqb-true, eq-eqb}
+use Rattle.std.proofs.lemmas.Bool.{and_parts, eqb-true}
 use Rattle.lrc_time.specs.Time.{entry, covers}
 use Rattle.lrc_exec.specs.Meaning.{Thread, Next, acquires, releases, arrives, next_of}
 use Rattle.lrc_store.specs.Interval.{IntervalRecord}
@@ -15,7 +15,6 @@ use Rattle.lrc_envelope.specs.declared.message.Message.TheVariants.{ChangesReque
 use Rattle.lrc_lock.specs.declared.state.Pass.{Pass}
 use Rattle.lrc_lock.specs.Lock.{manager_of}
 use Rattle.lrc_lock.specs.Held.{lock_at, is_free, taken, asked, released, forwarded, granted, pass_of, held_after, is_taken}
-use Rattle.lrc_barrier.specs.declared.arrival.Arrival.{Arrival}
 use Rattle.lrc_barrier.specs.declared.departure.Departure.{Departure}
 use Rattle.lrc_barrier.specs.Barrier.{ManagerRecord, waits, departs as all_depart, arrived, awaits, discards, cleaned}
 use Rattle.lrc_protocol.specs.Times.{MOST_NUMBER, next_time}
@@ -23,7 +22,7 @@ use Rattle.lrc_protocol.specs.Pages.{Memory, Base, unneeded, due, come, Asked, N
 use Rattle.lrc_protocol.specs.Locks.{Locks, ticked, with_time, with_held, with_managed}
 use Rattle.lrc_protocol.specs.Barriers.{arrival_in, Collection, Barrier, with_arrive, with_manager}
 use Rattle.lrc_protocol.specs.Node.{envelope_of, numbered, Letter, Wait, nothing, grant, departure, access, upkeep, discard, Course, going}
-use Rattle.lrc_protocol.specs.Node.{trapped, ended, deed_of, course_of, Node, Effect, with_locks, sends, acts, acts_by, value_read}
+use Rattle.lrc_protocol.specs.Node.{trapped, ended, deed_of, course_of, Node, Effect, sends, acts, acts_by, value_read}
 use Rattle.lrc_protocol.specs.Turn.{letter, forward_to, grants_of, own_news, asks_for_collection, departure_of, discards_to, changes_request_of}
 use Rattle.lrc_protocol.specs.Turn.{page_request_of, requests_of, are_arriving, charged, TurnRecord, Outcome, done, not_ready, unexpected, worn}
 use Rattle.lrc_protocol.specs.Turn.{taking, is_repeat, empty_turn}

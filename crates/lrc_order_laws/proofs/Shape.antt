@@ -1,6 +1,6 @@
 -- The shape of a node is kept by every turn.
-use Rattle.std.proofs.Common.{◌≡◌, ℕ, ◌+◌, List, [], Bool, true, false, length, refl, sym, ap, subst, ◌∙◌}
-use Rattle.std.specs.Prelude.{Option, Some, None, slice_get, if◌then◌else◌}
+use Rattle.std.proofs.Common.{◌≡◌, ℕ, ◌+◌, List, [], Bool, true, false, length, refl, sym, ap, ◌∙◌}
+use Rattle.std.specs.Prelude.{Some, None, slice_get, if◌then◌else◌}
 use Rattle.std.specs.List.{range_with_len}
 use Rattle.std.proofs.lemmas.List.{length-set, length-map}
 use Rattle.std.proofs.lemmas.List.FromFn.{length-range_with_len}

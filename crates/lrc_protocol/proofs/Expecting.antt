@@ -1,5 +1,5 @@
 -- When a message is expected, as tests of its conditions.
-use Rattle.std.proofs.Common.{◌≡◌, ℕ, List, Bool, true, false, refl, sym, ap, ◌∙◌}
+use Rattle.std.proofs.Common.{◌≡◌, ℕ, List, Bool, true, false, refl, sym, ◌∙◌}
 use Rattle.std.specs.Prelude.{◌==◌, ◌&&◌, Option, Some, None, is_some, unwrap_or, option_map, option_and_then}
 use Rattle.lrc_envelope.specs.Envelope.{EnvelopeRecord}
 use Rattle.lrc_envelope.specs.Records.{ArriveRecord}
@@ -10,7 +10,7 @@ use Rattle.lrc_lock.specs.Held.{LockStep, refuses, stays, passes, forwarded, is_
 use Rattle.lrc_barrier.specs.Barrier.{ManagerRecord, ArriveStep, refuses as refuses_arrival, waits, departs as all_depart, arrived, is_accepted}
 use Rattle.lrc_barrier.specs.Barrier.{CleanStep, refuses_clean, awaits, discards, cleaned, is_clean}
 use Rattle.lrc_protocol.specs.Barriers.{Collection, arrival_in, base_at}
-use Rattle.lrc_protocol.specs.Node.{Node, Effect, Wait, nothing, grant, departure, access, upkeep, discard, awaits_discard}
+use Rattle.lrc_protocol.specs.Node.{Node, Effect, awaits_discard}
 use Rattle.lrc_protocol.specs.Node.{collection_of, numbered}
 use Rattle.lrc_protocol.specs.Turn.{given, forward_by, arrive_by, clean_by, discard_by, page_reply_by, takes, is_expected, taking}
 use Rattle.lrc_protocol.specs.Turn.{is_request, is_forward, is_grant, are_arriving, is_departure, is_changes_request}

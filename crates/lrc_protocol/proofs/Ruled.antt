@@ -126,11 +126,11 @@ forward-ruled : (node : Node) (from : ℕ) (m : LockForwardRecord) (step : LockS
 forward-ruled node from m (refuses fault) lt asker counted managed e = tt
 forward-ruled node from m (stays state) lt asker counted managed e =
     subst (λ (s : LockStep).
-        TakeRule node from (LockForward m) (sends (grants_of node (pass_of s)) (with_tokens node (held_after node.locks.held m.lock s)))) e
+    TakeRule node from (LockForward m) (sends (grants_of node (pass_of s)) (with_tokens node (held_after node.locks.held m.lock s)))) e
     (take_forward m lt asker counted managed (ap is_taken e))
 forward-ruled node from m (passes pass) lt asker counted managed e =
     subst (λ (s : LockStep).
-        TakeRule node from (LockForward m) (sends (grants_of node (pass_of s)) (with_tokens node (held_after node.locks.held m.lock s)))) e
+    TakeRule node from (LockForward m) (sends (grants_of node (pass_of s)) (with_tokens node (held_after node.locks.held m.lock s)))) e
     (take_forward m lt asker counted managed (ap is_taken e))
 
 arrive-ruled : (node : Node) (from : ℕ) (m : ArriveRecord) (before : ManagerRecord) (step : ArriveStep) → node.barrier.manager ≡ Some before

@@ -4,7 +4,6 @@ use Rattle.std.specs.Prelude.{Option, Some, None, fold}
 use Rattle.std.proofs.lemmas.List.{map-append}
 use Rattle.std.proofs.lemmas.List.Sums.{fold-append}
 use Rattle.lrc_lang.specs.declared.program.Program.{Program}
-use Rattle.lrc_trace.specs.Trace.{TraceRecord}
 use Rattle.lrc_protocol.specs.Node.{Node, OptionsRecord, fresh_node}
 use Rattle.lrc_protocol.specs.Turn.{TurnRecord, Outcome, done, not_ready, unexpected, worn}
 use Rattle.lrc_protocol.specs.Run.{Input, EntryRecord, Logged, outcome_of, Local, local_after, local_step, local}

@@ -1,6 +1,6 @@
 -- In every run no message is unexpected: each pending one would be accepted by its receiver, and each that was taken is a repeat.
 use Rattle.std.proofs.Common.{◌≡◌, ℕ, ◌<◌, ◌≤◌, List, [], Bool, true, false, length, refl, sym, ap, subst, ◌∙◌, ⊎_elim}
-use Rattle.std.specs.Prelude.{Option, Some, None, is_some, ◌==◌, Contains, not, nat_lt, slice_get, slice_index_or, if◌then◌else◌}
+use Rattle.std.specs.Prelude.{Option, Some, is_some, ◌==◌, Contains, not, nat_lt, slice_get, slice_index_or, if◌then◌else◌}
 use Rattle.std.specs.List.{list_any}
 use Rattle.std.proofs.lemmas.Bool.{and_from, cases_lt, eq-eqb, false≢true, lt-ltb}
 use Rattle.std.proofs.lemmas.List.{get_or_past}
