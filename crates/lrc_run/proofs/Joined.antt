@@ -22,12 +22,13 @@ each_more P (z ∷ xs) x each last (suc n) y at = each_more (λ k. P (suc k)) xs
 module _ (program : Program) (nodes : ℕ) (options : OptionsRecord) where
   -- a log that a thread owed
   its_log : (owed : LogOf) (n : ℕ) (log : List EntryRecord) → IsOwed program nodes options n owed
-      → IsLogOf (fresh_node owed.program.now owed.nodes owed.options owed.me) log → IsLogOf (fresh_node program nodes options n) log
+      → IsLogOf (fresh_node owed.program.now owed.member.nodes owed.member.options owed.member.me) log
+      → IsLogOf (fresh_node program nodes options n) log
   its_log owed n log is h =
       subst (λ m. IsLogOf (fresh_node program nodes options m) log) is.its_number
-      (subst (λ o. IsLogOf (fresh_node program nodes o owed.me) log) is.its_options
-      (subst (λ k. IsLogOf (fresh_node program k owed.options owed.me) log) is.its_nodes
-      (subst (λ p. IsLogOf (fresh_node p owed.nodes owed.options owed.me) log) is.its_program h)))
+      (subst (λ o. IsLogOf (fresh_node program nodes o owed.member.me) log) is.its_options
+      (subst (λ k. IsLogOf (fresh_node program k owed.member.options owed.member.me) log) is.its_nodes
+      (subst (λ p. IsLogOf (fresh_node p owed.member.nodes owed.member.options owed.member.me) log) is.its_program h)))
 
   -- the logs so far, and what is still owed
   abbrev pub AreSoFar : List (List EntryRecord) → List LogOf → Type 0
@@ -35,7 +36,8 @@ module _ (program : Program) (nodes : ℕ) (options : OptionsRecord) where
 
   -- one log more
   pub so_far_more : (logs all : List (List EntryRecord)) (log : List EntryRecord) (one : LogOf) (owed : List LogOf) → all ≡ logs ++ log ∷ []
-      → AreSoFar logs (one ∷ owed) → IsLogOf (fresh_node one.program.now one.nodes one.options one.me) log → AreSoFar all owed
+      → AreSoFar logs (one ∷ owed) → IsLogOf (fresh_node one.program.now one.member.nodes one.member.options one.member.me) log
+      → AreSoFar all owed
   so_far_more logs all log one owed is so_far its =
       let here : length logs + 0 ≡ length logs = omega arith in
       let mine : IsOwed program nodes options (length logs) one = subst (λ n. IsOwed program nodes options n one) here (so_far.1 0 one refl) in (
@@ -50,7 +52,8 @@ module _ (program : Program) (nodes : ℕ) (options : OptionsRecord) where
   pub joined_more : {A H F S : Type 0} (seen : A → List EntryRecord) (promise : H → LogOf) (handle : H) (rest : List H) (before all : List A) (one : A)
       (old new : Option F) (fault : Option S) → IfNone new ((old ≡ None) × (fault ≡ None) × (all ≡ before ++ one ∷ []))
       → IfNone old (AreSoFar (map seen before) (map promise (handle ∷ rest)))
-      → IfNone fault (IsLogOf (fresh_node (promise handle).program.now (promise handle).nodes (promise handle).options (promise handle).me) (seen one))
+      → IfNone fault (let owed = promise handle in
+      IsLogOf (fresh_node owed.program.now owed.member.nodes owed.member.options owed.member.me) (seen one))
       → IfNone new (AreSoFar (map seen all) (map promise rest))
   joined_more seen promise handle rest before all one old (Some failure) fault none so_far its = tt
   joined_more seen promise handle rest before all one (Some failure) None fault none so_far its = let no = none.0 in cc

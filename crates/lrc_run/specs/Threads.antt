@@ -9,9 +9,9 @@ use Rattle.lrc_run.specs.Worker.{IsLogOf}
 -- a thread owes the log of this node
 pub record IsOwed (program : Program) (nodes : ℕ) (options : OptionsRecord) (n : ℕ) (owed : LogOf) : Type 0 where
   pub its_program : owed.program.now ≡ program
-  pub its_nodes : owed.nodes ≡ nodes
-  pub its_options : owed.options ≡ options
-  pub its_number : owed.me ≡ n
+  pub its_nodes : owed.member.nodes ≡ nodes
+  pub its_options : owed.member.options ≡ options
+  pub its_number : owed.member.me ≡ n
 
 -- threads owe the logs of the nodes from one on
 abbrev pub AreOwedFrom : Program → ℕ → OptionsRecord → ℕ → List LogOf → Type 0

@@ -12,10 +12,10 @@ ghost use Rattle.lrc_run.specs.Unfinished.{input_of, is_take, left_behind, next_
 
 use crate::fault::RunFault;
 use crate::life::Failure;
+use crate::setting::Setting;
 use crate::stop::Stop;
 use bytes::Bytes;
-use lrc_lang::program::Program;
-use lrc_node::{Entry, Input, Options, Turn};
+use lrc_node::{Entry, Input, Turn};
 use lrc_post::{Mailbox, Wire};
 use lrc_protocol::Event;
 use lrc_weave::{WeaveFault, events_of};
@@ -36,38 +36,30 @@ pub(crate) struct Remains<'w> {
 /// since the nodes made these turns.
 pub(crate) fn fault_of(
     alloc: Global,
-    program: &Program,
-    nodes: u8,
-    options: &Options,
+    setting: &Setting<'_>,
     remains: Remains<'_>,
     failure: Failure,
 ) -> RunFault
     requires few { length remains.logs.items ≤ 16 }
-    requires range { AreNodes nodes × AreSteps options.now.steps }
-    ensures worn { result ≡ RunFault.Worn → (events : List AnyEvent) × IsWornBy program.now nodes options.now events }
-    ensures soon { result ≡ RunFault.Worn → WearsOutSoon program.now nodes options.now }
+    requires range { AreNodes setting.now.nodes × AreSteps setting.now.options.steps }
+    ensures worn { result ≡ RunFault.Worn
+        → (events : List AnyEvent) × IsWornBy setting.now.program.now setting.now.nodes setting.now.options events }
+    ensures soon { result ≡ RunFault.Worn → WearsOutSoon setting.now.program.now setting.now.nodes setting.now.options }
     ensures late { IsLate result }
-    ensures stop { AnswersStop program.now nodes options.now
+    ensures stop { AnswersStop setting.now.program.now setting.now.nodes setting.now.options
         (left_behind (map (λ log. log.items) remains.entry.logs.items) remains.entry.wires.now failure.node) failure.stop result }
 {
     match failure.stop {
-        Stop::Worn => worn_out(alloc, program, nodes, options, remains, failure.node),
+        Stop::Worn => worn_out(alloc, setting, remains, failure.node),
         Stop::Closed | Stop::NoMemory => RunFault::NoMemory,
     }
 }
 
 // The fault of a run in which this node wore out.
-fn worn_out(
-    alloc: Global,
-    program: &Program,
-    nodes: u8,
-    options: &Options,
-    remains: Remains<'_>,
-    node: usize,
-) -> RunFault
+fn worn_out(alloc: Global, setting: &Setting<'_>, remains: Remains<'_>, node: usize) -> RunFault
     requires few { length remains.logs.items ≤ 16 }
-    requires range { AreNodes nodes × AreSteps options.now.steps }
-    ensures { AnswersWorn program.now nodes options.now
+    requires range { AreNodes setting.now.nodes × AreSteps setting.now.options.steps }
+    ensures { AnswersWorn setting.now.program.now setting.now.nodes setting.now.options
         (left_behind (map (λ log. log.items) remains.entry.logs.items) remains.entry.wires.now node) result }
 {
     let events = match events_until(alloc, remains, node) {
@@ -77,21 +69,21 @@ fn worn_out(
     let turns = events.as_slice();
     // For the proof: there are fewer than 2^64.
     let _count = count_of(turns);
-    fault_of_events(alloc, program, nodes, options, turns)
+    fault_of_events(alloc, setting, turns)
 }
 
 // The fault of a run in which a node wore out at one of these events.
-fn fault_of_events(
-    alloc: Global,
-    program: &Program,
-    nodes: u8,
-    options: &Options,
-    events: &[Event],
-) -> RunFault
-    requires range { AreNodes nodes × AreSteps options.now.steps }
-    ensures { AnswersEvents program.now nodes options.now events.now result }
+fn fault_of_events(alloc: Global, setting: &Setting<'_>, events: &[Event]) -> RunFault
+    requires range { AreNodes setting.now.nodes × AreSteps setting.now.options.steps }
+    ensures { AnswersEvents setting.now.program.now setting.now.nodes setting.now.options events.now result }
 {
-    let fault = match replay(alloc, program, u32::from(nodes), options, events) {
+    let fault = match replay(
+        alloc,
+        setting.program,
+        u32::from(setting.nodes),
+        &setting.options,
+        events,
+    ) {
         // The nodes made these turns on their threads, so this does not come.
         Ok(_) => return RunFault::Mismatch,
         Err(fault) => fault,

@@ -9,6 +9,7 @@ mod life;
 mod mail;
 mod nodes;
 mod runs;
+mod setting;
 mod spin;
 mod stop;
 mod thread;
@@ -16,9 +17,7 @@ mod worker;
 
 pub use fault::RunFault;
 pub use gate::Gate;
-pub use life::Life;
 pub use mail::{Line, Mail};
 pub use runs::{run, run_gated, run_with_events};
 pub use stop::Stop;
-pub use thread::on_thread;
 pub use worker::work;

@@ -8,7 +8,7 @@ use lrc_node::Entry;
 /// What a node's thread leaves: the node's turns with their stamps, and why it stopped, where it did not go on until the post was
 /// closed.
 #[derive(Drop)]
-pub struct Life {
+pub(crate) struct Life {
     pub log: Vec<Entry>,
     pub fault: Option<Stop>,
 }

@@ -9,9 +9,10 @@ ghost use Rattle.lrc_run.specs.Worker.{IsLogOf};
 use crate::coded::Coded;
 use crate::gate::Gate;
 use crate::life::{Life, Lives, added, of_all};
+use crate::setting::{Member, Setting};
 use crate::thread::on_thread;
 use lrc_lang::program::Program;
-use lrc_node::{Entry, Options};
+use lrc_node::Entry;
 use lrc_post::Post;
 use std::alloc::{AllocError, Global};
 use std::sync::Wait;
@@ -22,13 +23,11 @@ use std::thread::{Promise, PromisedHandle, Threads};
 #[derive(Clone, Copy)]
 struct LogOf<'p> {
     program: &'p Program,
-    nodes: u8,
-    options: Options,
-    me: u8,
+    member: Member,
 }
 
 impl<'p> Promise<Life> for LogOf<'p> {
-    ghost kept_by = { λ p r. IfNone r.fault (IsLogOf (fresh_node p.program.now p.nodes p.options p.me) r.log.items) };
+    ghost kept_by = { λ p r. IfNone r.fault (IsLogOf (fresh_node p.program.now p.member.nodes p.member.options p.member.me) r.log.items) };
 }
 
 /// What is left of all nodes of a program: each lives on a thread of its own, over the one code of the program, until the post is
@@ -36,19 +35,19 @@ impl<'p> Promise<Life> for LogOf<'p> {
 pub(crate) fn logs_of<C: Coded + Sync, G: Gate + Sync, R: Threads + Wait + Sync>(
     rt: &R,
     alloc: Global,
-    program: &Program,
+    setting: &Setting<'_>,
     code: &C,
-    nodes: u8,
-    options: &Options,
     post: &Post,
     gate: &G,
 ) -> Result<Lives, AllocError>
-    requires code { C.program_of code.now ≡ program.now }
-    requires few { nodes ≤ 16 }
+    requires code { C.program_of code.now ≡ setting.now.program.now }
+    requires few { setting.now.nodes ≤ 16 }
     ensures logs { IfOk result (λ lives. IfNone lives.failure
-        (AreLogs program.now nodes options.now (map (λ log. log.items) lives.logs.items))) }
-    ensures few { IfOk result (λ lives. length lives.logs.items ≤ nodes) }
+        (AreLogs setting.now.program.now setting.now.nodes setting.now.options (map (λ log. log.items) lives.logs.items))) }
+    ensures few { IfOk result (λ lives. length lives.logs.items ≤ setting.now.nodes) }
 {
+    // The scope's closure captures these, and not the setting, whose type names a lifetime.
+    let (program, nodes, options) = (setting.program, setting.nodes, &setting.options);
     thread::scope(
         thread::scope_env(),
         rt,
@@ -64,13 +63,12 @@ pub(crate) fn logs_of<C: Coded + Sync, G: Gate + Sync, R: Threads + Wait + Sync>
                 let body = move || -> Life
                     requires { (me < nodes) × (nodes ≤ 16) }
                     ensures { IfNone result.fault (IsLogOf (fresh_node (C.program_of code.entry.now) nodes options.entry.now me) result.log.items) }
-                { on_thread(rt, alloc, code.code(), nodes, options, post, gate, me) };
-                let owed = LogOf {
-                    program,
-                    nodes,
-                    options: *options,
-                    me,
+                {
+                    let member = Member::new(nodes, options, me);
+                    on_thread(rt, alloc, code.code(), member, post, gate)
                 };
+                let member = Member::new(nodes, options, me);
+                let owed = LogOf { program, member };
                 let Ok(thread) = scope.spawn_with(owed, body) else {
                     post.close(rt);
                     break;
@@ -80,7 +78,12 @@ pub(crate) fn logs_of<C: Coded + Sync, G: Gate + Sync, R: Threads + Wait + Sync>
                     break;
                 }
             }
-            Ok(of_all(joined(rt, program, nodes, options, logs, threads), nodes))
+            let setting = Setting {
+                program,
+                nodes,
+                options: *options,
+            };
+            Ok(of_all(joined(rt, &setting, logs, threads), nodes))
         },
     )
 }
@@ -88,17 +91,17 @@ pub(crate) fn logs_of<C: Coded + Sync, G: Gate + Sync, R: Threads + Wait + Sync>
 // What is left of threads that are joined in order. There is room for their logs.
 fn joined<R: Threads>(
     rt: &R,
-    program: &Program,
-    nodes: u8,
-    options: &Options,
+    setting: &Setting<'_>,
     room: Vec<Vec<Entry>>,
     threads: Vec<PromisedHandle<Life, LogOf<'_>>>,
 ) -> Lives
     requires none { room.items ≡ [] }
-    requires few { length threads.items ≤ nodes }
-    requires owed { AreOwedFrom program.now nodes options.now 0 (map (λ handle. handle.promise) threads.items) }
-    ensures logs { IfNone result.failure (AreFirstLogs program.now nodes options.now (map (λ log. log.items) result.logs.items)) }
-    ensures few { length result.logs.items ≤ nodes }
+    requires few { length threads.items ≤ setting.now.nodes }
+    requires owed { AreOwedFrom setting.now.program.now setting.now.nodes setting.now.options 0
+        (map (λ handle. handle.promise) threads.items) }
+    ensures logs { IfNone result.failure
+        (AreFirstLogs setting.now.program.now setting.now.nodes setting.now.options (map (λ log. log.items) result.logs.items)) }
+    ensures few { length result.logs.items ≤ setting.now.nodes }
 {
     let mut lives = Lives {
         logs: room,

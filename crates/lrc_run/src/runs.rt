@@ -15,6 +15,7 @@ use crate::failure::{Remains, count_of, fault_of};
 use crate::fault::RunFault;
 use crate::gate::Gate;
 use crate::nodes::logs_of;
+use crate::setting::Setting;
 use lrc_envelope::Picker;
 use lrc_exec::code::Code;
 use lrc_lang::program::Program;
@@ -88,16 +89,13 @@ pub fn run_gated<G: Gate + Sync, R: Threads + Wait + Sync>(
     ensures bad_nodes { (result ≡ Err RunFault.BadNodes) ↔ (¬ AreNodes nodes) }
     ensures bad_steps { (result ≡ Err RunFault.BadSteps) ↔ (AreNodes nodes × ¬ AreSteps options.now.steps) }
 {
-    let count = check(nodes, options)?;
-    let (logs, wires) = live(rt, alloc, program, count, options, picker, gate)?;
-    let (report, _events) = told(
-        alloc,
+    let setting = Setting {
         program,
-        nodes,
-        options,
-        logs.as_slice(),
-        wires.mailboxes(),
-    )?;
+        nodes: check(nodes, options)?,
+        options: *options,
+    };
+    let (logs, wires) = live(rt, alloc, &setting, picker, gate)?;
+    let (report, _events) = told(alloc, &setting, logs.as_slice(), wires.mailboxes())?;
     Ok((report, wires))
 }
 
@@ -120,16 +118,13 @@ pub fn run_with_events<R: Threads + Wait + Sync>(
     ensures bad_nodes { (result ≡ Err RunFault.BadNodes) ↔ (¬ AreNodes nodes) }
     ensures bad_steps { (result ≡ Err RunFault.BadSteps) ↔ (AreNodes nodes × ¬ AreSteps options.now.steps) }
 {
-    let count = check(nodes, options)?;
-    let (logs, wires) = live(rt, alloc, program, count, options, picker, &OpenGate)?;
-    let (report, events) = told(
-        alloc,
+    let setting = Setting {
         program,
-        nodes,
-        options,
-        logs.as_slice(),
-        wires.mailboxes(),
-    )?;
+        nodes: check(nodes, options)?,
+        options: *options,
+    };
+    let (logs, wires) = live(rt, alloc, &setting, picker, &OpenGate)?;
+    let (report, events) = told(alloc, &setting, logs.as_slice(), wires.mailboxes())?;
     Ok((report, wires, events))
 }
 
@@ -137,31 +132,29 @@ pub fn run_with_events<R: Threads + Wait + Sync>(
 fn live<G: Gate + Sync, R: Threads + Wait + Sync>(
     rt: &R,
     alloc: Global,
-    program: &Program,
-    nodes: u8,
-    options: &Options,
+    setting: &Setting<'_>,
     picker: Picker,
     gate: &G,
 ) -> Result<(Vec<Vec<Entry>>, Wires), RunFault>
-    requires range { AreNodes nodes × AreSteps options.now.steps }
-    ensures logs { IfOk result (λ lived. AreLogs program.now nodes options.now (map (λ log. log.items) lived.0.items)) }
-    ensures wires { IfOk result (λ lived. length lived.1 ≡ nodes) }
+    requires range { AreNodes setting.now.nodes × AreSteps setting.now.options.steps }
+    ensures logs { IfOk result (λ lived.
+        AreLogs setting.now.program.now setting.now.nodes setting.now.options (map (λ log. log.items) lived.0.items)) }
+    ensures wires { IfOk result (λ lived. length lived.1 ≡ setting.now.nodes) }
     ensures picker { IfOk result (λ lived. AreOf picker lived.1) }
-    ensures worn { result ≡ Err RunFault.Worn → (events : List AnyEvent) × IsWornBy program.now nodes options.now events }
-    ensures soon { result ≡ Err RunFault.Worn → WearsOutSoon program.now nodes options.now }
+    ensures worn { result ≡ Err RunFault.Worn
+        → (events : List AnyEvent) × IsWornBy setting.now.program.now setting.now.nodes setting.now.options events }
+    ensures soon { result ≡ Err RunFault.Worn → WearsOutSoon setting.now.program.now setting.now.nodes setting.now.options }
     ensures late { IfErr result IsLate }
 {
-    let post = Post::new(alloc, nodes, picker)?;
-    let code = Code::new(alloc, program)?;
-    let lives = logs_of(rt, alloc, program, &code, nodes, options, &post, gate)?;
+    let post = Post::new(alloc, setting.nodes, picker)?;
+    let code = Code::new(alloc, setting.program)?;
+    let lives = logs_of(rt, alloc, setting, &code, &post, gate)?;
     let wires = post.into_wires();
     match lives.failure {
         None => Ok((lives.logs, wires)),
         Some(failure) => Err(fault_of(
             alloc,
-            program,
-            nodes,
-            options,
+            setting,
             Remains {
                 logs: lives.logs,
                 wires: wires.mailboxes(),
@@ -174,29 +167,30 @@ fn live<G: Gate + Sync, R: Threads + Wait + Sync>(
 // The report of the nodes' turns and the events that make them, where what the post kept agrees with them, and nothing was left to do.
 fn told(
     alloc: Global,
-    program: &Program,
-    nodes: u32,
-    options: &Options,
+    setting: &Setting<'_>,
     logs: &[Vec<Entry>],
     wires: &[Mailbox],
 ) -> Result<(Report, Vec<Event>), RunFault>
-    requires few { nodes ≤ 16 }
-    requires logs { AreLogs program.now nodes options.now (map (λ log. log.items) logs.now) }
-    requires wires { length wires.now ≡ nodes }
-    ensures woven { IfOk result (λ told. IsWovenReport program.now nodes options.now told.1.items told.0) }
+    requires few { setting.now.nodes ≤ 16 }
+    requires logs { AreLogs setting.now.program.now setting.now.nodes setting.now.options (map (λ log. log.items) logs.now) }
+    requires wires { length wires.now ≡ setting.now.nodes }
+    ensures woven { IfOk result (λ told.
+        IsWovenReport setting.now.program.now setting.now.nodes setting.now.options told.1.items told.0) }
     ensures matched { IfOk result (λ told. AreMatched (turns_of told.0) wires.now) }
     ensures races { IfOk result (λ told. AreNamedRaces told.0.acts.items told.0.races.items) }
-    ensures theorem { IfOk result (λ told. IsConsistent program.now nodes told.0.acts.items) }
+    ensures theorem { IfOk result (λ told. IsConsistent setting.now.program.now setting.now.nodes told.0.acts.items) }
 
-    ensures worn { result ≡ Err RunFault.Worn → (events : List AnyEvent) × IsWornBy program.now nodes options.now events }
-    ensures soon { result ≡ Err RunFault.Worn → WearsOutSoon program.now nodes options.now }
+    ensures worn { result ≡ Err RunFault.Worn
+        → (events : List AnyEvent) × IsWornBy setting.now.program.now setting.now.nodes setting.now.options events }
+    ensures soon { result ≡ Err RunFault.Worn → WearsOutSoon setting.now.program.now setting.now.nodes setting.now.options }
     ensures late { IfErr result IsLate }
 {
     let events = weave(alloc, logs, wires)?;
     let turns = events.as_slice();
     // For the proof: there are fewer than 2^64.
     let _count = count_of(turns);
-    match replay(alloc, program, nodes, options, turns) {
+    let nodes = u32::from(setting.nodes);
+    match replay(alloc, setting.program, nodes, &setting.options, turns) {
         Ok((report, true)) => Ok((report, events)),
         Err(SimFault::NoMemory) => Err(RunFault::NoMemory),
         // The events are those of a run, and each message was sent, so no other fault comes.

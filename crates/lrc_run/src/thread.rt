@@ -9,31 +9,30 @@ ghost use Rattle.lrc_run.specs.Worker.{IsLogOf, unmade};
 use crate::gate::Gate;
 use crate::life::Life;
 use crate::mail::Line;
+use crate::setting::Member;
 use crate::stop::Stop;
 use crate::worker::work;
 use lrc_exec::code::Code;
-use lrc_node::{Logged, Node, Options};
+use lrc_node::{Logged, Node};
 use lrc_post::Post;
 use std::alloc::{AllocError, Global};
 use std::sync::Wait;
 
 /// The turns of a node of a program with their stamps, from its first until the post is closed or the node fails. A node that fails
 /// closes the post.
-pub fn on_thread<G: Gate, R: Wait>(
+pub(crate) fn on_thread<G: Gate, R: Wait>(
     rt: &R,
     alloc: Global,
     code: &Code<'_>,
-    nodes: u8,
-    options: &Options,
+    member: Member,
     post: &Post,
     gate: &G,
-    me: u8,
 ) -> Life
-    requires here { me < nodes }
-    requires few { nodes ≤ 16 }
-    ensures { IfNone result.fault (IsLogOf (fresh_node code.now nodes options.now me) result.log.items) }
+    requires here { member.me < member.nodes }
+    requires few { member.nodes ≤ 16 }
+    ensures { IfNone result.fault (IsLogOf (fresh_node code.now member.nodes member.options member.me) result.log.items) }
 {
-    let life = life_of(rt, alloc, code, nodes, options, post, gate, me);
+    let life = life_of(rt, alloc, code, member, post, gate);
     if life.fault.is_some() {
         post.close(rt);
     }
@@ -45,17 +44,16 @@ fn life_of<G: Gate, R: Wait>(
     rt: &R,
     alloc: Global,
     code: &Code<'_>,
-    nodes: u8,
-    options: &Options,
+    member: Member,
     post: &Post,
     gate: &G,
-    me: u8,
 ) -> Life
-    requires here { me < nodes }
-    requires few { nodes ≤ 16 }
-    ensures { IfNone result.fault (IsLogOf (fresh_node code.now nodes options.now me) result.log.items) }
+    requires here { member.me < member.nodes }
+    requires few { member.nodes ≤ 16 }
+    ensures { IfNone result.fault (IsLogOf (fresh_node code.now member.nodes member.options member.me) result.log.items) }
 {
-    let Ok(mut node) = fresh(alloc, code, nodes, options, me) else {
+    let me = member.me;
+    let Ok(mut node) = fresh(alloc, code, member) else {
         return unborn(alloc);
     };
     let mut line = Line { rt, post, me };
@@ -86,17 +84,11 @@ fn unborn(alloc: Global) -> Life
 }
 
 // A node of a program before its first turn.
-fn fresh<'c>(
-    alloc: Global,
-    code: &'c Code<'_>,
-    nodes: u8,
-    options: &Options,
-    me: u8,
-) -> Result<Logged<'c>, AllocError>
-    requires here { me < nodes }
-    requires few { nodes ≤ 16 }
-    ensures { IfOk result (λ node. node.logged ≡ sound (unmade (fresh_node code.now nodes options.now me))) }
+fn fresh<'c>(alloc: Global, code: &'c Code<'_>, member: Member) -> Result<Logged<'c>, AllocError>
+    requires here { member.me < member.nodes }
+    requires few { member.nodes ≤ 16 }
+    ensures { IfOk result (λ node. node.logged ≡ sound (unmade (fresh_node code.now member.nodes member.options member.me))) }
 {
-    let node = Node::new(alloc, code, me, nodes, options)?;
+    let node = Node::new(alloc, code, member.me, member.nodes, &member.options)?;
     Ok(Logged::new(alloc, node))
 }

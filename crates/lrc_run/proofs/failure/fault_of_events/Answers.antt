@@ -5,9 +5,10 @@ use Rattle.lrc_run.proofs.failure.fault_of_events.Goals as goal
 
 pub returns : goal.returns
 returns c =
-    let same : c.from.result ≡ c.args.nodes = search rules in
-    subst (AnswersEvents c.args.program.now c.args.nodes c.args.options.now c.args.events.now) (sym c.fault_of_play.ensures)
-    (refused c.args.program.now c.args.nodes c.from.result c.args.options.now c.args.events.now c.in-Err.fault same
+    let setting = c.args.setting.now in
+    let same : c.from.result ≡ setting.nodes = search rules in
+    subst (AnswersEvents setting.program.now setting.nodes setting.options c.args.events.now) (sym c.fault_of_play.ensures)
+    (refused setting.program.now setting.nodes c.from.result setting.options c.args.events.now c.in-Err.fault same
     (λ is. c.replay.ensures.worn (c.in-Err.is ∙ ap Err is))
     c.requires.range
     (λ is. c.replay.ensures.bad_nodes.0 (c.in-Err.is ∙ ap Err is))

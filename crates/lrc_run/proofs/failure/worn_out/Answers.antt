@@ -7,15 +7,17 @@ use Rattle.lrc_run.proofs.failure.worn_out.Goals as goal
 
 pub returns-in-Err : goal.returns-in-Err
 returns-in-Err c =
+    let setting = c.args.setting.now in
     let gives : c.from.result ≡ of_weaving c.in-Err.fault = search rules in
     let left = left_behind (map (λ log. log.items) c.args.remains.logs.items) c.args.remains.wires.now c.args.node in
-    subst (AnswersWorn c.args.program.now c.args.nodes c.args.options.now left) (sym gives)
-    (unwoven c.args.program.now c.args.nodes c.args.options.now left c.in-Err.fault
+    subst (AnswersWorn setting.program.now setting.nodes setting.options left) (sym gives)
+    (unwoven setting.program.now setting.nodes setting.options left c.in-Err.fault
     (λ is. c.events_until.ensures.mismatch (c.in-Err.is ∙ ap Err is)))
 
 pub returns : goal.returns
 returns c =
+    let setting = c.args.setting.now in
     let at : c.as_slice-turns.result.now ≡ c.in-Ok.events.items = search rules in
     let left = left_behind (map (λ log. log.items) c.args.remains.logs.items) c.args.remains.wires.now c.args.node in
-    woven c.args.program.now c.args.nodes c.args.options.now left c.as_slice-turns.result.now c.fault_of_events.result
+    woven setting.program.now setting.nodes setting.options left c.as_slice-turns.result.now c.fault_of_events.result
     c.count_of-count.ensures.few (subst (AreEventsOf left) (sym at) c.in-Ok.ensures.events) c.fault_of_events.ensures

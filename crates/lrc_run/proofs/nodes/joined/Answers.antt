@@ -4,11 +4,12 @@ use Rattle.lrc_run.proofs.nodes.joined.Goals as goal
 
 pub loop-thread-preserved : goal.loop-thread-preserved
 loop-thread-preserved g c =
+    let setting = c.args.setting.now in
     let so_far = subst (λ left. IfNone c.loop-thread.lives.failure
-    (AreSoFar c.args.program.now c.args.nodes c.args.options.now (map (λ log. log.items) c.loop-thread.lives.logs.items)
+    (AreSoFar setting.program.now setting.nodes setting.options (map (λ log. log.items) c.loop-thread.lives.logs.items)
     (map (λ handle. handle.promise) left)))
     c.in-Some.ensures.steps.0 c.loop-thread.invariant.0 in (
-      joined_more c.args.program.now c.args.nodes c.args.options.now (λ log. log.items) (λ handle. handle.promise) c.in-Some.thread
+      joined_more setting.program.now setting.nodes setting.options (λ log. log.items) (λ handle. handle.promise) c.in-Some.thread
           c.next.new.self.rest.items c.loop-thread.lives.logs.items c.added-lives.result.logs.items c.join.result.log c.loop-thread.lives.failure
           c.added-lives.result.failure c.join.result.fault c.added-lives.ensures.none so_far c.join.ensures,
       omega (arith, c.loop-thread.invariant.1, ap length c.in-Some.ensures.steps.0, c.added-lives.ensures.count),

@@ -7,5 +7,6 @@ use Rattle.lrc_run.proofs.nodes.joined.Given as goal
 abbrev pub invariant-loop-thread : goal.invariant-loop-thread
 invariant-loop-thread g l =
     IfNone l.lives.failure
-    (AreSoFar l.program l.nodes l.options (map (λ log. log.items) l.lives.logs.items) (map (λ handle. handle.promise) (into_iter_items l.thread-iterator)))
-    × (length l.lives.logs.items + length (into_iter_items l.thread-iterator) ≤ l.nodes)
+    (AreSoFar l.setting.program.now l.setting.nodes l.setting.options (map (λ log. log.items) l.lives.logs.items)
+    (map (λ handle. handle.promise) (into_iter_items l.thread-iterator)))
+    × (length l.lives.logs.items + length (into_iter_items l.thread-iterator) ≤ l.setting.nodes)

@@ -1,5 +1,6 @@
-use Rattle.std.proofs.Common.{◌≡◌, ◌≤◌, ◌++◌, [], ◌∷◌, sym, ap, subst, arith, length, map, rules}
+use Rattle.std.proofs.Common.{◌≡◌, ◌∙◌, ◌≤◌, ◌++◌, [], ◌∷◌, sym, ap, subst, arith, length, map, rules}
 use Rattle.lrc_run.specs.declared.nodes.LogOf.{LogOf}
+use Rattle.lrc_run.specs.declared.setting.Member.{Member}
 use Rattle.lrc_run.specs.Threads.{AreOwedFrom}
 use Rattle.lrc_run.proofs.Joined.{started_more, all_logs}
 use Rattle.lrc_run.proofs.nodes.fn.logs_of.scope.Goals.{else-loop-me-test, then-loop-me-test+in_default, then-loop-me-test+in-Ok+then-is_err}
@@ -13,9 +14,9 @@ loop-me-preserved g c =
     c.in-Ok.thread c.loop-me.me items c.loop-me.invariant.0 c.loop-me.invariant.1
     (record {
       its_program = ap (λ (o : LogOf). o.program.now) promised;
-      its_nodes = ap (λ (o : LogOf). o.nodes) promised;
-      its_options = ap (λ (o : LogOf). o.options) promised;
-      its_number = ap (λ (o : LogOf). o.me) promised;
+      its_nodes = ap (λ (o : LogOf). o.member.nodes) promised ∙ ap (λ (m : Member). m.nodes) c.new-member.ensures;
+      its_options = ap (λ (o : LogOf). o.member.options) promised ∙ ap (λ (m : Member). m.options) c.new-member.ensures;
+      its_number = ap (λ (o : LogOf). o.member.me) promised ∙ ap (λ (m : Member). m.me) c.new-member.ensures;
     }) in
     (more.0, more.1, omega (arith, c.loop-me-test.true))
 
