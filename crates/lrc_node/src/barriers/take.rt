@@ -22,7 +22,8 @@ use crate::state::NodeState;
 use crate::turn::Effect;
 use lrc_barrier::{Arrival, Departures};
 use lrc_envelope::{Arrive, Depart, Message, News};
-use lrc_mail::{Letter, Wait};
+use lrc_mail::Letter;
+use lrc_need::Wait;
 use lrc_time::Time;
 use std::alloc::{AllocError, Global};
 

@@ -3,7 +3,7 @@
 ghost use Rattle.std.specs.Prelude.{◌≡◌, ◌≢◌, AllPairs, IfOk, [], nat_lt};
 ghost use Rattle.std.specs.List.{list_all};
 ghost use Rattle.lrc_envelope.specs.declared.message.Message.TheVariants as messages;
-ghost use Rattle.lrc_mail.specs.Wait.{seen_wait};
+ghost use Rattle.lrc_need.specs.Wait.{seen_wait};
 ghost use Rattle.lrc_memory.specs.Turns.{AreAwaited};
 ghost use Rattle.lrc_protocol.specs.Expected.{is_expected};
 ghost use Rattle.lrc_protocol.specs.Fetch.{with_changes, with_page};
@@ -16,7 +16,7 @@ ghost use Rattle.lrc_node.specs.State.{seen_effect, AreFor};
 use crate::state::NodeState;
 use crate::turn::Effect;
 use lrc_envelope::{ChangesReply, IndexedChanges, PageReply};
-use lrc_mail::{Need, Wait};
+use lrc_need::{Need, Wait};
 use lrc_page::Changes;
 use std::alloc::AllocError;
 

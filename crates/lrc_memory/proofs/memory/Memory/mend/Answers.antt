@@ -5,7 +5,7 @@ use Rattle.lrc_table.specs.Table.{Table}
 use Rattle.lrc_protocol.specs.Copy as copy
 use Rattle.lrc_protocol.specs.Fetch.{first_values}
 use Rattle.lrc_protocol.specs.Memory as memory
-use Rattle.lrc_mail.specs.Seen.{seen_base}
+use Rattle.lrc_need.specs.Seen.{seen_base}
 use Rattle.lrc_memory.specs.Turns.{is_mendable}
 use Rattle.lrc_memory.specs.View.{NodeMemory, IsKept, node_seen, with_memory}
 use Rattle.lrc_memory.proofs.Inside.{kept}
