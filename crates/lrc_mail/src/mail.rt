@@ -10,8 +10,8 @@ ghost use Rattle.lrc_mail.specs.Sent.{AreCounts, number_after};
 use crate::fault::MailFault;
 use crate::letter::Letter;
 use crate::numbers::Numbers;
-use crate::wait::Wait;
 use lrc_envelope::Envelope;
+use lrc_need::Wait;
 use std::alloc::{AllocError, Global};
 use std::marker::Model;
 use std::mem;
@@ -30,7 +30,7 @@ impl Model for Mail {
 
     ghost Value = { mail.Mail };
 
-    ghost use Rattle.lrc_mail.specs.Wait.{seen_wait};
+    ghost use Rattle.lrc_need.specs.Wait.{seen_wait};
     ghost use Rattle.lrc_mail.specs.Sent.{AreCounts};
 
     ghost view = { λ m. record { wait = seen_wait m.wait; sent = m.sent.items; taken = m.taken.items } };
@@ -39,7 +39,7 @@ impl Model for Mail {
 }
 
 impl Mail {
-    ghost use Rattle.lrc_mail.specs.Wait.{seen_wait};
+    ghost use Rattle.lrc_need.specs.Wait.{seen_wait};
 
     /// The mail of a node among so many, 1 to 16, at the start: nothing is awaited, sent or taken.
     pub fn new(alloc: Global, nodes: u8) -> Result<Self, AllocError>

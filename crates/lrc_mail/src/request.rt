@@ -3,12 +3,12 @@
 ghost use Rattle.std.specs.Prelude.{◌≡◌, ◌<◌, ◌≤◌, ◌++◌, All, IfOk, OnOk, length, map, flat_map};
 ghost use Rattle.lrc_page.specs.declared.TheConstants.{MOST_PAGES};
 ghost use Rattle.lrc_envelope.specs.declared.message.Message.TheVariants as messages;
-ghost use Rattle.lrc_protocol.specs.Turn.{letter, changes_request_of, requests_of};
+ghost use Rattle.lrc_protocol.specs.Turn.{letter, page_request_of, changes_request_of, requests_of};
+ghost use Rattle.lrc_need.specs.Seen.{seen_base};
 
-use crate::asked::Asked;
 use crate::letter::Letter;
-use crate::need::Need;
 use lrc_envelope::{ChangesRequest, Message, PageRequest};
+use lrc_need::{Asked, Base, Need};
 use std::alloc::{AllocError, Global};
 
 /// The requests for some pages, page by page.
@@ -17,13 +17,41 @@ pub fn requests(alloc: Global, needs: &[Need]) -> Result<Vec<Letter>, AllocError
 {
     let mut letters = Vec::new(alloc);
     for need in needs {
-        need.put_requests(&mut letters)?;
+        put_requests(need, &mut letters)?;
     }
     Ok(letters)
 }
 
-/// The request of a page's base copy from its keeper.
-pub(crate) fn page_request(keeper: u8, page: u16) -> Letter
+/// The requests for a page: the keeper's first, then one for each maker, makers ascending.
+pub fn requests_for(alloc: Global, need: &Need) -> Result<Vec<Letter>, AllocError>
+    ensures { IfOk result (λ letters. letters.items ≡ requests_of need.now) }
+{
+    let mut letters = Vec::new(alloc);
+    put_requests(need, &mut letters)?;
+    Ok(letters)
+}
+
+// Puts the requests for a page behind other letters.
+fn put_requests(need: &Need, letters: &mut Vec<Letter>) -> Result<(), AllocError>
+    ensures { OnOk result (letters.new.items ≡ letters.old.items ++ requests_of need.now) }
+{
+    put_page_request(need.page(), need.base(), letters)?;
+    put_changes_requests(need.page(), need.asked(), letters)
+}
+
+// Puts the request of a page's base copy, where it is due, behind other letters.
+fn put_page_request(page: u16, base: &Base, letters: &mut Vec<Letter>) -> Result<(), AllocError>
+    requires { page < MOST_PAGES }
+    ensures { OnOk result (letters.new.items ≡ letters.old.items ++ page_request_of page (seen_base base.now)) }
+{
+    if let Base::Due(keeper) = *base {
+        letters.push(page_request(keeper, page))?;
+    }
+    Ok(())
+}
+
+// The request of a page's base copy from its keeper.
+fn page_request(keeper: u8, page: u16) -> Letter
     requires { page < MOST_PAGES }
     ensures { result ≡ letter keeper (messages.PageRequest page) }
 {
@@ -46,8 +74,8 @@ fn changes_request(alloc: Global, page: u16, asked: &Asked) -> Result<Letter, Al
     })
 }
 
-/// Puts the requests of changes of a page from each of these makers behind other letters.
-pub(crate) fn put_changes_requests(
+// Puts the requests of changes of a page from each of these makers behind other letters.
+fn put_changes_requests(
     page: u16,
     all: &[Asked],
     letters: &mut Vec<Letter>,

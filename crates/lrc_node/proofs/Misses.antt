@@ -10,8 +10,9 @@ use Rattle.lrc_exec.specs.declared.machine.Ask.TheVariants.{Quiet, Print, Read, 
 use Rattle.lrc_store.specs.declared.key.Key.{Key}
 use Rattle.lrc_store.specs.Store.{key_of}
 use Rattle.lrc_memory.specs.Turns.{is_mendable}
-use Rattle.lrc_mail.specs.Need.{DueBelow}
-use Rattle.lrc_mail.proofs.Asking.{asked-below, requests-below}
+use Rattle.lrc_need.specs.Need.{DueBelow}
+use Rattle.lrc_need.proofs.Asking.{asked-below}
+use Rattle.lrc_mail.proofs.Receivers.{requests-below}
 use Rattle.lrc_protocol.specs.Pages.{Copy, valid, written, invalid, absent, is_readable, Memory, copy_at, lacking, lacking_in, keeper_at, Need}
 use Rattle.lrc_protocol.specs.Pages.{base_of, is_due, is_met, need_of, unknown_of, mended}
 use Rattle.lrc_protocol.specs.Node.{Letter, access, nothing, Node, acts, sends, waiting, with_memory}

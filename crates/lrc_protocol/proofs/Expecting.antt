@@ -10,11 +10,10 @@ use Rattle.lrc_lock.specs.Held.{LockStep, refuses, stays, passes, forwarded, is_
 use Rattle.lrc_barrier.specs.Barrier.{ManagerRecord, ArriveStep, refuses as refuses_arrival, waits, departs as all_depart, arrived, is_accepted}
 use Rattle.lrc_barrier.specs.Barrier.{CleanStep, refuses_clean, awaits, discards, cleaned, is_clean}
 use Rattle.lrc_protocol.specs.Barriers.{Collection, arrival_in, base_at}
-use Rattle.lrc_protocol.specs.Node.{Node, Effect, awaits_discard}
-use Rattle.lrc_protocol.specs.Node.{collection_of, numbered}
-use Rattle.lrc_protocol.specs.Turn.{given, forward_by, arrive_by, clean_by, discard_by, page_reply_by, takes, is_expected, taking}
-use Rattle.lrc_protocol.specs.Turn.{is_request, is_forward, is_grant, are_arriving, is_departure, is_changes_request}
-use Rattle.lrc_protocol.specs.Turn.{is_changes_reply, is_page_request, is_page_reply, unexpected, turn_with, turn_taking, take_anew}
+use Rattle.lrc_protocol.specs.Node.{Node, Effect, awaits_discard, collection_of, numbered}
+use Rattle.lrc_protocol.specs.Turn.{given, forward_by, arrive_by, clean_by, discard_by, page_reply_by, takes, is_expected, taking, is_request}
+use Rattle.lrc_protocol.specs.Turn.{is_forward, is_grant, are_arriving, is_departure, is_changes_request, is_changes_reply, is_page_request}
+use Rattle.lrc_protocol.specs.Turn.{is_page_reply, unexpected, turn_with, turn_taking, take_anew}
 
 -- the manager is here, and accepts the arrival
 abbrev pub accepts : Node → ℕ → ArriveRecord → Bool

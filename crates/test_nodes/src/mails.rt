@@ -3,7 +3,8 @@
 ghost use Rattle.std.specs.Prelude.{◌≡◌, ◌<◌, OnOk, All, length};
 
 use lrc_envelope::{Clean, Message};
-use lrc_mail::{Asked, Base, Letter, Mail, MailFault, Need, Wait, requests};
+use lrc_mail::{Letter, Mail, MailFault, requests};
+use lrc_need::{Asked, Base, Need, Wait};
 use lrc_page::{Page, Size};
 use lrc_store::Key;
 use std::alloc::{AllocError, Global};

@@ -11,7 +11,7 @@ use crate::state::NodeState;
 use crate::turn::Effect;
 use crate::turns::letter::one;
 use lrc_envelope::{Arrive, Message, News};
-use lrc_mail::Wait;
+use lrc_need::Wait;
 use lrc_store::Intervals;
 use lrc_time::Time;
 use std::alloc::AllocError;

@@ -10,8 +10,9 @@ ghost use Rattle.lrc_node.specs.State.{seen_effect, AreFor};
 
 use crate::state::NodeState;
 use crate::turn::Effect;
-use lrc_mail::{Collection, Need, requests};
+use lrc_mail::requests;
 use lrc_memory::Memory;
+use lrc_need::{Collection, Need};
 use lrc_page::Pages;
 use lrc_time::Time;
 use std::alloc::{AllocError, Global};

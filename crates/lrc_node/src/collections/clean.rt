@@ -15,8 +15,9 @@ use crate::state::NodeState;
 use crate::turn::Effect;
 use crate::turns::letter::one;
 use lrc_envelope::{Clean, Message};
-use lrc_mail::{Collection, Letter, Need, Wait};
+use lrc_mail::Letter;
 use lrc_memory::Memory;
+use lrc_need::{Collection, Need, Wait};
 use std::alloc::AllocError;
 
 // Whether all has come that these pages need.

@@ -17,7 +17,8 @@ ghost use Rattle.lrc_node.specs.Text.{asked_in};
 use crate::state::NodeState;
 use crate::turn::Effect;
 use lrc_envelope::{Clean, Discard, Message};
-use lrc_mail::{Letter, Wait};
+use lrc_mail::Letter;
+use lrc_need::Wait;
 use std::alloc::{AllocError, Global};
 
 // One word to discard for each node.

@@ -12,7 +12,7 @@ use crate::state::NodeState;
 use crate::turn::Effect;
 use crate::turns::letter::one;
 use lrc_envelope::{LockRequest, Message};
-use lrc_mail::Wait;
+use lrc_need::Wait;
 use std::alloc::AllocError;
 
 impl NodeState<'_> {

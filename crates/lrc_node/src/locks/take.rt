@@ -14,7 +14,7 @@ use crate::state::NodeState;
 use crate::turn::Effect;
 use crate::turns::letter::one;
 use lrc_envelope::{LockForward, LockGrant, LockRequest, Message};
-use lrc_mail::Wait;
+use lrc_need::Wait;
 use std::alloc::AllocError;
 
 impl NodeState<'_> {

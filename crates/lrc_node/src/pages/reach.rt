@@ -11,7 +11,8 @@ ghost use Rattle.lrc_node.specs.Text.{asked_in};
 
 use crate::state::NodeState;
 use crate::turn::Effect;
-use lrc_mail::{Letter, Need, Wait};
+use lrc_mail::{Letter, requests_for};
+use lrc_need::{Need, Wait};
 use std::alloc::AllocError;
 
 impl NodeState<'_> {
@@ -27,7 +28,7 @@ impl NodeState<'_> {
             return self.act(Vec::new(self.alloc));
         }
         let need = self.memory.need(page)?;
-        let letters = need.requests(self.alloc)?;
+        let letters = requests_for(self.alloc, &need)?;
         if need.is_met() {
             self.repair(&need, letters)
         } else {

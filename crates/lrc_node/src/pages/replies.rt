@@ -2,18 +2,19 @@
 
 ghost use Rattle.std.specs.Prelude.{◌≡◌, ◌≢◌, AllPairs, IfOk, [], nat_lt};
 ghost use Rattle.std.specs.List.{list_all};
-ghost use Rattle.lrc_mail.specs.Wait.{seen_wait};
+ghost use Rattle.lrc_need.specs.Wait.{seen_wait};
 ghost use Rattle.lrc_memory.specs.Turns.{AreAwaited};
 ghost use Rattle.lrc_protocol.specs.Pages.{with_changes, with_page};
 ghost use Rattle.lrc_protocol.specs.Node.{access, needs_of};
-ghost use Rattle.lrc_protocol.specs.Turn.{take_changes, take_page, waits_or_goes_on, with_needs, is_changes_reply, is_page_reply};
+ghost use Rattle.lrc_protocol.specs.Turn.{take_changes, take_page, waits_or_goes_on, with_needs, is_changes_reply};
+ghost use Rattle.lrc_protocol.specs.Turn.{is_page_reply};
 ghost use Rattle.lrc_node.specs.Effects.{CanGoOn, with_parts};
 ghost use Rattle.lrc_node.specs.State.{seen_effect, AreFor};
 
 use crate::state::NodeState;
 use crate::turn::Effect;
 use lrc_envelope::{ChangesReply, IndexedChanges, PageReply};
-use lrc_mail::{Need, Wait};
+use lrc_need::{Need, Wait};
 use lrc_page::Changes;
 use std::alloc::AllocError;
 

@@ -2,7 +2,8 @@
 
 ghost use Rattle.std.specs.Prelude.{◌≡◌, ◌⊎◌, ◌<◌, true, false, IfErr, IfOk, Err};
 ghost use Rattle.lrc_node_laws.specs.Reached.{IsReached};
-ghost use Rattle.lrc_protocol.specs.Turn.{is_expected, done, is_addressed, is_repeat, take_turn, taking, unexpected, worn, turn_taking};
+ghost use Rattle.lrc_protocol.specs.Turn.{is_expected, done, is_addressed, is_repeat, take_turn, taking, unexpected, worn};
+ghost use Rattle.lrc_protocol.specs.Turn.{turn_taking};
 ghost use Rattle.lrc_node.specs.Taking.{effect_of};
 ghost use Rattle.lrc_node.specs.Taken.{RefusesTake};
 ghost use Rattle.lrc_node.specs.declared.fault.NodeFault.TheVariants.{NoMemory, Unexpected, Worn};

@@ -12,8 +12,7 @@ use Rattle.lrc_envelope.specs.declared.message.Message.TheVariants.{ChangesReque
 use Rattle.lrc_copies.proofs.Members.{Contains-filter}
 use Rattle.lrc_protocol.specs.declared.event.Event.{Event}
 use Rattle.lrc_protocol.specs.Node.{Node, Effect, OptionsRecord}
-use Rattle.lrc_protocol.specs.Turn.{is_expected, done, unexpected, empty_turn, is_addressed, is_repeat, take_turn, turn_taking, takes}
-use Rattle.lrc_protocol.specs.Turn.{taking}
+use Rattle.lrc_protocol.specs.Turn.{is_expected, done, unexpected, empty_turn, is_addressed, is_repeat, take_turn, turn_taking, takes, taking}
 use Rattle.lrc_protocol.specs.Run.{Logged, World, Flying, pending, run_of}
 use Rattle.lrc_protocol.proofs.Expecting.{never-unexpected, still_expected}
 use Rattle.lrc_order_laws.proofs.Addressed.{all_addressed}

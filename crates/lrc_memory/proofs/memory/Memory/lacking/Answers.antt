@@ -1,7 +1,7 @@
 use Rattle.std.proofs.Common.{◌≡◌, ◌∙◌, ◌<◌, [], get_or, ap, length, sym, subst, arith}
 use Rattle.std.proofs.lemmas.List.Elements.{All-head, All-tail}
 use Rattle.lrc_store.specs.Store.{missing_of}
-use Rattle.lrc_mail.proofs.Askable.{missing-AreAskable}
+use Rattle.lrc_need.proofs.Askable.{missing-AreAskable}
 use Rattle.lrc_memory.specs.Notes.{since_of}
 use Rattle.lrc_memory.specs.View.{WasLast}
 use Rattle.lrc_memory.proofs.Inside.{kept}

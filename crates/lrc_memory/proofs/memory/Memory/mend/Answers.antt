@@ -4,7 +4,7 @@ use Rattle.lrc_store.specs.declared.key.Key.{Key}
 use Rattle.lrc_table.specs.Table.{Table}
 use Rattle.lrc_protocol.specs.Pages as machine
 use Rattle.lrc_protocol.specs.Pages.{first_values}
-use Rattle.lrc_mail.specs.Seen.{seen_base}
+use Rattle.lrc_need.specs.Seen.{seen_base}
 use Rattle.lrc_memory.specs.Turns.{is_mendable}
 use Rattle.lrc_memory.specs.View.{NodeMemory, IsKept, node_seen, with_memory}
 use Rattle.lrc_memory.proofs.Inside.{kept}

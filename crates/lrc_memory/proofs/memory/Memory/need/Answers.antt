@@ -4,9 +4,9 @@ use Rattle.lrc_store.specs.declared.key.Key.{Key}
 use Rattle.lrc_store.specs.Store.{changes_at}
 use Rattle.lrc_protocol.specs.Pages.{keeper_at, unknown_of}
 use Rattle.lrc_memory.specs.Steps.{base_in}
-use Rattle.lrc_mail.specs.Seen.{seen_base}
-use Rattle.lrc_mail.specs.Need.{AreAskable}
-use Rattle.lrc_mail.proofs.Askable.{filter-AreAskable}
+use Rattle.lrc_need.specs.Seen.{seen_base}
+use Rattle.lrc_need.specs.Need.{AreAskable}
+use Rattle.lrc_need.proofs.Askable.{filter-AreAskable}
 use Rattle.lrc_memory.specs.Notes.{keepers_of}
 use Rattle.lrc_memory.specs.View.{NodeMemory}
 use Rattle.lrc_memory.proofs.Inside.{kept}

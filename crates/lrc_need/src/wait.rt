@@ -1,0 +1,159 @@
+// What a node waits for.
+
+ghost use Rattle.std.specs.Prelude.{◌≡◌, ◌≢◌, AllPairs, map};
+ghost use Rattle.std.specs.List.{list_any, list_all};
+ghost use Rattle.std.specs.Option.{option_copied};
+ghost use Rattle.lrc_protocol.specs.Pages.{awaits_changes, awaits_page, with_changes, with_page};
+ghost use Rattle.lrc_protocol.specs.Node.{is_idle, needs_of, awaits_grant, awaits_departure, awaits_discard, collection_of};
+ghost use Rattle.lrc_protocol.specs.Turn.{with_needs};
+
+use crate::need::Need;
+use lrc_envelope::IndexedChanges;
+use lrc_page::{Page, Pages};
+use lrc_time::Time;
+use std::marker::Model;
+use std::slice;
+
+/// A collection under way at a node.
+#[derive(Drop)]
+pub struct Collection {
+    /// The barrier's time, up to which intervals are collected.
+    pub time: Time,
+    /// The pages of which the node keeps a base copy anew.
+    pub kept: Pages,
+}
+
+impl Model for Collection {
+    ghost use Rattle.lrc_protocol.specs.Node as mail;
+    ghost use Rattle.lrc_protocol.specs.Barriers as barriers;
+
+    ghost Value = { barriers.Collection };
+
+    ghost view = { λ c. record { time = c.time; kept = c.kept } };
+}
+
+/// What a node waits for.
+#[derive(Drop)]
+pub enum Wait {
+    Nothing,
+    /// The grant of a lock.
+    Grant(u8),
+    /// The departure from the barrier where it has arrived.
+    Departure,
+    /// What the page of its next access needs.
+    Access(Need),
+    /// What the pages need that it keeps, in a collection.
+    Upkeep(Collection, Vec<Need>),
+    /// The word to discard: its copies are clean.
+    Discard(Collection),
+}
+
+impl Wait {
+    ghost use Rattle.lrc_need.specs.Wait.{seen_wait};
+
+    /// Whether nothing is awaited.
+    pub fn is_idle(&self) -> bool
+        ensures { result ≡ is_idle (seen_wait self.now) }
+    {
+        matches!(self, Wait::Nothing)
+    }
+
+    /// What is still needed of pages.
+    pub fn needs(&self) -> &[Need]
+        ensures { result.now ≡ needs_of (seen_wait self.now) }
+    {
+        match self {
+            Wait::Access(need) => slice::from_ref(need),
+            Wait::Upkeep(_, needs) => needs.as_slice(),
+            Wait::Nothing | Wait::Grant(_) | Wait::Departure | Wait::Discard(_) => &[],
+        }
+    }
+
+    /// Whether this lock's grant is awaited.
+    pub fn awaits_grant(&self, lock: u8) -> bool
+        ensures { result ≡ awaits_grant lock (seen_wait self.now) }
+    {
+        matches!(self, Wait::Grant(awaited) if *awaited == lock)
+    }
+
+    /// Whether the departure is awaited.
+    pub fn awaits_departure(&self) -> bool
+        ensures { result ≡ awaits_departure (seen_wait self.now) }
+    {
+        matches!(self, Wait::Departure)
+    }
+
+    /// Whether the word to discard is awaited.
+    pub fn awaits_discard(&self) -> bool
+        ensures { result ≡ awaits_discard (seen_wait self.now) }
+    {
+        matches!(self, Wait::Discard(_))
+    }
+
+    /// Whether a page is awaited for which just these changes are asked of this maker.
+    pub fn awaits_changes(&self, page: u16, maker: u8, parts: &[IndexedChanges]) -> bool
+        ensures { result ≡ list_any (awaits_changes page maker (map (λ part. part.index) parts.now)) (needs_of (seen_wait self.now)) }
+    {
+        self.needs()
+            .iter()
+            .any(|need| need.awaits_changes(page, maker, parts))
+    }
+
+    /// Whether this page's base copy is awaited from this keeper.
+    pub fn awaits_page(&self, page: u16, keeper: u8) -> bool
+        ensures { result ≡ list_any (awaits_page page keeper) (needs_of (seen_wait self.now)) }
+    {
+        self.needs()
+            .iter()
+            .any(|need| need.awaits_page(page, keeper))
+    }
+
+    /// The changes of this page that were asked of this maker have come.
+    pub fn take_changes(&mut self, page: u16, maker: u8)
+        ensures { seen_wait self.new ≡ with_needs (with_changes page maker) (seen_wait self.old) }
+    {
+        match self {
+            Wait::Access(need) => need.take_changes(page, maker),
+            Wait::Upkeep(_, needs) => take_changes_of_all(needs, page, maker),
+            Wait::Nothing | Wait::Grant(_) | Wait::Departure | Wait::Discard(_) => {}
+        }
+    }
+
+    /// This page's base copy has come. No two needs are of one page.
+    pub fn take_page(&mut self, page: u16, copy: Box<Page>)
+        requires { AllPairs (λ a b. a.page ≢ b.page) (needs_of (seen_wait self.old)) }
+        ensures { seen_wait self.new ≡ with_needs (with_page page copy.value) (seen_wait self.old) }
+    {
+        match self {
+            Wait::Access(need) => {
+                if need.page() == page {
+                    need.take_page(copy);
+                }
+            }
+            Wait::Upkeep(_, needs) => take_page_of_all(needs, page, copy),
+            Wait::Nothing | Wait::Grant(_) | Wait::Departure | Wait::Discard(_) => {}
+        }
+    }
+}
+
+// The changes of this page that were asked of this maker have come.
+fn take_changes_of_all(needs: &mut [Need], page: u16, maker: u8)
+    ensures { needs.new ≡ map (with_changes page maker) needs.old }
+{
+    for need in needs.iter_mut() {
+        need.take_changes(page, maker);
+    }
+}
+
+// This page's base copy has come. No two needs are of one page.
+fn take_page_of_all(needs: &mut [Need], page: u16, copy: Box<Page>)
+    requires { AllPairs (λ a b. a.page ≢ b.page) needs.old }
+    ensures { needs.new ≡ map (with_page page copy.value) needs.old }
+{
+    for need in needs.iter_mut() {
+        if need.page() == page {
+            need.take_page(copy);
+            return;
+        }
+    }
+}
