@@ -18,8 +18,9 @@ use Rattle.lrc_judge.specs.Races.{AreNamedRaces}
 use Rattle.lrc_judge.specs.Pairs.{AreRacingPairs}
 use Rattle.lrc_judge.specs.declared.lanes.Pair.{Pair}
 use Rattle.lrc_judge.specs.declared.in_order.OutOfOrder.{OutOfOrder}
+use Rattle.lrc_text.specs.Lines.{lines_of}
 use Rattle.lrc_text.specs.RaceText.{first_race_text, races_text}
-use Rattle.lrc_acts.specs.ActsText.{Reads, SaysSome, lines_of, most_bytes}
+use Rattle.lrc_acts.specs.ActsText.{Reads, SaysSome, most_bytes}
 use Rattle.lrc_acts.specs.JudgeLines.{lazy_line, ordered_line, pair_line, synchronized_line, unlazy_line, unordered_line, unsynchronized_line}
 use Rattle.lrc_acts.specs.declared.judge_lines.Place.{Place}
 use Rattle.lrc_acts.specs.declared.judge_lines.RacingAccesses.{RacingAccesses}
