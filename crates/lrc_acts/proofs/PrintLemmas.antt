@@ -12,7 +12,8 @@ use Rattle.lrc_trace.specs.declared.act.Cause.TheVariants.{DivisionByZero, WordO
 use Rattle.lrc_trace.specs.declared.act.Deed.{Deed}
 use Rattle.lrc_trace.specs.declared.act.Deed.TheVariants.{Quiet, Print, Read, Write, Acquire, Release, Arrive, Depart, Trap, End}
 use Rattle.lrc_text.specs.ActText.{act_line, act_text, cause_number, deed_text}
-use Rattle.lrc_acts.specs.ActsText.{IsNumber, SayActs, SaysAct, SaysDeed, empty, more, none, is_blank, lines_of, words_in, words_of}
+use Rattle.lrc_text.specs.Lines.{lines_of}
+use Rattle.lrc_acts.specs.ActsText.{IsNumber, SayActs, SaysAct, SaysDeed, empty, more, none, is_blank, words_in, words_of}
 use Rattle.lrc_acts.proofs.WordLemmas.{is_some_word, some_word, take_one}
 use Rattle.lrc_acts.specs.Printed.{IsPrinted, nothing, line_more, IsRanged, IsRangedDeed, IsValue, numbers_from}
 

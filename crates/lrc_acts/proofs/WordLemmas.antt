@@ -22,14 +22,6 @@ found_at false n len e h = omega (arith, ltb-false n len e)
 pub found_or_len : (n len : ℕ) → n ≤ len → unwrap_or (cond (ltb n len) (Some n) None) len ≡ n
 found_or_len n len h = found_at (ltb n len) n len refl h
 
-pub nil_of : (text : List ℕ) → true ≡ (length text == 0) → text ≡ []
-nil_of [] e = refl
-nil_of (b ∷ text) e = let zero : length (b ∷ text) ≡ 0 = search (rules, tests) in absurd (omega arith)
-
-pub some_of : (text : List ℕ) → false ≡ (length text == 0) → 0 < length text
-some_of [] e = absurd cc
-some_of (b ∷ text) e = omega arith
-
 pub take_one : (n : ℕ) (x : ℕ) (xs : List ℕ) → take (1 + n) (x ∷ xs) ≡ x ∷ take n xs
 take_one n x xs = rw (one-add n) refl
 

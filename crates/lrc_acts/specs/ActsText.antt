@@ -7,13 +7,10 @@ use Rattle.lrc_trace.specs.declared.act.Act.{Act}
 use Rattle.lrc_trace.specs.declared.act.Deed.{Deed}
 use Rattle.lrc_trace.specs.declared.act.Deed.TheVariants.{Quiet, Print, Read, Write, Acquire, Release, Arrive, Depart, Trap, End}
 use Rattle.lrc_text.specs.ActText.{cause_number}
+use Rattle.lrc_text.specs.Lines.{lines_of}
 use Rattle.lrc_acts.specs.declared.reading.ActsFault.{ActsFault}
 use Rattle.lrc_acts.specs.declared.reading.ActsFault.TheVariants.{BadAct, NoMemory}
 use Rattle.lrc_acts.specs.declared.reading.LinedActs.{LinedActs}
-
--- the lines of a text: what stands before, between and after its line feeds
-abbrev pub lines_of : List ℕ → List (List ℕ)
-lines_of text = slice_split (λ byte. byte == 10) text
 
 -- a blank is a space, a tab or a carriage return
 abbrev pub is_blank : ℕ → Bool

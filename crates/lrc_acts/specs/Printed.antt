@@ -4,7 +4,8 @@ use Rattle.lrc_trace.specs.declared.act.Act.{Act}
 use Rattle.lrc_trace.specs.declared.act.Deed.{Deed}
 use Rattle.lrc_trace.specs.declared.act.Deed.TheVariants.{Print, Read, Write, Acquire, Release}
 use Rattle.lrc_text.specs.ActText.{act_line}
-use Rattle.lrc_acts.specs.ActsText.{SayActs, lines_of}
+use Rattle.lrc_text.specs.Lines.{lines_of}
+use Rattle.lrc_acts.specs.ActsText.{SayActs}
 
 -- a value of 64 bits, a word of shared memory, and a lock
 abbrev pub IsValue : ℕ → Type 0

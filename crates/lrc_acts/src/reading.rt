@@ -2,7 +2,8 @@
 
 ghost use Rattle.std.specs.Prelude.{◌≡◌, ◌≤◌, ◌++◌, ◌∷◌, [], IfErr, IfOk, MatchBool, MatchOption, OnOk, Err, Ok, length};
 ghost use Rattle.lrc_trace.specs.declared.act.Act.{Act as AnyAct};
-ghost use Rattle.lrc_acts.specs.ActsText.{IsAmong, Reads, SaysAct, SaysSome, lines_of, most_bytes, words_of};
+ghost use Rattle.lrc_text.specs.Lines.{lines_of};
+ghost use Rattle.lrc_acts.specs.ActsText.{IsAmong, Reads, SaysAct, SaysSome, most_bytes, words_of};
 ghost use Rattle.lrc_acts.specs.declared.reading.ActsFault.TheVariants.{NoMemory};
 
 use crate::deeds::deed_in;

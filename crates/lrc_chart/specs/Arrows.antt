@@ -2,13 +2,13 @@
 use Rattle.std.specs.Prelude.{ℕ, Bool, true, false, Some, None, List, [], ◌∷◌, if◌then◌else◌, map}
 use Rattle.lrc_envelope.specs.Envelope.{EnvelopeRecord}
 use Rattle.lrc_turns.specs.Turns.{Made}
-use Rattle.lrc_turns.specs.TurnsText.{takes_message}
+use Rattle.lrc_turns.specs.TurnsText.{takes_numbered}
 use Rattle.lrc_show.specs.Each.{each}
 use Rattle.lrc_chart.specs.declared.arrow.Arrow.{Arrow}
 
 -- the turn is the receiver's, and takes the message of this sender and number
 abbrev pub takes_it : EnvelopeRecord → Made → Bool
-takes_it envelope turn = takes_message envelope.to envelope.from envelope.number turn.node turn.entry.input
+takes_it envelope turn = takes_numbered envelope.to envelope.from envelope.number turn.node turn.entry.input
 
 -- the positions of the turns that take a message
 abbrev pub takers : List Made → EnvelopeRecord → List ℕ

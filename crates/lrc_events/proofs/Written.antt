@@ -10,7 +10,8 @@ use Rattle.std.proofs.lemmas.List.Splits.{slice_split_at}
 use Rattle.std.proofs.lemmas.Str.Parse.{digit_at}
 use Rattle.lrc_protocol.specs.declared.event.Event.{Event}
 use Rattle.lrc_protocol.specs.declared.event.Event.TheVariants.{Run, Deliver, Repeat}
-use Rattle.lrc_events.specs.EventsText.{IsLine, IsPlace, NameAll, Names, empty, lines_of, more, none}
+use Rattle.lrc_text.specs.Lines.{lines_of}
+use Rattle.lrc_events.specs.EventsText.{IsLine, IsPlace, NameAll, Names, empty, more, none}
 use Rattle.lrc_events.specs.Writing.{AreEvents, event_text, events_text, number_in}
 
 -- the byte is no line feed, and none of these bytes is one

@@ -1,15 +1,11 @@
 -- The text of a list of events, one on a line.
-use Rattle.std.specs.Prelude.{◌≡◌, ◌≢◌, ◌<◌, ◌≤◌, ◌+◌, ◌==◌, ◌⊎◌, ℕ, List, [], ◌∷◌, ◌++◌, length, codes, Result, Ok, Err}
-use Rattle.std.specs.List.{slice_split}
+use Rattle.std.specs.Prelude.{◌≡◌, ◌≢◌, ◌<◌, ◌≤◌, ◌+◌, ◌⊎◌, ℕ, List, [], ◌∷◌, ◌++◌, length, codes, Result, Ok, Err}
 use Rattle.std.specs.Str.Parse.{IsNumeral, digits_value}
+use Rattle.lrc_text.specs.Lines.{lines_of}
 use Rattle.lrc_protocol.specs.declared.event.Event.{Event}
 use Rattle.lrc_protocol.specs.declared.event.Event.TheVariants.{Run, Deliver, Repeat}
 use Rattle.lrc_events.specs.declared.events.EventsFault.{EventsFault}
 use Rattle.lrc_events.specs.declared.events.EventsFault.TheVariants.{BadEvent, NoMemory}
-
--- the lines of a text: what stands before, between and after its line feeds
-abbrev pub lines_of : List ℕ → List (List ℕ)
-lines_of text = slice_split (λ byte. byte == 10) text
 
 -- one or more decimal digits, and nothing else, write this number of an event
 pub record IsPlace (digits : List ℕ) (place : ℕ) : Type 0 where

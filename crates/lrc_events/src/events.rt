@@ -1,8 +1,9 @@
 // The text of a list of events.
 
 ghost use Rattle.std.specs.Prelude.{◌≡◌, ◌≤◌, ℕ, IfErr, IfOk, MatchOption, Err, Ok, length};
+ghost use Rattle.lrc_text.specs.Lines.{lines_of};
 ghost use Rattle.lrc_protocol.specs.declared.event.Event.{Event};
-ghost use Rattle.lrc_events.specs.EventsText.{IsPlace, Names, NamesSome, Reads, lines_of, most_bytes};
+ghost use Rattle.lrc_events.specs.EventsText.{IsPlace, Names, NamesSome, Reads, most_bytes};
 ghost use Rattle.lrc_events.specs.declared.events.EventsFault.TheVariants.{NoMemory};
 
 use lrc_protocol::Event;

@@ -1,3 +1,4 @@
+pub mod Beginning
 pub mod Flat
 pub mod NextLaws
 pub mod PlainLaws

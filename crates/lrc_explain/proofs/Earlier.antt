@@ -1,5 +1,5 @@
 -- What stands before the acts of a run, one act further.
-use Rattle.std.proofs.Common.{◌≡◌, ◌∙◌, ℕ, ◌+◌, ◌<◌, ◌++◌, inl, inr, cond, All, List, [], ◌∷◌, Some, length, take, get_or, refl, sym, subst, ap, arith}
+use Rattle.std.proofs.Common.{◌≡◌, ◌∙◌, ℕ, ◌+◌, ◌<◌, ◌++◌, inl, inr, cond, All, List, [], ◌∷◌, Some, length, take, get_or, refl, sym, ap, arith}
 use Rattle.std.specs.Prelude.{if◌then◌else◌, unwrap_or}
 use Rattle.std.specs.BTreeMap.{BTreeMap, get, Updates}
 use Rattle.std.specs.Ordering.{nat_cmp}
@@ -11,15 +11,13 @@ use Rattle.std.proofs.lemmas.Option.{slice_get-get_or, get_or_from_slice_get}
 use Rattle.lrc_trace.specs.declared.act.Act.{Act}
 use Rattle.lrc_trace.specs.declared.act.Deed.{Deed}
 use Rattle.lrc_trace.specs.declared.act.Deed.TheVariants.{Quiet, Write}
-use Rattle.lrc_trace.specs.Run.{Does}
-use Rattle.lrc_trace.specs.Conflict.{Accesses, Races}
-use Rattle.lrc_trace.specs.Interval.{interval_at}
-use Rattle.lrc_trace.proofs.Positions.{slice_get-front, slice_get-seam, Does-one_node, Does-within}
+use Rattle.lrc_trace.specs.Conflict.{Races}
+use Rattle.lrc_trace.proofs.Positions.{slice_get-front, slice_get-seam}
 use Rattle.lrc_judge.specs.declared.lanes.Pair.{Pair}
 use Rattle.lrc_judge.specs.FirstPairs.{AreFirstPairs}
-use Rattle.lrc_judge.specs.Firsts.{AreIntervals}
 use Rattle.lrc_judge.specs.Races.{word_of}
 use Rattle.lrc_judge.proofs.Ascending.{is_eq-nat}
+use Rattle.lrc_judge.proofs.Naming.{accesses_within}
 use Rattle.lrc_show.specs.Acts.{act_at}
 use Rattle.lrc_explain.specs.Access.{left_in, stored}
 use Rattle.lrc_explain.specs.Before.{AreLefts}
@@ -31,23 +29,6 @@ front xs x k within = get_or_from_slice_get _ k (get_or xs k 0) 0 (slice_get-fro
 
 seam : (xs : List ℕ) (x : ℕ) → get_or (xs ++ x ∷ []) (length xs) 0 ≡ x
 seam xs x = get_or_from_slice_get _ (length xs) x 0 (slice_get-seam xs x [])
-
--- ---- intervals
-
-pub intervals-more : (run : List Act) (n node : ℕ) (deed : Deed) (xs zs : List ℕ) (interval : ℕ) → Does run n node deed → interval ≡ interval_at run node n
-    → zs ≡ xs ++ interval ∷ [] → AreIntervals run n xs → AreIntervals run (n + 1) zs
-intervals-more run n node deed xs zs interval here is pushed old = record {
-  long = ap length pushed ∙ length_push xs interval ∙ ap (λ m. m + 1) old.long;
-  each = λ k q d lt does.
-      let long = old.long in
-      elim (cases_eq k n) [
-        | inl same ↦
-            let at : k ≡ length xs = same ∙ sym long in
-            let nodes : q ≡ node = Does-one_node (subst (λ m. Does run m q d) same does) here in
-            rw (pushed, at) (seam xs interval ∙ is ∙ ap (λ m. interval_at run m n) (sym nodes) ∙ ap (λ m. interval_at run q m) (sym same ∙ at))
-        | inr other ↦ rw pushed (front xs interval k (omega arith) ∙ old.each k q d (omega arith) does)
-      ];
-}
 
 -- ---- what acts leave in words
 
@@ -103,14 +84,10 @@ lefts-more acts n xs zs left is pushed old = record {
 
 -- ---- pairs that race
 
-access_within : {run : List Act} {i p word : ℕ} → Accesses run i p word → i < length run
-access_within (inl (value, does)) = Does-within does
-access_within (inr (value, does)) = Does-within does
-
 race_within : (run : List Act) (pair : Pair) → Races run pair.earlier pair.later → IsWithin run pair
 race_within run pair races =
     let (p, q, word, conflict) = races.conflict in
-    record { earlier = access_within conflict.first; later = access_within conflict.second }
+    record { earlier = accesses_within conflict.first; later = accesses_within conflict.second }
 
 pub pairs_within : (run : List Act) (pairs : List Pair) → AreFirstPairs run pairs → All (IsWithin run) pairs
 pairs_within run pairs are = λ k d inside.

@@ -4,11 +4,10 @@ ghost use Rattle.std.specs.Prelude.{◌≡◌, ◌<◌, All, IfOk, length, unwra
 ghost use Rattle.std.specs.BTreeMap.{get};
 ghost use Rattle.std.specs.Ordering.{nat_cmp};
 ghost use Rattle.lrc_judge.specs.declared.TheConstants.{NODES};
-ghost use Rattle.lrc_judge.specs.Firsts.{AreIntervals};
 ghost use Rattle.lrc_judge.specs.Races.{word_of};
 ghost use Rattle.lrc_explain.specs.Before.{AreLefts, IsBeforeActs};
 
-use lrc_judge::NODES;
+use lrc_judge::intervals_of;
 use lrc_trace::act::{Act, Deed};
 use std::alloc::{AllocError, Global};
 use std::collections::BTreeMap;
@@ -18,25 +17,6 @@ use std::collections::BTreeMap;
 pub(crate) struct Before {
     pub(crate) intervals: Vec<u64>,
     pub(crate) lefts: Vec<u64>,
-}
-
-// The interval of each act, of its node.
-fn intervals_of(alloc: Global, acts: &[Act]) -> Result<Vec<u64>, AllocError>
-    requires { All (λ act. act.node < NODES) acts.now }
-    ensures { IfOk result (λ intervals. AreIntervals acts.now (length acts.now) intervals.items) }
-{
-    let mut reached = [1u64; NODES];
-    let mut intervals = Vec::new(alloc);
-    for position in 0..acts.len() {
-        let node = usize::from(acts[position].node);
-        let interval = reached[node];
-        intervals.push(interval)?;
-        match acts[position].deed {
-            Deed::Acquire(_) | Deed::Release(_) | Deed::Arrive => reached[node] = interval + 1,
-            _ => {}
-        }
-    }
-    Ok(intervals)
 }
 
 /// The word of an access; of another deed 0.

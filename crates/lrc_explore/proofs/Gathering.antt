@@ -22,7 +22,7 @@ use Rattle.lrc_explore.specs.declared.outcomes.Gathered.{Gathered}
 use Rattle.lrc_explore.specs.declared.outcomes.Outcome.{Outcome}
 use Rattle.lrc_explore.specs.contracts.noted.NotedPartialEq.TheImpl.{eq-value as noted_eq}
 use Rattle.lrc_explore.specs.Kept.{Grows, IsAddedAt}
-use Rattle.lrc_explore.specs.Noted.{AreNotedDistinct, AreNotedFull, IsNotedAt, IsNotedCopy, WidensNoted, noted_count}
+use Rattle.lrc_explore.specs.Noted.{AreNotedDistinct, AreNotedFull, IsNotedAt, WidensNoted, noted_count}
 use Rattle.lrc_explore.specs.Notes.{notes_with, notes_of, notes_from}
 use Rattle.lrc_explore.specs.Outcome.{AreGathered, AreSearched, AreSound, EndsWith, FitsNoted, HasNextBelow, HasNoted, HasOutcome}
 use Rattle.lrc_explore.specs.Outcome.{IsGathered, IsLed, IsOutcome, IsSearched, IsSearchedAt, MeetsMoreNoted}
@@ -30,7 +30,7 @@ use Rattle.lrc_explore.specs.States.{machine_begun, thread_begun, plain_at, IsSt
 use Rattle.lrc_explore.specs.Stuck.{IsAtRest}
 use Rattle.lrc_explore.proofs.Counting.{counted_first, step_threads}
 use Rattle.lrc_explore.proofs.Keeping.{item_at, stands_on}
-use Rattle.lrc_explore.proofs.Ways.{noted_apart, noted_copy, noted_grows, noted_store, noted_within}
+use Rattle.lrc_explore.proofs.Ways.{IsNotedCopy, noted_apart, noted_copy, noted_grows, noted_store, noted_within}
 use Rattle.lrc_explore.proofs.Noting.{notes_more, no_more}
 use Rattle.lrc_explore.proofs.Searching.{copy_same, copy_state}
 use Rattle.lrc_explore.proofs.Standing.{step_within}

@@ -15,13 +15,19 @@ use Rattle.lrc_explore.specs.contracts.noted.NotedPartialEq.TheImpl.{eq-value as
 use Rattle.lrc_explore.specs.contracts.noted.WayPartialEq.TheImpl.{eq-value as way_eq}
 use Rattle.lrc_explore.specs.contracts.state.StatePartialEq.TheImpl.{eq-value as state_eq}
 use Rattle.lrc_explore.specs.Kept.{IsAt}
-use Rattle.lrc_explore.specs.Noted.{AreNotedDistinct, IsNotedAt, IsNotedCopy, WidensNoted, noted_count}
+use Rattle.lrc_explore.specs.States.{IsCopy}
+use Rattle.lrc_explore.specs.Noted.{AreNotedDistinct, IsNotedAt, WidensNoted, noted_count}
 use Rattle.lrc_explore.proofs.Alike.{acts_same}
 use Rattle.lrc_explore.proofs.Keeping.{grows_again, stands_on}
 use Rattle.lrc_explore.proofs.KeptAlike.{alike, both_true, equal_items, nat_itself, one_place}
 use Rattle.lrc_explore.proofs.Same.{kept_same}
 use Rattle.lrc_explore.proofs.Stores.{IsStore}
 use Rattle.lrc_explore.proofs.Widening.{apart_in, at_copy, at_grown, at_same, not_true, widens_again}
+
+-- the two have the same items
+pub record IsNotedCopy (copy key : Noted) : Type 0 where
+  pub state : IsCopy copy.state key.state
+  pub notes : copy.notes.items ≡ key.notes.items
 
 pub noted_within : (all : NotedStates) (k : ℕ) (key : Noted) → IsNotedAt all k key → k < noted_count all
 noted_within all k key at = slice_get_within all.ways.keys k at.way at.there

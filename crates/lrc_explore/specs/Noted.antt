@@ -6,7 +6,6 @@ use Rattle.lrc_explore.specs.declared.noted.Way.{Way}
 use Rattle.lrc_explore.specs.declared.noted.NotedStates.{NotedStates}
 use Rattle.lrc_explore.specs.contracts.noted.WayPartialEq.TheImpl.{eq-value as way_eq}
 use Rattle.lrc_explore.specs.Kept.{AreDistinct, Grows, IsAt, Widens}
-use Rattle.lrc_explore.specs.States.{IsCopy}
 
 -- how many there are
 abbrev pub noted_count : NotedStates → ℕ
@@ -36,8 +35,3 @@ pub record WidensNoted (old new : NotedStates) : Type 0 where
 pub record AreNotedDistinct (all : NotedStates) : Type 0 where
   pub states : AreDistinct all.states
   pub ways : IsDistinct way_eq.it all.ways.keys
-
--- the two have the same items
-pub record IsNotedCopy (copy key : Noted) : Type 0 where
-  pub state : IsCopy copy.state key.state
-  pub notes : copy.notes.items ≡ key.notes.items

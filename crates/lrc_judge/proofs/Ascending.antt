@@ -1,18 +1,17 @@
 -- What sorting races and taking out equal neighbours leaves.
-use Rattle.std.proofs.Common.{◌≡◌, ℕ, List, refl, sym, subst, ◌∙◌, inl, inr, arith}
+use Rattle.std.proofs.Common.{◌≡◌, ℕ, List, refl, sym, inl, inr, arith}
 use Rattle.std.specs.Prelude.{◌↔◌, ◌&&◌, ◌==◌, Bool, true, Contains}
 use Rattle.std.specs.declared.cmp.Ordering.{Ordering}
 use Rattle.std.specs.declared.cmp.Ordering.TheVariants.{Less, Equal, Greater}
 use Rattle.std.specs.Ordering.{nat_cmp, ordering_then, is_eq, eq_by_cmp}
-use Rattle.std.specs.Cmp.{IsTotalOrder, IsEquivalence, eq_by_cmp_equiv}
+use Rattle.std.specs.Cmp.{IsTotalOrder}
 use Rattle.std.specs.List.{dedup}
 use Rattle.std.specs.List.Sorted.{IsSorted, IsStrictlySortedBy, IsPermutation}
 use Rattle.std.proofs.lemmas.Bool.{cases_lt, cases_eq, and_parts, lt-ltb, le-ltb, ne_eqb, eq-eqb, eqb-true}
 use Rattle.std.proofs.lemmas.Cmp.{nat_cmp_total, on_total, then_total}
-use Rattle.std.proofs.lemmas.List.Kept.{IsStrictlySortedBy-dedup, Contains-dedup, Contains-from_dedup}
-use Rattle.std.proofs.lemmas.List.Sorted.{Contains-permutation, IsPermutation-sym}
 use Rattle.lrc_trace.specs.declared.race.Race.{Race}
 use Rattle.lrc_judge.specs.Races.{race_cmp}
+use Rattle.lrc_judge.proofs.Distinct.{distinct-ascending, distinct-contains}
 
 -- whether two races agree in every field
 abbrev pub race_eq : Race → Race → Bool
@@ -43,15 +42,6 @@ race_total = then_total (on_total (λ (r : Race). r.word) nat_cmp_total)
     (then_total (on_total (λ (r : Race). r.node_b) nat_cmp_total)
     (then_total (on_total (λ (r : Race). r.interval_a) nat_cmp_total) (on_total (λ (r : Race). r.interval_b) nat_cmp_total))))
 
-race_equivalence : IsEquivalence race_eq
-race_equivalence =
-    let e = eq_by_cmp_equiv race_total in
-    record {
-      refl = λ x. race_eq-cmp x x ∙ e.refl x;
-      symm = λ x y. race_eq-cmp x y ∙ e.symm x y ∙ sym (race_eq-cmp y x);
-      congr = λ x y z h. race_eq-cmp x z ∙ e.congr x y z (sym (race_eq-cmp x y) ∙ h) ∙ sym (race_eq-cmp y z);
-    }
-
 -- races that agree in every field are one
 pub race_eq-exact : (a b : Race) → race_eq a b ≡ true → a ≡ b
 race_eq-exact a b h =
@@ -76,12 +66,7 @@ race_eq-exact a b h =
 -- a list, sorted, and then without equal neighbours
 module _ (xs sorted unique : List Race) (permutation : IsPermutation xs sorted) (in_order : IsSorted race_cmp sorted) (is : unique ≡ dedup race_eq sorted) where
   pub unique-ascending : IsStrictlySortedBy race_cmp unique
-  unique-ascending = subst (λ zs. IsStrictlySortedBy race_cmp zs) (sym is) (IsStrictlySortedBy-dedup race_total race_eq-cmp sorted in_order)
+  unique-ascending = distinct-ascending race_cmp race_eq race_total race_eq-cmp sorted unique in_order is
 
   pub unique-contains : (race : Race) → Contains unique race ↔ Contains xs race
-  unique-contains race = (
-    λ h. Contains-permutation sorted xs race (IsPermutation-sym xs sorted permutation)
-        (Contains-from_dedup race_eq sorted race (subst (λ zs. Contains zs race) is h)),
-    λ h. subst (λ zs. Contains zs race) (sym is)
-        (Contains-dedup race_equivalence race_eq-exact sorted race (Contains-permutation xs sorted race permutation h)),
-  )
+  unique-contains = distinct-contains race_cmp race_eq race_total race_eq-cmp race_eq-exact xs sorted unique permutation is

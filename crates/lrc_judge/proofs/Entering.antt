@@ -1,13 +1,10 @@
 -- The entries of a run, position by position, sorted, and without equal neighbours.
-use Rattle.std.proofs.Common.{◌≡◌, ℕ, ◌+◌, ◌≤◌, ◌++◌, List, [], ◌∷◌, length, inl, inr, refl, sym, subst, ◌∙◌, arith}
+use Rattle.std.proofs.Common.{◌≡◌, ℕ, ◌+◌, ◌≤◌, ◌++◌, List, [], ◌∷◌, length, inl, inr, refl, sym, subst, arith}
 use Rattle.std.specs.Prelude.{◌↔◌, ◌&&◌, ◌==◌, Bool, true, Some, None, Contains}
 use Rattle.std.specs.Ordering.{eq_by_cmp}
-use Rattle.std.specs.Cmp.{IsEquivalence, eq_by_cmp_equiv}
 use Rattle.std.specs.List.{dedup}
-use Rattle.std.specs.List.Sorted.{IsSorted, IsStrictlySortedBy, IsPermutation}
+use Rattle.std.specs.List.Sorted.{IsSorted, IsPermutation}
 use Rattle.std.proofs.lemmas.Bool.{and_parts, eqb-true}
-use Rattle.std.proofs.lemmas.List.Kept.{IsStrictlySortedBy-dedup, Contains-dedup, Contains-from_dedup}
-use Rattle.std.proofs.lemmas.List.Sorted.{Contains-permutation, IsPermutation-sym}
 use Rattle.lrc_trace.specs.declared.act.Act.{Act}
 use Rattle.lrc_trace.specs.declared.act.Deed.{Deed}
 use Rattle.lrc_trace.specs.Run.{Does}
@@ -19,6 +16,7 @@ use Rattle.lrc_judge.specs.Adding.{Adds}
 use Rattle.lrc_judge.specs.Lanes.{entry_cmp, entry, lane_of, IsEntry, AreEntries}
 use Rattle.lrc_judge.proofs.Ascending.{is_eq-then, is_eq-nat}
 use Rattle.lrc_judge.proofs.Additions.{IsBelow, adds-same, adds-iff, adds-push, below-more}
+use Rattle.lrc_judge.proofs.Distinct.{distinct-ascending, distinct-contains}
 use Rattle.lrc_judge.proofs.Searching.{entry_total}
 
 -- the entry is that of the position
@@ -65,15 +63,6 @@ entry_eq a b = ((a.lane.word == b.lane.word) && ((a.lane.value == b.lane.value) 
 entry_eq-cmp : (a b : Entry) → entry_eq a b ≡ eq_by_cmp entry_cmp a b
 entry_eq-cmp a b = sym (simp (is_eq-then, is_eq-nat))
 
-entry_equivalence : IsEquivalence entry_eq
-entry_equivalence =
-    let e = eq_by_cmp_equiv entry_total in
-    record {
-      refl = λ x. entry_eq-cmp x x ∙ e.refl x;
-      symm = λ x y. entry_eq-cmp x y ∙ e.symm x y ∙ sym (entry_eq-cmp y x);
-      congr = λ x y z h. entry_eq-cmp x z ∙ e.congr x y z (sym (entry_eq-cmp x y) ∙ h) ∙ sym (entry_eq-cmp y z);
-    }
-
 entry_eq-exact : (a b : Entry) → entry_eq a b ≡ true → a ≡ b
 entry_eq-exact a b h =
     let (lanes, positions) = and_parts _ (a.position == b.position) h in
@@ -90,17 +79,12 @@ entry_eq-exact a b h =
 module _ (xs sorted unique : List Entry) (permutation : IsPermutation xs sorted) (in_order : IsSorted entry_cmp sorted)
     (is : unique ≡ dedup entry_eq sorted) where
   unique-contains : (e : Entry) → Contains unique e ↔ Contains xs e
-  unique-contains e = (
-    λ h. Contains-permutation sorted xs e (IsPermutation-sym xs sorted permutation)
-        (Contains-from_dedup entry_eq sorted e (subst (λ zs. Contains zs e) is h)),
-    λ h. subst (λ zs. Contains zs e) (sym is)
-        (Contains-dedup entry_equivalence entry_eq-exact sorted e (Contains-permutation xs sorted e permutation h)),
-  )
+  unique-contains = distinct-contains entry_cmp entry_eq entry_total entry_eq-cmp entry_eq-exact xs sorted unique permutation is
 
   pub entries-all : (run : List Act) (told : Told) (n : ℕ) → length run ≤ n → Adds [] xs (IsBelow (IsEntryAt run told) n)
       → AreEntries (IsEntry run told) unique
   entries-all run told n all adds = record {
-    in_order = subst (λ zs. IsStrictlySortedBy entry_cmp zs) (sym is) (IsStrictlySortedBy-dedup entry_total entry_eq-cmp sorted in_order);
+    in_order = distinct-ascending entry_cmp entry_eq entry_total entry_eq-cmp sorted unique in_order is;
     exact = λ lane i. (
       λ h.
           elim ((adds.exact (entry lane i)).0 ((unique-contains (entry lane i)).0 h)) [

@@ -5,7 +5,7 @@ pub mod Rows
 pub mod Breaking
 pub mod Tally
 pub mod Keeping
-mod Naming
+pub mod Naming
 mod Leading
 mod Firstness
 pub mod Ascending
@@ -14,8 +14,10 @@ mod LastWritten
 pub mod Additions
 mod Entering
 mod Crossing
-mod Representing
+pub mod Representing
 mod PairOrder
 mod LatestWrites
 mod Allowed
 mod Searching
+pub mod Comparing
+pub mod Distinct

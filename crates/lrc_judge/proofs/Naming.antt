@@ -34,7 +34,7 @@ use Rattle.lrc_judge.proofs.Representing.{access_does, unordered_too}
 
 -- ---- what a race of two places is named
 
-race_same : (race : Race) (word a b i j : ℕ) → race.word ≡ word → race.node_a ≡ a → race.node_b ≡ b → race.interval_a ≡ i → race.interval_b ≡ j
+pub race_same : (race : Race) (word a b i j : ℕ) → race.word ≡ word → race.node_a ≡ a → race.node_b ≡ b → race.interval_a ≡ i → race.interval_b ≡ j
     → race ≡ record { word = word; node_a = a; node_b = b; interval_a = i; interval_b = j }
 race_same race word a b i j w p q x y =
     let e : ◌≡◌ {A = Race} (record {
@@ -45,17 +45,17 @@ race_same race word a b i j w p q x y =
       interval_b = race.interval_b;
     }) (record { word = word; node_a = a; node_b = b; interval_a = i; interval_b = j }) = cc in e
 
-named_lower : (word p i q j : ℕ) → p < q → race_of_places word p i q j ≡ record { word = word; node_a = p; node_b = q; interval_a = i; interval_b = j }
+pub named_lower : (word p i q j : ℕ) → p < q → race_of_places word p i q j ≡ record { word = word; node_a = p; node_b = q; interval_a = i; interval_b = j }
 named_lower word p i q j lt = rw (lt-ltb p q lt) refl
 
-named_upper : (word p i q j : ℕ) → q < p → race_of_places word p i q j ≡ record { word = word; node_a = q; node_b = p; interval_a = j; interval_b = i }
+pub named_upper : (word p i q j : ℕ) → q < p → race_of_places word p i q j ≡ record { word = word; node_a = q; node_b = p; interval_a = j; interval_b = i }
 named_upper word p i q j lt = rw (le-ltb p q (omega arith)) refl
 
-word_is : (run : List Act) (i p w : ℕ) → Accesses run i p w → (q : ℕ) (d : Deed) → Does run i q d → word_of d ≡ w
+pub word_is : (run : List Act) (i p w : ℕ) → Accesses run i p w → (q : ℕ) (d : Deed) → Does run i q d → word_of d ≡ w
 word_is run i p w (inl (v, h)) q d does = let e : Read w v ≡ d = Does-one_deed h does in rw (← e) refl
 word_is run i p w (inr (v, h)) q d does = let e : Write w v ≡ d = Does-one_deed h does in rw (← e) refl
 
-accesses_within : {run : List Act} {i p w : ℕ} → Accesses run i p w → i < length run
+pub accesses_within : {run : List Act} {i p w : ℕ} → Accesses run i p w → i < length run
 accesses_within a = Does-within (access_does a).1
 
 -- numbers that are others in either order, where these are not above two numbers in order

@@ -1,17 +1,16 @@
 -- What sorting pairs and taking out equal neighbours leaves.
-use Rattle.std.proofs.Common.{◌≡◌, ◌∙◌, List, sym, subst}
+use Rattle.std.proofs.Common.{◌≡◌, List, sym}
 use Rattle.std.specs.Prelude.{◌↔◌, ◌&&◌, ◌==◌, Bool, true, Contains}
 use Rattle.std.specs.Ordering.{eq_by_cmp}
-use Rattle.std.specs.Cmp.{IsTotalOrder, IsEquivalence, eq_by_cmp_equiv}
+use Rattle.std.specs.Cmp.{IsTotalOrder}
 use Rattle.std.specs.List.{dedup}
 use Rattle.std.specs.List.Sorted.{IsSorted, IsStrictlySortedBy, IsPermutation}
 use Rattle.std.proofs.lemmas.Bool.{and_parts, eqb-true}
 use Rattle.std.proofs.lemmas.Cmp.{nat_cmp_total, on_total, then_total}
-use Rattle.std.proofs.lemmas.List.Kept.{IsStrictlySortedBy-dedup, Contains-dedup, Contains-from_dedup}
-use Rattle.std.proofs.lemmas.List.Sorted.{Contains-permutation, IsPermutation-sym}
 use Rattle.lrc_judge.specs.declared.lanes.Pair.{Pair}
 use Rattle.lrc_judge.specs.Pairs.{pair_cmp}
 use Rattle.lrc_judge.proofs.Ascending.{is_eq-then, is_eq-nat}
+use Rattle.lrc_judge.proofs.Distinct.{distinct-ascending, distinct-contains}
 
 -- whether two pairs agree in both fields
 abbrev pub pair_eq : Pair → Pair → Bool
@@ -22,15 +21,6 @@ pair_eq-cmp a b = sym (simp (is_eq-then, is_eq-nat))
 
 pub pair_total : IsTotalOrder pair_cmp
 pair_total = then_total (on_total (λ (p : Pair). p.later) nat_cmp_total) (on_total (λ (p : Pair). p.earlier) nat_cmp_total)
-
-pair_equivalence : IsEquivalence pair_eq
-pair_equivalence =
-    let e = eq_by_cmp_equiv pair_total in
-    record {
-      refl = λ x. pair_eq-cmp x x ∙ e.refl x;
-      symm = λ x y. pair_eq-cmp x y ∙ e.symm x y ∙ sym (pair_eq-cmp y x);
-      congr = λ x y z h. pair_eq-cmp x z ∙ e.congr x y z (sym (pair_eq-cmp x y) ∙ h) ∙ sym (pair_eq-cmp y z);
-    }
 
 -- pairs that agree in both fields are one
 pair_eq-exact : (a b : Pair) → pair_eq a b ≡ true → a ≡ b
@@ -44,13 +34,7 @@ pair_eq-exact a b h =
 module _ (xs sorted unique : List Pair) (permutation : IsPermutation xs sorted) (in_order : IsSorted pair_cmp sorted)
     (is : unique ≡ dedup pair_eq sorted) where
   pub unique-ascending : IsStrictlySortedBy pair_cmp unique
-  unique-ascending =
-      subst (λ zs. IsStrictlySortedBy pair_cmp zs) (sym is) (IsStrictlySortedBy-dedup pair_total pair_eq-cmp sorted in_order)
+  unique-ascending = distinct-ascending pair_cmp pair_eq pair_total pair_eq-cmp sorted unique in_order is
 
   pub unique-contains : (pair : Pair) → Contains unique pair ↔ Contains xs pair
-  unique-contains pair = (
-    λ h. Contains-permutation sorted xs pair (IsPermutation-sym xs sorted permutation)
-        (Contains-from_dedup pair_eq sorted pair (subst (λ zs. Contains zs pair) is h)),
-    λ h. subst (λ zs. Contains zs pair) (sym is)
-        (Contains-dedup pair_equivalence pair_eq-exact sorted pair (Contains-permutation xs sorted pair permutation h)),
-  )
+  unique-contains = distinct-contains pair_cmp pair_eq pair_total pair_eq-cmp pair_eq-exact xs sorted unique permutation is

@@ -1,17 +1,16 @@
 -- Lemmas on entries in order.
-use Rattle.std.proofs.Common.{◌≡◌, ℕ, zero, suc, ◌+◌, ◌-◌, ◌<◌, ◌≤◌, ◌⊎◌, ◌++◌, List, [], ◌∷◌, length, get_or, inl, inr, refl, sym, subst, ◌∙◌, ap, arith}
+use Rattle.std.proofs.Common.{◌≡◌, ℕ, ◌+◌, ◌-◌, ◌<◌, ◌≤◌, ◌⊎◌, ◌++◌, List, [], ◌∷◌, length, get_or, inl, inr, refl, sym, subst, ◌∙◌, ap, arith}
 use Rattle.std.specs.Prelude.{◌&&◌, ◌==◌, not, Bool, true, false, Contains, Some, slice_get}
-use Rattle.std.specs.Ordering.{nat_cmp, ordering_then}
+use Rattle.std.specs.Ordering.{nat_cmp}
 use Rattle.std.specs.Cmp.{IsTotalOrder}
 use Rattle.std.specs.List.Sorted.{IsStrictlySortedBy, IsPartitionPoint}
 use Rattle.std.specs.declared.cmp.Ordering.{Ordering}
 use Rattle.std.specs.declared.cmp.Ordering.TheVariants.{Less, Equal, Greater}
-use Rattle.std.proofs.lemmas.Bool.{cases_Bool, cases_order, cases_lt, cases_eq, and_parts, and_from, false≢true, lt-ltb, le-ltb, ne_eqb, eq-eqb, eqb-true}
+use Rattle.std.proofs.lemmas.Bool.{cases_Bool, cases_lt, cases_eq, and_parts, and_from, false≢true, eq-eqb, eqb-true}
 use Rattle.std.proofs.lemmas.Cmp.{nat_cmp_total, on_total, then_total}
 use Rattle.std.proofs.lemmas.List.{get_or_default}
 use Rattle.std.proofs.lemmas.Option.{slice_get_within, slice_get-get_or, get_or_from_slice_get, same_Some}
-use Rattle.std.proofs.lemmas.Map.Keys.{sorted_tail}
-use Rattle.std.proofs.lemmas.Map.Views.{All-after_first}
+use Rattle.std.proofs.lemmas.Map.Keys.{Less-from_sorted}
 use Rattle.lrc_trace.specs.declared.act.Act.{Act}
 use Rattle.lrc_trace.specs.declared.act.Deed.{Deed}
 use Rattle.lrc_trace.specs.Run.{Does}
@@ -24,56 +23,10 @@ use Rattle.lrc_judge.specs.declared.order.Order.{Order}
 use Rattle.lrc_judge.specs.Order.{is_before, IsOrderOf}
 use Rattle.lrc_judge.specs.Adding.{Adds}
 use Rattle.lrc_judge.specs.Lanes.{lane_cmp, entry_cmp, entry, is_earlier_or, is_behind, AreEntries, AreSearchable, IsLastOfLane, IsOfLane}
+use Rattle.lrc_judge.proofs.Comparing.{then_less, then_equal, then_from, less_equal, compared_same, nat_less, nat_equal}
 use Rattle.lrc_judge.proofs.Additions.{adds-same, adds-iff, adds-both, adds-push}
 
--- ---- comparing
-
-then_less : (first second : Ordering) → ordering_then first second ≡ Less → (first ≡ Less) ⊎ ((first ≡ Equal) × (second ≡ Less))
-then_less Less second h = inl refl
-then_less Equal second h = inr (refl, h)
-then_less Greater second h = absurd (cc)
-
-then_equal : (first second : Ordering) → ordering_then first second ≡ Equal → (first ≡ Equal) × (second ≡ Equal)
-then_equal Less second h = absurd (cc)
-then_equal Equal second h = (refl, h)
-then_equal Greater second h = absurd (cc)
-
-then_from : (first second : Ordering) → first ≡ Equal → second ≡ Equal → ordering_then first second ≡ Equal
-then_from first second a b = rw (a, b) refl
-
-less_equal : Less ≡ Equal → ⊥
-less_equal h = cc
-
-less_greater : Less ≡ Greater → ⊥
-less_greater h = cc
-
-greater_equal : Greater ≡ Equal → ⊥
-greater_equal h = cc
-
-compared_below : (m n : ℕ) → m < n → nat_cmp m n ≡ Less
-compared_below m n below = rw (lt-ltb m n below) refl
-
-compared_same : (m n : ℕ) → m ≡ n → nat_cmp m n ≡ Equal
-compared_same m n same = rw (le-ltb m n (omega arith), eq-eqb m n same) refl
-
-compared_above : (m n : ℕ) → n < m → nat_cmp m n ≡ Greater
-compared_above m n above = rw (le-ltb m n (omega arith), ne_eqb m n (λ same. omega arith)) refl
-
-nat_less : (m n : ℕ) → nat_cmp m n ≡ Less → m < n
-nat_less m n h =
-    elim (cases_order m n) [
-      | inl same ↦ absurd (less_equal (sym h ∙ compared_same m n same))
-      | inr (inl below) ↦ below
-      | inr (inr above) ↦ absurd (less_greater (sym h ∙ compared_above m n above))
-    ]
-
-nat_equal : (m n : ℕ) → nat_cmp m n ≡ Equal → m ≡ n
-nat_equal m n h =
-    elim (cases_order m n) [
-      | inl same ↦ same
-      | inr (inl below) ↦ absurd (less_equal (sym (compared_below m n below) ∙ h))
-      | inr (inr above) ↦ absurd (greater_equal (sym (compared_above m n above) ∙ h))
-    ]
+-- ---- lanes and entries compared
 
 lane_total : IsTotalOrder lane_cmp
 lane_total = then_total (on_total (λ (l : Lane). l.word) nat_cmp_total)
@@ -136,15 +89,6 @@ lane_differs a b h same =
 
 -- ---- entries in order
 
-rising : (entries : List Entry) → IsStrictlySortedBy entry_cmp entries → (i j : ℕ) (d : Entry) → i < j → j < length entries
-    → entry_cmp (get_or entries i d) (get_or entries j d) ≡ Less
-rising [] sorted i j d before within = absurd (omega arith)
-rising (x ∷ xs) sorted zero zero d before within = absurd (omega arith)
-rising (x ∷ xs) sorted zero (suc j) d before within = All-after_first entry_cmp x xs sorted j d (omega (arith, within))
-rising (x ∷ xs) sorted (suc i) zero d before within = absurd (omega arith)
-rising (x ∷ xs) sorted (suc i) (suc j) d before within =
-    rising xs (sorted_tail entry_cmp x xs sorted) i j d (omega arith) (omega (arith, within))
-
 earlier_or : (o : Ordering) (b : Bool) → is_earlier_or o b ≡ true → (o ≡ Less) ⊎ ((o ≡ Equal) × (b ≡ true))
 earlier_or Less b h = inl refl
 earlier_or Equal b h = inr (refl, h)
@@ -192,7 +136,7 @@ module _ (run : List Act) (these : Lane → ℕ → Type 0) (entries : List Entr
     first = λ lane position i j d le lt h.
         elim (cases_lt i j) [
           | inl before ↦ earlier_too lane position (get_or entries i d) (get_or entries j d) (contained_at entries i d (omega arith))
-              (contained_at entries j d lt) (rising entries are.in_order i j d before lt) h
+              (contained_at entries j d lt) (Less-from_sorted entry_cmp entries i j d are.in_order before lt) h
           | inr not_before ↦
               let same : j ≡ i = omega arith in
               subst (λ k. is_behind order lane position (get_or entries k d) ≡ true) same h
@@ -241,7 +185,7 @@ module _ (entries : List Entry) (order : Order) (lane : Lane) (position beyond :
               let at : get_or entries (beyond - 1) (entry lane k) ≡ entry lane k = subst (λ m. get_or entries m (entry lane k) ≡ entry lane k) same is in
               inl (sym at ∙ get_or_default entries (beyond - 1) (entry lane k) x (omega arith) ∙ sym there)
           | inr other ↦
-              let less = rising entries in_order i (beyond - 1) (entry lane k) (omega arith) (omega arith) in
+              let less = Less-from_sorted entry_cmp entries i (beyond - 1) (entry lane k) in_order (omega arith) (omega arith) in
               let at : get_or entries (beyond - 1) (entry lane k) ≡ x = get_or_default entries (beyond - 1) (entry lane k) x (omega arith) ∙ sym there in
               let first : entry_cmp (entry lane k) (get_or entries (beyond - 1) (entry lane k)) ≡ Less =
               subst (λ e. entry_cmp e (get_or entries (beyond - 1) (entry lane k)) ≡ Less) is less in
@@ -359,7 +303,7 @@ module _ (entries : List Entry) (lane : Lane) (position beyond : ℕ) where
                   | inr other ↦
                       let x = get_or entries at e in
                       let at_x : slice_get entries at ≡ Some x = slice_get-get_or entries at e (omega arith) in
-                      let less : entry_cmp x e ≡ Less = subst (λ y. entry_cmp x y ≡ Less) is (rising entries in_order at i e (omega arith) within) in
+                      let less : entry_cmp x e ≡ Less = subst (λ y. entry_cmp x y ≡ Less) is (Less-from_sorted entry_cmp entries at i e in_order (omega arith) within) in
                       elim (entry_less x e less) [
                         | inl lanes ↦ absurd (false≢true (sym (point.1 at e from (omega arith)) ∙ from_earlier (lane_cmp x.lane lane) _ lanes))
                         | inr (on, lower) ↦ let o_earlier = o.earlier in absurd (stop x at_x on (omega (arith, lower, o_earlier)))

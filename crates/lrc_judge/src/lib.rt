@@ -28,6 +28,8 @@ pub mod synchronization;
 mod touched;
 mod written;
 
+pub use firsts::intervals_of;
+
 /// How many nodes a run has at most.
 pub const NODES: usize = MOST_NODES;
 

@@ -4,9 +4,8 @@ use Rattle.lrc_wire.specs.declared.limits.TheConstants.{MOST_BODY_BYTES}
 use Rattle.lrc_wire.specs.declared.version.Version.TheVariants.{Two}
 use Rattle.lrc_envelope.specs.Envelope.{EnvelopeRecord}
 use Rattle.lrc_wire.specs.Runs.{runs_of}
-use Rattle.lrc_wire.specs.Spelling.{Spells, body}
+use Rattle.lrc_wire.specs.Spelling.{Spells, body, bytes_of}
 use Rattle.lrc_wire.proofs.Envelopes.{plain}
-use Rattle.lrc_messages.specs.TurnText.{bytes_of}
 
 pub written_long : (envelope : EnvelopeRecord) (bytes : List ℕ) → Spells Two envelope bytes → length bytes ≡ length (bytes_of envelope)
 written_long envelope bytes spelled = ap length (plain Two envelope bytes spelled).spelled

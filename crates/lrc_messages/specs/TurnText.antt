@@ -5,7 +5,7 @@ use Rattle.lrc_wire.specs.declared.limits.TheConstants.{MOST_BODY_BYTES}
 use Rattle.lrc_wire.specs.declared.version.Version.TheVariants.{Two}
 use Rattle.lrc_envelope.specs.Envelope.{EnvelopeRecord}
 use Rattle.lrc_wire.specs.Runs.{runs_of}
-use Rattle.lrc_wire.specs.Spelling.{body, header}
+use Rattle.lrc_wire.specs.Spelling.{body, bytes_of}
 use Rattle.lrc_messages.specs.MessageText.{message_text}
 
 -- the node takes a message; of one that it took before no more is said
@@ -13,10 +13,6 @@ abbrev pub taken_text : ℕ → EnvelopeRecord → Bool → List ℕ
 taken_text node envelope again =
     codes "# node " ++ decimal node ++ codes " takes " ++ decimal envelope.number ++ codes " from " ++ decimal envelope.from
     ++ (if again then codes " again" else codes ": " ++ message_text envelope.message) ++ codes "\n"
-
--- the bytes of an envelope, header and body
-abbrev pub bytes_of : EnvelopeRecord → List ℕ
-bytes_of envelope = header Two runs_of envelope ++ body Two runs_of envelope.message
 
 -- how many bytes an envelope has; one that has more than may be sent has none
 abbrev pub size_text : EnvelopeRecord → List ℕ

@@ -6,9 +6,9 @@ ghost use Rattle.lrc_text.specs.Front.{BeginsWith};
 ghost use Rattle.lrc_wire.specs.declared.limits.TheConstants.{MOST_BODY_BYTES};
 ghost use Rattle.lrc_wire.specs.declared.version.Version.TheVariants.{Two};
 ghost use Rattle.lrc_wire.specs.Runs.{runs_of};
-ghost use Rattle.lrc_wire.specs.Spelling.{body};
+ghost use Rattle.lrc_wire.specs.Spelling.{body, bytes_of};
 ghost use Rattle.lrc_messages.specs.MessageText.{message_text};
-ghost use Rattle.lrc_messages.specs.TurnText.{bytes_of, sent_text, sent_texts, size_text, taken_text};
+ghost use Rattle.lrc_messages.specs.TurnText.{sent_text, sent_texts, size_text, taken_text};
 
 use crate::message::push_message;
 use lrc_envelope::{Envelope, Message};

@@ -1,6 +1,6 @@
 -- What a writer has in the middle of a text.
-use Rattle.std.proofs.Common.{◌≡◌, ◌∙◌, ◌<◌, ◌+◌, ℕ, refl, sym, ap, subst, arith, List, [], ◌∷◌, ◌++◌, length, take, drop, Option, Some, None, Result}
-use Rattle.std.proofs.Common.{Ok, Err, OnErr, ◌==◌, true, false, length-append, length-drop, get_or, Vec, rules, tests}
+use Rattle.std.proofs.Common.{◌≡◌, ◌∙◌, ◌<◌, ◌+◌, ℕ, refl, sym, ap, subst, arith, List, ◌++◌, length, take, drop, Option, Some, None, Result}
+use Rattle.std.proofs.Common.{Ok, Err, OnErr, length-append, length-drop, get_or, Vec}
 use Rattle.std.specs.Io.KnownBytes.{Appends, Keeps}
 use Rattle.std.proofs.lemmas.List.{append_assoc, drop_more, take_at, take-append-drop}
 use Rattle.lrc_report.specs.Output.{AppendsFront}
@@ -46,14 +46,6 @@ way_front old new text rest some way =
       less,
       subst (Appends old new) (sym (ap (take (length way.front)) way.whole ∙ take_at way.front rest (length way.front) refl)) way.written,
     )
-
-pub nil_of : (text : List ℕ) → true ≡ (length text == 0) → text ≡ []
-nil_of [] e = refl
-nil_of (b ∷ text) e = let zero : length (b ∷ text) ≡ 0 = search (rules, tests) in absurd (omega arith)
-
-pub some_of : (text : List ℕ) → false ≡ (length text == 0) → 0 < length text
-some_of [] e = absurd cc
-some_of (b ∷ text) e = omega arith
 
 -- the next part of the text is written, or a front of it
 pub way_part : (old mid new : Option (List ℕ)) (text first rest : List ℕ) → IsUnderWay old mid text (first ++ rest) → Appends mid new first

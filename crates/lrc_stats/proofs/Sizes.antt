@@ -6,9 +6,9 @@ use Rattle.lrc_wire.specs.declared.limits.TheConstants.{MOST_BODY_BYTES}
 use Rattle.lrc_wire.specs.declared.version.Version.TheVariants.{Two}
 use Rattle.lrc_envelope.specs.Envelope.{EnvelopeRecord}
 use Rattle.lrc_wire.specs.Runs.{runs_of}
-use Rattle.lrc_wire.specs.Spelling.{Spells, body}
+use Rattle.lrc_wire.specs.Spelling.{Spells, body, bytes_of}
 use Rattle.lrc_wire.proofs.Envelopes.{plain}
-use Rattle.lrc_stats.specs.Sent.{bytes_of, size_of}
+use Rattle.lrc_stats.specs.Sent.{size_of}
 
 pub written_size : (envelope : EnvelopeRecord) (bytes : List ℕ) → Spells Two envelope bytes → length bytes ≡ size_of envelope
 written_size envelope bytes spelled =

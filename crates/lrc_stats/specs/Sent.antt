@@ -1,19 +1,15 @@
 -- Messages that were sent, and their bytes.
-use Rattle.std.specs.Prelude.{ℕ, ◌==◌, Bool, true, List, ◌++◌, if◌then◌else◌, length, map, nat_lt, count_by, sum_by}
+use Rattle.std.specs.Prelude.{ℕ, ◌==◌, Bool, true, List, if◌then◌else◌, length, map, nat_lt, count_by, sum_by}
 use Rattle.std.specs.List.{flat_map}
 use Rattle.lrc_wire.specs.declared.limits.TheConstants.{MOST_BODY_BYTES}
 use Rattle.lrc_wire.specs.declared.version.Version.TheVariants.{Two}
 use Rattle.lrc_envelope.specs.Envelope.{EnvelopeRecord}
 use Rattle.lrc_wire.specs.Runs.{runs_of}
-use Rattle.lrc_wire.specs.Spelling.{body, header, kind}
+use Rattle.lrc_wire.specs.Spelling.{body, bytes_of, kind}
 use Rattle.lrc_protocol.specs.Run.{EntryRecord}
 use Rattle.lrc_stats.specs.declared.sent.Sent.{Sent}
 use Rattle.lrc_stats.specs.declared.sent.Wanted.{Wanted}
 use Rattle.lrc_stats.specs.declared.sent.Wanted.TheVariants.{Kind, Each, ToItself}
-
--- the bytes of an envelope, header and body
-abbrev pub bytes_of : EnvelopeRecord → List ℕ
-bytes_of envelope = header Two runs_of envelope ++ body Two runs_of envelope.message
 
 -- how many bytes are sent for an envelope: all that it has, and none where its body is longer than may be sent
 abbrev pub size_of : EnvelopeRecord → ℕ

@@ -2,3 +2,4 @@ pub mod Parts
 pub mod ActText
 pub mod Front
 pub mod RaceText
+pub mod Lines

@@ -12,7 +12,7 @@ use Rattle.lrc_protocol.specs.Run.{EntryRecord, Input, run, taken}
 use Rattle.lrc_turns.specs.declared.told.Told.{Told}
 use Rattle.lrc_turns.specs.Told.{Tells, holds_input, holds_key}
 use Rattle.lrc_turns.specs.Turns.{Made, made_by}
-use Rattle.lrc_turns.specs.TurnsText.{acts_in, has_taken, takes_again, takes_message}
+use Rattle.lrc_turns.specs.TurnsText.{acts_in, has_taken, took_before, takes_numbered}
 
 abbrev once : Bool → ℕ
 once b = cond b 1 0
@@ -46,7 +46,7 @@ pub noted_one : (other from number node : ℕ) (envelope : EnvelopeRecord) (send
     → holds_key new other from number
     ≡ cond ((node == other) && ((sender == from) && (message == number))) true (holds_key keys other from number)
     → sender ≡ envelope.from → message ≡ envelope.number
-    → holds_key new other from number ≡ (takes_message other from number node (taken envelope) || holds_key keys other from number)
+    → holds_key new other from number ≡ (takes_numbered other from number node (taken envelope) || holds_key keys other from number)
 noted_one other from number node envelope sender message keys new is sender_is message_is =
     is ∙ noted_more ((node == other) && ((sender == from) && (message == number))) (holds_key keys other from number)
     ∙ ap (λ s. ((node == other) && ((s == from) && (message == number))) || holds_key keys other from number) sender_is
@@ -54,7 +54,7 @@ noted_one other from number node envelope sender message keys new is sender_is m
 
 -- what is noted was taken
 pub again_is : (turns : List Made) (told : Told) (node : ℕ) (input : Input) (again : Bool) → Tells turns told
-    → again ≡ holds_input told.taken.keys node input → again ≡ takes_again turns node input
+    → again ≡ holds_input told.taken.keys node input → again ≡ took_before turns node input
 again_is turns told node run again tells is = is
 again_is turns told node (taken envelope) again tells is = is ∙ tells.taken node envelope.from envelope.number
 
@@ -87,17 +87,17 @@ module _ (turns : List Made) (node : ℕ) (entry : EntryRecord) (old new : Told)
       omega (arith, is, tells.acts, counted)
 
   taken_more : ((other from number : ℕ) → holds_key new.taken.keys other from number
-      ≡ (takes_message other from number node entry.input || holds_key old.taken.keys other from number))
+      ≡ (takes_numbered other from number node entry.input || holds_key old.taken.keys other from number))
       → (other from number : ℕ) → holds_key new.taken.keys other from number ≡ has_taken (turns ++ turn ∷ []) other from number
   taken_more is other from number =
-      let here = takes_message other from number node entry.input in
+      let here = takes_numbered other from number node entry.input in
       either here (has_taken turns other from number) (holds_key new.taken.keys other from number)
       (is other from number ∙ ap (λ b. here || b) (tells.taken other from number))
-      ∙ sym (list_any-append (λ (t : Made). takes_message other from number t.node t.entry.input) turns (turn ∷ []))
+      ∙ sym (list_any-append (λ (t : Made). takes_numbered other from number t.node t.entry.input) turns (turn ∷ []))
 
   pub tells_more : length old.made ≡ 256 → node < 256 → new.made ≡ slice_set old.made node (slice_index old.made node + 1)
       → new.acts ≡ old.acts + once (is_some entry.turn.act)
       → ((other from number : ℕ) → holds_key new.taken.keys other from number
-      ≡ (takes_message other from number node entry.input || holds_key old.taken.keys other from number))
+      ≡ (takes_numbered other from number node entry.input || holds_key old.taken.keys other from number))
       → Tells (turns ++ turn ∷ []) new
   tells_more long few made acts more = record { made = made_more long few made; acts = acts_more acts; taken = taken_more more }

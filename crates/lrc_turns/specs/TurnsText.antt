@@ -26,18 +26,18 @@ turn_text turn again line =
 -- ---- what the turns before it say of it
 
 -- by this input a node that made it takes the message of this number from that sender
-abbrev pub takes_message : (node from number : ℕ) → (maker : ℕ) → Input → Bool
-takes_message node from number maker run = false
-takes_message node from number maker (taken envelope) = (maker == node) && ((envelope.from == from) && (envelope.number == number))
+abbrev pub takes_numbered : (node from number : ℕ) → (maker : ℕ) → Input → Bool
+takes_numbered node from number maker run = false
+takes_numbered node from number maker (taken envelope) = (maker == node) && ((envelope.from == from) && (envelope.number == number))
 
 -- in one of these turns the node took that message
 abbrev pub has_taken : List Made → (node from number : ℕ) → Bool
-has_taken turns node from number = list_any (λ turn. takes_message node from number turn.node turn.entry.input) turns
+has_taken turns node from number = list_any (λ turn. takes_numbered node from number turn.node turn.entry.input) turns
 
 -- the node takes a message that it took in one of these turns
-abbrev pub takes_again : List Made → (node : ℕ) → Input → Bool
-takes_again turns node run = false
-takes_again turns node (taken envelope) = has_taken turns node envelope.from envelope.number
+abbrev pub took_before : List Made → (node : ℕ) → Input → Bool
+took_before turns node run = false
+took_before turns node (taken envelope) = has_taken turns node envelope.from envelope.number
 
 -- how many of these turns made an act
 abbrev pub acts_in : List Made → ℕ
@@ -47,7 +47,7 @@ acts_in turns = count_by (λ turn. is_some turn.entry.turn.act) turns
 
 -- a turn behind others; `lines` are those of the acts of the run
 abbrev pub text_behind : (lines : List ℕ) → List Made → Made → List ℕ
-text_behind lines before turn = turn_text turn (takes_again before turn.node turn.entry.input) (slice_index lines (acts_in before))
+text_behind lines before turn = turn_text turn (took_before before turn.node turn.entry.input) (slice_index lines (acts_in before))
 
 -- turns behind others
 abbrev pub texts_behind : (lines : List ℕ) → (before turns : List Made) → List ℕ

@@ -4,7 +4,7 @@ ghost use Rattle.std.specs.Prelude.{◌≡◌, ℕ, ◌+◌, ◌<◌, ◌≤◌,
 ghost use Rattle.lrc_node.specs.Logged.{seen_input};
 ghost use Rattle.lrc_turns.specs.Told.{Tells, holds_input, holds_key};
 ghost use Rattle.lrc_turns.specs.Turns.{Made};
-ghost use Rattle.lrc_turns.specs.TurnsText.{takes_again, takes_message};
+ghost use Rattle.lrc_turns.specs.TurnsText.{took_before, takes_numbered};
 
 use lrc_node::{Entry, Input};
 use std::alloc::{AllocError, Global};
@@ -27,7 +27,7 @@ fn note_taken(
 ) -> Result<bool, AllocError>
     ensures noted { IfOk result (λ again. again ≡ holds_input taken.old.keys node (seen_input input.now)) }
     ensures more { OnOk result ((other from number : ℕ) → holds_key taken.new.keys other from number
-        ≡ (takes_message other from number node (seen_input input.now) || holds_key taken.old.keys other from number)) }
+        ≡ (takes_numbered other from number node (seen_input input.now) || holds_key taken.old.keys other from number)) }
 {
     match input {
         Input::Run => Ok(false),
@@ -76,7 +76,7 @@ impl Told {
     pub(crate) fn note(&mut self, node: u8, entry: &Entry) -> Result<bool, AllocError>
         requires made { slice_index self.old.made node < 18446744073709551615 }
         requires acts { self.old.acts < 18446744073709551615 }
-        ensures again { IfOk result (λ again. (turns : List Made) → Tells turns self.old → again ≡ takes_again turns node entry.now.input) }
+        ensures again { IfOk result (λ again. (turns : List Made) → Tells turns self.old → again ≡ took_before turns node entry.now.input) }
         ensures tells { OnOk result ((turns : List Made) → Tells turns self.old
             → Tells (turns ++ record { node = node; entry = entry.now } ∷ []) self.new) }
         ensures acts { self.new.acts ≤ self.old.acts + 1 }

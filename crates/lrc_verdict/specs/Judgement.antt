@@ -14,12 +14,13 @@ use Rattle.lrc_judge.specs.Synchronization.{IsFirstBreak}
 use Rattle.lrc_judge.specs.Allowed.{AreAllowed}
 use Rattle.lrc_judge.specs.Reading.{IsFirstMisread}
 use Rattle.lrc_judge.specs.InOrder.{IsFirstOutOfOrder, ReadsLastWritten}
-use Rattle.lrc_judge.specs.Races.{AreNamedRaces}
+use Rattle.lrc_judge.specs.Races.{AreNamedRaces, word_of}
 use Rattle.lrc_judge.specs.Pairs.{AreRacingPairs}
 use Rattle.lrc_judge.specs.declared.lanes.Pair.{Pair}
 use Rattle.lrc_judge.specs.declared.in_order.OutOfOrder.{OutOfOrder}
+use Rattle.lrc_text.specs.Lines.{lines_of}
 use Rattle.lrc_text.specs.RaceText.{first_race_text, races_text}
-use Rattle.lrc_acts.specs.ActsText.{Reads, SaysSome, lines_of, most_bytes}
+use Rattle.lrc_acts.specs.ActsText.{Reads, SaysSome, most_bytes}
 use Rattle.lrc_acts.specs.JudgeLines.{lazy_line, ordered_line, pair_line, synchronized_line, unlazy_line, unordered_line, unsynchronized_line}
 use Rattle.lrc_acts.specs.declared.judge_lines.Place.{Place}
 use Rattle.lrc_acts.specs.declared.judge_lines.RacingAccesses.{RacingAccesses}
@@ -57,15 +58,10 @@ pub record Adds (before after : List ℕ) (IsSo : List ℕ → Type 0) : Type 0 
   pub whole : after ≡ before ++ added
   pub so : IsSo added
 
--- whether a deed writes, and the word that it accesses, or 0 where it accesses none
+-- whether a deed writes
 abbrev pub writes : Deed → Bool
 writes (Write word value) = true
 writes _ = false
-
-abbrev pub word_of : Deed → ℕ
-word_of (Read word value) = word
-word_of (Write word value) = word
-word_of _ = 0
 
 -- the deed at a position
 abbrev pub deed_at : List Act → ℕ → Deed
@@ -94,9 +90,9 @@ pub record IsNodeCount (acts : List Act) (count : ℕ) : Type 0 where
   pub least : (other : ℕ) → 0 < other → All (λ act. act.node < other) acts → count ≤ other
 
 -- how many nodes there are: as many as are given, or else as act
-abbrev pub AreNodes : Option ℕ → List Act → ℕ → Type 0
-AreNodes (Some nodes) acts count = count ≡ nodes
-AreNodes None acts count = IsNodeCount acts count
+abbrev pub CountsNodes : Option ℕ → List Act → ℕ → Type 0
+CountsNodes (Some nodes) acts count = count ≡ nodes
+CountsNodes None acts count = IsNodeCount acts count
 
 -- the first three lines of a judgement: the acts are or are not well synchronized, read or do not read lazily, and read in order
 pub record IsHead (nodes : ℕ) (acts : List Act) (lines : List ℕ) (holds reads : Bool) (text : List ℕ) : Type 0 where
@@ -126,7 +122,7 @@ pub record Judges (nodes : Option ℕ) (pairs : Bool) (text out : List ℕ) (sta
   pub lined : LinedActs
   pub count : ℕ
   pub says : Reads nodes text (Ok lined)
-  pub counted : AreNodes nodes lined.acts.items count
+  pub counted : CountsNodes nodes lined.acts.items count
   pub judgement : IsJudgement count lined.acts.items lined.lines.items pairs out status
 
 -- where memory may run out: the text is not too long, and a line says an act before any is bad, or none is bad

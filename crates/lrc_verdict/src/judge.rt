@@ -6,7 +6,7 @@ ghost use Rattle.lrc_text.specs.Parts.{whole_text};
 ghost use Rattle.lrc_text.specs.RaceText.{first_race_text};
 ghost use Rattle.lrc_acts.specs.ActsText.{Reads};
 ghost use Rattle.lrc_acts.specs.declared.reading.ActsFault.TheVariants.{NoMemory};
-ghost use Rattle.lrc_verdict.specs.Judgement.{AreNodes, IsHead, IsJudgement, IsNodeCount, Judges, MayRunOut, judge_status};
+ghost use Rattle.lrc_verdict.specs.Judgement.{CountsNodes, IsHead, IsJudgement, IsNodeCount, Judges, MayRunOut, judge_status};
 
 use crate::tell::{races_told, tell_lazy_reading, tell_order, tell_synchronization};
 use lrc_acts::reading::{ActsFault, acts_of};
@@ -52,7 +52,7 @@ pub fn judge(
 fn nodes_of(nodes: Option<u32>, acts: &[Act]) -> u8
     requires nodes { IfSome nodes (λ count. count ≤ NODES) }
     requires acts { All (λ act. act.node < NODES) acts.now }
-    ensures nodes { AreNodes nodes acts.now result }
+    ensures nodes { CountsNodes nodes acts.now result }
     ensures bound { result ≤ NODES }
 {
     match nodes {

@@ -6,8 +6,9 @@ ghost use Rattle.lrc_trace.specs.Run.{IsDone};
 ghost use Rattle.lrc_judge.specs.declared.TheConstants.{NODES};
 ghost use Rattle.lrc_judge.specs.InOrder.{IsFirstOutOfOrder};
 ghost use Rattle.lrc_judge.specs.Pairs.{AreRacingPairs};
+ghost use Rattle.lrc_judge.specs.Races.{word_of};
 ghost use Rattle.lrc_judge.specs.Reading.{IsFirstMisread};
-ghost use Rattle.lrc_verdict.specs.Judgement.{Adds, TellsLazyReading, TellsOrder, TellsRaces, TellsSynchronization, accesses_at, place_at, word_of, writes};
+ghost use Rattle.lrc_verdict.specs.Judgement.{Adds, TellsLazyReading, TellsOrder, TellsRaces, TellsSynchronization, accesses_at, place_at, writes};
 
 use lrc_acts::judge_lines::{
     Place, RacingAccesses, push_pair, push_unlazy, push_unordered, push_unsynchronized,

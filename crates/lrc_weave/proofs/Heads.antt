@@ -5,8 +5,15 @@ use Rattle.std.proofs.lemmas.Bool.{cases_eq, leb-true, leb-false}
 use Rattle.lrc_protocol.specs.Run.{EntryRecord}
 use Rattle.lrc_weave.specs.declared.order.Head.{Head}
 use Rattle.lrc_weave.specs.Woven.{IsUpTo, come_of, next_entry}
-use Rattle.lrc_weave.specs.Next.{earlier_of, IsBest, IsNextOf}
+use Rattle.lrc_weave.specs.Next.{earlier_of, IsNextOf}
 use Rattle.lrc_weave.proofs.Places.{within_outer}
+
+-- the best next turn of the nodes below a number
+abbrev pub IsBest : List (List EntryRecord) → List ℕ → ℕ → Option Head → Type 0
+IsBest logs come below None = (m : ℕ) → m < below → next_entry logs come m ≡ None
+IsBest logs come below (Some head) = (head.node < below) × (entry : EntryRecord) × (next_entry logs come head.node ≡ Some entry)
+    × (entry.stamp ≡ head.stamp)
+    × ((m : ℕ) (other : EntryRecord) → m < below → next_entry logs come m ≡ Some other → IsUpTo entry.stamp head.node other.stamp m)
 
 up_to_if : (a n b m : ℕ) → a ≤ b → n ≤ m → IsUpTo a n b m
 up_to_if a n b m le order = elim (cases_eq a b) [

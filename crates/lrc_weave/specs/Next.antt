@@ -1,21 +1,14 @@
 -- Whose turn is next.
-use Rattle.std.specs.Prelude.{◌≡◌, ℕ, ◌<◌, Option, Some, None, List, nat_le, if◌then◌else◌}
+use Rattle.std.specs.Prelude.{◌≡◌, ℕ, Option, Some, None, List, nat_le, if◌then◌else◌}
 use Rattle.lrc_protocol.specs.Run.{EntryRecord}
 use Rattle.lrc_weave.specs.declared.order.Head.{Head}
-use Rattle.lrc_weave.specs.Woven.{IsUpTo, next_entry, IsNext}
+use Rattle.lrc_weave.specs.Woven.{next_entry, IsNext}
 
 -- the better of the best next turn so far and that of a node with a higher number, if it has one
 abbrev pub earlier_of : Option Head → Option ℕ → ℕ → Option Head
 earlier_of best None node = best
 earlier_of None (Some stamp) node = Some (record { stamp = stamp; node = node })
 earlier_of (Some head) (Some stamp) node = if nat_le head.stamp stamp then Some head else Some (record { stamp = stamp; node = node })
-
--- the best next turn of the nodes below a number
-abbrev pub IsBest : List (List EntryRecord) → List ℕ → ℕ → Option Head → Type 0
-IsBest logs come below None = (m : ℕ) → m < below → next_entry logs come m ≡ None
-IsBest logs come below (Some head) = (head.node < below) × (entry : EntryRecord) × (next_entry logs come head.node ≡ Some entry)
-    × (entry.stamp ≡ head.stamp)
-    × ((m : ℕ) (other : EntryRecord) → m < below → next_entry logs come m ≡ Some other → IsUpTo entry.stamp head.node other.stamp m)
 
 -- this node's turn is next, or none is left
 abbrev pub IsNextOf : List (List EntryRecord) → List ℕ → Option ℕ → Type 0

@@ -1,7 +1,7 @@
 // Whose turn is next.
 
 ghost use Rattle.std.specs.Prelude.{◌≡◌, ◌<◌, length, map, option_map, slice_get};
-ghost use Rattle.lrc_weave.specs.Next.{IsBest, IsNextOf, earlier_of};
+ghost use Rattle.lrc_weave.specs.Next.{IsNextOf, earlier_of};
 
 use lrc_node::Entry;
 use std::marker::Model;

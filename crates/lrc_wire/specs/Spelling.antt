@@ -14,7 +14,7 @@ use Rattle.lrc_envelope.specs.declared.message.Message.TheVariants.{ChangesReque
 use Rattle.lrc_wire.specs.Versions.{version_number}
 use Rattle.lrc_envelope.specs.Records.{IndexedChangesRecord}
 use Rattle.lrc_envelope.specs.Envelope.{EnvelopeRecord}
-use Rattle.lrc_wire.specs.Runs.{Run, AreRuns}
+use Rattle.lrc_wire.specs.Runs.{Run, AreRuns, runs_of}
 use Rattle.lrc_wire.specs.Ranges.{IsFit}
 
 -- one part, then the next
@@ -135,6 +135,10 @@ body v cut (PageReply m) = number w16 m.page · page_values v m.values
 unfoldable pub header : Version → Cut → EnvelopeRecord → List ℕ
 header v cut e =
     byte (version_number v) · byte (kind e.message) · byte e.from · byte e.to · number w32 e.number · number w32 (length (body v cut e.message))
+
+-- the bytes of an envelope in version 2, header and body, with changes in the runs that `runs_of` cuts
+abbrev pub bytes_of : EnvelopeRecord → List ℕ
+bytes_of e = header Two runs_of e ++ body Two runs_of e.message
 
 -- these are the bytes of the envelope in a version
 pub record Spells (version : Version) (envelope : EnvelopeRecord) (bytes : List ℕ) : Type 0 where

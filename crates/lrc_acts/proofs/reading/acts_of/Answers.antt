@@ -1,29 +1,17 @@
-use Rattle.std.proofs.Common.{◌≡◌, ◌∙◌, ◌<◌, ◌≤◌, ◌+◌, ◌==◌, ℕ, List, [], ◌∷◌, ◌++◌, Option, length, take}
-use Rattle.std.proofs.Common.{drop, get_or, inr, refl, sym, ap, subst, arith, rules, tests}
-use Rattle.std.proofs.lemmas.List.{append_assoc, length-take-le, length_push, take_all, take_more, take-append-drop}
+use Rattle.std.proofs.Common.{◌≡◌, ◌<◌, ◌≤◌, ◌+◌, ◌==◌, ℕ, List, [], ◌∷◌, ◌++◌, Option, length, take}
+use Rattle.std.proofs.Common.{drop, get_or, inr, refl, sym, subst, arith, rules, tests}
+use Rattle.std.proofs.lemmas.List.{length-take-le, length_push, take_all}
 use Rattle.std.proofs.lemmas.Iterator.Consumers.{YieldsList-turn, YieldsList-end}
 use Rattle.std.proofs.lemmas.Iterator.Splits.{YieldsList-from_slice_split}
 use Rattle.std.specs.Prelude.{IfErr, Result, Ok, Err}
 use Rattle.lrc_trace.specs.declared.act.Act.{Act}
-use Rattle.lrc_acts.specs.ActsText.{IsBad, IsFirstBad, SayActs, SaysAct, SaysSome, lines_of, most_bytes, none, words_of}
+use Rattle.lrc_text.specs.Lines.{lines_of}
+use Rattle.lrc_text.proofs.Lines.{lines_at, lines_more}
+use Rattle.lrc_acts.specs.ActsText.{IsBad, IsFirstBad, SayActs, SaysAct, SaysSome, most_bytes, none, words_of}
 use Rattle.lrc_acts.specs.declared.reading.ActsFault.{ActsFault}
 use Rattle.lrc_acts.specs.declared.reading.ActsFault.TheVariants.{NoMemory}
 use Rattle.lrc_acts.proofs.LineLemmas.{say_empty, say_more}
 use Rattle.lrc_acts.proofs.reading.acts_of.Goals as goal
-
--- the lines so far, with one more
-lines_more : (lines : List (List ℕ)) (n m : ℕ) (line : List ℕ) → n ≡ m → (m < length lines) × (line ≡ get_or lines m line)
-    → take (n + 1) lines ≡ take n lines ++ line ∷ []
-lines_more lines n m line same turn =
-    let at : line ≡ get_or lines n line = turn.1 ∙ ap (λ i. get_or lines i line) (sym same) in
-    take_more lines n line (omega arith) ∙ ap (λ x. take n lines ++ x ∷ []) (sym at)
-
--- the lines before one, that line, and those after it
-split_at : (lines : List (List ℕ)) (n m : ℕ) (line : List ℕ) → n ≡ m → (m < length lines) × (line ≡ get_or lines m line)
-    → lines ≡ take n lines ++ line ∷ drop (n + 1) lines
-split_at lines n m line same turn =
-    sym (take-append-drop (n + 1) lines) ∙ ap (λ l. l ++ drop (n + 1) lines) (lines_more lines n m line same turn)
-    ∙ append_assoc (take n lines) (line ∷ []) (drop (n + 1) lines)
 
 first_bad : (nodes : Option ℕ) (lines : List (List ℕ)) (n m : ℕ) (line : List ℕ) (acts : List Act) (numbers : List ℕ) → n ≡ m
     → (m < length lines) × (line ≡ get_or lines m line) → SayActs nodes 1 (take n lines) acts numbers → IsBad nodes line → IsFirstBad nodes lines (n + 1)
@@ -31,7 +19,7 @@ first_bad nodes lines n m line acts numbers same turn said bad = record {
   before = take n lines;
   line = line;
   after = drop (n + 1) lines;
-  whole = split_at lines n m line same turn;
+  whole = lines_at lines n m line same turn;
   counted = omega (arith, length-take-le n lines (omega arith));
   good = (acts, numbers, said);
   bad = bad;
@@ -44,7 +32,7 @@ says_some nodes lines n m line acts numbers act same turn said says = record {
   before = take n lines;
   line = line;
   after = drop (n + 1) lines;
-  whole = split_at lines n m line same turn;
+  whole = lines_at lines n m line same turn;
   good = (acts, numbers, said);
   says = (act, says);
 }

@@ -1,5 +1,6 @@
 use Rattle.std.proofs.Common.{◌≡◌, length, take}
-use Rattle.lrc_acts.specs.ActsText.{SayActs, lines_of}
+use Rattle.lrc_text.specs.Lines.{lines_of}
+use Rattle.lrc_acts.specs.ActsText.{SayActs}
 use Rattle.lrc_acts.proofs.reading.acts_of.Given as goal
 
 abbrev pub invariant-loop-line : goal.invariant-loop-line

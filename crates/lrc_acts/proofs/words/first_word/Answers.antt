@@ -1,4 +1,5 @@
-use Rattle.lrc_acts.proofs.WordLemmas.{nil_of, none_left, one_more, some_of}
+use Rattle.lrc_text.proofs.Lines.{nil_of, some_of}
+use Rattle.lrc_acts.proofs.WordLemmas.{none_left, one_more}
 use Rattle.lrc_acts.proofs.words.first_word.Goals as goal
 
 pub returns-then-is_empty : goal.returns-then-is_empty

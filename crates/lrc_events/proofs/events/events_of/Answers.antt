@@ -1,14 +1,15 @@
-use Rattle.std.proofs.Common.{◌≡◌, ◌∙◌, ◌<◌, ◌≤◌, ◌+◌, ◌==◌, ◌≢◌, ℕ, false, List, [], ◌∷◌, ◌++◌, length, take}
-use Rattle.std.proofs.Common.{drop, get_or, inr, refl, sym, ap, subst, arith, rules, tests}
-use Rattle.std.proofs.lemmas.List.{append_assoc, length-take-le, length_push, take_all, take_more, take-append-drop}
+use Rattle.std.proofs.Common.{◌≡◌, ◌<◌, ◌≤◌, ◌+◌, ◌==◌, ◌≢◌, ℕ, false, List, [], ◌∷◌, ◌++◌, length, take}
+use Rattle.std.proofs.Common.{drop, get_or, inr, refl, sym, subst, arith, rules, tests}
+use Rattle.std.proofs.lemmas.List.{length-take-le, length_push, take_all}
 use Rattle.std.proofs.lemmas.Iterator.Consumers.{YieldsList-turn, YieldsList-end}
 use Rattle.std.proofs.lemmas.Iterator.Splits.{YieldsList-from_slice_split}
 use Rattle.std.specs.Prelude.{IfErr, Result, Ok, Err}
+use Rattle.lrc_text.specs.Lines.{lines_of}
+use Rattle.lrc_text.proofs.Lines.{lines_at, lines_more, nil_of}
 use Rattle.lrc_protocol.specs.declared.event.Event.{Event}
-use Rattle.lrc_events.specs.EventsText.{IsBad, IsFirstBad, NameAll, Names, NamesSome, empty, lines_of, more, most_bytes, none}
+use Rattle.lrc_events.specs.EventsText.{IsBad, IsFirstBad, NameAll, Names, NamesSome, empty, more, most_bytes, none}
 use Rattle.lrc_events.specs.declared.events.EventsFault.{EventsFault}
 use Rattle.lrc_events.specs.declared.events.EventsFault.TheVariants.{NoMemory}
-use Rattle.lrc_events.proofs.Lines.{nil_of}
 use Rattle.lrc_events.proofs.events.events_of.Goals as goal
 
 name_more : {lines : List (List ℕ)} {events : List Event} (line : List ℕ) (event : Event) → NameAll lines events → Names line event
@@ -26,27 +27,13 @@ some_of : (line : List ℕ) → false ≡ (length line == 0) → line ≢ []
 some_of [] e is = absurd cc
 some_of (b ∷ line) e is = absurd cc
 
--- the lines so far, with one more
-lines_more : (lines : List (List ℕ)) (n m : ℕ) (line : List ℕ) → n ≡ m → (m < length lines) × (line ≡ get_or lines m line)
-    → take (n + 1) lines ≡ take n lines ++ line ∷ []
-lines_more lines n m line same turn =
-    let at : line ≡ get_or lines n line = turn.1 ∙ ap (λ i. get_or lines i line) (sym same) in
-    take_more lines n line (omega arith) ∙ ap (λ x. take n lines ++ x ∷ []) (sym at)
-
--- the lines before one, that line, and those after it
-split_at : (lines : List (List ℕ)) (n m : ℕ) (line : List ℕ) → n ≡ m → (m < length lines) × (line ≡ get_or lines m line)
-    → lines ≡ take n lines ++ line ∷ drop (n + 1) lines
-split_at lines n m line same turn =
-    sym (take-append-drop (n + 1) lines) ∙ ap (λ l. l ++ drop (n + 1) lines) (lines_more lines n m line same turn)
-    ∙ append_assoc (take n lines) (line ∷ []) (drop (n + 1) lines)
-
 first_bad : (lines : List (List ℕ)) (n m : ℕ) (line : List ℕ) (events : List Event) → n ≡ m → (m < length lines) × (line ≡ get_or lines m line)
     → NameAll (take n lines) events → IsBad line → IsFirstBad lines (n + 1)
 first_bad lines n m line events same turn named bad = record {
   before = take n lines;
   line = line;
   after = drop (n + 1) lines;
-  whole = split_at lines n m line same turn;
+  whole = lines_at lines n m line same turn;
   counted = omega (arith, length-take-le n lines (omega arith));
   good = (events, named);
   bad = bad;
@@ -58,7 +45,7 @@ names_some lines n m line events event same turn named names = record {
   before = take n lines;
   line = line;
   after = drop (n + 1) lines;
-  whole = split_at lines n m line same turn;
+  whole = lines_at lines n m line same turn;
   good = (events, named);
   names = (event, names);
 }

@@ -1,5 +1,6 @@
 use Rattle.std.proofs.Common.{◌≡◌, length, take}
-use Rattle.lrc_events.specs.EventsText.{NameAll, lines_of}
+use Rattle.lrc_text.specs.Lines.{lines_of}
+use Rattle.lrc_events.specs.EventsText.{NameAll}
 use Rattle.lrc_events.proofs.events.events_of.Given as goal
 
 abbrev pub invariant-loop-line : goal.invariant-loop-line

@@ -1,5 +1,5 @@
 use Rattle.std.proofs.Common.{rules, ◌≡◌, length}
-use Rattle.lrc_messages.specs.TurnText.{bytes_of}
+use Rattle.lrc_wire.specs.Spelling.{bytes_of}
 use Rattle.lrc_messages.proofs.Sizes.{written_long, written_short}
 use Rattle.lrc_messages.proofs.envelope.size_of.Goals as goal
 

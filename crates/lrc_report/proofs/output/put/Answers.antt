@@ -1,7 +1,8 @@
 use Rattle.std.proofs.Common.{◌∙◌, ℕ, List, sym, subst}
 use Rattle.std.proofs.lemmas.List.{take_rest}
 use Rattle.lrc_report.specs.Output.{AppendsFront}
-use Rattle.lrc_report.proofs.WriteLemmas.{IsUnderWay, on_err, some_of, way_front, way_kept, way_more}
+use Rattle.lrc_text.proofs.Lines.{some_of}
+use Rattle.lrc_report.proofs.WriteLemmas.{IsUnderWay, on_err, way_front, way_kept, way_more}
 use Rattle.lrc_report.proofs.output.put.Goals as goal
 
 pub returns-in_err-count-clause-err : goal.returns-in_err-count-clause-err

@@ -2,7 +2,7 @@ use Rattle.std.proofs.Common.{rules, ap, sym, ◌∙◌}
 use Rattle.std.specs.Prelude.{◌||◌}
 use Rattle.lrc_node.specs.Logged.{seen_input}
 use Rattle.lrc_turns.specs.Told.{holds_key}
-use Rattle.lrc_turns.specs.TurnsText.{takes_message}
+use Rattle.lrc_turns.specs.TurnsText.{takes_numbered}
 use Rattle.lrc_turns.proofs.Noting.{noted_one}
 use Rattle.lrc_turns.proofs.told.note_taken.Goals as goal
 
@@ -10,4 +10,4 @@ pub returns-in_ok-insert-in-Taken-clause-more : goal.returns-in_ok-insert-in-Tak
 returns-in_ok-insert-in-Taken-clause-more c = λ other from number.
     noted_one other from number c.args.node c.in-Taken.envelope c.envelope.inside.from c.envelope.inside.number c.args.taken.now.keys
     c.insert.new.self.keys (c.in_ok-insert-in-Taken.ensures.updates.0 (other, (from, number))) (search rules) (search rules)
-    ∙ ap (λ i. takes_message other from number c.args.node (seen_input i) || holds_key c.args.taken.now.keys other from number) (sym c.in-Taken.is)
+    ∙ ap (λ i. takes_numbered other from number c.args.node (seen_input i) || holds_key c.args.taken.now.keys other from number) (sym c.in-Taken.is)

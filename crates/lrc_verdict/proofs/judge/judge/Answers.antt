@@ -4,7 +4,7 @@ use Rattle.lrc_trace.specs.declared.act.Act.{Act}
 use Rattle.lrc_text.specs.Parts.{whole_text}
 use Rattle.lrc_acts.specs.declared.reading.ActsFault.{ActsFault}
 use Rattle.lrc_acts.specs.declared.reading.ActsFault.TheVariants.{NoMemory}
-use Rattle.lrc_verdict.specs.Judgement.{AreNodes, IsJudgement, MayRunOut}
+use Rattle.lrc_verdict.specs.Judgement.{CountsNodes, IsJudgement, MayRunOut}
 use Rattle.lrc_verdict.proofs.Within.{acts_ranged, as_many}
 use Rattle.lrc_verdict.proofs.judge.judge.Goals as goal
 
@@ -31,7 +31,7 @@ returns-clause-ok c =
       lined = lined;
       count = count;
       says = c.in_ok-lined.ensures.ok;
-      counted = subst (λ (acts : List Act). AreNodes c.args.nodes acts count) c.deref-3.ensures.value c.nodes_of.ensures.nodes;
+      counted = subst (λ (acts : List Act). CountsNodes c.args.nodes acts count) c.deref-3.ensures.value c.nodes_of.ensures.nodes;
       judgement = subst (λ (acts : List Act). IsJudgement count acts lined.lines.items c.args.pairs out status) c.deref.ensures.value
           (subst (λ (lines : List ℕ). IsJudgement count c.deref.result.now lines c.args.pairs out status) c.deref-2.ensures.value
           c.in_ok-printout.ensures);

@@ -1,5 +1,5 @@
 use Rattle.std.proofs.Common.{map}
-use Rattle.lrc_weave.specs.Next.{IsBest}
+use Rattle.lrc_weave.proofs.Heads.{IsBest}
 use Rattle.lrc_weave.proofs.order.next_turn.Given as goal
 
 abbrev pub invariant-loop-node : goal.invariant-loop-node

@@ -1,5 +1,5 @@
 -- The runners are those of all nodes, each at the beginning.
-use Rattle.std.proofs.Common.{rules, ◌≡◌, ℕ, zero, suc, ◌∙◌, Option, Some, None, false, List, [], ◌∷◌, ◌++◌, length, replicate, refl, sym, ap, subst, arith}
+use Rattle.std.proofs.Common.{rules, ◌≡◌, ◌∙◌, Some, None, false, [], ◌∷◌, ◌++◌, length, replicate, sym, ap, subst, arith}
 use Rattle.std.specs.Prelude.{All, map}
 use Rattle.std.specs.List.{range_with_len}
 use Rattle.std.proofs.lemmas.List.{map-append, length-map}
@@ -7,23 +7,11 @@ use Rattle.std.proofs.lemmas.List.Elements.{All-append}
 use Rattle.std.proofs.lemmas.List.FromFn.{map-range_with_len_more, length-map-range_with_len}
 use Rattle.lrc_exec.specs.declared.plain.Runner.{Runner}
 use Rattle.lrc_exec.specs.Meaning.{Thread}
-use Rattle.lrc_exec.specs.Plain.{Plain, start_of}
+use Rattle.lrc_exec.specs.Plain.{start_of}
 use Rattle.lrc_exec.specs.PlainCode.{runner_thread}
+use Rattle.lrc_exec.proofs.Beginning.{All-one, machine_is, none_clones}
 use Rattle.lrc_exec.proofs.plain.PlainMachine.new.Invariants.{IsOf}
 use Rattle.lrc_exec.proofs.plain.PlainMachine.new.Goals as goal
-
-All-one : {X : Type 0} (P : X → Type 0) (x : X) → P x → All P (x ∷ [])
-All-one P x h zero d inside = h
-All-one P x h (suc k) d inside = absurd (omega arith)
-
--- a clone of none is none
-none_clones : (R : Option ℕ → Type 0) → ((x : ℕ) → R (Some x) → ⊥) → (y : Option ℕ) → R y → y ≡ None
-none_clones R never None h = refl
-none_clones R never (Some x) h = absurd (never x h)
-
-machine_is : (m m' : List ℕ) (h h' : List (Option ℕ)) (a a' : List ℕ) (t t' : List (Option Thread)) → m ≡ m' → h ≡ h' → a ≡ a' → t ≡ t'
-    → ◌≡◌ {A = Plain} (record { memory = m; holders = h; arrivals = a; threads = t }) (record { memory = m'; holders = h'; arrivals = a'; threads = t' })
-machine_is m m' h h' a a' t t' em eh ea et = cc
 
 pub loop-me-preserved : goal.loop-me-preserved
 loop-me-preserved c =
