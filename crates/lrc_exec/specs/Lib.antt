@@ -2,6 +2,7 @@ pub mod Ask
 pub mod Condition
 pub mod Flat
 pub mod Meaning
+pub mod Nodes
 pub mod Plain
 pub mod PlainCode
 pub mod Rounds

@@ -1,5 +1,5 @@
 -- What a search answers of a program.
-use Rattle.std.specs.Prelude.{◌≡◌, ◌≤◌, ℕ, ◌+◌, List, Some, None, length}
+use Rattle.std.specs.Prelude.{◌≡◌, ℕ, ◌+◌, List, Some, None, length}
 use Rattle.lrc_lang.specs.declared.program.Program.{Program}
 use Rattle.lrc_trace.specs.declared.act.Act.{Act}
 use Rattle.lrc_trace.specs.Conflict.{Races}
@@ -31,7 +31,3 @@ IsVerdict program nodes (Racy order) = LeadsToRace program nodes order.items
 abbrev pub FindsNoRace : Verdict → Type 0
 FindsNoRace (RaceFree stuck) = Unit {0}
 FindsNoRace (Racy order) = ⊥
-
--- there are 1 to 16 nodes
-abbrev pub AreNodes : ℕ → Type 0
-AreNodes nodes = (1 ≤ nodes) × (nodes ≤ 16)

@@ -2,7 +2,7 @@
 
 ghost use Rattle.std.specs.Prelude.{◌≡◌, ◌↔◌, List, IfOk, IfErr, Err};
 ghost use Rattle.lrc_trace.specs.declared.act.Act.{Act};
-ghost use Rattle.lrc_explore.specs.Verdict.{AreNodes};
+ghost use Rattle.lrc_exec.specs.Nodes.{AreNodes};
 ghost use Rattle.lrc_explore.specs.Outcome.{FitsNoted, HasMoreNoted, HasOutcome, IsOutcome};
 
 use crate::noted::{Noted, NotedStates};

@@ -9,7 +9,7 @@ use Rattle.lrc_exec.specs.Plain.{Plain, plain, plain_from, plain_start}
 use Rattle.lrc_plain_laws.proofs.Plainly.{facts}
 use Rattle.lrc_lines.specs.Walks.{lines_behind}
 use Rattle.lrc_explore.specs.Stuck.{GetsStuck}
-use Rattle.lrc_explore.specs.Verdict.{AreNodes}
+use Rattle.lrc_exec.specs.Nodes.{AreNodes}
 
 -- they are of nodes that there can be
 pub in_range : (program : Program) (nodes : ℕ) (order : List ℕ) (run : List Act) → AreNodes nodes → plain program nodes order ≡ Some run

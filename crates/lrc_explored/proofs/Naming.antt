@@ -5,20 +5,21 @@ use Rattle.std.proofs.Common.{◌++◌}
 use Rattle.std.specs.Prelude.{◌↔◌, ◌==◌, Contains, if◌then◌else◌}
 use Rattle.std.specs.List.{flat_map}
 use Rattle.std.proofs.lemmas.List.Elements.{Contains-get_or}
-use Rattle.std.proofs.lemmas.Bool.{cases_order, lt-ltb, le-ltb, eq-eqb, eqb-true}
+use Rattle.std.proofs.lemmas.Bool.{cases_order, eq-eqb, eqb-true}
 use Rattle.std.proofs.lemmas.Option.{get_or_from_slice_get}
 use Rattle.lrc_trace.specs.declared.act.Act.{Act}
 use Rattle.lrc_trace.specs.declared.act.Deed.{Deed}
-use Rattle.lrc_trace.specs.declared.act.Deed.TheVariants.{Quiet, Read, Write}
+use Rattle.lrc_trace.specs.declared.act.Deed.TheVariants.{Quiet}
 use Rattle.lrc_trace.specs.declared.race.Race.{Race}
 use Rattle.lrc_trace.specs.Run.{Does, act_of}
 use Rattle.lrc_trace.specs.Conflict.{Accesses, ConflictAt, Races}
 use Rattle.lrc_trace.specs.Interval.{interval_at, Names}
-use Rattle.lrc_trace.proofs.Positions.{Does-one_deed, Does-within}
 use Rattle.lrc_trace.proofs.Conflicts.{ConflictAt-symmetric}
 use Rattle.lrc_judge.specs.declared.lanes.Pair.{Pair}
 use Rattle.lrc_judge.specs.Pairs.{AreRacingPairs}
 use Rattle.lrc_judge.specs.Races.{word_of, race_of_places}
+use Rattle.lrc_judge.proofs.Naming.{accesses_within, named_lower, named_upper, race_same, word_is}
+use Rattle.lrc_judge.proofs.Representing.{access_does}
 use Rattle.lrc_show.specs.Acts.{act_at}
 use Rattle.lrc_explored.specs.LastRaces.{IsRaceEndingAt, race_ending_at, race_of_pair}
 
@@ -78,31 +79,6 @@ module _ {X Y : Type 0} (f : X → Y) (p : X → Bool) where
 
 -- ---- the race of two places
 
-named_lower : (word p i q j : ℕ) → p < q → race_of_places word p i q j ≡ record { word = word; node_a = p; node_b = q; interval_a = i; interval_b = j }
-named_lower word p i q j lt = rw (lt-ltb p q lt) refl
-
-named_upper : (word p i q j : ℕ) → q < p → race_of_places word p i q j ≡ record { word = word; node_a = q; node_b = p; interval_a = j; interval_b = i }
-named_upper word p i q j lt = rw (le-ltb p q (omega arith)) refl
-
-race_same : (race : Race) (word a b i j : ℕ) → race.word ≡ word → race.node_a ≡ a → race.node_b ≡ b → race.interval_a ≡ i → race.interval_b ≡ j
-    → race ≡ record { word = word; node_a = a; node_b = b; interval_a = i; interval_b = j }
-race_same race word a b i j w p q x y =
-    let e : ◌≡◌ {A = Race} (record {
-      word = race.word;
-      node_a = race.node_a;
-      node_b = race.node_b;
-      interval_a = race.interval_a;
-      interval_b = race.interval_b;
-    }) (record { word = word; node_a = a; node_b = b; interval_a = i; interval_b = j }) = cc in e
-
-access_does : {run : List Act} {i p w : ℕ} → Accesses run i p w → (d : Deed) × Does run i p d
-access_does {w = w} (inl (v, h)) = (Read w v, h)
-access_does {w = w} (inr (v, h)) = (Write w v, h)
-
-word_is : (run : List Act) (i p w : ℕ) (d : Deed) → Accesses run i p w → Does run i p d → word_of d ≡ w
-word_is run i p w d (inl (v, h)) does = let e : Read w v ≡ d = Does-one_deed h does in rw (← e) refl
-word_is run i p w d (inr (v, h)) does = let e : Write w v ≡ d = Does-one_deed h does in rw (← e) refl
-
 act_is : (run : List Act) (i p : ℕ) (d : Deed) → Does run i p d → act_at run i ≡ act_of p d
 act_is run i p d does = get_or_from_slice_get run i (act_of p d) (act_of 0 Quiet) does.stands
 
@@ -117,7 +93,7 @@ between_is run i p j q word first second =
     let (b, does_j) = access_does second in
     ap₂ (λ (x y : Act). race_of_places (word_of y.deed) x.node (interval_at run x.node i) y.node (interval_at run y.node j)) (act_is run i p a does_i)
     (act_is run j q b does_j)
-    ∙ ap (λ w. race_of_places w p (interval_at run p i) q (interval_at run q j)) (word_is run j q word b second does_j)
+    ∙ ap (λ w. race_of_places w p (interval_at run p i) q (interval_at run q j)) (word_is run j q word second q b does_j)
 
 -- a racing pair names its race
 between_names : (run : List Act) (i j : ℕ) → Races run i j
@@ -171,8 +147,7 @@ races_at_are run pairs position race are = (
 races_within : (run : List Act) (i j : ℕ) → Races run i j → j < length run
 races_within run i j r =
     let (p, q, word, c) = r.conflict in
-    let (b, does) = access_does c.second in
-    Does-within does
+    accesses_within c.second
 
 -- racing pairs are of positions of the run
 pub pairs_within : (run : List Act) (pairs : List Pair) → AreRacingPairs run pairs → (k : ℕ) (d : Pair) → k < length pairs

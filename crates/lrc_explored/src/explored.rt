@@ -2,7 +2,7 @@
 
 ghost use Rattle.std.specs.Prelude.{◌≡◌, ◌≢◌, IfErr, IfOk};
 ghost use Rattle.lrc_text.specs.Parts.{whole_text};
-ghost use Rattle.lrc_explore.specs.Verdict.{AreNodes};
+ghost use Rattle.lrc_exec.specs.Nodes.{AreNodes};
 ghost use Rattle.lrc_explored.specs.Explored.{Explores, MeetsTooMany};
 
 use crate::orders::orders_told;

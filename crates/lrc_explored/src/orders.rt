@@ -4,9 +4,10 @@ ghost use Rattle.std.specs.Prelude.{◌≡◌, ◌≢◌, ◌<◌, ◌-◌, ◌+
 ghost use Rattle.lrc_judge.specs.declared.TheConstants.{NODES};
 ghost use Rattle.lrc_text.specs.Parts.{whole_text};
 ghost use Rattle.lrc_exec.specs.Plain.{plain};
+ghost use Rattle.lrc_exec.specs.Nodes.{AreNodes};
 ghost use Rattle.lrc_explore.specs.Limit.{HasMoreStates};
 ghost use Rattle.lrc_explore.specs.Stuck.{GetsStuck};
-ghost use Rattle.lrc_explore.specs.Verdict.{AreNodes, IsVerdict, LeadsToRace, NeverStuck};
+ghost use Rattle.lrc_explore.specs.Verdict.{IsVerdict, LeadsToRace, NeverStuck};
 ghost use Rattle.lrc_plain_laws.specs.Racing.{HasNoRace};
 ghost use Rattle.lrc_explored.specs.Orders.{TellsOrders, ends_text, order_text};
 

@@ -2,10 +2,10 @@
 
 ghost use Rattle.std.specs.Prelude.{◌≡◌, ◌≢◌, ◌++◌, IfErr, IfOk, OnOk, codes, decimal, map};
 ghost use Rattle.std.specs.List.{IsDistinct};
+ghost use Rattle.lrc_exec.specs.Nodes.{AreNodes};
 ghost use Rattle.lrc_explore.specs.contracts.outcomes.OutcomePartialEq.TheImpl.{eq-value};
 ghost use Rattle.lrc_text.specs.Parts.{texts_of, whole_text};
 ghost use Rattle.lrc_explore.specs.Outcome.{HasMoreNoted};
-ghost use Rattle.lrc_explore.specs.Verdict.{AreNodes};
 ghost use Rattle.lrc_explored.specs.Outcomes.{ListsOutcomes, TellsOutcomes, on_one_line, outcome_line, spaced};
 
 use crate::explored::Printout;

@@ -2,7 +2,7 @@
 use Rattle.std.proofs.Common.{◌≡◌, ◌∙◌, ℕ, List, [], ◌∷◌, ◌++◌, refl, sym, ap, subst, append-nil, append_assoc}
 use Rattle.lrc_protocol.specs.Node.{Node}
 use Rattle.lrc_protocol.specs.Run.{Input, EntryRecord, Logged, logged, logs}
-use Rattle.lrc_protocol.proofs.Worlds.{Entries, IsEntry, logs-entries}
+use Rattle.lrc_world.proofs.Made.{is_entry}
 use Rattle.lrc_weave.specs.Logs.{MayCome, GoesOnBy}
 use Rattle.lrc_run.specs.Worker.{Turns, none, more, unmade}
 
@@ -11,10 +11,6 @@ abbrev LeadsTo : Logged → List EntryRecord → Logged → Type 0
 LeadsTo l [] j = l ≡ j
 LeadsTo l (entry ∷ others) j =
     (came : ℕ) × (after : Logged) × MayCome entry.input came × (logs l entry.input came ≡ logged entry after) × LeadsTo after others j
-
-is_entry : (l : Logged) (input : Input) (came : ℕ) (entry : EntryRecord) (after : Logged) → logs l input came ≡ logged entry after
-    → IsEntry l input entry after
-is_entry l input came entry after turn = subst (Entries l input) turn (logs-entries l input came)
 
 -- one entry more
 one_more : (l k j : Logged) (log : List EntryRecord) (entry : EntryRecord) (input : Input) (came : ℕ) → LeadsTo l log k → MayCome input came

@@ -16,7 +16,8 @@ use Rattle.lrc_weave.specs.Matched.{AreMatched}
 use Rattle.lrc_weave.specs.Woven.{AreWoven}
 use Rattle.lrc_world.specs.declared.report.SimFault.{SimFault}
 use Rattle.lrc_world.specs.declared.report.SimFault.TheVariants as playing
-use Rattle.lrc_world.specs.Range.{AreNodes, AreSteps}
+use Rattle.lrc_exec.specs.Nodes.{AreNodes}
+use Rattle.lrc_world.specs.Range.{AreSteps}
 use Rattle.lrc_world.specs.Report.{IsWornBy}
 use Rattle.lrc_run.specs.Faults.{AnswersEvents, AnswersWorn, AreEventsOf, AreUnmatched, of_playing}
 use Rattle.lrc_run.specs.Run.{IsLate, WearsOutSoon, of_weaving}

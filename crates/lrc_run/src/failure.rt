@@ -1,10 +1,11 @@
 // The fault of a run in which a node failed.
 
 ghost use Rattle.std.specs.Prelude.{◌≡◌, ◌≤◌, ◌<◌, ◌^◌, Err, IfOk, List, MatchOption, None, Some, count_by, length, map};
+ghost use Rattle.lrc_exec.specs.Nodes.{AreNodes};
 ghost use Rattle.lrc_protocol.specs.declared.event.Event.{Event as AnyEvent};
 ghost use Rattle.lrc_node.specs.Logged.{seen_input};
 ghost use Rattle.lrc_weave.specs.declared.fault.WeaveFault.TheVariants as weaving;
-ghost use Rattle.lrc_world.specs.Range.{AreNodes, AreSteps};
+ghost use Rattle.lrc_world.specs.Range.{AreSteps};
 ghost use Rattle.lrc_world.specs.Report.{IsWornBy};
 ghost use Rattle.lrc_run.specs.Faults.{AnswersEvents, AnswersStop, AnswersWorn, AreEventsOf, AreUnmatched, of_playing};
 ghost use Rattle.lrc_run.specs.Run.{IsLate, WearsOutSoon};

@@ -2,12 +2,13 @@
 
 ghost use Rattle.std.specs.Prelude.{◌≡◌, ◌≤◌, ◌↔◌, ◌⊎◌, List, Err, IfOk, IfErr, MatchResult, length, map};
 ghost use Rattle.lrc_judge.specs.Races.{AreNamedRaces};
+ghost use Rattle.lrc_exec.specs.Nodes.{AreNodes};
 ghost use Rattle.lrc_protocol.specs.declared.event.Event.{Event as AnyEvent};
 ghost use Rattle.lrc_post.specs.Post.{AreOf};
 ghost use Rattle.lrc_weave.specs.Logs.{AreLogs};
 ghost use Rattle.lrc_weave.specs.Matched.{AreMatched};
 ghost use Rattle.lrc_world.specs.Promises.{IsConsistent};
-ghost use Rattle.lrc_world.specs.Range.{AreNodes, AreSteps};
+ghost use Rattle.lrc_world.specs.Range.{AreSteps};
 ghost use Rattle.lrc_world.specs.Report.{IsWornBy};
 ghost use Rattle.lrc_run.specs.Run.{AreWiresOf, IsLate, IsWovenReport, WearsOutSoon, turns_of};
 

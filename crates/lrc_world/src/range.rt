@@ -1,7 +1,8 @@
 // The range of what a run is asked for.
 
 ghost use Rattle.std.specs.Prelude.{◌≡◌, ◌⊎◌, MatchResult};
-ghost use Rattle.lrc_world.specs.Range.{AreNodes, AreSteps};
+ghost use Rattle.lrc_exec.specs.Nodes.{AreNodes};
+ghost use Rattle.lrc_world.specs.Range.{AreSteps};
 
 use crate::report::{MOST_STEPS, SimFault};
 use lrc_envelope::MOST_NODES;

@@ -2,12 +2,13 @@
 
 ghost use Rattle.std.specs.Prelude.{◌≡◌, ◌<◌, ◌≤◌, ◌↔◌, List, length, IfOk, Err, true};
 ghost use Rattle.lrc_judge.specs.Races.{AreNamedRaces};
+ghost use Rattle.lrc_exec.specs.Nodes.{AreNodes};
 ghost use Rattle.lrc_protocol.specs.declared.event.Event.{Event as AnyEvent};
 ghost use Rattle.lrc_protocol.specs.Run.{fresh_world};
 ghost use Rattle.lrc_world.specs.Driven.{schedule_of};
 ghost use Rattle.lrc_world.specs.Led.{AreLed, WearsOut};
 ghost use Rattle.lrc_world.specs.Random.{IsWandering, WanderingWearsOut};
-ghost use Rattle.lrc_world.specs.Range.{AreNodes, AreSteps};
+ghost use Rattle.lrc_world.specs.Range.{AreSteps};
 ghost use Rattle.lrc_world.specs.Promises.{AreKept};
 ghost use Rattle.lrc_world.specs.Report.{AreAll, IsBriefOf, IsKeptReportOf, IsReportOf, IsWornBy};
 ghost use Rattle.lrc_world.specs.Rounds.{AreRounds, RoundsWearOut};
