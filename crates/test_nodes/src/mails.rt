@@ -3,7 +3,7 @@
 ghost use Rattle.std.specs.Prelude.{◌≡◌, ◌<◌, OnOk, All, length};
 
 use lrc_envelope::{Clean, Message};
-use lrc_mail::{Letter, Mail, MailFault, requests};
+use lrc_mail::{Letter, Mail, MailFault, requests, requests_for};
 use lrc_need::{Asked, Base, Need, Wait};
 use lrc_page::{Page, Size};
 use lrc_store::Key;
@@ -233,7 +233,7 @@ fn shown_all(makers: &[Asked]) -> Option<[(u8, usize, u32, u32); 2]> {
 #[test]
 fn asks_the_keeper_and_each_maker(rt: HostRuntime) -> Result<(), Fail> {
     let need = absent_page(rt.alloc())?;
-    let letters = need.requests(rt.alloc())?;
+    let letters = requests_for(rt.alloc(), &need)?;
     let counts = [letters.len(), need.missing().len()];
     assert!(rt; (receivers(letters.as_slice()), counts) == ([2, 1, 2], [3, 4]));
     assert!(rt; shown_all(need.asked()) == Some([(1, 2, 7, 9), (2, 1, 4, 4)]));
