@@ -14,12 +14,16 @@ use Rattle.lrc_exec.specs.declared.code.Instruction.{Instruction}
 use Rattle.lrc_exec.specs.declared.cursor.Cursor.TheInside.{Inside}
 use Rattle.lrc_exec.specs.Meaning.{Thread, Next, or_trap, if_below, value_in, traps, block, holds, then_does}
 use Rattle.lrc_exec.specs.Meaning.{then_keeps, then_holds, chosen, act_of, first_act, next_of, ends}
-use Rattle.lrc_exec.specs.Ask.{GoesOn, done, answered}
+use Rattle.lrc_exec.specs.Ask.{TakesAnswer, ask_of, done, answered}
 use Rattle.lrc_exec.specs.Condition.{first_is_met, condition_holds}
 use Rattle.lrc_exec.specs.Flat.{rest_at, where_it_holds, where_it_fails, IsSound}
 use Rattle.lrc_exec.specs.Running.{thread_of, IsRunning}
 use Rattle.lrc_exec.specs.Wish.{Completes}
 use Rattle.lrc_exec.proofs.Flat.{if_made, while_made, rest_at-end, rest_at-instruction}
+
+-- a thread goes on where what it does next takes an answer
+abbrev pub GoesOn : Next → Type 0
+GoesOn next = TakesAnswer (ask_of next)
 
 -- at place 0 the thread is at the end
 pub next_of-end : (m : Inside) (thread : Thread) → thread_of m ≡ thread → m.place ≡ 0 → next_of thread ≡ ends

@@ -54,10 +54,6 @@ TakesAnswer Barrier = Unit {0}
 TakesAnswer (Trap cause) = ⊥
 TakesAnswer End = ⊥
 
--- a thread goes on where what it does next takes an answer
-abbrev pub GoesOn : Next → Type 0
-GoesOn next = TakesAnswer (ask_of next)
-
 -- the thread once this is done, where a read gets the value; from a barrier it goes on once it has departed, and from a
 -- trap or the end it does not go on
 abbrev pub done : ℕ → Thread → Next → Thread

@@ -3,7 +3,7 @@ use Rattle.std.proofs.Common.{◌≡◌, ℕ, List, refl}
 use Rattle.std.specs.Prelude.{Bool, true, false}
 use Rattle.lrc_trace.specs.declared.act.Act.{Act}
 use Rattle.lrc_trace.proofs.Positions.{Does-one_node, Does-one_deed}
-use Rattle.lrc_judge.specs.Segments.{AccessesBy}
+use Rattle.lrc_judge.proofs.Segments.{AccessesBy}
 
 -- one access stands at a position
 pub one_access : (run : List Act) (n : ℕ) (v w : Bool) (p q x y : ℕ) → AccessesBy v run n p x → AccessesBy w run n q y → (v ≡ w) × (p ≡ q) × (x ≡ y)

@@ -21,3 +21,4 @@ mod Allowed
 mod Searching
 pub mod Comparing
 pub mod Distinct
+pub mod Segments

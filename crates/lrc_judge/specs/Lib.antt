@@ -11,7 +11,6 @@ pub mod Pairs
 pub mod Past
 pub mod Races
 pub mod Reading
-pub mod Segments
 pub mod Standing
 pub mod Synchronization
 pub mod Touched

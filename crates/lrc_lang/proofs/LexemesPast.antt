@@ -3,8 +3,13 @@ use Rattle.std.proofs.Common.{◌≡◌, ℕ, ◌≤◌, List, [], ◌∷◌, �
 use Rattle.std.proofs.lemmas.List.{append_assoc}
 use Rattle.lrc_lang.specs.Token.{number, name, keyword, sign, finish, Lexeme, token, bad_byte, bad_number, Placed}
 use Rattle.lrc_lang.specs.Lexemes.{at, Lexes, passes_blank, passes_line_feed, passes_comment, takes_number, value_of, Follows, NextIs}
-use Rattle.lrc_lang.specs.Parser.Past.{GoesOn, IsPast}
+use Rattle.lrc_lang.specs.Parser.Past.{GoesOn}
 use Rattle.lrc_lang.proofs.LexemesExist.{follows_exists}
+
+-- What stands in the text is passed, and then what stands in the rest of it, which begins on this line.
+pub record IsPast (text : List ℕ) (passed : List Placed) (line : ℕ) (rest : List ℕ) : Type 0 where
+  pub split : (all : List Placed) → Lexes 1 text all → (more : List Placed) × (all ≡ passed ++ more) × Lexes line rest more
+  pub joined : (more : List Placed) → Lexes line rest more → Lexes 1 text (passed ++ more)
 
 -- where a text begins, nothing has been passed
 pub nothing_past : (text : List ℕ) → IsPast text [] 1 text

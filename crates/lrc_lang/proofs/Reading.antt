@@ -7,7 +7,7 @@ use Rattle.lrc_lang.specs.declared.limits.Limits as code_limits
 use Rattle.lrc_lang.specs.declared.state.ParserState as code_state
 use Rattle.lrc_lang.specs.Token.{Token, finish, Lexeme, token, bad_byte, bad_number, Placed}
 use Rattle.lrc_lang.specs.Lexemes.{at, NextIs}
-use Rattle.lrc_lang.specs.Parser.Past.{GoesOn, IsPast}
+use Rattle.lrc_lang.specs.Parser.Past.{GoesOn}
 use Rattle.lrc_lang.specs.Grammar.{IsProgram}
 use Rattle.lrc_lang.specs.Faults.{IsFaultOf, IsFaultless, IsFirstFault, AreFaultless, IsText, HasFirstFault}
 use Rattle.lrc_lang.specs.Parser.State.{program_in}

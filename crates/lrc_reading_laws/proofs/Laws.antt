@@ -18,7 +18,8 @@ use Rattle.lrc_protocol.specs.Run.{Input, EntryRecord, Logged, World, Flying, wi
 use Rattle.lrc_protocol.proofs.Worlds.{IsEntry}
 use Rattle.lrc_protocol.proofs.Induction.{Comes}
 use Rattle.lrc_order_laws.proofs.Reached.{IsReached}
-use Rattle.lrc_reading_laws.specs.Written.{made_stamps, changes_on, page_history, open_record}
+use Rattle.lrc_reading_laws.specs.Written.{made_stamps, changes_on}
+use Rattle.lrc_reading_laws.proofs.Written.History.{page_history, open_record}
 use Rattle.lrc_reading_laws.proofs.Closed.History.{History, closed_by}
 -- ---- stamps and changes
 

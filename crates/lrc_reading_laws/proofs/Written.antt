@@ -1,4 +1,5 @@
 -- Of what intervals wrote.
+pub mod History
 pub mod Deeds
 pub mod Pages
 pub mod Notices

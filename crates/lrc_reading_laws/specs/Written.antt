@@ -11,10 +11,7 @@ use Rattle.lrc_page.specs.declared.size.Size.{Size}
 use Rattle.lrc_page.specs.Page.{words_of}
 use Rattle.lrc_store.specs.declared.key.Key.{Key}
 use Rattle.lrc_store.specs.Store.{StoredRecord, notice_of, stored_at}
-use Rattle.lrc_copies.specs.Page.{PageHistory}
-use Rattle.lrc_copies.specs.Stamps.{Stamps, index_of, page_of_stamps}
-use Rattle.lrc_protocol.specs.Times.{next_time}
-use Rattle.lrc_protocol.specs.Node.{Node}
+use Rattle.lrc_copies.specs.Stamps.{Stamps}
 
 -- ---- what was written
 
@@ -52,12 +49,3 @@ made_changes made key = option_and_then (λ notice. notice.changes) (option_and_
 -- the word of a page at an offset
 abbrev pub word_on : Size → ℕ → ℕ → ℕ
 word_on size page offset = page * words_of size + offset
-
--- what each interval did to a page, after these acts
-abbrev pub page_history : Size → List Act → ℕ → PageHistory StoredRecord
-page_history size acts page =
-    page_of_stamps made_stamps (λ x offset. last_write acts x.node (index_of made_stamps x) (word_on size page offset)) (changes_on page)
-
--- a node's open interval: it has no changes yet
-abbrev pub open_record : Node → StoredRecord
-open_record node = record { node = node.setting.me; stamp = next_time node.setting.me node.locks.time; notices = [] }

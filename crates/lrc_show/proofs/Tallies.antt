@@ -1,6 +1,6 @@
 -- Counts of acts from one position to the next.
 use Rattle.std.proofs.Common.{◌≡◌, ◌∙◌, ◌<◌, ◌≤◌, ◌+◌, ℕ, refl, sym, subst, arith, List, length, get_or, replicate, take}
-use Rattle.std.specs.Prelude.{Bool, true, false, ◌==◌, ◌&&◌}
+use Rattle.std.specs.Prelude.{Bool, true, false, ◌==◌, ◌&&◌, slice_index}
 use Rattle.std.proofs.lemmas.List.{get_or-replicate, length-replicate, length-set, length-take-le}
 use Rattle.std.proofs.lemmas.List.Sums.{count_by-le-length}
 use Rattle.lrc_trace.specs.declared.act.Act.{Act}
@@ -8,7 +8,12 @@ use Rattle.lrc_trace.specs.declared.act.Deed.{Deed}
 use Rattle.lrc_trace.specs.Run.{count_of}
 use Rattle.lrc_trace.proofs.Counts.{counts_next, counts_same}
 use Rattle.lrc_trace.proofs.Positions.{Does-read}
-use Rattle.lrc_show.specs.Tally.{Tallies, tallied}
+use Rattle.lrc_show.specs.Tally.{tallied}
+
+-- for each node that can act, how many acts of this kind it made before the position
+pub record Tallies (kind : Deed → Bool) (acts : List Act) (position : ℕ) (counts : List ℕ) : Type 0 where
+  pub many : length counts ≡ 256
+  pub counted : (node : ℕ) → node < length counts → slice_index counts node ≡ count_of kind node (take position acts)
 
 -- nothing is counted before the first act
 pub tallies_none : (kind : Deed → Bool) (acts : List Act) (counts : List ℕ) → counts ≡ replicate 256 0 → Tallies kind acts 0 counts

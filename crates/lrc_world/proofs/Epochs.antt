@@ -4,7 +4,7 @@ use Rattle.std.specs.Prelude.{Some, Contains, slice_get}
 use Rattle.std.proofs.lemmas.List.Elements.{All-contains}
 use Rattle.lrc_lang.specs.declared.program.Program.{Program}
 use Rattle.lrc_clock.specs.Times.{time_at, raised}
-use Rattle.lrc_judge.specs.Segments.{AccessesBy}
+use Rattle.lrc_judge.proofs.Segments.{AccessesBy}
 use Rattle.lrc_trace.specs.Conflict.{Accesses}
 use Rattle.lrc_trace.specs.declared.trace.Segment.{Segment}
 use Rattle.lrc_trace.specs.Interval.{interval_at}

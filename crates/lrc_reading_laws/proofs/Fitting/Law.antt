@@ -22,7 +22,8 @@ use Rattle.lrc_protocol.proofs.Worlds.{fresh_at}
 use Rattle.lrc_order_laws.proofs.Reached.{IsReached}
 use Rattle.lrc_order_laws.proofs.Shape.{shape_at}
 use Rattle.lrc_node_laws.proofs.Always.{slice_index_or-replicate, whole_at}
-use Rattle.lrc_reading_laws.specs.Written.{made_stamps, page_history, open_record}
+use Rattle.lrc_reading_laws.specs.Written.{made_stamps}
+use Rattle.lrc_reading_laws.proofs.Written.History.{page_history, open_record}
 use Rattle.lrc_reading_laws.proofs.Fitting.Copies.{history_on, FitsTime, CopyFits, Fit}
 use Rattle.lrc_reading_laws.proofs.Fitting.First.{NeedFits, whole-long, not_written}
 use Rattle.lrc_reading_laws.proofs.Fitting.Sent.{all-sent}

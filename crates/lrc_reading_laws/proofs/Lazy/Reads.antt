@@ -53,7 +53,8 @@ use Rattle.lrc_order_laws.proofs.Reached.{IsReached}
 use Rattle.lrc_node_laws.specs.Ranges.{IsWhole}
 use Rattle.lrc_node_laws.proofs.Always.{whole_at, known_at}
 use Rattle.lrc_node_laws.proofs.Whole.{readable-long}
-use Rattle.lrc_reading_laws.specs.Written.{made_stamps, last_write, word_on, changes_on, open_record}
+use Rattle.lrc_reading_laws.specs.Written.{made_stamps, last_write, word_on, changes_on}
+use Rattle.lrc_reading_laws.proofs.Written.History.{open_record}
 use Rattle.lrc_reading_laws.proofs.Closed.Stored.{reached}
 use Rattle.lrc_reading_laws.proofs.Stamped.Lists.{found_once}
 use Rattle.lrc_reading_laws.proofs.Closed.History.{History, one_more, KeptByHistory, by_history, reached_by, history_of, closed_by}

@@ -10,7 +10,7 @@ use Rattle.lrc_trace.specs.Conflict.{Accesses}
 use Rattle.lrc_trace.specs.Interval.{interval_at, IsNamedRace}
 use Rattle.lrc_trace.specs.Synchronization.{IsWellSynchronized, WaitsAtBarriers}
 use Rattle.lrc_trace.specs.Trace.{TraceRecord, has_access}
-use Rattle.lrc_judge.specs.Segments.{AccessesBy}
+use Rattle.lrc_judge.proofs.Segments.{AccessesBy}
 use Rattle.lrc_clock.specs.Keeping.{KeepsTime}
 use Rattle.lrc_clock.proofs.Racing.{named_of_segments, segments_named}
 use Rattle.lrc_race.specs.Epochs.{EpochsAgree, EpochsRise}

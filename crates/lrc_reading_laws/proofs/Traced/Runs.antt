@@ -19,7 +19,7 @@ use Rattle.lrc_trace.specs.Trace.{TraceRecord, NotedAccess, IsNoted, MayNote, no
 use Rattle.lrc_trace.proofs.Positions.{Does-within, Does-longer, Does-shorter, departs_before-prefix}
 use Rattle.lrc_trace.proofs.Intervals.{count_of-rises, never_fall}
 use Rattle.lrc_trace.proofs.Noted.{same_access, added-to, added-from}
-use Rattle.lrc_judge.specs.Segments.{AccessesBy}
+use Rattle.lrc_judge.proofs.Segments.{AccessesBy}
 use Rattle.lrc_judge.proofs.Keeping.{one_access}
 use Rattle.lrc_clock.specs.Times.{time_at, raised}
 use Rattle.lrc_clock.specs.Keeping.{KeepsTime, leaves_time}

@@ -17,7 +17,7 @@ use Rattle.lrc_trace.specs.Segments.{intervals_of, AreSegments}
 use Rattle.lrc_trace.specs.Synchronization.{IsWellSynchronized, WaitsAtBarriers}
 use Rattle.lrc_trace.specs.Trace.{TraceRecord, NotedAccess, IsNoted, has_access}
 use Rattle.lrc_trace.proofs.Intervals.{count_of-rises, never_fall}
-use Rattle.lrc_judge.specs.Segments.{AccessesBy}
+use Rattle.lrc_judge.proofs.Segments.{AccessesBy}
 use Rattle.lrc_clock.specs.Times.{time_at, raised}
 use Rattle.lrc_clock.specs.Keeping.{KeepsTime}
 use Rattle.lrc_clock.specs.Races.{IsSegment}

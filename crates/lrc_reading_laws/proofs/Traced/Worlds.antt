@@ -18,7 +18,7 @@ use Rattle.lrc_trace.specs.Synchronization.{IsWellSynchronized, WaitsAtBarriers}
 use Rattle.lrc_trace.specs.Trace.{TraceRecord, noted}
 use Rattle.lrc_trace.proofs.Positions.{Does-within, Does-last, Does-cases, arrives_before-prefix, departs_before-prefix}
 use Rattle.lrc_trace.proofs.Intervals.{count_of-same}
-use Rattle.lrc_judge.specs.Segments.{AccessesBy}
+use Rattle.lrc_judge.proofs.Segments.{AccessesBy}
 use Rattle.lrc_clock.specs.Times.{time_at, raised}
 use Rattle.lrc_clock.specs.Keeping.{KeepsTime}
 use Rattle.lrc_clock.proofs.Intervals.{interval_of_other}

@@ -26,7 +26,8 @@ use Rattle.lrc_order_laws.specs.Counts.{closes, count, awaits_acquire}
 use Rattle.lrc_order_laws.specs.Waiting.{next_in, FixesNext}
 use Rattle.lrc_order_laws.proofs.Reached.{IsReached}
 use Rattle.lrc_order_laws.proofs.Shift.{part_of, Shifted, ShiftedIf, shifts, deed_made}
-use Rattle.lrc_reading_laws.specs.Written.{last_write, made_stamps, changes_on, word_on, page_history, open_record}
+use Rattle.lrc_reading_laws.specs.Written.{last_write, made_stamps, changes_on, word_on}
+use Rattle.lrc_reading_laws.proofs.Written.History.{page_history, open_record}
 use Rattle.lrc_reading_laws.proofs.Closed.History.{History, KeptByHistory, by_history, reached_by, closed_record, closed_by}
 use Rattle.lrc_reading_laws.proofs.Laws.{TurnWrites, WritesLaw, TurnsLaw}
 use Rattle.lrc_reading_laws.proofs.Written.Deeds.{written_in, last_scanned, written-more}

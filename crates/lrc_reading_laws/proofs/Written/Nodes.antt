@@ -33,7 +33,8 @@ use Rattle.lrc_node_laws.specs.Ranges.{IsWhole}
 use Rattle.lrc_node_laws.specs.Opened.{on_page, open_writes, open_in, IsMadeBy, AreMadeBy}
 use Rattle.lrc_node_laws.proofs.Wrote.{wrote}
 use Rattle.lrc_node_laws.proofs.Always.{whole_at}
-use Rattle.lrc_reading_laws.specs.Written.{last_write, made_stamps, word_on, page_history, open_record}
+use Rattle.lrc_reading_laws.specs.Written.{last_write, made_stamps, word_on}
+use Rattle.lrc_reading_laws.proofs.Written.History.{page_history, open_record}
 use Rattle.lrc_reading_laws.proofs.Written.Deeds.{written_in, last_scanned, last_of, not_yet, opened}
 use Rattle.lrc_reading_laws.proofs.Written.Pages.{page_of-word_on, offset_of-word_on, made_at, none_at}
 

@@ -5,9 +5,9 @@ use Rattle.lrc_trace.specs.declared.act.Act.{Act}
 use Rattle.lrc_trace.specs.declared.act.Deed.TheVariants.{Quiet}
 use Rattle.lrc_trace.specs.Interval.{closes, interval_at}
 use Rattle.lrc_show.specs.Json.{json_line}
-use Rattle.lrc_show.specs.Tally.{Tallies, tallied}
+use Rattle.lrc_show.specs.Tally.{tallied}
 use Rattle.lrc_show.proofs.Each.{each_more}
-use Rattle.lrc_show.proofs.Tallies.{tallies_next, tallies_none, tally_is, tally_small}
+use Rattle.lrc_show.proofs.Tallies.{Tallies, tallies_next, tallies_none, tally_is, tally_small}
 use Rattle.lrc_show.proofs.json.json_part.Goals as goal
 
 abbrev no_act : Act

@@ -3,7 +3,7 @@ use Rattle.std.specs.Prelude.{slice_index, slice_index_or, []}
 use Rattle.lrc_trace.specs.Interval.{closes, interval_at}
 use Rattle.lrc_show.specs.Each.{each}
 use Rattle.lrc_show.specs.Json.{json_line}
-use Rattle.lrc_show.specs.Tally.{Tallies}
+use Rattle.lrc_show.proofs.Tallies.{Tallies}
 use Rattle.lrc_show.proofs.json.json_part.Given as goal
 
 -- the lines of the acts so far, and the intervals that the nodes have reached

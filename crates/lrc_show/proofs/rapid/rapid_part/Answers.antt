@@ -8,10 +8,10 @@ use Rattle.lrc_trace.specs.Run.{is_arrive, is_depart}
 use Rattle.lrc_show.specs.declared.rapid.Meeting.{Meeting}
 use Rattle.lrc_show.specs.Each.{each}
 use Rattle.lrc_show.specs.Rapid.{RapidStep, meeting_at, rapid_steps, step_line}
-use Rattle.lrc_show.specs.Tally.{Tallies, tallied}
+use Rattle.lrc_show.specs.Tally.{tallied}
 use Rattle.lrc_show.proofs.Each.{each_more}
 use Rattle.lrc_show.proofs.StepLines.{steps_lines}
-use Rattle.lrc_show.proofs.Tallies.{tallies_next, tallies_none, tally_is, tally_small}
+use Rattle.lrc_show.proofs.Tallies.{Tallies, tallies_next, tallies_none, tally_is, tally_small}
 use Rattle.lrc_show.proofs.rapid.rapid_part.Goals as goal
 
 abbrev no_act : Act

@@ -4,7 +4,7 @@ use Rattle.std.specs.List.{flat_map}
 use Rattle.lrc_trace.specs.Run.{is_arrive, is_depart}
 use Rattle.lrc_show.specs.Each.{each}
 use Rattle.lrc_show.specs.Rapid.{meeting_at, rapid_steps, step_line}
-use Rattle.lrc_show.specs.Tally.{Tallies}
+use Rattle.lrc_show.proofs.Tallies.{Tallies}
 use Rattle.lrc_show.proofs.rapid.rapid_part.Given as goal
 
 -- the lines of the acts so far, and how often the nodes have arrived and departed

@@ -1,7 +1,6 @@
 -- Each answer leads to the place after the statement, or to where its condition leads.
 use Rattle.std.proofs.Common.{◌≡◌, ◌≤◌, length, refl, sym, subst, arith}
-use Rattle.lrc_exec.specs.Ask.{GoesOn}
-use Rattle.lrc_exec.proofs.Running.{next_of-end, running-at, completes-at, lock_there, next_within, chosen_within, assign_answered, read_answered}
+use Rattle.lrc_exec.proofs.Running.{GoesOn, next_of-end, running-at, completes-at, lock_there, next_within, chosen_within, assign_answered, read_answered}
 use Rattle.lrc_exec.proofs.Running.{acquire_answered, release_answered, other_answered, if_answered, while_answered}
 use Rattle.lrc_exec.proofs.cursor.Cursor.answer.Goals as goal
 
