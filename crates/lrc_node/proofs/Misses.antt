@@ -16,7 +16,7 @@ use Rattle.lrc_mail.proofs.Receivers.{requests-below}
 use Rattle.lrc_protocol.specs.Pages.{Copy, valid, written, invalid, absent, is_readable, Memory, copy_at, lacking, lacking_in, keeper_at, Need}
 use Rattle.lrc_protocol.specs.Pages.{base_of, is_due, is_met, need_of, unknown_of, mended}
 use Rattle.lrc_protocol.specs.Node.{Letter, access, nothing, Node, acts, sends, waiting, with_memory}
-use Rattle.lrc_protocol.specs.Turn.{requests_of, reaches, waits_or_goes_on}
+use Rattle.lrc_protocol.specs.Turn.{requests_of, reaches, fetches}
 use Rattle.lrc_node.specs.Effects.{AccessesPage, CanAccess}
 use Rattle.lrc_node.specs.State.{AreFor}
 
@@ -81,16 +81,16 @@ requests_for nodes memory page lt =
 -- ---- what a miss does
 
 missed : (node : Node) (page : ℕ) (readable : Bool) → readable ≡ false
-    → (if readable then acts [] node else (let need = need_of node.setting.nodes node.memory page in waits_or_goes_on (requests_of need) node (access need)))
-    ≡ (let need = need_of node.setting.nodes node.memory page in waits_or_goes_on (requests_of need) node (access need))
+    → (if readable then acts [] node else (let need = need_of node.setting.nodes node.memory page in fetches (requests_of need) node need))
+    ≡ (let need = need_of node.setting.nodes node.memory page in fetches (requests_of need) node need)
 missed node page true e = cc
 missed node page false e = refl
 
 pub reaches_missing : (node : Node) (page : ℕ) (need : Need) → is_readable (copy_at node.memory page) ≡ false
-    → need ≡ need_of node.setting.nodes node.memory page → reaches node page ≡ waits_or_goes_on (requests_of need) node (access need)
+    → need ≡ need_of node.setting.nodes node.memory page → reaches node page ≡ fetches (requests_of need) node need
 reaches_missing node page need r e =
     missed node page (is_readable (copy_at node.memory page)) r
-    ∙ sym (ap (λ n. waits_or_goes_on (requests_of n) node (access n)) e)
+    ∙ sym (ap (λ n. fetches (requests_of n) node n) e)
 
 met_at : (letters : List Letter) (node : Node) (need : Need) (met : Bool) → met ≡ true
     → (if met then acts letters (waiting nothing (with_memory node (mended node.memory need))) else sends letters (waiting (access need) node))
@@ -99,5 +99,5 @@ met_at letters node need true e = refl
 met_at letters node need false e = cc
 
 pub access_met : (letters : List Letter) (node : Node) (need : Need) → is_met need ≡ true
-    → waits_or_goes_on letters node (access need) ≡ acts letters (waiting nothing (with_memory node (mended node.memory need)))
+    → fetches letters node need ≡ acts letters (waiting nothing (with_memory node (mended node.memory need)))
 access_met letters node need e = met_at letters node need (is_met need) e

@@ -15,7 +15,7 @@ use Rattle.lrc_protocol.specs.Pages.{is_readable, Memory, copy_at, Need, is_met}
 use Rattle.lrc_protocol.specs.Barriers.{arrival_in}
 use Rattle.lrc_protocol.specs.Node.{Wait, is_idle, awaits_grant, awaits_departure, collection_of, cost_of, Node, Effect, sends, acts}
 use Rattle.lrc_protocol.specs.Node.{with_memory, with_tokens, own_index}
-use Rattle.lrc_protocol.specs.Turn.{may_begin, begins_of, waits_or_goes_on, with_needs, reaches, run_effect, charged, grants_of, is_request}
+use Rattle.lrc_protocol.specs.Turn.{may_begin, begins_of, with_needs, takes_reply, reaches, run_effect, charged, grants_of, is_request}
 use Rattle.lrc_protocol.specs.Turn.{is_forward, forward_by, is_grant, are_arriving, arrive_by, is_departure, take_departure, clean_by}
 use Rattle.lrc_protocol.specs.Turn.{discard_by, is_changes_request, is_changes_reply, is_page_request, page_reply_by, is_page_reply, takes}
 use Rattle.lrc_protocol.specs.Turn.{is_expected, TurnRecord, done, turn_with, turn_of, turn_if, turn_by, run_turn, turn_taking, is_addressed}
@@ -138,7 +138,7 @@ depart-made node from m d =
     d.learnable)
 
 reply-made : (node : Node) (from : ℕ) (message : Message) (memory : Memory) (change : Need → Need) → Brings node from message memory change
-    → takes node from message ≡ Some (waits_or_goes_on [] (with_memory node memory) (with_needs change node.mail.wait))
+    → takes node from message ≡ Some (takes_reply (with_memory node memory) (with_needs change node.mail.wait))
 reply-made node from message memory change (brings_changes m lt all some) =
     made (is_changes_reply node from m) _ (and_from _ _ (and_from _ _ (lt-ltb _ _ lt) all) some)
 reply-made node from message memory change (brings_base_copy m lt counted some) =
@@ -147,10 +147,10 @@ reply-made node from message memory change (brings_base_copy m lt counted some) 
 -- the same where this is awaited
 reply-goes : (node : Node) (from : ℕ) (message : Message) (memory : Memory) (change : Need → Need) (w : Wait) (effect : Effect)
     → Brings node from message memory change → node.mail.wait ≡ w
-    → waits_or_goes_on [] (with_memory node memory) (with_needs change w) ≡ effect → takes node from message ≡ Some effect
+    → takes_reply (with_memory node memory) (with_needs change w) ≡ effect → takes node from message ≡ Some effect
 reply-goes node from message memory change w effect b at is =
     reply-made node from message memory change b
-    ∙ ap (λ (w : Wait). Some (waits_or_goes_on [] (with_memory node memory) (with_needs change w))) at
+    ∙ ap (λ (w : Wait). Some (takes_reply (with_memory node memory) (with_needs change w))) at
     ∙ ap Some is
 
 -- what a rule takes, the machine takes

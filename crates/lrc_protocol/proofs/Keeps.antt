@@ -18,7 +18,7 @@ use Rattle.lrc_protocol.specs.Barriers.{arrival_in, kept_pages, with_keepers, ba
 use Rattle.lrc_protocol.specs.Node.{Letter, Wait, nothing, grant, departure, access, upkeep, discard, collection_of, Course, going, trapped}
 use Rattle.lrc_protocol.specs.Node.{ended, thread_of, deed_of, course_of, Node, OptionsRecord, Effect, sends, acts, acts_by, value_read}
 use Rattle.lrc_protocol.specs.Node.{with_memory, waiting, own_index}
-use Rattle.lrc_protocol.specs.Turn.{requests_of, waits_or_goes_on, with_needs, closes, closing, reaches, acquire_at, release_at, arrive_at}
+use Rattle.lrc_protocol.specs.Turn.{requests_of, fetches, keeps_up, takes_reply, with_needs, closes, closing, reaches, acquire_at, release_at, arrive_at}
 use Rattle.lrc_protocol.specs.Turn.{run_effect, learns, given, is_request, is_forward, forward_by, is_grant, are_arriving, arrive_by}
 use Rattle.lrc_protocol.specs.Turn.{is_departure, needs_to_keep, collects, clean_by, discard_by, is_changes_request, is_changes_reply}
 use Rattle.lrc_protocol.specs.Turn.{is_page_request, page_reply_by, is_page_reply, takes}
@@ -81,14 +81,20 @@ optional : (node : Node) (b : Bool) (x : Effect) → Kept node x → KeptIf node
 optional node true x k = k
 optional node false x k = tt
 
-waits-keeps : (letters : List Letter) (node : Node) (wait : Wait) → Kept node (waits_or_goes_on letters node wait)
-waits-keeps letters node (access need) = either node (is_met need) _ _ (acts-keeps letters _) (sends-keeps letters _)
-waits-keeps letters node (upkeep collection needs) =
-    either node (list_all is_met needs) _ _ (sends-keeps _ _) (sends-keeps letters _)
-waits-keeps letters node nothing = sends-keeps letters _
-waits-keeps letters node (grant lock) = sends-keeps letters _
-waits-keeps letters node departure = sends-keeps letters _
-waits-keeps letters node (discard collection) = sends-keeps letters _
+fetches-keeps : (letters : List Letter) (node : Node) (need : Need) → Kept node (fetches letters node need)
+fetches-keeps letters node need = either node (is_met need) _ _ (acts-keeps letters _) (sends-keeps letters _)
+
+keeps_up-keeps : (letters : List Letter) (node : Node) (collection : Collection) (needs : List Need)
+    → Kept node (keeps_up letters node collection needs)
+keeps_up-keeps letters node collection needs = either node (list_all is_met needs) _ _ (sends-keeps _ _) (sends-keeps letters _)
+
+takes_reply-keeps : (node : Node) (wait : Wait) → Kept node (takes_reply node wait)
+takes_reply-keeps node (access need) = fetches-keeps [] node need
+takes_reply-keeps node (upkeep collection needs) = keeps_up-keeps [] node collection needs
+takes_reply-keeps node nothing = sends-keeps [] _
+takes_reply-keeps node (grant lock) = sends-keeps [] _
+takes_reply-keeps node departure = sends-keeps [] _
+takes_reply-keeps node (discard collection) = sends-keeps [] _
 
 -- ---- what a node does by itself
 
@@ -98,7 +104,7 @@ closing-keeps node go k = optional node (nat_lt (own_index node) MOST_NUMBER) (g
 reaches-keeps : (node : Node) (page : ℕ) → Kept node (reaches node page)
 reaches-keeps node page =
     let need : Need = need_of node.setting.nodes node.memory page in
-    either node (is_readable (copy_at node.memory page)) _ _ (acts-keeps [] node) (waits-keeps (requests_of need) node (access need))
+    either node (is_readable (copy_at node.memory page)) _ _ (acts-keeps [] node) (fetches-keeps (requests_of need) node need)
 
 acquire-keeps : (lock : ℕ) (node : Node) → Kept node (acquire_at lock node)
 acquire-keeps lock node = either node (is_free (lock_at node.locks.held lock)) _ _ (acts-keeps [] _) (sends-keeps _ _)
@@ -154,7 +160,7 @@ collects-keeps time node =
     let keeping : Node = with_memory node (with_keepers node.memory) in
     let kept : List ℕ = kept_pages node.setting.me keeping.memory in
     let needs : List Need = needs_to_keep keeping kept in
-    waits-keeps (flat_map requests_of needs) keeping (upkeep (record { time = time; kept = kept }) needs)
+    keeps_up-keeps (flat_map requests_of needs) keeping (record { time = time; kept = kept }) needs
 
 pub take-keeps : (node : Node) (from : ℕ) (message : Message) → KeptIf node (takes node from message)
 take-keeps node from (LockRequest m) = given-keeps node (is_request node m) _ (sends-keeps _ _)
@@ -175,9 +181,9 @@ take-keeps node from (Discard episode) =
 take-keeps node from (ChangesRequest m) = given-keeps node (is_changes_request node m) _ (sends-keeps _ node)
 take-keeps node from (ChangesReply m) =
     given-keeps node (is_changes_reply node from m) _
-    (waits-keeps []
+    (takes_reply-keeps
     (with_memory node (record node.memory { store = fold (with_part from m.page) node.memory.store m.parts }))
     (with_needs (with_changes m.page from) node.mail.wait))
 take-keeps node from (PageRequest page) = given-keeps node (is_page_request node from page) _ (reply-keeps node from page (base_at node.memory page))
 take-keeps node from (PageReply m) =
-    given-keeps node (is_page_reply node from m) _ (waits-keeps [] node (with_needs (with_page m.page m.values) node.mail.wait))
+    given-keeps node (is_page_reply node from m) _ (takes_reply-keeps node (with_needs (with_page m.page m.values) node.mail.wait))

@@ -20,7 +20,7 @@ use Rattle.lrc_protocol.specs.Barriers.{base_at, arrival_in}
 use Rattle.lrc_protocol.specs.Node.{Wait, nothing, grant, departure, access, upkeep, discard, needs_of, numbered, is_idle, awaits_grant}
 use Rattle.lrc_protocol.specs.Node.{awaits_departure, collection_of, Course, going, trapped, ended, cost_of, Node, Effect, sends, with_memory}
 use Rattle.lrc_protocol.specs.Node.{with_tokens, own_index}
-use Rattle.lrc_protocol.specs.Turn.{may_begin, begins_of, waits_or_goes_on, with_needs, closes, reaches, acquire_at, release_at, arrive_at}
+use Rattle.lrc_protocol.specs.Turn.{may_begin, begins_of, with_needs, takes_reply, closes, reaches, acquire_at, release_at, arrive_at}
 use Rattle.lrc_protocol.specs.Turn.{run_effect, charged, grants_of, given, is_request, is_forward, forward_by, is_grant, are_arriving}
 use Rattle.lrc_protocol.specs.Turn.{arrive_by, is_departure, clean_by, discard_by, is_changes_request, is_changes_reply, is_page_request}
 use Rattle.lrc_protocol.specs.Turn.{page_reply_by, is_page_reply, takes, TurnRecord, Outcome, done, not_ready, unexpected, worn, turn_with}
@@ -175,7 +175,7 @@ page-ruled node from page (Some values) at lt other = take_page_request page val
 -- something came for what pages need
 reply-ruled : (node : Node) (from : ℕ) (message : Message) (memory : Memory) (change : Need → Need) (test : Need → Bool) (w : Wait)
     → Brings node from message memory change → node.mail.wait ≡ w → list_any test (needs_of w) ≡ true
-    → TakeRule node from message (waits_or_goes_on [] (with_memory node memory) (with_needs change w))
+    → TakeRule node from message (takes_reply (with_memory node memory) (with_needs change w))
 reply-ruled node from message memory change test (access need) b at some =
     either (TakeRule node from message) (is_met (change need)) _ _
     (λ met. take_last_reply need b at met)

@@ -1,5 +1,5 @@
--- What the turns of a node say together: the deeds that its text makes, and the numbers of its messages.
-use Rattle.std.specs.Prelude.{ℕ, ◌==◌, Option, Some, List, [], ◌∷◌, ◌++◌, option_map, map, filter, filter_map, flat_map}
+-- What the turns of a node say together: the deeds that its text makes, and the numbers of its messages; and the logs of all nodes.
+use Rattle.std.specs.Prelude.{ℕ, ◌==◌, Option, Some, List, [], ◌∷◌, ◌++◌, option_map, map, filter, filter_map, flat_map, slice_get, slice_index_or}
 use Rattle.lrc_trace.specs.declared.act.Deed.{Deed}
 use Rattle.lrc_exec.specs.Meaning.{Thread, next_of}
 use Rattle.lrc_envelope.specs.Envelope.{EnvelopeRecord}
@@ -31,3 +31,17 @@ numbers_to to sent = map (λ envelope. envelope.number) (filter (λ envelope. en
 -- what these turns send, in order
 abbrev pub sent_in : List TurnRecord → List EnvelopeRecord
 sent_in turns = flat_map (λ turn. turn.out) turns
+
+-- ---- the logs of all nodes, gone through turn by turn
+
+-- a node's log
+abbrev pub log_of : List (List EntryRecord) → ℕ → List EntryRecord
+log_of logs n = slice_index_or logs n []
+
+-- how many turns of a node have come
+abbrev pub come_of : List ℕ → ℕ → ℕ
+come_of come n = slice_index_or come n 0
+
+-- a node's next turn, where so many of each node have come
+abbrev pub next_entry : List (List EntryRecord) → List ℕ → ℕ → Option EntryRecord
+next_entry logs come n = slice_get (log_of logs n) (come_of come n)

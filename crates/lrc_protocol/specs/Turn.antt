@@ -87,37 +87,20 @@ page_request_of page _ = []
 abbrev pub requests_of : Need → List Letter
 requests_of need = page_request_of need.page need.base ++ map (changes_request_of need.page) need.asked
 
--- the node's copies are clean: it keeps its base copies, tells node 0, and waits for the word to discard
-abbrev pub cleans : Node → Collection → List Need → Effect
-cleans node collection needs =
-    sends (letter 0 (Clean node.barrier.episode) ∷ [])
-    (waiting (discard collection) (with_memory node (clean_memory needs collection.kept node.memory)))
-
--- The node sends letters and waits, or where all has come it goes on: at a miss the page is repaired and the access is
--- made; in a collection its pages are clean.
-abbrev pub waits_or_goes_on : List Letter → Node → Wait → Effect
-waits_or_goes_on letters node (access need) =
+-- A miss: the letters go out, and the node waits for what the page needs; where all has come, the page is repaired and the
+-- access is made.
+abbrev pub fetches : List Letter → Node → Need → Effect
+fetches letters node need =
     if is_met need
     then acts letters (waiting nothing (with_memory node (mended node.memory need)))
     else sends letters (waiting (access need) node)
-waits_or_goes_on letters node (upkeep collection needs) =
-    if list_all is_met needs
-    then cleans node collection needs
-    else sends letters (waiting (upkeep collection needs) node)
-waits_or_goes_on letters node wait = sends letters (waiting wait node)
 
--- what is awaited, once something came for what pages need
-abbrev pub with_needs : (Need → Need) → Wait → Wait
-with_needs change (access need) = access (change need)
-with_needs change (upkeep collection needs) = upkeep collection (map change needs)
-with_needs change wait = wait
-
--- a hit makes the access at once; a miss asks for what the page needs and waits, where anything has to be asked
+-- a hit makes the access at once; a miss asks for what the page needs
 abbrev pub reaches : Node → ℕ → Effect
 reaches node page =
     if is_readable (copy_at node.memory page)
     then acts [] node
-    else (let need = need_of node.setting.nodes node.memory page in waits_or_goes_on (requests_of need) node (access need))
+    else (let need = need_of node.setting.nodes node.memory page in fetches (requests_of need) node need)
 
 -- ---- an acquire, a release, a barrier, and anything else
 
@@ -298,13 +281,27 @@ abbrev pub needs_to_keep : Node → List ℕ → List Need
 needs_to_keep node kept =
     map (need_of node.setting.nodes node.memory) (filter (λ page. not (is_readable (copy_at node.memory page))) kept)
 
+-- the node's copies are clean: it keeps its base copies, tells node 0, and waits for the word to discard
+abbrev pub cleans : Node → Collection → List Need → Effect
+cleans node collection needs =
+    sends (letter 0 (Clean node.barrier.episode) ∷ [])
+    (waiting (discard collection) (with_memory node (clean_memory needs collection.kept node.memory)))
+
+-- Upkeep in a collection: the letters go out, and the node waits for what the pages need that it keeps; where all has come, its
+-- copies are clean.
+abbrev pub keeps_up : List Letter → Node → Collection → List Need → Effect
+keeps_up letters node collection needs =
+    if list_all is_met needs
+    then cleans node collection needs
+    else sends letters (waiting (upkeep collection needs) node)
+
 -- a collection begins at a node: pages that were named get new keepers, and each node fetches what those that it keeps lack
 abbrev pub collects : List ℕ → Node → Effect
 collects time node =
     let keeping = with_memory node (with_keepers node.memory) in
     let kept = kept_pages node.setting.me keeping.memory in
     let needs = needs_to_keep keeping kept in
-    waits_or_goes_on (flat_map requests_of needs) keeping (upkeep (record { time = time; kept = kept }) needs)
+    keeps_up (flat_map requests_of needs) keeping (record { time = time; kept = kept }) needs
 
 -- the departure brings news, and the depart is made, or first a collection
 abbrev pub take_departure : Node → Bool → List ℕ → List IntervalRecord → Effect
@@ -355,6 +352,18 @@ changes_reply_to node to page indices =
       parts = map (own_part node page) indices;
     }))
 
+-- what is awaited, once something came for what pages need
+abbrev pub with_needs : (Need → Need) → Wait → Wait
+with_needs change (access need) = access (change need)
+with_needs change (upkeep collection needs) = upkeep collection (map change needs)
+with_needs change wait = wait
+
+-- A reply: the node that waits for it goes on, or waits for what is still to come.
+abbrev pub takes_reply : Node → Wait → Effect
+takes_reply node (access need) = fetches [] node need
+takes_reply node (upkeep collection needs) = keeps_up [] node collection needs
+takes_reply node wait = sends [] (waiting wait node)
+
 -- ChangesReply is expected where just these changes of that page are awaited from its sender, of offsets on a page:
 abbrev pub is_changes_reply : Node → ℕ → ChangesReplyRecord → Bool
 is_changes_reply node from m =
@@ -366,7 +375,7 @@ is_changes_reply node from m =
 abbrev pub take_changes : Node → ℕ → ChangesReplyRecord → Effect
 take_changes node from m =
     let memory = record node.memory { store = fold (with_part from m.page) node.memory.store m.parts } in
-    waits_or_goes_on [] (with_memory node memory) (with_needs (with_changes m.page from) node.mail.wait)
+    takes_reply (with_memory node memory) (with_needs (with_changes m.page from) node.mail.wait)
 
 -- ---- PageRequest, PageReply
 
@@ -391,7 +400,7 @@ is_page_reply node from m =
 
 -- it is kept until the page is repaired
 abbrev pub take_page : Node → PageReplyRecord → Effect
-take_page node m = waits_or_goes_on [] node (with_needs (with_page m.page m.values) node.mail.wait)
+take_page node m = takes_reply node (with_needs (with_page m.page m.values) node.mail.wait)
 
 -- ---- each kind of message
 

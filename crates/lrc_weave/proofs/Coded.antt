@@ -4,7 +4,7 @@ use Rattle.std.specs.Prelude.{Some, slice_set, slice_index_or}
 use Rattle.std.proofs.lemmas.List.{length-map, length-set, length-replicate}
 use Rattle.std.proofs.lemmas.Option.{slice_get_within, slice_get-get_or, same_Some}
 use Rattle.lrc_protocol.specs.Run.{EntryRecord}
-use Rattle.lrc_weave.specs.Woven.{log_of, come_of}
+use Rattle.lrc_protocol.specs.Follows.{log_of, come_of}
 use Rattle.lrc_weave.specs.Next.{IsNextOf}
 use Rattle.lrc_protocol.specs.declared.event.Event.{Event}
 use Rattle.lrc_weave.specs.declared.events.MessageName.{MessageName}

@@ -14,7 +14,8 @@ use Rattle.lrc_protocol.specs.Node.{OptionsRecord}
 use Rattle.lrc_protocol.specs.Run.{taken, EntryRecord, next_stamp, Flying, marked, sent_by}
 use Rattle.lrc_weave.specs.Logs.{AreLogs}
 use Rattle.lrc_weave.specs.Matched.{AreMatched}
-use Rattle.lrc_weave.specs.Woven.{IsUpTo, log_of, come_of, next_entry, IsNext, takes_same, is_taken_among, IsTakenAt, Makes, runs, takes_last, takes_again}
+use Rattle.lrc_weave.specs.Woven.{IsUpTo, IsNext, takes_same, is_taken_among, IsTakenAt, Makes, runs, takes_last, takes_again}
+use Rattle.lrc_protocol.specs.Follows.{log_of, come_of, next_entry}
 use Rattle.lrc_weave.proofs.Places.{within_outer}
 use Rattle.lrc_weave.proofs.Members.{IsIn, in_left, in_right, of_map, stays_in, in_drop}
 use Rattle.lrc_weave.proofs.Paired.{IsSent, paired}

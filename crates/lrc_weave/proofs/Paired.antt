@@ -11,7 +11,7 @@ use Rattle.lrc_protocol.specs.Run.{Input, run, taken, EntryRecord, next_stamp, F
 use Rattle.lrc_weave.specs.Logs.{all_sent, sent_to}
 use Rattle.lrc_weave.specs.Matched.{message_of, is_put_by, puts_by, place_taken, message_if, message_at, Takes}
 use Rattle.lrc_weave.specs.Matched.{takes_none, takes_not, takes_one, IsMatched, AreMatched}
-use Rattle.lrc_weave.specs.Woven.{log_of}
+use Rattle.lrc_protocol.specs.Follows.{log_of}
 use Rattle.lrc_weave.proofs.Places.{within_outer}
 use Rattle.lrc_weave.proofs.Members.{IsIn, in_filter, of_filter, in_map, of_map, of_flat}
 

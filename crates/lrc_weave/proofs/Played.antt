@@ -17,7 +17,8 @@ use Rattle.lrc_protocol.specs.Run.{MOST_STAMP, World, Flying, fresh_world, with_
 use Rattle.lrc_protocol.specs.Run.{delivers, event_on, step_of, run_of}
 use Rattle.lrc_protocol.proofs.Worlds.{get_set_same, get_set_other}
 use Rattle.lrc_weave.specs.Logs.{GoesOnBy, MayCome, AreLogs}
-use Rattle.lrc_weave.specs.Woven.{log_of, come_of, next_entry, IsTakenAt, Makes, runs, takes_last, takes_again, Woven, nothing_yet, then_one, AreWoven}
+use Rattle.lrc_weave.specs.Woven.{IsTakenAt, Makes, runs, takes_last, takes_again, Woven, nothing_yet, then_one, AreWoven}
+use Rattle.lrc_protocol.specs.Follows.{log_of, come_of, next_entry}
 use Rattle.lrc_weave.proofs.Places.{taken_more, dropped_less, taken_all, within_outer, mapped_is}
 
 -- ---- one entry

@@ -21,7 +21,8 @@ use Rattle.lrc_order_laws.proofs.InFlight.{Sends, all_send}
 use Rattle.lrc_weave.specs.declared.events.MessageName.{MessageName}
 use Rattle.lrc_weave.specs.Logs.{GoesOnBy, AreLogs}
 use Rattle.lrc_weave.specs.Matched.{AreMatched}
-use Rattle.lrc_weave.specs.Woven.{log_of, come_of, IsNext, is_taken_among, IsTakenAt, Makes, runs, takes_last, takes_again, Woven, nothing_yet, then_one, AreWoven}
+use Rattle.lrc_weave.specs.Woven.{IsNext, is_taken_among, IsTakenAt, Makes, runs, takes_last, takes_again, Woven, nothing_yet, then_one, AreWoven}
+use Rattle.lrc_protocol.specs.Follows.{log_of, come_of}
 use Rattle.lrc_weave.specs.Next.{IsNextOf}
 use Rattle.lrc_weave.specs.Again.{is_again}
 use Rattle.lrc_weave.specs.Events.{message_name, has_name, event_taking, names_left, IsTakenFrom, IsMadeByEvent, IsTurnOf, LacksMessage, IsUnsent}

@@ -11,7 +11,8 @@ use Rattle.lrc_protocol.specs.Node.{OptionsRecord}
 use Rattle.lrc_protocol.specs.Run.{Input, run, taken, EntryRecord, Flying, sent_by, with_mark}
 use Rattle.lrc_weave.specs.Logs.{AreLogs}
 use Rattle.lrc_weave.specs.Matched.{AreMatched}
-use Rattle.lrc_weave.specs.Woven.{log_of, come_of, next_entry, IsNext, is_taken_among, IsTakenAt, Makes, runs}
+use Rattle.lrc_weave.specs.Woven.{IsNext, is_taken_among, IsTakenAt, Makes, runs}
+use Rattle.lrc_protocol.specs.Follows.{log_of, come_of, next_entry}
 use Rattle.lrc_weave.specs.Woven.{takes_last, takes_again, Woven, nothing_yet, then_one, AreWoven}
 use Rattle.lrc_weave.specs.Next.{IsNextOf}
 use Rattle.lrc_weave.proofs.Heads.{next_or_none}

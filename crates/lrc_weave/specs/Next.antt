@@ -2,7 +2,8 @@
 use Rattle.std.specs.Prelude.{◌≡◌, ℕ, Option, Some, None, List, nat_le, if◌then◌else◌}
 use Rattle.lrc_protocol.specs.Run.{EntryRecord}
 use Rattle.lrc_weave.specs.declared.order.Head.{Head}
-use Rattle.lrc_weave.specs.Woven.{next_entry, IsNext}
+use Rattle.lrc_weave.specs.Woven.{IsNext}
+use Rattle.lrc_protocol.specs.Follows.{next_entry}
 
 -- the better of the best next turn so far and that of a node with a higher number, if it has one
 abbrev pub earlier_of : Option Head → Option ℕ → ℕ → Option Head

@@ -1,27 +1,16 @@
 -- Turns of all nodes in one order: by their stamps, and where those are the same by their nodes.
 use Rattle.std.specs.Prelude.{◌≡◌, ℕ, ◌+◌, ◌<◌, ◌≤◌, ◌⊎◌, ◌==◌, ◌&&◌, Bool, true, false, Option, Some, None, List, [], ◌∷◌, ◌++◌}
-use Rattle.std.specs.Prelude.{length, replicate, take, drop, remove, slice_get, slice_set, slice_index_or}
+use Rattle.std.specs.Prelude.{length, replicate, take, drop, remove, slice_get, slice_set}
 use Rattle.std.specs.List.{list_any}
 use Rattle.lrc_envelope.specs.Envelope.{EnvelopeRecord}
 use Rattle.lrc_protocol.specs.declared.event.Event.{Event}
 use Rattle.lrc_protocol.specs.declared.event.Event.TheVariants.{Run, Deliver, Repeat}
+use Rattle.lrc_protocol.specs.Follows.{come_of, log_of, next_entry}
 use Rattle.lrc_protocol.specs.Run.{Input, run, taken, EntryRecord, next_stamp, Flying, sent_by, with_mark}
 
 -- a stamp and its node come before another stamp and its node, or are the same
 abbrev pub IsUpTo : ℕ → ℕ → ℕ → ℕ → Type 0
 IsUpTo stamp n other m = (stamp < other) ⊎ ((stamp ≡ other) × (n ≤ m))
-
--- a node's log
-abbrev pub log_of : List (List EntryRecord) → ℕ → List EntryRecord
-log_of logs n = slice_index_or logs n []
-
--- how many turns of a node have come
-abbrev pub come_of : List ℕ → ℕ → ℕ
-come_of come n = slice_index_or come n 0
-
--- a node's next turn, where so many of each node have come
-abbrev pub next_entry : List (List EntryRecord) → List ℕ → ℕ → Option EntryRecord
-next_entry logs come n = slice_get (log_of logs n) (come_of come n)
 
 -- this is a node's next turn, and no other node's next turn is to stand before it
 pub record IsNext (logs : List (List EntryRecord)) (come : List ℕ) (n : ℕ) (entry : EntryRecord) : Type 0 where

@@ -21,7 +21,8 @@ use Rattle.lrc_protocol.proofs.Worlds.{run-whole, get_set_same}
 use Rattle.lrc_world.specs.declared.turned.Turned.{Turned}
 use Rattle.lrc_world.specs.Moments.{RefusesNone}
 use Rattle.lrc_world.specs.Turned.{node_if, node_by, taker, turner, turned_by, turned_from, turned_of, HaveLogs}
-use Rattle.lrc_world.specs.Walk.{Leads, come_of, next_entry, is_run, is_own, next_turner, flight_after, receivers_of, come_after, come_with, flight_with}
+use Rattle.lrc_world.specs.Walk.{Leads, is_run, is_own, next_turner, flight_after, receivers_of, come_after, come_with, flight_with}
+use Rattle.lrc_protocol.specs.Follows.{come_of, next_entry}
 use Rattle.lrc_world.proofs.Events.{split_at}
 use Rattle.lrc_world.proofs.Lists.{map-set, map-remove, map-map}
 use Rattle.lrc_world.proofs.Made.{Made, TurnsOrNot, GoesLater, Later, by_event, goes_later, is_entry, left_in, nowhere, still_refused}

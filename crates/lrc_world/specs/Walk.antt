@@ -1,19 +1,12 @@
 -- A walk along the logs of a run.
 use Rattle.std.specs.Prelude.{◌≡◌, ℕ, ◌+◌, ◌++◌, ◌&&◌, Bool, true, false, Option, Some, None, List, [], ◌∷◌, map, nat_lt}
-use Rattle.std.specs.Prelude.{remove, slice_get, slice_index_or, slice_set, if◌then◌else◌}
+use Rattle.std.specs.Prelude.{remove, slice_get, slice_set, if◌then◌else◌}
 use Rattle.lrc_protocol.specs.declared.event.Event.{Event}
 use Rattle.lrc_protocol.specs.declared.event.Event.TheVariants as events
+use Rattle.lrc_protocol.specs.Follows.{come_of, next_entry}
 use Rattle.lrc_protocol.specs.Run.{Input, EntryRecord}
 use Rattle.lrc_protocol.specs.Run as log
 use Rattle.lrc_world.specs.declared.turned.Turned.{Turned}
-
--- how many turns of a node have come
-abbrev pub come_of : List ℕ → ℕ → ℕ
-come_of come n = slice_index_or come n 0
-
--- a node's next turn, where so many of each node have come
-abbrev pub next_entry : List (List EntryRecord) → List ℕ → ℕ → Option EntryRecord
-next_entry logs come n = slice_get (slice_index_or logs n []) (come_of come n)
 
 -- whether an input names the node
 abbrev pub is_run : Input → Bool

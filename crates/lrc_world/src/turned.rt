@@ -10,7 +10,8 @@ ghost use Rattle.lrc_protocol.specs.Run.{EntryRecord, World as Run, run_of};
 ghost use Rattle.lrc_world.specs.declared.report.Report.{Report as AnyReport};
 ghost use Rattle.lrc_world.specs.Report.{IsReportOf};
 ghost use Rattle.lrc_world.specs.Turned.{AreAllTurned, HaveLogs, events_in, turned_by, turned_of};
-ghost use Rattle.lrc_world.specs.Walk.{Leads, come_after, come_with, flight_with, is_run, flight_after, next_entry, next_turner, receivers_of};
+ghost use Rattle.lrc_world.specs.Walk.{Leads, come_after, come_with, flight_with, is_run, flight_after, next_turner, receivers_of};
+ghost use Rattle.lrc_protocol.specs.Follows.{next_entry};
 
 use lrc_envelope::Envelope;
 use lrc_node::{Entry, Input};

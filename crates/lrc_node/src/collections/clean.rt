@@ -6,7 +6,7 @@ ghost use Rattle.lrc_memory.specs.View.{SameMemory, with_memory};
 ghost use Rattle.lrc_protocol.specs.Pages.{is_met, mended};
 ghost use Rattle.lrc_protocol.specs.Barriers.{with_base};
 ghost use Rattle.lrc_protocol.specs.Node.{upkeep};
-ghost use Rattle.lrc_protocol.specs.Turn.{cleans, waits_or_goes_on};
+ghost use Rattle.lrc_protocol.specs.Turn.{cleans, keeps_up};
 ghost use Rattle.lrc_node.specs.Effects.{CanGoOn};
 ghost use Rattle.lrc_node.specs.Keeping.{CanClean, CanKeep, CanMend};
 ghost use Rattle.lrc_node.specs.State.{seen_effect, AreFor};
@@ -77,7 +77,7 @@ impl NodeState<'_> {
     ) -> Result<Effect, AllocError>
         requires can { CanGoOn self.old (upkeep collection needs.items) }
         requires to { AreFor self.old.setting.nodes letters.items }
-        ensures effect { IfOk result (λ effect. waits_or_goes_on letters.items self.old (upkeep collection needs.items) ≡ seen_effect effect self.new) }
+        ensures effect { IfOk result (λ effect. keeps_up letters.items self.old collection needs.items ≡ seen_effect effect self.new) }
         ensures to { IfOk result (λ effect. AreFor self.new.setting.nodes effect.letters.items) }
     {
         if are_met(&needs) {
@@ -94,7 +94,7 @@ impl NodeState<'_> {
         needs: Vec<Need>,
     ) -> Result<Effect, AllocError>
         requires { CanGoOn self.old (upkeep collection needs.items) }
-        ensures effect { IfOk result (λ effect. waits_or_goes_on [] self.old (upkeep collection needs.items) ≡ seen_effect effect self.new) }
+        ensures effect { IfOk result (λ effect. keeps_up [] self.old collection needs.items ≡ seen_effect effect self.new) }
         ensures to { IfOk result (λ effect. AreFor self.new.setting.nodes effect.letters.items) }
     {
         let letters = Vec::new(self.alloc);

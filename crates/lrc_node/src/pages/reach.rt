@@ -3,8 +3,8 @@
 ghost use Rattle.std.specs.Prelude.{◌≡◌, ◌<◌, All, IfOk, length, true, false};
 ghost use Rattle.lrc_memory.specs.Turns.{is_mendable};
 ghost use Rattle.lrc_protocol.specs.Pages.{is_met, mended, copy_at};
-ghost use Rattle.lrc_protocol.specs.Node.{access, nothing, acts, waiting, with_memory};
-ghost use Rattle.lrc_protocol.specs.Turn.{reaches, waits_or_goes_on};
+ghost use Rattle.lrc_protocol.specs.Node.{nothing, acts, waiting, with_memory};
+ghost use Rattle.lrc_protocol.specs.Turn.{fetches, reaches};
 ghost use Rattle.lrc_node.specs.Effects.{AccessesPage};
 ghost use Rattle.lrc_node.specs.State.{seen_effect, AreFor};
 ghost use Rattle.lrc_node.specs.Text.{asked_in};
@@ -55,7 +55,7 @@ impl NodeState<'_> {
     /// Sends the requests for a page, and waits.
     pub(crate) fn await_access(&mut self, need: Need, letters: Vec<Letter>) -> Effect
         requires { is_met need ≡ false }
-        ensures effect { waits_or_goes_on letters.items self.old (access need) ≡ seen_effect result self.new }
+        ensures effect { fetches letters.items self.old need ≡ seen_effect result self.new }
         ensures letters { result.letters ≡ letters }
         ensures setting { self.new.setting ≡ self.old.setting }
     {

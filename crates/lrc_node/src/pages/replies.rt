@@ -6,7 +6,7 @@ ghost use Rattle.lrc_need.specs.Wait.{seen_wait};
 ghost use Rattle.lrc_memory.specs.Turns.{AreAwaited};
 ghost use Rattle.lrc_protocol.specs.Pages.{with_changes, with_page};
 ghost use Rattle.lrc_protocol.specs.Node.{access, needs_of};
-ghost use Rattle.lrc_protocol.specs.Turn.{take_changes, take_page, waits_or_goes_on, with_needs, is_changes_reply};
+ghost use Rattle.lrc_protocol.specs.Turn.{fetches, take_changes, take_page, takes_reply, with_needs, is_changes_reply};
 ghost use Rattle.lrc_protocol.specs.Turn.{is_page_reply};
 ghost use Rattle.lrc_node.specs.Effects.{CanGoOn, with_parts};
 ghost use Rattle.lrc_node.specs.State.{seen_effect, AreFor};
@@ -41,7 +41,7 @@ impl NodeState<'_> {
     /// Makes the access that is awaited, once all has come that its page needs; else goes on waiting.
     pub(crate) fn go_on_with(&mut self, need: Need) -> Result<Effect, AllocError>
         requires { CanGoOn self.old (access need) }
-        ensures effect { IfOk result (λ effect. waits_or_goes_on [] self.old (access need) ≡ seen_effect effect self.new) }
+        ensures effect { IfOk result (λ effect. fetches [] self.old need ≡ seen_effect effect self.new) }
         ensures to { IfOk result (λ effect. AreFor self.new.setting.nodes effect.letters.items) }
     {
         let letters = Vec::new(self.alloc);
@@ -55,7 +55,7 @@ impl NodeState<'_> {
     // Goes on with what is awaited of pages, after something came for it.
     fn go_on(&mut self, wait: Wait) -> Result<Effect, AllocError>
         requires { CanGoOn self.old (seen_wait wait) }
-        ensures effect { IfOk result (λ effect. waits_or_goes_on [] self.old (seen_wait wait) ≡ seen_effect effect self.new) }
+        ensures effect { IfOk result (λ effect. takes_reply self.old (seen_wait wait) ≡ seen_effect effect self.new) }
         ensures to { IfOk result (λ effect. AreFor self.new.setting.nodes effect.letters.items) }
     {
         match wait {

@@ -3,8 +3,8 @@ use Rattle.std.specs.Prelude.{All, flat_map}
 use Rattle.std.specs.List.{list_all}
 use Rattle.lrc_protocol.specs.Pages.{Need, is_met}
 use Rattle.lrc_protocol.specs.Barriers.{kept_pages}
-use Rattle.lrc_protocol.specs.Node.{Letter, upkeep, Node}
-use Rattle.lrc_protocol.specs.Turn.{requests_of, needs_to_keep, waits_or_goes_on}
+use Rattle.lrc_protocol.specs.Node.{Letter, Node}
+use Rattle.lrc_protocol.specs.Turn.{requests_of, needs_to_keep, keeps_up}
 use Rattle.lrc_node.specs.Keeping.{CanClean}
 use Rattle.lrc_node.specs.State.{AreFor}
 use Rattle.lrc_node.proofs.Keeping.{kept_within, begins_clean, begins_for}
@@ -43,16 +43,16 @@ returns-clause-effect c =
     let sent : c.in_ok-letters.letters.items ≡ flat_map requests_of c.in_ok-needs.needs.items = c.in_ok-letters.ensures
     ∙ ap (flat_map requests_of) c.deref.ensures.value in
     let node = ap (λ (n : Node). let kept = kept_pages n.setting.me n.memory in
-    waits_or_goes_on (flat_map requests_of (needs_to_keep n kept)) n
-    (upkeep (record { time = time; kept = kept }) (needs_to_keep n kept))) (sym c.take_keepers.ensures) in
-    let kept = ap (λ (kept : List ℕ). waits_or_goes_on (flat_map requests_of (needs_to_keep now kept)) now
-    (upkeep (record { time = time; kept = kept }) (needs_to_keep now kept)))
+    keeps_up (flat_map requests_of (needs_to_keep n kept)) n
+    (record { time = time; kept = kept }) (needs_to_keep n kept)) (sym c.take_keepers.ensures) in
+    let kept = ap (λ (kept : List ℕ). keeps_up (flat_map requests_of (needs_to_keep now kept)) now
+    (record { time = time; kept = kept }) (needs_to_keep now kept))
     (sym c.in_ok-kept.ensures) in
-    let needs = ap (λ (needs : List Need). waits_or_goes_on (flat_map requests_of needs) now
-    (upkeep (record { time = time; kept = c.in_ok-kept.kept }) needs)) (sym c.in_ok-needs.ensures) in
-    let letters = ap (λ (letters : List Letter). waits_or_goes_on letters now
-    (upkeep (record { time = time; kept = c.in_ok-kept.kept }) c.in_ok-needs.needs.items)) (sym sent) in
-    let until = ap (λ (t : List ℕ). waits_or_goes_on c.in_ok-letters.letters.items now
-    (upkeep (record { time = t; kept = c.in_ok-kept.kept }) c.in_ok-needs.needs.items))
+    let needs = ap (λ (needs : List Need). keeps_up (flat_map requests_of needs) now
+    (record { time = time; kept = c.in_ok-kept.kept }) needs) (sym c.in_ok-needs.ensures) in
+    let letters = ap (λ (letters : List Letter). keeps_up letters now
+    (record { time = time; kept = c.in_ok-kept.kept }) c.in_ok-needs.needs.items) (sym sent) in
+    let until = ap (λ (t : List ℕ). keeps_up c.in_ok-letters.letters.items now
+    (record { time = t; kept = c.in_ok-kept.kept }) c.in_ok-needs.needs.items)
     (sym c.copy-time.ensures) in
     rw (node ∙ kept ∙ needs ∙ letters ∙ until) c.keep_up.ensures.effect
