@@ -17,7 +17,7 @@ use Rattle.lrc_lang.specs.Faults.{AreFaultless, IsText}
 use Rattle.lrc_lang.specs.Lines.{begins_within, begins_in_block, begins, begins_in, line_of, HasLines}
 use Rattle.lrc_lang.specs.Parser.Marked.{is_seam, is_marked, marks, marked}
 use Rattle.lrc_lang.specs.Parser.Past.{GoesOn}
-use Rattle.lrc_lang.proofs.LexemesPast.{nothing_past, one_past, all_past}
+use Rattle.lrc_lang.proofs.LexemesPast.{IsPast, nothing_past, one_past, all_past}
 use Rattle.lrc_lang.proofs.LexemesUnique.{unique}
 
 -- ---- over symbols

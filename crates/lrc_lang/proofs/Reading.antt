@@ -14,7 +14,7 @@ use Rattle.lrc_lang.specs.Parser.State.{program_in}
 use Rattle.lrc_lang.specs.Parser.SeenState.{state_seen}
 use Rattle.lrc_lang.specs.Parser.SeenParser.{IsOutOfMemory, TakesLexeme}
 use Rattle.lrc_lang.proofs.LexemesExist as exist
-use Rattle.lrc_lang.proofs.LexemesPast.{nothing_past, one_past, found_past, all_past}
+use Rattle.lrc_lang.proofs.LexemesPast.{IsPast, nothing_past, one_past, found_past, all_past}
 use Rattle.lrc_lang.proofs.States.{FromStage, at_end, CompletesState}
 use Rattle.lrc_lang.proofs.Stages.{end_of_state}
 use Rattle.lrc_lang.proofs.Behind.{IsBehind, IsBehind-push, IsFaultless-taken, fault_of}
